@@ -1,0 +1,44 @@
+//! The numbers of Settlement Periods.
+
+ghost use Rattle.std.specs.Prelude.{◌≡◌, ◌≤◌, SomeIff};
+
+use std::marker::Model;
+
+/// The number of a Settlement Period within its Settlement Day, 1 to 50.
+#[derive(Clone, Copy, Debug, PartialEq, Eq, PartialOrd, Ord)]
+pub struct Period {
+    number: u8,
+}
+
+impl Model for Period {
+    ghost use Rattle.std.specs.Prelude.{ℕ, ◌≤◌};
+
+    ghost Value = { ℕ };
+
+    ghost view = { λ p. p.number };
+
+    ghost invariant = { λ p. (1 ≤ p.number) × (p.number ≤ 50) };
+
+    ghost inverse = { λ n. record { number = n } };
+}
+
+impl Period {
+    /// The period of that number, if it is 1 to 50.
+    pub fn new(number: u8) -> Option<Period>
+        ensures { SomeIff result ((1 ≤ number) × (number ≤ 50)) number }
+    {
+        if 1 <= number && number <= 50 {
+            Some(Period { number })
+        } else {
+            None
+        }
+    }
+
+    /// The number.
+    pub fn number(self) -> u8
+        ensures value { result ≡ self }
+        ensures range { (1 ≤ self) × (self ≤ 50) }
+    {
+        self.number
+    }
+}

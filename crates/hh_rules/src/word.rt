@@ -1,0 +1,174 @@
+//! Words: the ids of parties and units, and references.
+
+ghost use Rattle.std.specs.Prelude.{◌≡◌, ℕ, Bool, true, nat_eq};
+ghost use Rattle.std.specs.List.{list_all};
+ghost use Rattle.std.specs.Cmp.{partial_order_from_own_ties};
+ghost use Rattle.std.specs.Cmp.Rules.{comparing};
+ghost use Rattle.std.specs.Cmp.Lexicographic.{pointwise, slice_cmp};
+ghost use Rattle.std.specs.Ordering.{as_partial_cmp, nat_cmp};
+ghost use Rattle.std.proofs.Common.{rules};
+ghost use Rattle.hh_rules.specs.Words.{is_capital_or_digit, is_unit_byte, is_reference_byte, is_word, word_value};
+
+use std::alloc::AllocError;
+use std::cmp::Ordering;
+use std::marker::{Model, PhantomData};
+
+/// Which bytes a word may have.
+pub trait Alphabet {
+    ghost allows: { ℕ → Bool };
+
+    fn allows(byte: u8) -> bool
+        ensures { result ≡ allows byte };
+}
+
+/// 1 to `MOST` bytes of one alphabet, kept in place. Contracts see the list of the bytes.
+#[derive(Clone, Copy, Debug)]
+pub struct Word<A: Alphabet, const MOST: usize> {
+    bytes: [u8; MOST],
+    len: usize,
+    alphabet: PhantomData<A>,
+}
+
+impl<A: Alphabet, const MOST: usize> Model for Word<A, MOST> {
+    ghost use Rattle.std.specs.Prelude.{◌≡◌, List, ℕ, ◌-◌, ◌++◌, true, take, replicate, length};
+    ghost use Rattle.hh_rules.specs.Words.{is_word, IsPadded, unpadded};
+
+    ghost Value = { List ℕ };
+
+    ghost view = { λ w. take w.len w.bytes };
+
+    ghost invariant = { λ w. IsPadded MOST w.len w.bytes × (is_word A.allows MOST (take w.len w.bytes) ≡ true) };
+
+    ghost inverse = { λ text. record { bytes = text ++ replicate (MOST - length text) 0; len = length text; alphabet = record {} } };
+
+    ghost inverse_ok = { λ w h. λ i. record { bytes = unpadded MOST w.len w.bytes h.0 i; len = h.0.counted i; alphabet = record {} } };
+}
+
+impl<A: Alphabet, const MOST: usize> Word<A, MOST> {
+    pub fn as_bytes(&self) -> &[u8]
+        ensures { result.now ≡ self.now }
+    {
+        &self.bytes[..self.len]
+    }
+
+    /// The word that these bytes are, if they are one.
+    pub fn read(text: &[u8]) -> Option<Self>
+        ensures { result ≡ word_value A.allows MOST text.now }
+    {
+        if is_word_of::<A>(text, MOST) {
+            Some(Self::of(text))
+        } else {
+            None
+        }
+    }
+
+    /// The word that these bytes are.
+    #[tactic(auto, unfolding(crate::specs::Words::is_word))]
+    fn of(text: &[u8]) -> Self
+        requires { is_word A.allows MOST text.now ≡ true }
+        ensures { result ≡ text.now }
+    {
+        let mut bytes = [0; MOST];
+        bytes[..text.len()].copy_from_slice(text);
+        Word {
+            bytes,
+            len: text.len(),
+            alphabet: PhantomData,
+        }
+    }
+}
+
+/// Whether the bytes are 1 to `most` bytes of the alphabet.
+#[tactic(auto, unfolding(crate::specs::Words::is_word))]
+fn is_word_of<A: Alphabet>(text: &[u8], most: usize) -> bool
+    ensures { result ≡ is_word A.allows most text.now }
+{
+    !text.is_empty() && text.len() <= most && all_allowed::<A>(text)
+}
+
+fn all_allowed<A: Alphabet>(text: &[u8]) -> bool
+    ensures { result ≡ list_all A.allows text.now }
+{
+    text.iter().all(|byte| A::allows(*byte))
+}
+
+/// Capital letters and digits.
+#[derive(Clone, Copy, Debug)]
+pub struct PartyIdAlphabet;
+
+impl Alphabet for PartyIdAlphabet {
+    ghost allows = { is_capital_or_digit };
+
+    fn allows(byte: u8) -> bool {
+        byte.is_ascii_uppercase() || byte.is_ascii_digit()
+    }
+}
+
+/// A party's id.
+pub type PartyId = Word<PartyIdAlphabet, 10>;
+
+#[derive(Clone, Copy, Debug)]
+pub struct UnitIdAlphabet;
+
+impl Alphabet for UnitIdAlphabet {
+    ghost allows = { is_unit_byte };
+
+    fn allows(byte: u8) -> bool {
+        byte.is_ascii_uppercase() || byte.is_ascii_digit() || byte == b'_' || byte == b'-'
+    }
+}
+
+/// A unit's id.
+pub type UnitId = Word<UnitIdAlphabet, 16>;
+
+#[derive(Clone, Copy, Debug)]
+pub struct ReferenceAlphabet;
+
+impl Alphabet for ReferenceAlphabet {
+    ghost allows = { is_reference_byte };
+
+    fn allows(byte: u8) -> bool {
+        byte.is_ascii_alphanumeric() || byte == b'_' || byte == b'-'
+    }
+}
+
+/// A contract's reference.
+pub type Reference = Word<ReferenceAlphabet, 20>;
+
+impl<A: Alphabet, const MOST: usize> PartialEq for Word<A, MOST> {
+    ghost eq = { pointwise nat_eq };
+
+    ghost laws = { Prim.search (comparing, rules) };
+
+    fn eq(&self, other: &Word<A, MOST>) -> bool {
+        self.as_bytes() == other.as_bytes()
+    }
+}
+
+impl<A: Alphabet, const MOST: usize> Eq for Word<A, MOST> {
+    ghost laws = { Prim.search (comparing, rules) };
+}
+
+impl<A: Alphabet, const MOST: usize> Ord for Word<A, MOST> {
+    ghost cmp = { slice_cmp nat_cmp };
+
+    ghost total = { Prim.search (comparing, rules) };
+
+    ghost matches_partial_cmp = { Prim.search (comparing, rules) };
+
+    ghost matches_eq = { Prim.search (comparing, rules) };
+
+    fn cmp(&self, other: &Word<A, MOST>) -> Ordering {
+        self.as_bytes().cmp(&other.as_bytes())
+    }
+}
+
+impl<A: Alphabet, const MOST: usize> PartialOrd for Word<A, MOST> {
+    ghost partial_cmp = { as_partial_cmp (slice_cmp nat_cmp) };
+
+    ghost laws = { partial_order_from_own_ties (Prim.search (comparing, rules)) (Prim.search (comparing, rules)) };
+
+    fn partial_cmp(&self, other: &Word<A, MOST>) -> Option<Ordering> {
+        Some(self.cmp(other))
+    }
+}
