@@ -1,5 +1,5 @@
 -- Energy accounts: their order, and the texts that name them.
-use Rattle.std.specs.Prelude.{ℕ, ◌-◌, nat_lt, ◌==◌, List, [], ◌∷◌, length, take, drop, slice_index, Bool, nat_eq, Option, Some, None, codes, if◌then◌else◌}
+use Rattle.std.specs.Prelude.{ℕ, ◌-◌, nat_lt, ◌==◌, List, length, take, drop, slice_index, Bool, nat_eq, Option, Some, None, codes, if◌then◌else◌}
 use Rattle.std.specs.declared.cmp.Ordering.{Ordering}
 use Rattle.std.specs.Ordering.{nat_cmp, eq_by_cmp, on, then_cmp}
 use Rattle.std.specs.Cmp.Lexicographic.{pointwise, slice_cmp}

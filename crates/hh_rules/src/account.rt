@@ -1,9 +1,14 @@
 //! Energy accounts: each party has two.
 
 ghost use Rattle.std.specs.Prelude.{◌≡◌};
-ghost use Rattle.hh_rules.specs.Accounts.{account_value, side_value};
+ghost use Rattle.std.specs.Cmp.{partial_order_from_own_ties};
+ghost use Rattle.std.specs.Cmp.Rules.{comparing};
+ghost use Rattle.std.specs.Ordering.{as_partial_cmp};
+ghost use Rattle.std.proofs.Common.{rules};
+ghost use Rattle.hh_rules.specs.Accounts.{account_cmp, account_value, is_same_account, side_value};
 
 use crate::word::PartyId;
+use std::cmp::Ordering;
 
 /// Which of a party's two accounts.
 #[derive(Clone, Copy, Debug, PartialEq, Eq, PartialOrd, Ord)]
@@ -14,7 +19,7 @@ pub enum Side {
 
 /// An energy account. Accounts are ordered by the bytes of the party's id, Production before
 /// Consumption (profile).
-#[derive(Clone, Copy, Debug, PartialEq, Eq, PartialOrd, Ord)]
+#[derive(Clone, Copy, Debug)]
 pub struct Account {
     pub party: PartyId,
     pub side: Side,
@@ -46,5 +51,45 @@ impl Account {
         let side = Side::read(&text[text.len() - 1..])?;
         let party = PartyId::read(&text[..text.len() - 2])?;
         Some(Account { party, side })
+    }
+}
+
+impl PartialEq for Account {
+    ghost eq = { is_same_account };
+
+    ghost laws = { Prim.search (comparing, rules) };
+
+    fn eq(&self, other: &Account) -> bool {
+        self.cmp(other).is_eq()
+    }
+}
+
+impl Eq for Account {
+    ghost laws = { Prim.search (comparing, rules) };
+}
+
+impl Ord for Account {
+    ghost cmp = { account_cmp };
+
+    ghost total = { Prim.search (comparing, rules) };
+
+    ghost matches_partial_cmp = { Prim.search (comparing, rules) };
+
+    ghost matches_eq = { Prim.search (comparing, rules) };
+
+    fn cmp(&self, other: &Account) -> Ordering {
+        self.party
+            .cmp(&other.party)
+            .then(self.side.cmp(&other.side))
+    }
+}
+
+impl PartialOrd for Account {
+    ghost partial_cmp = { as_partial_cmp account_cmp };
+
+    ghost laws = { partial_order_from_own_ties (Prim.search (comparing, rules)) (Prim.search (comparing, rules)) };
+
+    fn partial_cmp(&self, other: &Account) -> Option<Ordering> {
+        Some(self.cmp(other))
     }
 }

@@ -1,0 +1,5 @@
+pub mod OrderLaws
+pub mod RowFacts
+pub mod RowsFacts
+pub mod SumLaws
+pub mod WordFacts

@@ -1,0 +1,119 @@
+-- The figures of one account, and the limits.
+use Rattle.std.proofs.Common.{◌≡◌, ℕ, zero, suc, ◌*◌, ◌^◌, ◌<◌, ◌≤◌, Bool, true, false, ◌&&◌, cond, Option, Some, None, refl, sym, ap, ◌∙◌, arith, FitsSigned, to_z, of_z, IfNone}
+use Rattle.std.specs.Prelude.{ℤ, pos, negsuc, neg_ℤ, ◌-ℤ◌, ◌*ℤ◌, nat_abs}
+use Rattle.std.specs.Int.{w64, w128}
+use Rattle.std.specs.Int.Signed.{mag}
+use Rattle.std.proofs.Math.IntN.{+ℤ_idl}
+use Rattle.std.proofs.Math.Nat.{mul-le-mul}
+use Rattle.std.proofs.lemmas.Int.{ints, to_z-of_z}
+use Rattle.hh_num.specs.Ranges.{IsBetween}
+use Rattle.std.proofs.lemmas.Bool.Decides.{nat_tests}
+use Rattle.hh_num.specs.Rounding.{near}
+use Rattle.hh_rules.specs.declared.account.Account.{Account}
+use Rattle.hh_calc.specs.Formulas.{Figures, figures_from, is_at_most}
+use Rattle.hh_calc.proofs.WordFacts.{long_word}
+
+-- an amount that a limit let through, or did not
+pub in_limit : (most : ℕ) (x word v : ℤ) (r : Option ℤ) → r ≡ cond (is_at_most most word) (Some word) None → word ≡ x → r ≡ Some v → (v ≡ x) × (is_at_most most x ≡ true)
+in_limit most x word v r e same some = go (is_at_most most word) refl (sym e ∙ some)
+  where
+    go : (b : Bool) → is_at_most most word ≡ b → cond b (Some word) None ≡ Some v → (v ≡ x) × (is_at_most most x ≡ true)
+    go true k h = (sym (cc h) ∙ same, ap (is_at_most most) (sym same) ∙ k)
+    go false k h = cc h
+
+pub past_limit : (most : ℕ) (x word : ℤ) (r : Option ℤ) → r ≡ cond (is_at_most most word) (Some word) None → word ≡ x → r ≡ None → is_at_most most x ≡ false
+past_limit most x word r e same none = go (is_at_most most word) refl (sym e ∙ none)
+  where
+    go : (b : Bool) → is_at_most most word ≡ b → cond b (Some word) None ≡ None → is_at_most most x ≡ false
+    go true k h = cc h
+    go false k h = ap (is_at_most most) (sym same) ∙ k
+
+pub and_left : (a b : Bool) → a ≡ false → (a && b) ≡ false
+and_left true b h = cc h
+and_left false b h = refl
+
+pub and_right : (a b : Bool) → b ≡ false → (a && b) ≡ false
+and_right true b h = h
+and_right false b h = refl
+
+pub both : (a b : Bool) → a ≡ true → b ≡ true → (a && b) ≡ true
+both true b h k = k
+both false b h k = cc h
+
+pub if_none : {A : Type 0} (r : Option A) (P : Type 0) → P → IfNone r P
+if_none None P p = p
+if_none (Some x) P p = tt
+
+-- net contracts in ticks
+pub contracts_word : (net : ℤ) → nat_abs net ≤ 10 ^ 28
+    → to_z w128 (of_z w128 (to_z w128 (of_z w128 net) *ℤ pos (10 ^ 7))) ≡ net *ℤ pos (10 ^ 7)
+contracts_word net le =
+    let small : nat_abs (net *ℤ pos (10 ^ 7)) ≤ 10 ^ 36 = omega (arith, ints) in
+    ap (λ z. to_z w128 (of_z w128 (z *ℤ pos (10 ^ 7)))) (long_word net (omega arith)) ∙ long_word (net *ℤ pos (10 ^ 7)) small
+
+pub imbalance_word : (credited balancing contracts word : ℤ) → nat_abs credited ≤ 10 ^ 34 → nat_abs balancing ≤ 10 ^ 34 → nat_abs contracts ≤ 10 ^ 35 → word ≡ contracts
+    → to_z w128 (of_z w128 (to_z w128 (of_z w128 (to_z w128 (of_z w128 credited) -ℤ to_z w128 (of_z w128 balancing))) -ℤ word)) ≡ (credited -ℤ balancing) -ℤ contracts
+imbalance_word credited balancing contracts word a b d same =
+    let first : nat_abs (credited -ℤ balancing) ≤ 10 ^ 36 = omega (arith, ints) in
+    let all : nat_abs ((credited -ℤ balancing) -ℤ contracts) ≤ 10 ^ 36 = omega (arith, ints) in
+    ap (λ z. to_z w128 (of_z w128 (to_z w128 (of_z w128 (z -ℤ to_z w128 (of_z w128 balancing))) -ℤ word))) (long_word credited (omega arith))
+    ∙ ap (λ z. to_z w128 (of_z w128 (to_z w128 (of_z w128 (credited -ℤ z)) -ℤ word))) (long_word balancing (omega arith))
+    ∙ ap (λ z. to_z w128 (of_z w128 (z -ℤ word))) (long_word (credited -ℤ balancing) (omega arith))
+    ∙ ap (λ z. to_z w128 (of_z w128 ((credited -ℤ balancing) -ℤ z))) same
+    ∙ long_word ((credited -ℤ balancing) -ℤ contracts) all
+
+nat_abs-neg : (z : ℤ) → nat_abs (neg_ℤ z) ≡ nat_abs z
+nat_abs-neg (pos zero) = refl
+nat_abs-neg (pos (suc n)) = refl
+nat_abs-neg (negsuc n) = refl
+
+nat_abs-times : (a b : ℤ) → nat_abs (a *ℤ b) ≡ nat_abs a * nat_abs b
+nat_abs-times (pos a) (pos b) = refl
+nat_abs-times (pos a) (negsuc b) = nat_abs-neg (pos (a * suc b))
+nat_abs-times (negsuc a) (pos b) = nat_abs-neg (pos (suc a * b))
+nat_abs-times (negsuc a) (negsuc b) = refl
+
+-- the energy's price, turned round: it stays far below the limits of rounding
+pub charge_word : (imbalance price wide wide' : ℤ) → nat_abs imbalance ≤ 10 ^ 17 → nat_abs price ≤ 10 ^ 10 → wide ≡ imbalance → wide' ≡ price
+    → let amount : ℤ = to_z w128 (of_z w128 (pos 0 -ℤ to_z w128 (of_z w128 (to_z w128 (of_z w128 wide) *ℤ to_z w128 (of_z w128 wide'))))) in
+    (amount ≡ neg_ℤ (imbalance *ℤ price)) × (nat_abs amount ≤ 10 ^ 30)
+charge_word imbalance price wide wide' a b same same' =
+    let product = nat_abs-times imbalance price in
+    let low : nat_abs imbalance * nat_abs price ≤ 10 ^ 17 * 10 ^ 10 = mul-le-mul a b in
+    let small : nat_abs (imbalance *ℤ price) ≤ 10 ^ 27 = omega arith in
+    let turned : nat_abs (neg_ℤ (imbalance *ℤ price)) ≤ 10 ^ 27 = rw (nat_abs-neg (imbalance *ℤ price)) small in
+    let is =
+    (λ i. to_z w128 (of_z w128 (pos 0 -ℤ to_z w128 (of_z w128 (to_z w128 (of_z w128 (same i)) *ℤ to_z w128 (of_z w128 (same' i)))))))
+    ∙ (λ i. to_z w128 (of_z w128 (pos 0 -ℤ to_z w128 (of_z w128 (long_word imbalance (omega arith) i *ℤ long_word price (omega arith) i)))))
+    ∙ ap (λ z. to_z w128 (of_z w128 (pos 0 -ℤ z))) (long_word (imbalance *ℤ price) (omega arith))
+    ∙ ap (λ z. to_z w128 (of_z w128 z)) (+ℤ_idl (neg_ℤ (imbalance *ℤ price)))
+    ∙ long_word (neg_ℤ (imbalance *ℤ price)) (omega arith) in
+    (is, rw is (omega arith))
+
+-- a number of 64 bits, widened
+pub widened : (v units wide : ℤ) → units ≡ v → nat_abs v ≤ 10 ^ 18 → wide ≡ to_z w64 (of_z w64 units) → wide ≡ v
+widened v units wide same le e =
+    let fits : FitsSigned w64 v = omega (arith, ints) in
+    e ∙ ap (λ z. to_z w64 (of_z w64 z)) same ∙ to_z-of_z w64 v fits
+
+pub price_size : (p : ℤ) → IsBetween (neg_ℤ (pos 9_999_999_999)) (pos 9_999_999_999) p → nat_abs p ≤ 10 ^ 10
+price_size p (low, high) = omega (arith, ints)
+
+pub at_most : (most : ℕ) (x : ℤ) → is_at_most most x ≡ true → nat_abs x ≤ most
+at_most most x h = grind (arith, nat_tests)
+
+-- an account's figures, from its row's
+pub same_figures : (account : Account) (credited balancing contracts imbalance charge : ℤ) (credited' balancing' net price : ℤ)
+    → credited ≡ credited' → balancing ≡ balancing' → contracts ≡ net *ℤ pos (10 ^ 7)
+    → imbalance ≡ (credited' -ℤ balancing') -ℤ (net *ℤ pos (10 ^ 7)) → charge ≡ near (neg_ℤ (((credited' -ℤ balancing') -ℤ (net *ℤ pos (10 ^ 7))) *ℤ price)) (pos (10 ^ 13))
+    → let figures : Figures = record { account = account; credited = credited; balancing = balancing; contracts = contracts; imbalance = imbalance; charge = charge } in
+    figures ≡ figures_from account credited' balancing' net price
+same_figures account credited balancing contracts imbalance charge credited' balancing' net price a b d e f =
+    λ i. record { account = account; credited = a i; balancing = b i; contracts = d i; imbalance = e i; charge = f i }
+
+pub contracts_size : (net : ℤ) → nat_abs net ≤ 10 ^ 28 → nat_abs (net *ℤ pos (10 ^ 7)) ≤ 10 ^ 35
+contracts_size net le = omega (arith, ints)
+
+-- a word of 128 bits is itself
+pub cash_word : (x : ℤ) → mag x < 2 ^ 127 → to_z w128 (of_z w128 x) ≡ x
+cash_word x h = to_z-of_z w128 x (record { sfits = h })

@@ -1,0 +1,107 @@
+-- Row after row: the accounts of a period so far.
+use Rattle.std.proofs.Common.{◌≡◌, ℕ, zero, suc, ◌+◌, ◌*◌, ◌^◌, ◌<◌, ◌≤◌, Bool, true, false, ◌&&◌, List, [], ◌∷◌, ◌++◌, length, get_or, take, map, refl, sym, ap, ◌∙◌, arith, to_z, of_z, add-one}
+use Rattle.std.specs.Prelude.{ℤ, pos, neg_ℤ, ◌-ℤ◌, nat_abs}
+use Rattle.std.specs.Int.{w128}
+use Rattle.std.specs.List.{list_all}
+use Rattle.std.proofs.Math.IntN.{neg_ℤ-+ℤ}
+use Rattle.std.proofs.Math.Nat.{suc-mul}
+use Rattle.std.proofs.lemmas.Int.{ints}
+use Rattle.std.proofs.lemmas.List.{map-append, take_more}
+use Rattle.hh_num.specs.Totals.{total}
+use Rattle.hh_rules.specs.declared.account.Account.{Account}
+use Rattle.hh_calc.specs.Formulas.{Figures, are_within, are_accounts_within, balancing_of, credited_of, figures, figures_from, greatest_cash, net_of, weight, weight_of}
+use Rattle.hh_calc.specs.Period.{Period}
+use Rattle.hh_calc.specs.Sums.{AreSumsOver}
+use Rattle.hh_calc.proofs.RowFacts.{at_most}
+use Rattle.hh_calc.proofs.SumLaws.{read_sum, total-more}
+use Rattle.hh_calc.proofs.WordFacts.{long_word}
+
+abbrev word : ℤ → ℤ
+word x = to_z w128 (of_z w128 x)
+
+-- The figures of an account from the sums at its place are its figures in the period.
+pub figures_read : (p : Period) (credited balancing net weights : List ℤ)
+    → AreSumsOver credited_of p.accounts p.units (10 ^ 34) credited → AreSumsOver balancing_of p.accounts p.units (10 ^ 34) balancing
+    → AreSumsOver net_of p.accounts p.contracts (10 ^ 28) net → AreSumsOver weight_of p.accounts p.units (10 ^ 34) weights
+    → (place : ℕ) (account : Account) → place < length p.accounts → account ≡ get_or p.accounts place account → (price : ℤ) → price ≡ p.price
+    → (figures_from account (word (get_or credited place (pos 0))) (word (get_or balancing place (pos 0))) (word (get_or net place (pos 0))) price ≡ figures p account)
+    × (word (get_or weights place (pos 0)) ≡ weight p account)
+figures_read p credited balancing net weights hc hb hn hw place account inside is price same =
+    let (c, c_le) = read_sum credited_of p.accounts p.units (10 ^ 34) credited hc place account (pos 0) inside is in
+    let (b, b_le) = read_sum balancing_of p.accounts p.units (10 ^ 34) balancing hb place account (pos 0) inside is in
+    let (n, n_le) = read_sum net_of p.accounts p.contracts (10 ^ 28) net hn place account (pos 0) inside is in
+    let (w, w_le) = read_sum weight_of p.accounts p.units (10 ^ 34) weights hw place account (pos 0) inside is in
+    let cs = long_word (get_or credited place (pos 0)) (omega arith) ∙ c in
+    let bs = long_word (get_or balancing place (pos 0)) (omega arith) ∙ b in
+    let ns = long_word (get_or net place (pos 0)) (omega arith) ∙ n in (
+      λ i. figures_from account (cs i) (bs i) (ns i) (same i),
+      long_word (get_or weights place (pos 0)) (omega arith) ∙ w,
+    )
+
+-- One account past the limits decides.
+list_all-false : (test : Account → Bool) (accounts : List Account) (i : ℕ) (d : Account) → i < length accounts → test (get_or accounts i d) ≡ false → list_all test accounts ≡ false
+list_all-false test [] i d inside h = absurd (omega arith)
+list_all-false test (a ∷ accounts) zero d inside h = rw h refl
+list_all-false test (a ∷ accounts) (suc i) d inside h = go (test a) (list_all-false test accounts i d (omega arith) h)
+  where
+    go : (b : Bool) → list_all test accounts ≡ false → (b && list_all test accounts) ≡ false
+    go true k = k
+    go false k = refl
+
+pub past_account : (p : Period) (place : ℕ) (account : Account) → place < length p.accounts → account ≡ get_or p.accounts place account
+    → are_within (figures p account) (weight p account) ≡ false → are_accounts_within p p.accounts ≡ false
+past_account p place account inside is past =
+    list_all-false (λ a. are_within (figures p a) (weight p a)) p.accounts place account inside
+    (ap (λ a. are_within (figures p a) (weight p a)) (sym is) ∙ past)
+
+-- One account more.
+list_all-push : (test : Account → Bool) (accounts : List Account) (a : Account) → list_all test accounts ≡ true → test a ≡ true → list_all test (accounts ++ a ∷ []) ≡ true
+list_all-push test [] a h k = rw k refl
+list_all-push test (b ∷ accounts) a h k = go (test b) h (λ m. list_all-push test accounts a m k)
+  where
+    go : (t : Bool) → (t && list_all test accounts) ≡ true → (list_all test accounts ≡ true → list_all test (accounts ++ a ∷ []) ≡ true)
+        → (t && list_all test (accounts ++ a ∷ [])) ≡ true
+    go true m more = more m
+    go false m more = cc m
+
+pub within_more : (p : Period) (place : ℕ) (account : Account) → place < length p.accounts → account ≡ get_or p.accounts place account
+    → are_accounts_within p (take place p.accounts) ≡ true → are_within (figures p account) (weight p account) ≡ true
+    → are_accounts_within p (take (place + 1) p.accounts) ≡ true
+within_more p place account inside is h k =
+    let test : Account → Bool = λ a. are_within (figures p a) (weight p a) in
+    ap (list_all test) (take_more p.accounts place account inside)
+    ∙ list_all-push test (take place p.accounts) (get_or p.accounts place account) h (ap test (sym is) ∙ k)
+
+pub rows_more : {R : Type 0} (f : R → Figures) (g : Account → Figures) (rows : List R) (row : R) (accounts : List Account) (place : ℕ) (account : Account)
+    → place < length accounts → account ≡ get_or accounts place account → map f rows ≡ map g (take place accounts) → f row ≡ g account
+    → (new : List R) → new ≡ rows ++ row ∷ [] → map f new ≡ map g (take (place + 1) accounts)
+rows_more f g rows row accounts place account inside is so_far same new e =
+    ap (map f) e ∙ map-append f rows (row ∷ [])
+    ∙ (λ i. so_far i ++ (same ∙ ap g is) i ∷ [])
+    ∙ sym (ap (map g) (take_more accounts place account inside) ∙ map-append g (take place accounts) (get_or accounts place account ∷ []))
+
+pub residual_more : (f : Account → ℤ) (accounts : List Account) (place : ℕ) (account : Account) → place < length accounts → account ≡ get_or accounts place account
+    → (residual charge : ℤ) → residual ≡ neg_ℤ (total f (take place accounts)) → charge ≡ f account
+    → residual -ℤ charge ≡ neg_ℤ (total f (take (place + 1) accounts))
+residual_more f accounts place account inside is residual charge so_far same =
+    (λ i. so_far i -ℤ same i)
+    ∙ sym (ap neg_ℤ (total-more f accounts place account inside is) ∙ neg_ℤ-+ℤ (total f (take place accounts)) (f account))
+
+and_true : (a b : Bool) → (a && b) ≡ true → b ≡ true
+and_true true b h = h
+and_true false b h = cc h
+
+pub charge_size : (f : Figures) (w : ℤ) → are_within f w ≡ true → nat_abs f.charge ≤ 10 ^ 12
+charge_size f w h = at_most greatest_cash f.charge (and_true _ _ h)
+
+pub residual_size : (place : ℕ) (residual charge : ℤ) → nat_abs residual ≤ place * 10 ^ 12 → nat_abs charge ≤ 10 ^ 12 → nat_abs (residual -ℤ charge) ≤ (place + 1) * 10 ^ 12
+residual_size place residual charge small le = rw (add-one, suc-mul place (10 ^ 12)) (omega (arith, ints))
+
+-- what the machine's words hold of it
+pub residual_word : (held wide residual charge : ℤ) → held ≡ residual → wide ≡ charge → nat_abs residual ≤ 10 ^ 35 → nat_abs charge ≤ 10 ^ 12
+    → word (held -ℤ word wide) ≡ residual -ℤ charge
+residual_word held wide residual charge same same' small small' =
+    let both : nat_abs (residual -ℤ charge) ≤ 10 ^ 36 = omega (arith, ints) in
+    (λ i. word (same i -ℤ word (same' i)))
+    ∙ ap (λ z. word (residual -ℤ z)) (long_word charge (omega arith))
+    ∙ long_word (residual -ℤ charge) both

@@ -1,0 +1,3 @@
+pub mod Formulas
+pub mod Period
+pub mod Sums

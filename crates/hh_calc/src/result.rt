@@ -1,0 +1,88 @@
+//! A settled period.
+
+ghost use Rattle.std.specs.Prelude.{◌≡◌};
+
+use hh_num::{Pence, Ticks};
+use hh_rules::Account;
+use std::alloc::{AllocError, AllocFailed};
+use std::marker::Model;
+
+/// An account's figures in a settled period: energy in ticks, cash in pence.
+#[derive(Clone, Copy, Debug, PartialEq, Eq)]
+pub struct AccountRow {
+    pub account: Account,
+    pub credited: Ticks,
+    pub balancing: Ticks,
+    pub contracts: Ticks,
+    pub imbalance: Ticks,
+    pub charge: Pence,
+    /// The account's share of the residual: 0 until the office shares it out.
+    pub share: Pence,
+}
+
+/// A settled period: a row for each account in account order, and the residual cashflow.
+#[derive(Debug, Drop)]
+pub struct PeriodResult {
+    accounts: Vec<AccountRow>,
+    residual: Pence,
+}
+
+impl Model for PeriodResult {
+    ghost use Rattle.hh_calc.specs.Period.{Settled};
+
+    ghost Value = { Settled };
+
+    ghost view = { λ r. record { accounts = r.accounts.items; residual = r.residual } };
+}
+
+impl PeriodResult {
+    pub(crate) fn new(accounts: Vec<AccountRow>, residual: Pence) -> PeriodResult
+        ensures { result ≡ record { accounts = accounts.items; residual = residual } }
+    {
+        PeriodResult { accounts, residual }
+    }
+
+    pub fn accounts(&self) -> &[AccountRow]
+        ensures { result.now ≡ self.now.accounts }
+    {
+        &self.accounts
+    }
+
+    /// Minus the sum of the charges, in pence.
+    pub fn residual(&self) -> Pence
+        ensures { result ≡ self.now.residual }
+    {
+        self.residual
+    }
+}
+
+/// Why a period is not settled.
+#[derive(Clone, Copy, Debug, PartialEq, Eq)]
+pub enum CalcFault {
+    /// A figure passes a limit of a run: refusal 55.
+    TooLarge,
+    /// Memory was refused: refusal 90.
+    Memory,
+}
+
+impl From<AllocError> for CalcFault {
+    ghost use Rattle.std.specs.Prelude.{◌≡◌};
+    ghost use Rattle.hh_calc.specs.declared.result.CalcFault.TheVariants.{Memory};
+
+    ghost from_gives = { λ _ fault. fault ≡ Memory };
+
+    fn from(_error: AllocError) -> CalcFault {
+        CalcFault::Memory
+    }
+}
+
+impl<T: Drop> From<AllocFailed<T>> for CalcFault {
+    ghost use Rattle.std.specs.Prelude.{◌≡◌};
+    ghost use Rattle.hh_calc.specs.declared.result.CalcFault.TheVariants.{Memory};
+
+    ghost from_gives = { λ _ fault. fault ≡ Memory };
+
+    fn from(_error: AllocFailed<T>) -> CalcFault {
+        CalcFault::Memory
+    }
+}

@@ -1,0 +1,89 @@
+//! The sums of the accounts of a period.
+
+ghost use Rattle.std.specs.Prelude.{◌≡◌, ◌<◌, ◌≤◌, ◌^◌, ◌*◌, ◌+◌, ◌+ℤ◌, pos, length, slice_index_or, slice_set, replicate, Contains, All, nat_abs};
+ghost use Rattle.std.specs.List.{HoldsAt};
+ghost use Rattle.std.specs.List.Sorted.{IsStrictlySortedBy};
+ghost use Rattle.hh_rules.specs.Accounts.{account_cmp};
+ghost use Rattle.hh_calc.specs.Formulas.{balanced, balancing_of, credited_of, loss_adjusted, net_of, weight_of};
+ghost use Rattle.hh_calc.specs.Sums.{AreSumsOver};
+
+use crate::data::{Contract, UnitData};
+use hh_rules::Account;
+
+/// Where an account stands among the accounts.
+fn place_of(accounts: &[Account], account: &Account) -> usize
+    requires ordered { IsStrictlySortedBy account_cmp accounts.now }
+    requires named { Contains accounts.now account.now }
+    ensures inside { result < length accounts.now }
+    ensures place { HoldsAt (λ a. a ≡ account.now) accounts.now result }
+{
+    match accounts.binary_search(account) {
+        Ok(place) => place,
+        Err(_) => unreachable!(),
+    }
+}
+
+/// Adds an amount to the sum at a place.
+fn add_at(sums: &mut [i128], place: usize, amount: i128)
+    requires inside { place < length sums.old }
+    requires room { nat_abs (slice_index_or sums.old place (pos 0)) + nat_abs amount < 2 ^ 127 }
+    ensures { sums.new ≡ slice_set sums.old place (slice_index_or sums.old place (pos 0) +ℤ amount) }
+{
+    sums[place] += amount;
+}
+
+/// The loss-adjusted volume of a unit, in ticks.
+fn loss_adjusted_volume(unit: &UnitData) -> i128
+    ensures volume { result ≡ loss_adjusted unit.now }
+    ensures size { nat_abs result ≤ 2 * 10 ^ 14 }
+{
+    i128::from(unit.metered.units()) * i128::from(unit.tlm.units())
+}
+
+/// The balancing volume of a unit, in ticks.
+fn balancing_volume(unit: &UnitData) -> i128
+    ensures volume { result ≡ balanced unit.now }
+    ensures size { nat_abs result ≤ 2 * 10 ^ 14 }
+{
+    i128::from(unit.balancing.units()) * i128::from(unit.tlm.units())
+}
+
+/// Adds the figures of each unit to the sums of the account that leads it.
+pub(crate) fn add_units(
+    accounts: &[Account],
+    units: &[UnitData],
+    credited: &mut [i128],
+    balancing: &mut [i128],
+    weight: &mut [i128],
+)
+    requires ordered { IsStrictlySortedBy account_cmp accounts.now }
+    requires named { All (λ u. Contains accounts.now u.lead) units.now }
+    requires credited { credited.old ≡ replicate (length accounts.now) (pos 0) }
+    requires balancing { balancing.old ≡ replicate (length accounts.now) (pos 0) }
+    requires weight { weight.old ≡ replicate (length accounts.now) (pos 0) }
+    ensures credited { AreSumsOver credited_of accounts.now units.now (10 ^ 34) credited.new }
+    ensures balancing { AreSumsOver balancing_of accounts.now units.now (10 ^ 34) balancing.new }
+    ensures weight { AreSumsOver weight_of accounts.now units.now (10 ^ 34) weight.new }
+{
+    for unit in units {
+        let place = place_of(accounts, &unit.lead);
+        let energy = loss_adjusted_volume(unit);
+        add_at(credited, place, energy);
+        add_at(balancing, place, balancing_volume(unit));
+        add_at(weight, place, energy.abs());
+    }
+}
+
+/// Adds the volume of each contract to its seller's sum, and takes it from its buyer's.
+pub(crate) fn add_contracts(accounts: &[Account], contracts: &[Contract], net: &mut [i128])
+    requires ordered { IsStrictlySortedBy account_cmp accounts.now }
+    requires named { All (λ c. Contains accounts.now c.seller × Contains accounts.now c.buyer) contracts.now }
+    requires net { net.old ≡ replicate (length accounts.now) (pos 0) }
+    ensures net { AreSumsOver net_of accounts.now contracts.now (10 ^ 28) net.new }
+{
+    for contract in contracts {
+        let volume = i128::from(contract.volume.units());
+        add_at(net, place_of(accounts, &contract.seller), volume);
+        add_at(net, place_of(accounts, &contract.buyer), -volume);
+    }
+}
