@@ -1,0 +1,129 @@
+-- Contract rows, one after another: their references keep their ends.
+use Rattle.std.proofs.Common.{◌≡◌, ℕ, ◌+◌, ◌<◌, Bool, true, false, cond, not, ◌&&◌, List, [], ◌∷◌, ◌++◌, length, get_or, take, drop, map, Option, Some, None, option_map, refl, sym, ap, ◌∙◌, Ordering, Bor}
+use Rattle.std.specs.Option.{option_copied}
+use Rattle.std.specs.declared.cmp.Ordering.TheVariants.{Less, Equal, Greater}
+use Rattle.hh_texts.specs.Gives.{UnlessMemory}
+use Rattle.std.specs.Ordering.{eq_by_cmp, is_eq}
+use Rattle.std.specs.BTreeMap.{is_at}
+use Rattle.std.specs.Map.{lookup}
+use Rattle.std.specs.FinMap.{find}
+use Rattle.std.specs.FinMap.Entries.{find-put}
+use Rattle.std.proofs.lemmas.List.{drop_more, map-append, take_more}
+use Rattle.hh_rules.specs.declared.account.Account.{Account}
+use Rattle.hh_rules.specs.declared.fault.Refusal.{Refusal}
+use Rattle.hh_rules.specs.declared.fault.Refusal.TheVariants.{Memory, ReferenceMoved, SameAccount}
+use Rattle.hh_rules.specs.Accounts.{account_cmp, bytes_cmp, is_same_account}
+use Rattle.hh_rules.specs.Faults.{row_fault}
+use Rattle.hh_rules.proofs.AccountLaws.{bytes_total, exact_accounts}
+use Rattle.std.proofs.lemmas.Map.Lookups.{exact_bytes}
+use Rattle.hh_calc.specs.declared.data.Contract.{Contract}
+use Rattle.hh_texts.specs.declared.period_contracts.PeriodContractRow.{PeriodContractRow}
+use Rattle.hh_settle.specs.Rows.{contract_entry, ends_entry, first_refusal, refusal_beside, refusal_from, refused_or}
+use Rattle.hh_settle.proofs.GatherFacts.{insert_entry-put}
+use Rattle.std.specs.BTreeMap.{insert_entry}
+
+pub equal : (o : Ordering) → is_eq o ≡ true → o ≡ Equal
+equal Equal e = refl
+equal Less e = cc e
+equal Greater e = cc e
+
+-- a map's look-up finds the first entry
+pub lookup-find : {K V : Type 0} (R : K → K → Ordering) (q : K) (es : List (K × V)) → lookup (is_at (R q)) es ≡ find R q es
+lookup-find R q [] = refl
+lookup-find R q (e ∷ es) = ap (cond (is_eq (R q e.0)) (Some e.1)) (lookup-find R q es)
+
+unfoldable or_else : {A : Type 0} → Option A → Option A → Option A
+or_else None other = other
+or_else (Some x) other = Some x
+
+find-push : {K V : Type 0} (R : K → K → Ordering) (q : K) (es : List (K × V)) (e : K × V)
+    → find R q (es ++ e ∷ []) ≡ or_else (find R q es) (cond (eq_by_cmp R q e.0) (Some e.1) None)
+unfolding or_else
+find-push R q [] e = refl
+find-push R q (x ∷ es) e = go (find-push R q es e) (eq_by_cmp R q x.0)
+  where
+    go : find R q (es ++ e ∷ []) ≡ or_else (find R q es) (cond (eq_by_cmp R q e.0) (Some e.1) None)
+        → (b : Bool) → cond b (Some x.1) (find R q (es ++ e ∷ [])) ≡ or_else (cond b (Some x.1) (find R q es)) (cond (eq_by_cmp R q e.0) (Some e.1) None)
+    go more true = refl
+    go more false = more
+
+abbrev pub ends : Contract → Account × Account
+ends c = (c.seller, c.buyer)
+
+-- each reference has the ends of its first row
+abbrev pub KeepsEnds : List PeriodContractRow → List (List ℕ × Contract) → Type 0
+KeepsEnds before entries = (q : List ℕ) → find bytes_cmp q (map ends_entry before) ≡ option_map ends (find bytes_cmp q entries)
+
+-- what the table knows of a row's reference is what the rows before it say
+pub known_ends : (before : List PeriodContractRow) (entries : List (List ℕ × Contract)) → KeepsEnds before entries
+    → (row : PeriodContractRow) (known : Option (Bor Contract)) → option_copied known ≡ lookup (is_at (bytes_cmp row.reference)) entries
+    → (answer : Option Refusal) → answer ≡ refusal_beside (option_map (λ c. (c.now.seller, c.now.buyer)) known) row
+    → answer ≡ refusal_beside (find bytes_cmp row.reference (map ends_entry before)) row
+known_ends before entries kept row known found answer e =
+    e ∙ ap (λ o. refusal_beside o row) (copied known ∙ ap (option_map ends) (found ∙ lookup-find bytes_cmp row.reference entries) ∙ sym (kept row.reference))
+  where
+    copied : (o : Option (Bor Contract)) → option_map (λ c. (c.now.seller, c.now.buyer)) o ≡ option_map ends (option_copied o)
+    copied None = refl
+    copied (Some c) = refl
+
+pub unless : (refusal : Refusal) (P : Type 0) → P → UnlessMemory refusal P
+unless Memory P p = tt
+unless other P p = p
+
+next_row : (rows : List PeriodContractRow) (i : ℕ) (row : PeriodContractRow) → i < length rows → row ≡ get_or rows i row
+    → refusal_from (i + 1) (take i rows) (drop i rows)
+    ≡ refused_or (i + 1) (refusal_beside (find bytes_cmp row.reference (map ends_entry (take i rows))) row) (refusal_from (i + 1 + 1) (take (i + 1) rows) (drop (i + 1) rows))
+next_row rows i row inside is =
+    ap (refusal_from (i + 1) (take i rows)) (drop_more rows i row inside ∙ ap (λ r. r ∷ drop (i + 1) rows) (sym is))
+    ∙ ap (λ before. refused_or (i + 1) (refusal_beside (find bytes_cmp row.reference (map ends_entry (take i rows))) row) (refusal_from (i + 1 + 1) before (drop (i + 1) rows)))
+    (ap (λ r. take i rows ++ r ∷ []) is ∙ sym (take_more rows i row inside))
+
+-- a refused row decides
+pub refused_here : (rows : List PeriodContractRow) (i : ℕ) (row : PeriodContractRow) → i < length rows → row ≡ get_or rows i row
+    → refusal_from (i + 1) (take i rows) (drop i rows) ≡ first_refusal rows
+    → (answer : Option Refusal) (refusal : Refusal) → answer ≡ refusal_beside (find bytes_cmp row.reference (map ends_entry (take i rows))) row → answer ≡ Some refusal
+    → first_refusal rows ≡ Some (row_fault refusal (i + 1))
+refused_here rows i row inside is so_far answer refusal e some =
+    sym so_far ∙ next_row rows i row inside is ∙ ap (λ o. refused_or (i + 1) o (refusal_from (i + 1 + 1) (take (i + 1) rows) (drop (i + 1) rows))) (sym e ∙ some)
+
+-- an accepted one leaves it to the rest
+pub accepted_more : (rows : List PeriodContractRow) (i : ℕ) (row : PeriodContractRow) → i < length rows → row ≡ get_or rows i row
+    → refusal_from (i + 1) (take i rows) (drop i rows) ≡ first_refusal rows
+    → refusal_beside (find bytes_cmp row.reference (map ends_entry (take i rows))) row ≡ None
+    → refusal_from (i + 1 + 1) (take (i + 1) rows) (drop (i + 1) rows) ≡ first_refusal rows
+accepted_more rows i row inside is so_far none =
+    sym (next_row rows i row inside is ∙ ap (λ o. refused_or (i + 1) o (refusal_from (i + 1 + 1) (take (i + 1) rows) (drop (i + 1) rows))) none) ∙ so_far
+
+-- an accepted row has the ends of its reference
+same_ends : (first : Account × Account) (row : PeriodContractRow) → refusal_beside (Some first) row ≡ None → first ≡ (row.seller, row.buyer)
+same_ends first row none = go (is_same_account row.seller row.buyer) (is_same_account first.0 row.seller) (is_same_account first.1 row.buyer) refl refl none
+  where
+    go : (t s b : Bool) → is_same_account first.0 row.seller ≡ s → is_same_account first.1 row.buyer ≡ b
+        → cond t (Some SameAccount) (cond (not (s && b)) (Some ReferenceMoved) None) ≡ None → first ≡ (row.seller, row.buyer)
+    go false true true e f h = λ i. (exact_accounts first.0 row.seller (equal (account_cmp first.0 row.seller) e) i, exact_accounts first.1 row.buyer (equal (account_cmp first.1 row.buyer) f) i)
+    go false true false e f h = cc h
+    go false false b e f h = cc h
+    go true s b e f h = cc h
+
+-- so the references keep their ends
+pub kept_more : (rows : List PeriodContractRow) (i : ℕ) (row : PeriodContractRow) → i < length rows → row ≡ get_or rows i row
+    → (entries new : List (List ℕ × Contract)) → KeepsEnds (take i rows) entries
+    → refusal_beside (find bytes_cmp row.reference (map ends_entry (take i rows))) row ≡ None
+    → new ≡ insert_entry bytes_cmp entries (contract_entry row).0 (contract_entry row).1
+    → KeepsEnds (take (i + 1) rows) new
+unfolding or_else
+kept_more rows i row inside is entries new kept none e q =
+    ap (find bytes_cmp q) (ap (map ends_entry) (take_more rows i row inside) ∙ map-append ends_entry (take i rows) (get_or rows i row ∷ []) ∙ ap (λ r. map ends_entry (take i rows) ++ ends_entry r ∷ []) (sym is))
+    ∙ find-push bytes_cmp q (map ends_entry (take i rows)) (ends_entry row)
+    ∙ go (eq_by_cmp bytes_cmp q row.reference) (find bytes_cmp q (map ends_entry (take i rows))) refl refl
+    ∙ sym (ap (λ es. option_map ends (find bytes_cmp q es)) (e ∙ insert_entry-put bytes_cmp row.reference (contract_entry row).1 entries)
+    ∙ ap (option_map ends) (find-put bytes_cmp bytes_total q row.reference (contract_entry row).1 entries))
+  where
+    go : (t : Bool) (o : Option (Account × Account)) → eq_by_cmp bytes_cmp q row.reference ≡ t → find bytes_cmp q (map ends_entry (take i rows)) ≡ o
+        → or_else o (cond t (Some (row.seller, row.buyer)) None) ≡ option_map ends (cond t (Some (contract_entry row).1) (find bytes_cmp q entries))
+    go true None same found = refl
+    go true (Some first) same found =
+        let key : q ≡ row.reference = exact_bytes q row.reference (equal (bytes_cmp q row.reference) same) in
+        ap Some (same_ends first row (sym (ap (λ o. refusal_beside o row) (ap (λ k. find bytes_cmp k (map ends_entry (take i rows))) (sym key) ∙ found)) ∙ none))
+    go false None same found = sym found ∙ kept q
+    go false (Some first) same found = sym found ∙ kept q

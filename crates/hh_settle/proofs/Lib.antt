@@ -1,0 +1,7 @@
+pub mod ContractFacts
+pub mod GatherFacts
+pub mod LineLemmas
+pub mod NamedFacts
+pub mod PeriodFacts
+pub mod ResultFacts
+pub mod TextFacts

@@ -1,0 +1,7 @@
+pub mod Grammar
+pub mod Lines
+pub mod Outcome
+pub mod PeriodText
+pub mod Refusals
+pub mod Rows
+pub mod Stops

@@ -1,0 +1,39 @@
+-- What a line of words asks for.
+use Rattle.std.specs.Prelude.{List, [], ◌∷◌, Option, Some, None, codes, if◌then◌else◌}
+use Rattle.std.specs.Str.{bytes_eq}
+use Rattle.clap.specs.Words.{Row, Text, first_of, fault_of, subcommand_of}
+use Rattle.clap.specs.Kinds.{Kinds}
+use Rattle.hh_settle.specs.Grammar.{settle_app}
+use Rattle.hh_settle.specs.declared.words.Command.{Command}
+use Rattle.hh_settle.specs.declared.words.Command.TheVariants.{Period}
+
+-- a command, its values as texts
+pub data Line : Type 0 where
+  PeriodLine : Text → Text → Text → Line
+
+-- a command's values
+abbrev pub line_of : Command → Line
+line_of (Period meter contracts price) = PeriodLine meter.now contracts.now price.now
+
+-- `period` needs its three values
+abbrev pub period_line : Option Text → Option Text → Option Text → Option Line
+period_line (Some meter) (Some contracts) (Some price) = Some (PeriodLine meter contracts price)
+period_line _ _ _ = None
+
+-- what `period` was given
+abbrev pub given_period : List Row → Option Line
+given_period rows = period_line (first_of (codes "METER") rows) (first_of (codes "CONTRACTS") rows) (first_of (codes "PRICE") rows)
+
+-- a subcommand by its name, and what it was given
+abbrev pub given_line : Option (Text × List Row) → Option Line
+given_line None = None
+given_line (Some given) = if bytes_eq given.0 (codes "period") then given_period given.1 else None
+
+-- nothing, where `clap` finds a fault
+abbrev pub faultless : Kinds → Option Line → Option Line
+faultless [] line = line
+faultless (kind ∷ kinds) line = None
+
+-- the command that the words are by `clap`'s grammar, the program's own name in front
+unfoldable pub line_value : List Text → Option Line
+line_value words = faultless (fault_of settle_app words) (given_line (subcommand_of settle_app words))

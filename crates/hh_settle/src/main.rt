@@ -1,0 +1,21 @@
+//! The program `settle`.
+#![tactic(auto)]
+
+mod files;
+mod gather;
+mod period;
+mod period_text;
+mod program;
+mod refusal;
+mod rejection;
+mod words;
+
+use hh_num::StreamSink;
+use program::run;
+use std::process::ExitCode;
+
+fn main(rt: HostRuntime) -> ExitCode {
+    let mut out = StreamSink::new(rt.stdout());
+    let mut err = StreamSink::new(rt.stderr());
+    ExitCode::from(run(&rt, &mut out, &mut err))
+}

@@ -1,0 +1,64 @@
+//! Why the inputs of a command are refused.
+
+use crate::refusal::Input;
+use hh_rules::{Fault, Refusal};
+use std::alloc::{AllocError, AllocFailed};
+
+/// A refusal, with the input that it names. Want of memory and figures past a limit name none.
+#[derive(Clone, Copy, Debug, PartialEq, Eq)]
+pub struct Rejection {
+    pub fault: Fault,
+    pub input: Option<Input>,
+}
+
+impl Rejection {
+    ghost use Rattle.std.specs.Prelude.{◌≡◌, None, Some};
+    ghost use Rattle.hh_rules.specs.Faults.{plain_fault};
+    ghost use Rattle.hh_settle.specs.Outcome.{memory_rejection, ByRefusal};
+
+    /// A refusal of the whole.
+    pub fn of(refusal: Refusal) -> Rejection
+        ensures { result ≡ record { fault = plain_fault refusal; input = None } }
+    {
+        Rejection {
+            fault: Fault::of(refusal),
+            input: None,
+        }
+    }
+
+    /// A refusal that an input meets.
+    pub fn of_input(input: Input, fault: Fault) -> Rejection
+        ensures refusal { result.fault.refusal ≡ fault.refusal }
+        ensures input { ByRefusal fault.refusal (result ≡ memory_rejection) (result ≡ record { fault = fault; input = Some input }) }
+    {
+        match fault.refusal {
+            Refusal::Memory => Rejection::of(Refusal::Memory),
+            _ => Rejection {
+                fault,
+                input: Some(input),
+            },
+        }
+    }
+}
+
+impl From<AllocError> for Rejection {
+    ghost use Rattle.std.specs.Prelude.{◌≡◌};
+    ghost use Rattle.hh_settle.specs.Outcome.{memory_rejection};
+
+    ghost from_gives = { λ _ rejection. rejection ≡ memory_rejection };
+
+    fn from(_error: AllocError) -> Rejection {
+        Rejection::of(Refusal::Memory)
+    }
+}
+
+impl<T: Drop> From<AllocFailed<T>> for Rejection {
+    ghost use Rattle.std.specs.Prelude.{◌≡◌};
+    ghost use Rattle.hh_settle.specs.Outcome.{memory_rejection};
+
+    ghost from_gives = { λ _ rejection. rejection ≡ memory_rejection };
+
+    fn from(_error: AllocFailed<T>) -> Rejection {
+        Rejection::of(Refusal::Memory)
+    }
+}

@@ -1,0 +1,144 @@
+//! The words of the command line.
+
+ghost use Rattle.std.specs.Prelude.{◌≡◌, ◌≢◌, IfOk, IfErr, map, string_bytes, option_map, codes, false, Some, None};
+ghost use Rattle.clap.specs.Words.{app_of, rule_of, found_of, rows_of, first_of, kind_of, subcommand_rows_of};
+ghost use Rattle.clap.specs.declared.builder.command.Command.TheViews.{out-Command};
+ghost use Rattle.clap.specs.declared.error.kind.ErrorKind.TheVariants.{OutOfMemory};
+ghost use Rattle.hh_settle.specs.Grammar.{positional, period_app, settle_app};
+ghost use Rattle.hh_settle.specs.Lines.{line_of, line_value, given_line, given_period};
+
+use clap::error::ErrorKind;
+use clap::{Arg, ArgAction, ArgMatches};
+use std::alloc::{AllocError, Global};
+
+/// How the program is used, in short.
+pub const USAGE: &str = "usage: settle period METER CONTRACTS PRICE\n";
+
+/// What the program is to do. The texts are as they were given.
+#[derive(Clone, Copy, Debug, PartialEq, Eq)]
+pub enum Command<'a> {
+    /// Settles one period from a file of meters, a file of contracts and a price.
+    Period {
+        meter: &'a str,
+        contracts: &'a str,
+        price: &'a str,
+    },
+}
+
+/// Why the words give no command.
+#[derive(Debug, Drop)]
+pub enum WordsFault {
+    /// The words are no command, or a call for help. The text is for the user.
+    Wrong(String),
+    /// Memory was refused.
+    Memory,
+}
+
+impl From<AllocError> for WordsFault {
+    ghost use Rattle.hh_settle.specs.declared.words.WordsFault.TheVariants.{Memory};
+
+    ghost from_gives = { λ _ fault. fault ≡ Memory };
+
+    fn from(_error: AllocError) -> WordsFault {
+        WordsFault::Memory
+    }
+}
+
+/// A required word that stands in its place.
+fn positional_of<'a>(alloc: Global, id: &'a str, help: &'a str) -> Arg<'a>
+    ensures rule { rule_of result ≡ positional id.entry.now }
+    ensures own { result.global ≡ false }
+{
+    Arg::new(alloc, id)
+        .required(true)
+        .action(ArgAction::Set)
+        .help(help)
+}
+
+fn period<'a>(alloc: Global) -> Result<clap::Command<'a>, AllocError>
+    ensures app { IfOk result (λ c. app_of c ≡ period_app) }
+    ensures own { IfOk result (λ c. (out-Command c).has_globals ≡ false) }
+{
+    clap::Command::new(alloc, "period")
+        .about("Settles one period from two files and a price")
+        .arg(positional_of(alloc, "METER", "File of the units' meter rows"))?
+        .arg(positional_of(alloc, "CONTRACTS", "File of the contract rows"))?
+        .arg(positional_of(
+            alloc,
+            "PRICE",
+            "Price in pounds per MWh; a negative one follows the word --",
+        ))
+}
+
+fn settle<'a>(alloc: Global) -> Result<clap::Command<'a>, AllocError>
+    ensures app { IfOk result (λ c. app_of c ≡ settle_app) }
+    ensures own { IfOk result (λ c. (out-Command c).has_globals ≡ false) }
+{
+    clap::Command::new(alloc, "settle")
+        .about("Settles the imbalances of half-hourly energy accounts")
+        .subcommand_required(true)
+        .subcommand(period(alloc)?)
+}
+
+/// Reads a line of words, the program's own name in front.
+///
+/// # Errors
+///
+/// `Wrong` where the words are no command by `clap`'s grammar, or call for help; `Memory` where
+/// memory was refused.
+pub fn read_words<'a>(alloc: Global, words: &'a [String]) -> Result<Command<'a>, WordsFault>
+    ensures command { IfOk result (λ command. line_value (map string_bytes words.entry.now) ≡ Some (line_of command)) }
+    ensures wrong { IfErr result (λ fault. fault ≢ WordsFault.Memory → line_value (map string_bytes words.entry.now) ≡ None) }
+{
+    let settle = settle(alloc)?;
+    match settle.try_get_matches_from(words) {
+        Ok(matches) => match command_of(&matches) {
+            Some(command) => Ok(command),
+            None => Err(WordsFault::Wrong(String::from_str(alloc, USAGE)?)),
+        },
+        Err(error) => Err(fault_of(alloc, &error)),
+    }
+}
+
+/// What the program makes of an error of `clap`.
+fn fault_of(alloc: Global, error: &clap::Error) -> WordsFault
+    ensures { kind_of error.now ≡ OutOfMemory → result ≡ WordsFault.Memory }
+{
+    if error.kind() == ErrorKind::OutOfMemory {
+        return WordsFault::Memory;
+    }
+    match error.to_string(alloc) {
+        Ok(text) => WordsFault::Wrong(text),
+        Err(_) => WordsFault::Memory,
+    }
+}
+
+/// The command that a subcommand and its values make.
+fn command_of<'a>(matches: &ArgMatches<'a>) -> Option<Command<'a>>
+    ensures { option_map line_of result ≡ given_line (subcommand_rows_of matches.now) }
+{
+    if let Some(given) = matches.subcommand_matches("period") {
+        return period_of(given);
+    }
+    None
+}
+
+fn period_of<'a>(given: &ArgMatches<'a>) -> Option<Command<'a>>
+    ensures { option_map line_of result ≡ given_period (rows_of (found_of given.now)) }
+{
+    Some(Command::Period {
+        meter: value_of(given, "METER")?,
+        contracts: value_of(given, "CONTRACTS")?,
+        price: value_of(given, "PRICE")?,
+    })
+}
+
+/// The text that a subcommand was given under a name.
+fn value_of<'a>(given: &ArgMatches<'a>, name: &str) -> Option<&'a str>
+    ensures { option_map (λ text. text.now) result ≡ first_of name.now (rows_of (found_of given.now)) }
+{
+    given.get_str(name)
+}
+
+#[cfg(test)]
+mod tests;

@@ -1,0 +1,118 @@
+-- Row after row.
+use Rattle.std.proofs.Common.{◌≡◌, ℕ, zero, suc, ◌+◌, ◌<◌, ◌≤◌, Bool, true, false, List, [], ◌∷◌, ◌++◌, length, Some, None, drop, Result, Ok, Err, ◌≢◌, refl, sym, ap, ◌∙◌, arith, append-nil, append_assoc, ltb, eqb, nat_eq, not, ◌&&◌, map, get_or, Bor, add-one}
+use Rattle.std.proofs.lemmas.Bool.Decides.{nat_tests}
+use Rattle.std.proofs.lemmas.List.{length-map}
+use Rattle.hh_rules.specs.declared.fault.Fault.{Fault}
+use Rattle.hh_rules.specs.declared.fault.Refusal.TheVariants.{BadHeader, TooManyRows, BadRecord}
+use Rattle.hh_rules.specs.Faults.{plain_fault, row_fault, field_fault}
+use Rattle.csv.specs.Records.{field_at}
+use Rattle.std.specs.Cmp.Lexicographic.{pointwise}
+use Rattle.hh_texts.specs.Records.{records_of}
+use Rattle.hh_texts.specs.Rows.{rows_from, rows_under, rows_of, same_fields, row_with}
+
+-- rows with others before them
+abbrev pub behind : {Row : Type 0} → List Row → Result (List Row) Fault → Result (List Row) Fault
+behind front (Ok rows) = Ok (front ++ rows)
+behind front (Err e) = Err e
+
+behind-more : {Row : Type 0} (front : List Row) (row : Row) (rows : Result (List Row) Fault) → behind (front ++ row ∷ []) rows ≡ behind front (row_with (Ok row) rows)
+behind-more front row (Ok rows) = ap Ok (append_assoc front (row ∷ []) rows)
+behind-more front row (Err e) = refl
+
+-- What all the rows are, from the rows in front and the records that are left.
+pub all-end : {Row : Type 0} (columns n : ℕ) (row_of : List (List ℕ) → Result Row ℕ) (front : List Row) (left : List (List (List ℕ))) (all : Result (List Row) Fault)
+    → behind front (rows_from columns row_of n left) ≡ all → left ≡ [] → all ≡ Ok front
+unfolding rows_from
+all-end columns n row_of front left all h e = sym (rw e at h) ∙ ap Ok (append-nil front)
+
+pub all-many : {Row : Type 0} (columns n : ℕ) (row_of : List (List ℕ) → Result Row ℕ) (front : List Row) (left rest : List (List (List ℕ))) (fields : List (List ℕ)) (all : Result (List Row) Fault)
+    → behind front (rows_from columns row_of n left) ≡ all → left ≡ fields ∷ rest → 20000 < n → all ≡ Err (plain_fault TooManyRows)
+unfolding rows_from
+all-many columns n row_of front left rest fields all h e many =
+    let past : ltb 20000 n ≡ true = grind (arith, nat_tests) in
+    sym (rw (e, past) at h)
+
+pub all-length : {Row : Type 0} (columns n : ℕ) (row_of : List (List ℕ) → Result Row ℕ) (front : List Row) (left rest : List (List (List ℕ))) (fields : List (List ℕ)) (all : Result (List Row) Fault)
+    → behind front (rows_from columns row_of n left) ≡ all → left ≡ fields ∷ rest → n ≤ 20000 → length fields ≢ columns → all ≡ Err (row_fault BadRecord n)
+unfolding rows_from
+all-length columns n row_of front left rest fields all h e few other =
+    let past : ltb 20000 n ≡ false = grind (arith, nat_tests) in
+    let differ : eqb (length fields) columns ≡ false = grind (arith, nat_tests) in
+    sym (rw (e, past, differ) at h)
+
+pub all-field : {Row : Type 0} (columns n column : ℕ) (row_of : List (List ℕ) → Result Row ℕ) (front : List Row) (left rest : List (List (List ℕ))) (fields : List (List ℕ)) (all : Result (List Row) Fault)
+    → behind front (rows_from columns row_of n left) ≡ all → left ≡ fields ∷ rest → n ≤ 20000 → length fields ≡ columns → row_of fields ≡ Err column → all ≡ Err (field_fault n column)
+unfolding rows_from
+all-field columns n column row_of front left rest fields all h e few same bad =
+    let past : ltb 20000 n ≡ false = grind (arith, nat_tests) in
+    let fits : eqb (length fields) columns ≡ true = grind (arith, nat_tests) in
+    sym (rw (e, past, fits, bad) at h)
+
+pub all-row : {Row : Type 0} (columns n : ℕ) (row_of : List (List ℕ) → Result Row ℕ) (front : List Row) (row : Row) (left rest : List (List (List ℕ))) (fields : List (List ℕ)) (all : Result (List Row) Fault)
+    → behind front (rows_from columns row_of n left) ≡ all → left ≡ fields ∷ rest → n ≤ 20000 → length fields ≡ columns → row_of fields ≡ Ok row
+    → behind (front ++ row ∷ []) (rows_from columns row_of (n + 1) rest) ≡ all
+unfolding rows_from
+all-row columns n row_of front row left rest fields all h e few same read =
+    let past : ltb 20000 n ≡ false = grind (arith, nat_tests) in
+    let fits : eqb (length fields) columns ≡ true = grind (arith, nat_tests) in
+    behind-more front row (rows_from columns row_of (n + 1) rest) ∙ rw (e, past, fits, read) at h
+
+-- a form has as many columns as its header has names
+pub names-columns : (header : List (Bor (List ℕ))) (names : List (List ℕ)) → map (λ name. name.now) header ≡ names → length names ≡ length header
+names-columns header names e = ap length (sym e) ∙ length-map header (λ name. name.now)
+
+-- A record against the names, field by field.
+pub same_fields-drop : (fields : List (List ℕ)) (names : List (Bor (List ℕ))) (i : ℕ) (field name : List ℕ) (d : Bor (List ℕ)) → i < length names → field_at fields i ≡ Some field → name ≡ (get_or names i d).now
+    → same_fields (drop i fields) (drop i (map (λ name. name.now) names))
+    ≡ (pointwise nat_eq field name && same_fields (drop (i + 1) fields) (drop (i + 1) (map (λ name. name.now) names)))
+unfolding field_at
+same_fields-drop [] names i field name d lt h e = cc h
+same_fields-drop (f ∷ fs) [] i field name d lt h e = absurd (omega arith)
+same_fields-drop (f ∷ fs) (n ∷ ns) zero field name d lt h e = let same : f ≡ field = cc h in rw (same, e) refl
+same_fields-drop (f ∷ fs) (n ∷ ns) (suc i) field name d lt h e = simp add-one (simp add-one at (same_fields-drop fs ns i field name d (omega arith) h e))
+
+pub field_at-none : (fields : List (List ℕ)) (i : ℕ) → i < length fields → field_at fields i ≡ None → ⊥
+unfolding field_at
+field_at-none [] i lt h = omega arith
+field_at-none (f ∷ fs) zero lt h = cc h
+field_at-none (f ∷ fs) (suc i) lt h = field_at-none fs i (omega arith) h
+
+-- a file by its records, and those by the header
+pub rows_of-records : {Row : Type 0} (header : List (List ℕ)) (row_of : List (List ℕ) → Result Row ℕ) (bytes : List ℕ) (records : List (List (List ℕ))) → length bytes ≤ 1048576 → records ≡ records_of bytes
+    → rows_of header row_of bytes ≡ rows_under header row_of records
+unfolding rows_of
+rows_of-records header row_of bytes records few e =
+    let past : ltb 1048576 (length bytes) ≡ false = grind (arith, nat_tests) in
+    rw (past, e) refl
+
+pub rows_under-none : {Row : Type 0} (header : List (List ℕ)) (row_of : List (List ℕ) → Result Row ℕ) (records : List (List (List ℕ))) → records ≡ [] → rows_under header row_of records ≡ Err (plain_fault BadHeader)
+unfolding rows_under
+rows_under-none header row_of records e = rw e refl
+
+pub rows_under-other : {Row : Type 0} (header fields : List (List ℕ)) (row_of : List (List ℕ) → Result Row ℕ) (records rest : List (List (List ℕ))) → records ≡ fields ∷ rest → same_fields fields header ≡ false
+    → rows_under header row_of records ≡ Err (plain_fault BadHeader)
+unfolding rows_under
+rows_under-other header fields row_of records rest e h = rw (e, h) refl
+
+pub rows_under-header : {Row : Type 0} (header fields : List (List ℕ)) (row_of : List (List ℕ) → Result Row ℕ) (records rest : List (List (List ℕ))) → records ≡ fields ∷ rest → same_fields fields header ≡ true
+    → rows_under header row_of records ≡ rows_from (length header) row_of 1 rest
+unfolding rows_under
+rows_under-header header fields row_of records rest e h = rw (e, h) refl
+
+-- a field that is not its name decides, and one that is leaves it to the rest
+pub same_fields-differ : (fields : List (List ℕ)) (names : List (Bor (List ℕ))) (i : ℕ) (field name : List ℕ) (d : Bor (List ℕ)) → i < length names → field_at fields i ≡ Some field → name ≡ (get_or names i d).now
+    → true ≡ not (pointwise nat_eq field name) → same_fields (drop i fields) (drop i (map (λ n. n.now) names)) ≡ false
+same_fields-differ fields names i field name d lt h e other = same_fields-drop fields names i field name d lt h e ∙ go (pointwise nat_eq field name) other
+  where
+    go : (b : Bool) → true ≡ not b → (b && same_fields (drop (i + 1) fields) (drop (i + 1) (map (λ n. n.now) names))) ≡ false
+    go false k = refl
+    go true k = cc k
+
+pub same_fields-next : (fields : List (List ℕ)) (names : List (Bor (List ℕ))) (i : ℕ) (field name : List ℕ) (d : Bor (List ℕ)) → i < length names → field_at fields i ≡ Some field → name ≡ (get_or names i d).now
+    → false ≡ not (pointwise nat_eq field name)
+    → same_fields (drop i fields) (drop i (map (λ n. n.now) names)) ≡ same_fields (drop (i + 1) fields) (drop (i + 1) (map (λ n. n.now) names))
+same_fields-next fields names i field name d lt h e same = same_fields-drop fields names i field name d lt h e ∙ go (pointwise nat_eq field name) same
+  where
+    go : (b : Bool) → false ≡ not b → (b && same_fields (drop (i + 1) fields) (drop (i + 1) (map (λ n. n.now) names))) ≡ same_fields (drop (i + 1) fields) (drop (i + 1) (map (λ n. n.now) names))
+    go true k = refl
+    go false k = cc k

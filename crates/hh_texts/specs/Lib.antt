@@ -1,0 +1,5 @@
+pub mod Fields
+pub mod Gives
+pub mod PeriodFiles
+pub mod Records
+pub mod Rows

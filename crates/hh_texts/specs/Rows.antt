@@ -1,0 +1,47 @@
+-- The rows of a file, or the first fault in it.
+use Rattle.std.specs.Prelude.{ℕ, ◌+◌, List, [], ◌∷◌, length, Result, Ok, Err, nat_lt, ◌==◌, if◌then◌else◌, nat_eq, Bool}
+use Rattle.std.specs.Cmp.Lexicographic.{pointwise}
+use Rattle.hh_rules.specs.declared.fault.Fault.{Fault}
+use Rattle.hh_rules.specs.declared.fault.Refusal.TheVariants.{FileTooLarge, TooManyRows, BadHeader, BadRecord}
+use Rattle.hh_rules.specs.Faults.{plain_fault, row_fault, field_fault}
+use Rattle.hh_texts.specs.Records.{records_of}
+
+-- the most bytes of a file
+abbrev pub most_bytes : ℕ
+most_bytes = 1_048_576
+
+-- the most rows of a file, without its header
+abbrev pub most_rows : ℕ
+most_rows = 20_000
+
+-- whether two records have the same fields
+abbrev pub same_fields : List (List ℕ) → List (List ℕ) → Bool
+same_fields a b = pointwise (pointwise nat_eq) a b
+
+-- the row that a record reads as, or the fault at its first column that doesn't read
+abbrev pub at_row : {Row : Type 0} → ℕ → Result Row ℕ → Result Row Fault
+at_row number (Ok row) = Ok row
+at_row number (Err column) = Err (field_fault number column)
+
+-- a row before other rows; the first fault counts
+abbrev pub row_with : {Row : Type 0} → Result Row Fault → Result (List Row) Fault → Result (List Row) Fault
+row_with (Err fault) rows = Err fault
+row_with (Ok row) (Err fault) = Err fault
+row_with (Ok row) (Ok rows) = Ok (row ∷ rows)
+
+-- the rows of records that are numbered from this number on, each of so many columns
+unfoldable pub rows_from : {Row : Type 0} → ℕ → (List (List ℕ) → Result Row ℕ) → ℕ → List (List (List ℕ)) → Result (List Row) Fault
+rows_from columns row_of number [] = Ok []
+rows_from columns row_of number (fields ∷ records) =
+    if nat_lt most_rows number then Err (plain_fault TooManyRows)
+    else if length fields == columns then row_with (at_row number (row_of fields)) (rows_from columns row_of (number + 1) records)
+    else Err (row_fault BadRecord number)
+
+-- the rows of records, the first of which is to be the header
+unfoldable pub rows_under : {Row : Type 0} → List (List ℕ) → (List (List ℕ) → Result Row ℕ) → List (List (List ℕ)) → Result (List Row) Fault
+rows_under header row_of [] = Err (plain_fault BadHeader)
+rows_under header row_of (first ∷ records) = if same_fields first header then rows_from (length header) row_of 1 records else Err (plain_fault BadHeader)
+
+-- the rows of a file with this header, each as row_of reads its record
+unfoldable pub rows_of : {Row : Type 0} → List (List ℕ) → (List (List ℕ) → Result Row ℕ) → List ℕ → Result (List Row) Fault
+rows_of header row_of bytes = if nat_lt most_bytes (length bytes) then Err (plain_fault FileTooLarge) else rows_under header row_of (records_of bytes)

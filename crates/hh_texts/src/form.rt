@@ -1,0 +1,102 @@
+//! Forms of files, and the one reader of them all.
+
+ghost use Rattle.std.specs.Prelude.{◌≡◌, ℕ, List, length, Result, map};
+ghost use Rattle.csv.specs.Records.{fields_of};
+ghost use Rattle.hh_texts.specs.Gives.{Gives};
+ghost use Rattle.hh_texts.specs.Records.{IsReading, left_of};
+ghost use Rattle.hh_texts.specs.Rows.{rows_of, rows_from, same_fields};
+
+use crate::records::{next_record, records_in};
+use csv::{ByteRecord, Reader};
+use hh_rules::{Fault, Refusal};
+use std::alloc::Global;
+
+/// The most bytes that a file may have.
+pub const MAX_BYTES: usize = 1_048_576;
+
+/// The most rows that a file may have, without its header.
+pub const MAX_ROWS: u32 = 20_000;
+
+/// A form of file: its header, and the row that a record under it reads as.
+pub trait Form {
+    type Row: Drop;
+
+    ghost names: { Self → List (List ℕ) };
+
+    ghost row_of: { Self → List (List ℕ) → Result Self.Row ℕ };
+
+    /// The names of the columns, of which the first record consists.
+    fn header(&self) -> &'static [&'static str]
+        ensures { map (λ name. name.now) result.now ≡ names self.now };
+
+    /// The row that a record of as many fields reads as, or the first column, from 1, that
+    /// doesn't read.
+    fn read_row(&self, fields: &ByteRecord) -> Result<Self::Row, u32>
+        requires { length (fields_of fields.now) ≡ length (names self.now) }
+        ensures { result ≡ row_of self.now (fields_of fields.now) };
+}
+
+/// The rows of a file of this form, or the first fault in it: `FileTooLarge`, then `BadHeader`,
+/// then by row, from 1 without the header, `TooManyRows`, `BadRecord` and `BadField`. `Memory`
+/// may come in the place of any answer.
+pub fn read_rows<F: Form>(alloc: Global, form: &F, bytes: &[u8]) -> Result<Vec<F::Row>, Fault>
+    ensures { Gives (λ rows. rows.items) result (rows_of (F.names form.now) (F.row_of form.now) bytes.now) }
+{
+    if bytes.len() > MAX_BYTES {
+        return Err(Fault::of(Refusal::FileTooLarge));
+    }
+    let mut reader = records_in(alloc, bytes);
+    let mut fields = ByteRecord::new(alloc);
+    if !next_record(&mut reader, &mut fields)? || !has_fields(&fields, form.header()) {
+        return Err(Fault::of(Refusal::BadHeader));
+    }
+    rows_under(alloc, form, &mut reader)
+}
+
+/// Whether a record has these fields and no others.
+fn has_fields(fields: &ByteRecord, names: &[&str]) -> bool
+    ensures { result ≡ same_fields (fields_of fields.now) (map (λ name. name.now) names.now) }
+{
+    if fields.len() != names.len() {
+        return false;
+    }
+    for (i, name) in names.iter().enumerate() {
+        let Some(field) = fields.get(i) else {
+            return false;
+        };
+        if field != name.as_bytes() {
+            return false;
+        }
+    }
+    true
+}
+
+/// The rows of the records that are left to a reader, numbered from 1.
+fn rows_under<F: Form>(
+    alloc: Global,
+    form: &F,
+    reader: &mut Reader<&[u8]>,
+) -> Result<Vec<F::Row>, Fault>
+    requires { IsReading reader.old }
+    ensures { Gives (λ rows. rows.items) result (rows_from (length (F.names form.now)) (F.row_of form.now) 1 (left_of reader.old)) }
+{
+    let columns = form.header().len();
+    let mut rows = Vec::new(alloc);
+    let mut fields = ByteRecord::new(alloc);
+    for row in 1..=MAX_ROWS {
+        if !next_record(reader, &mut fields)? {
+            return Ok(rows);
+        }
+        if fields.len() != columns {
+            return Err(Fault::at_row(Refusal::BadRecord, row));
+        }
+        match form.read_row(&fields) {
+            Ok(read) => rows.push(read)?,
+            Err(column) => return Err(Fault::at_field(row, column)),
+        }
+    }
+    if next_record(reader, &mut fields)? {
+        return Err(Fault::of(Refusal::TooManyRows));
+    }
+    Ok(rows)
+}

@@ -1,0 +1,15 @@
+//! The files of the market as rows: CSV under a header, each row of one form.
+#![tactic(auto)]
+
+mod fields;
+mod form;
+mod period_contracts;
+mod period_meters;
+mod records;
+
+pub use form::{Form, MAX_BYTES, MAX_ROWS, read_rows};
+pub use period_contracts::{PeriodContractRow, PeriodContracts, read_period_contracts};
+pub use period_meters::{PeriodMeterRow, PeriodMeters, read_period_meters};
+
+#[cfg(test)]
+mod tests;

@@ -1,0 +1,58 @@
+//! The file of contract volumes from which one Settlement Period is settled.
+
+ghost use Rattle.hh_texts.specs.Gives.{Gives};
+ghost use Rattle.hh_texts.specs.PeriodFiles.{period_contract_header, period_contract_row, period_contract_rows};
+
+use crate::fields::field_in;
+use crate::form::{Form, read_rows};
+use csv::ByteRecord;
+use hh_num::Kwh;
+use hh_rules::{Account, Fault, Reference};
+use std::alloc::Global;
+
+/// The volume of a contract in one Settlement Period.
+#[derive(Clone, Copy, Debug, PartialEq, Eq)]
+pub struct PeriodContractRow {
+    /// The contract's reference.
+    pub reference: Reference,
+    /// The energy account that sells.
+    pub seller: Account,
+    /// The energy account that buys.
+    pub buyer: Account,
+    /// The volume from the seller to the buyer, in kWh.
+    pub volume: Kwh,
+}
+
+/// The form `reference,seller,buyer,mwh`.
+#[derive(Clone, Copy, Debug, PartialEq, Eq)]
+pub struct PeriodContracts;
+
+impl Form for PeriodContracts {
+    type Row = PeriodContractRow;
+
+    ghost names = { λ _. period_contract_header };
+
+    ghost row_of = { λ _. period_contract_row };
+
+    fn header(&self) -> &'static [&'static str] {
+        &["reference", "seller", "buyer", "mwh"]
+    }
+
+    #[tactic(auto, unfolding(crate::specs::PeriodFiles::period_contract_row))]
+    fn read_row(&self, fields: &ByteRecord) -> Result<PeriodContractRow, u32> {
+        Ok(PeriodContractRow {
+            reference: Reference::read(field_in(fields, 0)).ok_or(1u32)?,
+            seller: Account::read(field_in(fields, 1)).ok_or(2u32)?,
+            buyer: Account::read(field_in(fields, 2)).ok_or(3u32)?,
+            volume: Kwh::read(field_in(fields, 3)).ok_or(4u32)?,
+        })
+    }
+}
+
+/// The rows of a file of contract volumes, or the first fault in it, in the order of
+/// `read_rows`.
+pub fn read_period_contracts(alloc: Global, bytes: &[u8]) -> Result<Vec<PeriodContractRow>, Fault>
+    ensures { Gives (λ rows. rows.items) result (period_contract_rows bytes.now) }
+{
+    read_rows(alloc, &PeriodContracts, bytes)
+}

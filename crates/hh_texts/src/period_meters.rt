@@ -1,0 +1,60 @@
+//! The file of meter volumes from which one Settlement Period is settled.
+
+ghost use Rattle.hh_texts.specs.Gives.{Gives};
+ghost use Rattle.hh_texts.specs.PeriodFiles.{period_meter_header, period_meter_row, period_meter_rows};
+
+use crate::fields::field_in;
+use crate::form::{Form, read_rows};
+use csv::ByteRecord;
+use hh_num::{Kwh, Tlm};
+use hh_rules::{Account, Fault, UnitId};
+use std::alloc::Global;
+
+/// The volumes of a BM Unit in one Settlement Period.
+#[derive(Clone, Copy, Debug, PartialEq, Eq)]
+pub struct PeriodMeterRow {
+    /// The BM Unit.
+    pub unit: UnitId,
+    /// The energy account of its Lead Party.
+    pub account: Account,
+    /// The metered volume, in kWh: positive where the unit delivers.
+    pub metered: Kwh,
+    /// The transmission loss multiplier, in 10^-7.
+    pub tlm: Tlm,
+    /// The volume of its balancing services, in kWh.
+    pub balancing: Kwh,
+}
+
+/// The form `unit,account,metered_mwh,tlm,balancing_mwh`.
+#[derive(Clone, Copy, Debug, PartialEq, Eq)]
+pub struct PeriodMeters;
+
+impl Form for PeriodMeters {
+    type Row = PeriodMeterRow;
+
+    ghost names = { λ _. period_meter_header };
+
+    ghost row_of = { λ _. period_meter_row };
+
+    fn header(&self) -> &'static [&'static str] {
+        &["unit", "account", "metered_mwh", "tlm", "balancing_mwh"]
+    }
+
+    #[tactic(auto, unfolding(crate::specs::PeriodFiles::period_meter_row))]
+    fn read_row(&self, fields: &ByteRecord) -> Result<PeriodMeterRow, u32> {
+        Ok(PeriodMeterRow {
+            unit: UnitId::read(field_in(fields, 0)).ok_or(1u32)?,
+            account: Account::read(field_in(fields, 1)).ok_or(2u32)?,
+            metered: Kwh::read(field_in(fields, 2)).ok_or(3u32)?,
+            tlm: Tlm::read(field_in(fields, 3)).ok_or(4u32)?,
+            balancing: Kwh::read(field_in(fields, 4)).ok_or(5u32)?,
+        })
+    }
+}
+
+/// The rows of a file of meter volumes, or the first fault in it, in the order of `read_rows`.
+pub fn read_period_meters(alloc: Global, bytes: &[u8]) -> Result<Vec<PeriodMeterRow>, Fault>
+    ensures { Gives (λ rows. rows.items) result (period_meter_rows bytes.now) }
+{
+    read_rows(alloc, &PeriodMeters, bytes)
+}
