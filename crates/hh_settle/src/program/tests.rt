@@ -1,5 +1,8 @@
 use super::*;
 use hh_num::MemorySink;
+use std::alloc::Global;
+use std::fs;
+use std::process::Abort;
 use std::test::Fail;
 
 /// Runs a line of words, and gives its status with what it wrote on the standard error.
@@ -14,12 +17,217 @@ fn told(rt: &HostRuntime, line: &[&str]) -> Result<(u8, Vec<u8>), AllocError> {
     Ok((status, Vec::from_slice(rt.alloc(), err.taken())?))
 }
 
-#[test]
-fn done(rt: HostRuntime) -> Result<(), Fail> {
-    let (status, err) = told(&rt, &["settle", "period", "/dev/null", "/dev/null", "1"])?;
-    assert_eq!(&rt; status, 0);
-    assert_eq!(&rt; err.len(), 0);
+/// A period's inputs below their headers, and what the program makes of them.
+#[derive(Clone, Copy)]
+struct Case<'a> {
+    meter: &'a str,
+    contracts: &'a str,
+    price: &'a str,
+    status: u8,
+    out: &'a str,
+    err: &'a str,
+}
+
+/// The words of a call that settles a period.
+fn line_of(
+    alloc: Global,
+    meter: &str,
+    contracts: &str,
+    price: &str,
+) -> Result<Vec<String>, AllocError> {
+    let mut words = Vec::new(alloc);
+    words.push(String::from_str(alloc, "settle")?)?;
+    words.push(String::from_str(alloc, "period")?)?;
+    words.push(String::from_str(alloc, meter)?)?;
+    words.push(String::from_str(alloc, contracts)?)?;
+    words.push(String::from_str(alloc, "--")?)?;
+    words.push(String::from_str(alloc, price)?)?;
+    Ok(words)
+}
+
+/// Settles a case from files of this name, and compares the exit status and both outputs. The
+/// output takes so many bytes.
+fn settles<R: Files + AllocGlobal + Abort>(
+    rt: &R,
+    name: &str,
+    case: &Case<'_>,
+    room: usize,
+) -> Result<(), Fail> {
+    let alloc = rt.alloc();
+    let meter = format!(in alloc; "/tmp/{name}_meter.csv")?;
+    let contracts = format!(in alloc; "/tmp/{name}_contracts.csv")?;
+    let meter_text = format!(in alloc;
+        "unit,account,metered_mwh,tlm,balancing_mwh\n{}",
+        case.meter
+    )?;
+    let contracts_text = format!(in alloc; "reference,seller,buyer,mwh\n{}", case.contracts)?;
+    fs::write(rt, meter.as_str(), meter_text.as_str())?;
+    fs::write(rt, contracts.as_str(), contracts_text.as_str())?;
+    let mut out = MemorySink::with_room(alloc, room)?;
+    let mut err = MemorySink::with_room(alloc, 4096)?;
+    let words = line_of(alloc, meter.as_str(), contracts.as_str(), case.price)?;
+    let status = command(rt, &words, &mut out, &mut err);
+    fs::remove_file(rt, meter.as_str())?;
+    fs::remove_file(rt, contracts.as_str())?;
+    assert_eq!(rt; out.taken(), case.out.as_bytes());
+    assert_eq!(rt; err.taken(), case.err.as_bytes());
+    assert_eq!(rt; status, case.status);
     Ok(())
+}
+
+const EXAMPLE_METER: &str = "G1,GENCO-P,100.000,0.9950000,0\nS1,SUPCO-C,-98.000,1.0050000,0\n";
+
+const GREATEST: &str = "A,ALFA-P,10000,2,0\nB,ALFA-P,10000,2,0\nC,ALFA-P,10000,2,0\n\
+    D,ALFA-P,10000,2,0\nE,ALFA-P,10000,2,0\n";
+
+#[test]
+fn settles_periods(rt: HostRuntime) -> Result<(), Fail> {
+    let cases = [
+        Case {
+            meter: EXAMPLE_METER,
+            contracts: "C1,GENCO-P,SUPCO-C,99.000\n",
+            price: "50.00000",
+            status: 0,
+            out: "account GENCO-P credited 99.5000000000 imbalance 0.5000000000 charge -2500\n\
+                account SUPCO-C credited -98.4900000000 imbalance 0.5100000000 charge -2550\n\
+                residual 5050\n",
+            err: "",
+        },
+        Case {
+            meter: "",
+            contracts: "",
+            price: "1",
+            status: 0,
+            out: "residual 0\n",
+            err: "",
+        },
+        Case {
+            meter: "U1,ALFA-P,0.001,1,0\n",
+            contracts: "",
+            price: "5.00000",
+            status: 0,
+            out: "account ALFA-P credited 0.0010000000 imbalance 0.0010000000 charge -1\n\
+                residual 1\n",
+            err: "",
+        },
+        Case {
+            meter: "U1,ALFA-P,0.001,1,0\n",
+            contracts: "",
+            price: "4.99999",
+            status: 0,
+            out: "account ALFA-P credited 0.0010000000 imbalance 0.0010000000 charge 0\n\
+                residual 0\n",
+            err: "",
+        },
+        Case {
+            meter: "U1,ALFA-P,0.001,1,0\n",
+            contracts: "",
+            price: "-5.00000",
+            status: 0,
+            out: "account ALFA-P credited 0.0010000000 imbalance 0.0010000000 charge 1\n\
+                residual -1\n",
+            err: "",
+        },
+        // The last row of a unit and of a reference counts, and replaced rows keep their accounts.
+        Case {
+            meter: "U1,A0-P,7,1,0\nU1,A-C,10,1,1\n",
+            contracts: "C1,A-P,A-C,5\nC1,A-P,A-C,2\n",
+            price: "10",
+            status: 0,
+            out: "account A-P credited 0.0000000000 imbalance -2.0000000000 charge 2000\n\
+                account A-C credited 10.0000000000 imbalance 11.0000000000 charge -11000\n\
+                account A0-P credited 0.0000000000 imbalance 0.0000000000 charge 0\n\
+                residual 9000\n",
+            err: "",
+        },
+        Case {
+            meter: GREATEST,
+            contracts: "",
+            price: "99999.99999",
+            status: 0,
+            out: "account ALFA-P credited 100000.0000000000 imbalance 100000.0000000000 \
+                charge -999999999900\nresidual 999999999900\n",
+            err: "",
+        },
+    ];
+    for case in &cases {
+        settles(&rt, "settles_periods", case, 4096)?;
+    }
+    Ok(())
+}
+
+fn refusal<'a>(meter: &'a str, contracts: &'a str, price: &'a str, err: &'a str) -> Case<'a> {
+    Case {
+        meter,
+        contracts,
+        price,
+        status: 1,
+        out: "",
+        err,
+    }
+}
+
+#[test]
+fn refuses_periods(rt: HostRuntime) -> Result<(), Fail> {
+    let six = "A,B-P,10000,2,0\nB,B-P,10000,2,0\nC,B-P,10000,2,0\nD,B-P,10000,2,0\n\
+        E,B-P,10000,2,0\nF,B-P,10000,2,0\n";
+    let cases = [
+        refusal(
+            EXAMPLE_METER,
+            "C1,GENCO-P,GENCO-P,1\n",
+            "50",
+            "refused 35 SameAccount row 1 in contracts\n",
+        ),
+        refusal(
+            EXAMPLE_METER,
+            "C1,A-P,B-P,1\nC2,A-P,B-P,1\nC1,A-P,B-C,1\n",
+            "50",
+            "refused 36 ReferenceMoved row 3 in contracts\n",
+        ),
+        refusal(
+            EXAMPLE_METER,
+            "",
+            "5.000001",
+            "refused 14 BadField in price\n",
+        ),
+        // METER goes before CONTRACTS, the whole of CONTRACTS before 35, and that before PRICE.
+        refusal(
+            "U1,A-P,1,1\n",
+            "C1,A-P,A-P,1\n",
+            "x",
+            "refused 13 BadRecord row 1 in meter\n",
+        ),
+        refusal(
+            "",
+            "C1,A-P,A-P,1\nC2,A-P,B-P,1.0001\n",
+            "x",
+            "refused 14 BadField row 2 column 4 in contracts\n",
+        ),
+        refusal(
+            "",
+            "C1,A-P,A-P,1\n",
+            "x",
+            "refused 35 SameAccount row 1 in contracts\n",
+        ),
+        refusal(six, "", "99999.99999", "refused 55 TooLarge\n"),
+    ];
+    for case in &cases {
+        settles(&rt, "refuses_periods", case, 4096)?;
+    }
+    Ok(())
+}
+
+#[test]
+fn output_that_fails(rt: HostRuntime) -> Result<(), Fail> {
+    let case = Case {
+        meter: "",
+        contracts: "",
+        price: "1",
+        status: 1,
+        out: "resid",
+        err: "fault output\n",
+    };
+    settles(&rt, "output_that_fails", &case, 5)
 }
 
 #[test]
