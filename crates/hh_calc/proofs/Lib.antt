@@ -3,3 +3,4 @@ pub mod RowFacts
 pub mod RowsFacts
 pub mod SumLaws
 pub mod WordFacts
+mod FixtureLaws

@@ -9,3 +9,6 @@ mod sums;
 pub use data::{Contract, PeriodData, UnitData};
 pub use result::{AccountRow, CalcFault, PeriodResult};
 pub use settle::settle_period;
+
+#[cfg(test)]
+mod tests;

@@ -12,3 +12,6 @@ pub use period::Period;
 pub use word::{
     Alphabet, PartyId, PartyIdAlphabet, Reference, ReferenceAlphabet, UnitId, UnitIdAlphabet, Word,
 };
+
+#[cfg(test)]
+mod tests;

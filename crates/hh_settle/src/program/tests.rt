@@ -80,82 +80,19 @@ const EXAMPLE_METER: &str = "G1,GENCO-P,100.000,0.9950000,0\nS1,SUPCO-C,-98.000,
 const GREATEST: &str = "A,ALFA-P,10000,2,0\nB,ALFA-P,10000,2,0\nC,ALFA-P,10000,2,0\n\
     D,ALFA-P,10000,2,0\nE,ALFA-P,10000,2,0\n";
 
-#[test]
-fn settles_periods(rt: HostRuntime) -> Result<(), Fail> {
-    let cases = [
-        Case {
-            meter: EXAMPLE_METER,
-            contracts: "C1,GENCO-P,SUPCO-C,99.000\n",
-            price: "50.00000",
-            status: 0,
-            out: "account GENCO-P credited 99.5000000000 imbalance 0.5000000000 charge -2500\n\
-                account SUPCO-C credited -98.4900000000 imbalance 0.5100000000 charge -2550\n\
-                residual 5050\n",
-            err: "",
-        },
-        Case {
-            meter: "",
-            contracts: "",
-            price: "1",
-            status: 0,
-            out: "residual 0\n",
-            err: "",
-        },
-        Case {
-            meter: "U1,ALFA-P,0.001,1,0\n",
-            contracts: "",
-            price: "5.00000",
-            status: 0,
-            out: "account ALFA-P credited 0.0010000000 imbalance 0.0010000000 charge -1\n\
-                residual 1\n",
-            err: "",
-        },
-        Case {
-            meter: "U1,ALFA-P,0.001,1,0\n",
-            contracts: "",
-            price: "4.99999",
-            status: 0,
-            out: "account ALFA-P credited 0.0010000000 imbalance 0.0010000000 charge 0\n\
-                residual 0\n",
-            err: "",
-        },
-        Case {
-            meter: "U1,ALFA-P,0.001,1,0\n",
-            contracts: "",
-            price: "-5.00000",
-            status: 0,
-            out: "account ALFA-P credited 0.0010000000 imbalance 0.0010000000 charge 1\n\
-                residual -1\n",
-            err: "",
-        },
-        // The last row of a unit and of a reference counts, and replaced rows keep their accounts.
-        Case {
-            meter: "U1,A0-P,7,1,0\nU1,A-C,10,1,1\n",
-            contracts: "C1,A-P,A-C,5\nC1,A-P,A-C,2\n",
-            price: "10",
-            status: 0,
-            out: "account A-P credited 0.0000000000 imbalance -2.0000000000 charge 2000\n\
-                account A-C credited 10.0000000000 imbalance 11.0000000000 charge -11000\n\
-                account A0-P credited 0.0000000000 imbalance 0.0000000000 charge 0\n\
-                residual 9000\n",
-            err: "",
-        },
-        Case {
-            meter: GREATEST,
-            contracts: "",
-            price: "99999.99999",
-            status: 0,
-            out: "account ALFA-P credited 100000.0000000000 imbalance 100000.0000000000 \
-                charge -999999999900\nresidual 999999999900\n",
-            err: "",
-        },
-    ];
-    for case in &cases {
-        settles(&rt, "settles_periods", case, 4096)?;
+/// A case that is settled.
+fn settled<'a>(meter: &'a str, contracts: &'a str, price: &'a str, out: &'a str) -> Case<'a> {
+    Case {
+        meter,
+        contracts,
+        price,
+        status: 0,
+        out,
+        err: "",
     }
-    Ok(())
 }
 
+/// A case that is refused.
 fn refusal<'a>(meter: &'a str, contracts: &'a str, price: &'a str, err: &'a str) -> Case<'a> {
     Case {
         meter,
@@ -165,6 +102,77 @@ fn refusal<'a>(meter: &'a str, contracts: &'a str, price: &'a str, err: &'a str)
         out: "",
         err,
     }
+}
+
+/// Settles each of these cases.
+fn settles_each<R: Files + AllocGlobal + Abort>(
+    rt: &R,
+    name: &str,
+    cases: &[Case<'_>],
+) -> Result<(), Fail> {
+    for case in cases {
+        settles(rt, name, case, 4096)?;
+    }
+    Ok(())
+}
+
+#[test]
+fn settles_periods(rt: HostRuntime) -> Result<(), Fail> {
+    let cases = [
+        settled(
+            EXAMPLE_METER,
+            "C1,GENCO-P,SUPCO-C,99.000\n",
+            "50.00000",
+            "account GENCO-P credited 99.5000000000 imbalance 0.5000000000 charge -2500\n\
+                account SUPCO-C credited -98.4900000000 imbalance 0.5100000000 charge -2550\n\
+                residual 5050\n",
+        ),
+        settled("", "", "1", "residual 0\n"),
+        // The last row of a unit and of a reference counts, and replaced rows keep their accounts.
+        settled(
+            "U1,A0-P,7,1,0\nU1,A-C,10,1,1\n",
+            "C1,A-P,A-C,5\nC1,A-P,A-C,2\n",
+            "10",
+            "account A-P credited 0.0000000000 imbalance -2.0000000000 charge 2000\n\
+                account A-C credited 10.0000000000 imbalance 11.0000000000 charge -11000\n\
+                account A0-P credited 0.0000000000 imbalance 0.0000000000 charge 0\n\
+                residual 9000\n",
+        ),
+    ];
+    settles_each(&rt, "settles_periods", &cases)
+}
+
+#[test]
+fn rounds_charges(rt: HostRuntime) -> Result<(), Fail> {
+    let meter = "U1,ALFA-P,0.001,1,0\n";
+    let cases = [
+        settled(
+            meter,
+            "",
+            "5.00000",
+            "account ALFA-P credited 0.0010000000 imbalance 0.0010000000 charge -1\nresidual 1\n",
+        ),
+        settled(
+            meter,
+            "",
+            "4.99999",
+            "account ALFA-P credited 0.0010000000 imbalance 0.0010000000 charge 0\nresidual 0\n",
+        ),
+        settled(
+            meter,
+            "",
+            "-5.00000",
+            "account ALFA-P credited 0.0010000000 imbalance 0.0010000000 charge 1\nresidual -1\n",
+        ),
+        settled(
+            GREATEST,
+            "",
+            "99999.99999",
+            "account ALFA-P credited 100000.0000000000 imbalance 100000.0000000000 \
+                charge -999999999900\nresidual 999999999900\n",
+        ),
+    ];
+    settles_each(&rt, "rounds_charges", &cases)
 }
 
 #[test]
@@ -190,7 +198,15 @@ fn refuses_periods(rt: HostRuntime) -> Result<(), Fail> {
             "5.000001",
             "refused 14 BadField in price\n",
         ),
-        // METER goes before CONTRACTS, the whole of CONTRACTS before 35, and that before PRICE.
+        refusal(six, "", "99999.99999", "refused 55 TooLarge\n"),
+    ];
+    settles_each(&rt, "refuses_periods", &cases)
+}
+
+// METER goes before CONTRACTS, the whole of CONTRACTS before 35, and that before PRICE.
+#[test]
+fn refuses_in_turn(rt: HostRuntime) -> Result<(), Fail> {
+    let cases = [
         refusal(
             "U1,A-P,1,1\n",
             "C1,A-P,A-P,1\n",
@@ -209,12 +225,8 @@ fn refuses_periods(rt: HostRuntime) -> Result<(), Fail> {
             "x",
             "refused 35 SameAccount row 1 in contracts\n",
         ),
-        refusal(six, "", "99999.99999", "refused 55 TooLarge\n"),
     ];
-    for case in &cases {
-        settles(&rt, "refuses_periods", case, 4096)?;
-    }
-    Ok(())
+    settles_each(&rt, "refuses_in_turn", &cases)
 }
 
 #[test]
