@@ -1,5 +1,6 @@
 -- How faults of the layers below end a command.
-use Rattle.std.specs.Prelude.{None}
+use Rattle.std.specs.Prelude.{◌⊎◌, ℕ, List, Option, None, codes}
+use Rattle.std.specs.Io.KnownBytes.{Appends}
 use Rattle.std.specs.declared.io.ErrorKind.{ErrorKind}
 use Rattle.std.specs.declared.io.ErrorKind.TheVariants.{OutOfMemory}
 use Rattle.hh_rules.specs.Faults.{memory_fault}
@@ -9,6 +10,9 @@ use Rattle.hh_settle.specs.declared.period.PeriodFault.{PeriodFault}
 use Rattle.hh_settle.specs.declared.period.PeriodFault.TheVariants as period
 use Rattle.hh_settle.specs.declared.program.Stop.{Stop}
 use Rattle.hh_settle.specs.declared.program.Stop.TheVariants as stop
+use Rattle.hh_settle.specs.Lines.{Line, PeriodLine}
+use Rattle.hh_settle.specs.Outcome.{period_outcome, GivesText}
+use Rattle.hh_settle.specs.Refusals.{refusal_line}
 
 -- want of memory is told apart, and every other error of a file is one
 abbrev pub input_fault : ErrorKind → InputFault
@@ -22,3 +26,21 @@ input_stop Memory = stop.Refused memory_fault None
 abbrev pub period_stop : PeriodFault → Stop
 period_stop (period.Refused fault input) = stop.Refused fault input
 period_stop period.Write = stop.Output
+
+-- the line that tells why a command stops
+abbrev pub stop_line : Stop → List ℕ
+stop_line (stop.Refused fault input) = refusal_line fault input
+stop_line stop.File = codes "fault file\n"
+stop_line stop.Output = codes "fault output\n"
+
+-- known bytes grow by the line, or by that of want of memory
+abbrev pub Tells : Option (List ℕ) → Option (List ℕ) → Stop → Type 0
+Tells old new s = Appends old new (stop_line s) ⊎ Appends old new (refusal_line memory_fault None)
+
+-- known bytes grow by the line of some stop
+abbrev pub TellsSome : Option (List ℕ) → Option (List ℕ) → Type 0
+TellsSome old new = (s : Stop) × Tells old new s
+
+-- known bytes grow by what a line of words asks for, of the bytes that its files had
+abbrev pub Does : Option (List ℕ) → Option (List ℕ) → Line → Type 0
+Does old new (PeriodLine _ _ price) = (meter contracts : List ℕ) × GivesText (period_outcome meter contracts price) (λ text. Appends old new text)

@@ -1,11 +1,12 @@
 //! One line of words, from its reading to the exit status.
 
-ghost use Rattle.std.specs.Prelude.{◌≡◌, ◌≤◌, ◌⊎◌, OnErr, OnOk, IsSome, map, string_bytes, None, codes};
+ghost use Rattle.std.specs.Prelude.{◌≡◌, ◌≤◌, ◌⊎◌, OnErr, OnOk, map, string_bytes, Some, None};
 ghost use Rattle.std.specs.Io.KnownBytes.{Appends};
 ghost use Rattle.hh_num.specs.Devices.{Failed};
 ghost use Rattle.hh_rules.specs.Faults.{memory_fault};
-ghost use Rattle.hh_settle.specs.Lines.{line_value};
+ghost use Rattle.hh_settle.specs.Lines.{Line, line_of, line_value};
 ghost use Rattle.hh_settle.specs.Refusals.{refusal_line};
+ghost use Rattle.hh_settle.specs.Stops.{Does, Tells, TellsSome};
 
 use crate::files::{InputFault, read_input};
 use crate::period::{PeriodFault, period};
@@ -99,10 +100,16 @@ pub fn command<R: Files + AllocGlobal, O: Sink, E: Sink>(
     err: &mut E,
 ) -> u8
     ensures status { result ≤ 2 }
-    ensures done { result ≡ 0 → IsSome (line_value (map string_bytes words.now)) }
+
+    // Done is what the words ask for, and nothing is said on `err` then.
+    ensures done { result ≡ 0 → (line : Line) × (line_value (map string_bytes words.now) ≡ Some line) × Does (O.taken out.old) (O.taken out.new) line }
+    ensures silent { result ≡ 0 → E.taken err.new ≡ E.taken err.old }
+
+    // A stop is told, unless `err` failed.
+    ensures told { result ≡ 1 → Failed (E.failures err.old) (E.failures err.new) ⊎ TellsSome (E.taken err.old) (E.taken err.new) }
+
     ensures wrong { result ≡ 2 → line_value (map string_bytes words.now) ≡ None }
     ensures untouched { result ≡ 2 → O.taken out.new ≡ O.taken out.old }
-    ensures silent { result ≡ 0 → E.taken err.new ≡ E.taken err.old }
 {
     match read_words(rt.alloc(), words) {
         Ok(command) => match perform(rt, command, out) {
@@ -114,11 +121,14 @@ pub fn command<R: Files + AllocGlobal, O: Sink, E: Sink>(
     }
 }
 
+/// Does what a line of words asks for.
 fn perform<R: Files + AllocGlobal, O: Sink>(
     rt: &R,
     command: words::Command<'_>,
     out: &mut O,
-) -> Result<(), Stop> {
+) -> Result<(), Stop>
+    ensures { OnOk result (Does (O.taken out.old) (O.taken out.new) (line_of command.entry)) }
+{
     match command {
         words::Command::Period {
             meter,
@@ -141,16 +151,25 @@ fn wrong<E: Sink>(err: &mut E, text: &str) -> u8
     WRONG_WORDS
 }
 
-/// Tells why a command stops.
+/// Tells why a command stops, where the device for it does not fail.
 fn refused<E: Sink>(alloc: Global, err: &mut E, stop: Stop) -> u8
-    ensures { result ≡ 1 }
+    ensures status { result ≡ 1 }
+    ensures told { Failed (E.failures err.old) (E.failures err.new) ⊎ Tells (E.taken err.old) (E.taken err.new) stop }
 {
-    let _ = match stop {
+    let _ = write_stop(alloc, err, stop);
+    REFUSED
+}
+
+/// Writes why a command stops.
+fn write_stop<E: Sink>(alloc: Global, err: &mut E, stop: Stop) -> Result<(), DeviceFailed>
+    ensures failed { OnErr result (Failed (E.failures err.old) (E.failures err.new)) }
+    ensures told { OnOk result (Tells (E.taken err.old) (E.taken err.new) stop) }
+{
+    match stop {
         Stop::Refused(fault, input) => write_refusal(alloc, err, &fault, input),
         Stop::File => write_whole(err, b"fault file\n"),
         Stop::Output => write_whole(err, b"fault output\n"),
-    };
-    REFUSED
+    }
 }
 
 /// Writes a refusal's line, or that of want of memory where there is none for the line itself.

@@ -1,6 +1,6 @@
 //! The lines that tell why a command was refused.
 
-ghost use Rattle.std.specs.Prelude.{◌≡◌, ◌++◌, ℕ, OnOk, OnErr, codes};
+ghost use Rattle.std.specs.Prelude.{◌≡◌, ◌++◌, OnOk, OnErr, codes};
 ghost use Rattle.hh_num.specs.Fixed.{Extends};
 ghost use Rattle.hh_settle.specs.Refusals.{input_word, input_ending, number_place, place, refusal_head, refusal_places, refusal_line};
 
