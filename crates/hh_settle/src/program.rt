@@ -70,9 +70,14 @@ impl From<PeriodFault> for Stop {
     }
 }
 
-/// Runs the line of words that the program was called with. Words that are not text are wrong.
+/// Runs the line of words that the program was called with, as `command` does. Words that are not
+/// text are wrong.
 pub fn run<R: Files + Env + AllocGlobal, O: Sink, E: Sink>(rt: &R, out: &mut O, err: &mut E) -> u8
-    ensures { result ≤ 2 }
+    ensures status { result ≤ 2 }
+    ensures done { result ≡ 0 → (line : Line) × Does (O.taken out.old) (O.taken out.new) line }
+    ensures silent { result ≡ 0 → E.taken err.new ≡ E.taken err.old }
+    ensures told { result ≡ 1 → Failed (E.failures err.old) (E.failures err.new) ⊎ TellsSome (E.taken err.old) (E.taken err.new) }
+    ensures untouched { result ≡ 2 → O.taken out.new ≡ O.taken out.old }
 {
     match arguments(rt) {
         Ok(words) => command(rt, &words, out, err),
