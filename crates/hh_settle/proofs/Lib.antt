@@ -4,4 +4,5 @@ pub mod LineLemmas
 pub mod NamedFacts
 pub mod PeriodFacts
 pub mod ResultFacts
+pub mod StopFacts
 pub mod TextFacts

@@ -1,12 +1,13 @@
 //! One line of words, from its reading to the exit status.
 
-ghost use Rattle.std.specs.Prelude.{◌≡◌, ◌≤◌, ◌⊎◌, OnErr, OnOk, map, string_bytes, Some, None};
+ghost use Rattle.std.specs.Prelude.{◌≡◌, ◌≤◌, ◌⊎◌, IfErr, OnErr, OnOk, Option, map, string_bytes, Some, None};
 ghost use Rattle.std.specs.Io.KnownBytes.{Appends};
 ghost use Rattle.hh_num.specs.Devices.{Failed};
 ghost use Rattle.hh_rules.specs.Faults.{memory_fault};
-ghost use Rattle.hh_settle.specs.Lines.{Line, line_of, line_value};
+ghost use Rattle.hh_settle.specs.Lines.{Line, PeriodLine, line_of, line_value};
 ghost use Rattle.hh_settle.specs.Refusals.{refusal_line};
-ghost use Rattle.hh_settle.specs.Stops.{Does, Tells, TellsSome};
+ghost use Rattle.hh_settle.specs.declared.program.Stop.{Stop};
+ghost use Rattle.hh_settle.specs.Stops.{Does, StopsLine, StopsWords, Tells};
 
 use crate::files::{InputFault, read_input};
 use crate::period::{PeriodFault, period};
@@ -76,7 +77,7 @@ pub fn run<R: Files + Env + AllocGlobal, O: Sink, E: Sink>(rt: &R, out: &mut O, 
     ensures status { result ≤ 2 }
     ensures done { result ≡ 0 → (line : Line) × Does (O.taken out.old) (O.taken out.new) line }
     ensures silent { result ≡ 0 → E.taken err.new ≡ E.taken err.old }
-    ensures told { result ≡ 1 → Failed (E.failures err.old) (E.failures err.new) ⊎ TellsSome (E.taken err.old) (E.taken err.new) }
+    ensures stopped { result ≡ 1 → (words : Option Line) × (stop : Stop) × StopsWords (O.taken out.old) (O.taken out.new) (Failed (O.failures out.old) (O.failures out.new)) words stop × (Failed (E.failures err.old) (E.failures err.new) ⊎ Tells (E.taken err.old) (E.taken err.new) stop) }
     ensures untouched { result ≡ 2 → O.taken out.new ≡ O.taken out.old }
 {
     match arguments(rt) {
@@ -110,8 +111,8 @@ pub fn command<R: Files + AllocGlobal, O: Sink, E: Sink>(
     ensures done { result ≡ 0 → (line : Line) × (line_value (map string_bytes words.now) ≡ Some line) × Does (O.taken out.old) (O.taken out.new) line }
     ensures silent { result ≡ 0 → E.taken err.new ≡ E.taken err.old }
 
-    // A stop is told, unless `err` failed.
-    ensures told { result ≡ 1 → Failed (E.failures err.old) (E.failures err.new) ⊎ TellsSome (E.taken err.old) (E.taken err.new) }
+    // A stop is one that the words and `out` have, and it is told, unless `err` failed.
+    ensures stopped { result ≡ 1 → (stop : Stop) × StopsWords (O.taken out.old) (O.taken out.new) (Failed (O.failures out.old) (O.failures out.new)) (line_value (map string_bytes words.now)) stop × (Failed (E.failures err.old) (E.failures err.new) ⊎ Tells (E.taken err.old) (E.taken err.new) stop) }
 
     ensures wrong { result ≡ 2 → line_value (map string_bytes words.now) ≡ None }
     ensures untouched { result ≡ 2 → O.taken out.new ≡ O.taken out.old }
@@ -132,20 +133,33 @@ fn perform<R: Files + AllocGlobal, O: Sink>(
     command: words::Command<'_>,
     out: &mut O,
 ) -> Result<(), Stop>
-    ensures { OnOk result (Does (O.taken out.old) (O.taken out.new) (line_of command.entry)) }
+    ensures done { OnOk result (Does (O.taken out.old) (O.taken out.new) (line_of command.entry)) }
+    ensures stopped { IfErr result (λ stop. StopsLine (O.taken out.old) (O.taken out.new) (Failed (O.failures out.old) (O.failures out.new)) (line_of command.entry) stop) }
 {
     match command {
         words::Command::Period {
             meter,
             contracts,
             price,
-        } => {
-            let meter = read_input(rt, meter)?;
-            let contracts = read_input(rt, contracts)?;
-            period(rt.alloc(), &meter, &contracts, price.as_bytes(), out)?;
-            Ok(())
-        }
+        } => settle_files(rt, meter, contracts, price, out),
     }
+}
+
+/// Settles one period from the files of two paths and a price.
+fn settle_files<R: Files + AllocGlobal, O: Sink>(
+    rt: &R,
+    meter: &str,
+    contracts: &str,
+    price: &str,
+    out: &mut O,
+) -> Result<(), Stop>
+    ensures done { OnOk result (Does (O.taken out.old) (O.taken out.new) (PeriodLine meter.now contracts.now price.now)) }
+    ensures stopped { IfErr result (λ stop. StopsLine (O.taken out.old) (O.taken out.new) (Failed (O.failures out.old) (O.failures out.new)) (PeriodLine meter.now contracts.now price.now) stop) }
+{
+    let meter = read_input(rt, meter)?;
+    let contracts = read_input(rt, contracts)?;
+    period(rt.alloc(), &meter, &contracts, price.as_bytes(), out)?;
+    Ok(())
 }
 
 /// Tells how the program is used.
