@@ -20,6 +20,11 @@ field_fault row column = record (plain_fault refusal.BadField) { row = Some row;
 abbrev pub memory_fault : Fault
 memory_fault = plain_fault refusal.Memory
 
+-- one fact for want of memory, another for any other refusal
+abbrev pub ByRefusal : Refusal → Type 0 → Type 0 → Type 0
+ByRefusal refusal.Memory memory other = memory
+ByRefusal refusal memory other = other
+
 -- the number by which a refusal is known
 abbrev pub refusal_number : Refusal → ℕ
 refusal_number refusal.FileTooLarge = 10

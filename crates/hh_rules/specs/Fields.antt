@@ -10,10 +10,6 @@ volume_value = fixed_between 3 (neg_ℤ (pos 10_000_000)) (pos 10_000_000)
 abbrev pub multiplier_value : List ℕ → Option ℤ
 multiplier_value = fixed_between 7 (pos 0) (pos 20_000_000)
 
--- a percentage, in 10^-5 percent
-abbrev pub percent_value : List ℕ → Option ℤ
-percent_value = fixed_between 5 (pos 0) (pos 10_000_000)
-
 -- a price, in 10^-5 pound per MWh
 abbrev pub price_value : List ℕ → Option ℤ
 price_value = fixed_between 5 (neg_ℤ (pos 9_999_999_999)) (pos 9_999_999_999)

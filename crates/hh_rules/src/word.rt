@@ -9,7 +9,6 @@ ghost use Rattle.std.specs.Ordering.{as_partial_cmp, nat_cmp};
 ghost use Rattle.std.proofs.Common.{rules};
 ghost use Rattle.hh_rules.specs.Words.{is_capital_or_digit, is_unit_byte, is_reference_byte, is_word, word_value};
 
-use std::alloc::AllocError;
 use std::cmp::Ordering;
 use std::marker::{Model, PhantomData};
 
@@ -45,6 +44,7 @@ impl<A: Alphabet, const MOST: usize> Model for Word<A, MOST> {
 }
 
 impl<A: Alphabet, const MOST: usize> Word<A, MOST> {
+    /// The bytes of the word.
     pub fn as_bytes(&self) -> &[u8]
         ensures { result.now ≡ self.now }
     {
@@ -107,6 +107,7 @@ impl Alphabet for PartyIdAlphabet {
 /// A party's id.
 pub type PartyId = Word<PartyIdAlphabet, 10>;
 
+/// Capital letters, digits, the underscore and the dash.
 #[derive(Clone, Copy, Debug)]
 pub struct UnitIdAlphabet;
 
@@ -121,6 +122,7 @@ impl Alphabet for UnitIdAlphabet {
 /// A unit's id.
 pub type UnitId = Word<UnitIdAlphabet, 16>;
 
+/// Letters, digits, the underscore and the dash.
 #[derive(Clone, Copy, Debug)]
 pub struct ReferenceAlphabet;
 

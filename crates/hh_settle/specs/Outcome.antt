@@ -1,9 +1,8 @@
 -- What the inputs of `settle period` give: the text of the settled period, or the first refusal.
 use Rattle.std.specs.Prelude.{◌≡◌, ℕ, ℤ, List, Option, Some, None, Result, Ok, Err, if◌then◌else◌}
 use Rattle.hh_rules.specs.declared.fault.Fault.{Fault}
-use Rattle.hh_rules.specs.declared.fault.Refusal.{Refusal}
-use Rattle.hh_rules.specs.declared.fault.Refusal.TheVariants.{BadField, Memory, TooLarge}
-use Rattle.hh_rules.specs.Faults.{memory_fault, plain_fault}
+use Rattle.hh_rules.specs.declared.fault.Refusal.TheVariants.{BadField, TooLarge}
+use Rattle.hh_rules.specs.Faults.{memory_fault, plain_fault, ByRefusal}
 use Rattle.hh_rules.specs.Fields.{price_value}
 use Rattle.hh_calc.specs.Formulas.{is_within_limits}
 use Rattle.hh_calc.specs.Period.{Period}
@@ -46,8 +45,8 @@ priced (Some price) = Ok price
 abbrev pub period_input : List ℕ → List ℕ → List ℕ → Outcome Period
 period_input meter contracts price = do
   meter_rows ← read_from Meter (period_meter_rows meter)
-  read_rows ← read_from Contracts (period_contract_rows contracts)
-  contract_rows ← accepted_rows read_rows
+  rows ← read_from Contracts (period_contract_rows contracts)
+  contract_rows ← accepted_rows rows
   value ← priced (price_value price)
   Ok (period_of meter_rows contract_rows value)
 
@@ -62,11 +61,6 @@ period_outcome meter contracts price = period_input meter contracts price >>= se
 -- want of memory, which names no input
 abbrev pub memory_rejection : Rejection
 memory_rejection = record { fault = memory_fault; input = None }
-
--- one fact for want of memory, another for any other refusal
-abbrev pub ByRefusal : Refusal → Type 0 → Type 0 → Type 0
-ByRefusal Memory memory other = memory
-ByRefusal refusal memory other = other
 
 -- the refusal is the outcome's; want of memory may stand in the place of any outcome
 abbrev pub Rejects : {A : Type 0} → Rejection → Outcome A → Type 0

@@ -60,17 +60,20 @@ refusal_beside ends r =
     else if is_moved ends r then Some ReferenceMoved
     else None
 
+-- why a row is refused among these rows: the first of its reference gives the ends
+abbrev pub refusal_among : List PeriodContractRow → PeriodContractRow → Option Refusal
+refusal_among rows r = refusal_beside (find bytes_cmp r.reference (map ends_entry rows)) r
+
 -- a refusal of a row, or what comes later
 abbrev pub refused_or : ℕ → Option Refusal → Option Fault → Option Fault
 refused_or row None later = later
 refused_or row (Some refusal) later = Some (row_fault refusal row)
 
--- the first refusal of rows behind others, the first row of a reference giving it its ends
-abbrev pub refusal_from : ℕ → List PeriodContractRow → List PeriodContractRow → Option Fault
-refusal_from row before [] = None
-refusal_from row before (r ∷ rows) =
-    refused_or row (refusal_beside (find bytes_cmp r.reference (map ends_entry before)) r) (refusal_from (row + 1) (before ++ r ∷ []) rows)
+-- the first refusal of rows that are numbered from this number on
+abbrev pub first_refused : (PeriodContractRow → Option Refusal) → ℕ → List PeriodContractRow → Option Fault
+first_refused refusal_of row [] = None
+first_refused refusal_of row (r ∷ rows) = refused_or row (refusal_of r) (first_refused refusal_of (row + 1) rows)
 
 -- the first refusal of all rows, with the number of its row
 abbrev pub first_refusal : List PeriodContractRow → Option Fault
-first_refusal rows = refusal_from 1 [] rows
+first_refusal rows = first_refused (refusal_among rows) 1 rows

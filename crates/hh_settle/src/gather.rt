@@ -4,8 +4,9 @@ ghost use Rattle.std.specs.Prelude.{◌≡◌, ◌≤◌, ◌++◌, ◌∷◌, [
 ghost use Rattle.std.specs.List.{flat_map};
 ghost use Rattle.std.specs.List.Sorted.{IsStrictlySortedBy};
 ghost use Rattle.hh_rules.specs.Accounts.{account_cmp};
+ghost use Rattle.hh_rules.specs.Faults.{memory_fault, ByRefusal};
 ghost use Rattle.hh_rules.specs.declared.account.Account.{Account};
-ghost use Rattle.hh_texts.specs.Gives.{UnlessMemory};
+ghost use Rattle.hh_texts.specs.Rows.{most_rows};
 ghost use Rattle.hh_settle.specs.Rows.{contract_entry, first_refusal, in_account_order, in_force, named_accounts, refusal_beside, unit_entry};
 
 use hh_calc::{Contract, UnitData};
@@ -86,9 +87,9 @@ pub(crate) fn contracts_in_force(
     alloc: Global,
     rows: &[PeriodContractRow],
 ) -> Result<Vec<Contract>, Fault>
-    requires { length rows.now ≤ 20_000 }
+    requires { length rows.now ≤ most_rows }
     ensures accepted { IfOk result (λ contracts. (first_refusal rows.now ≡ None) × (contracts.items ≡ in_force (map contract_entry rows.now))) }
-    ensures refused { IfErr result (λ fault. UnlessMemory fault.refusal (first_refusal rows.now ≡ Some fault)) }
+    ensures refused { IfErr result (λ fault. ByRefusal fault.refusal (fault ≡ memory_fault) (first_refusal rows.now ≡ Some fault)) }
 {
     let mut contracts: BTreeMap<Reference, Contract> = BTreeMap::new(alloc);
     for (index, row) in rows.iter().enumerate() {

@@ -8,6 +8,7 @@ ghost use Rattle.hh_rules.specs.Fields.{price_value};
 ghost use Rattle.hh_rules.specs.declared.fault.Fault.{Fault};
 ghost use Rattle.hh_settle.specs.declared.refusal.Input.{Input};
 ghost use Rattle.hh_texts.specs.PeriodFiles.{period_contract_rows, period_meter_rows};
+ghost use Rattle.hh_texts.specs.Rows.{most_rows};
 ghost use Rattle.hh_settle.specs.Outcome.{accepted_rows, period_input, period_outcome, priced, read_from, Answers, GivesText, Rejects};
 ghost use Rattle.hh_settle.specs.Rows.{contract_entry, in_force};
 
@@ -89,7 +90,7 @@ fn meter_rows(alloc: Global, meter: &[u8]) -> Result<Vec<PeriodMeterRow>, Reject
 /// The rows of CONTRACTS.
 fn contract_rows(alloc: Global, contracts: &[u8]) -> Result<Vec<PeriodContractRow>, Rejection>
     ensures rows { Answers (λ rows. rows.items) result (read_from Input.Contracts (period_contract_rows contracts.now)) }
-    ensures few { IfOk result (λ rows. length rows.items ≤ 20_000) }
+    ensures few { IfOk result (λ rows. length rows.items ≤ most_rows) }
 {
     match read_period_contracts(alloc, contracts) {
         Ok(rows) => Ok(rows),
@@ -99,7 +100,7 @@ fn contract_rows(alloc: Global, contracts: &[u8]) -> Result<Vec<PeriodContractRo
 
 /// The contracts in force of rows of which none is refused.
 fn accepted_contracts(alloc: Global, rows: &[PeriodContractRow]) -> Result<Vec<Contract>, Rejection>
-    requires { length rows.now ≤ 20_000 }
+    requires { length rows.now ≤ most_rows }
     ensures accepted { Answers (λ _. rows.now) result (accepted_rows rows.now) }
     ensures contracts { IfOk result (λ contracts. contracts.items ≡ in_force (map contract_entry rows.now)) }
 {

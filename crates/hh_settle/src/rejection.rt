@@ -13,8 +13,8 @@ pub struct Rejection {
 
 impl Rejection {
     ghost use Rattle.std.specs.Prelude.{◌≡◌, None, Some};
-    ghost use Rattle.hh_rules.specs.Faults.{plain_fault};
-    ghost use Rattle.hh_settle.specs.Outcome.{memory_rejection, ByRefusal};
+    ghost use Rattle.hh_rules.specs.Faults.{plain_fault, ByRefusal};
+    ghost use Rattle.hh_settle.specs.Outcome.{memory_rejection};
 
     /// A refusal of the whole.
     pub fn of(refusal: Refusal) -> Rejection

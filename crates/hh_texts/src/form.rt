@@ -1,10 +1,10 @@
 //! Forms of files, and the one reader of them all.
 
-ghost use Rattle.std.specs.Prelude.{◌≡◌, ℕ, List, length, Result, map};
+ghost use Rattle.std.specs.Prelude.{◌≡◌, ◌≤◌, ℕ, List, length, Result, map, IfOk};
 ghost use Rattle.csv.specs.Records.{fields_of};
 ghost use Rattle.hh_texts.specs.Gives.{Gives};
 ghost use Rattle.hh_texts.specs.Records.{IsReading, left_of};
-ghost use Rattle.hh_texts.specs.Rows.{rows_of, rows_from, same_fields};
+ghost use Rattle.hh_texts.specs.Rows.{most_rows, rows_of, rows_from, same_fields};
 
 use crate::records::{next_record, records_in};
 use csv::{ByteRecord, Reader};
@@ -12,27 +12,27 @@ use hh_rules::{Fault, Refusal};
 use std::alloc::Global;
 
 /// The most bytes that a file may have.
-pub const MAX_BYTES: usize = 1_048_576;
+pub const MOST_BYTES: usize = 1_048_576;
 
 /// The most rows that a file may have, without its header.
-pub const MAX_ROWS: u32 = 20_000;
+pub const MOST_ROWS: u32 = 20_000;
 
 /// A form of file: its header, and the row that a record under it reads as.
 pub trait Form {
     type Row: Drop;
 
-    ghost names: { Self → List (List ℕ) };
+    ghost header: { Self → List (List ℕ) };
 
     ghost row_of: { Self → List (List ℕ) → Result Self.Row ℕ };
 
     /// The names of the columns, of which the first record consists.
     fn header(&self) -> &'static [&'static str]
-        ensures { map (λ name. name.now) result.now ≡ names self.now };
+        ensures { map (λ name. name.now) result.now ≡ header self.now };
 
     /// The row that a record of as many fields reads as, or the first column, from 1, that
     /// doesn't read.
     fn read_row(&self, fields: &ByteRecord) -> Result<Self::Row, u32>
-        requires { length (fields_of fields.now) ≡ length (names self.now) }
+        requires { length (fields_of fields.now) ≡ length (header self.now) }
         ensures { result ≡ row_of self.now (fields_of fields.now) };
 }
 
@@ -40,9 +40,10 @@ pub trait Form {
 /// then by row, from 1 without the header, `TooManyRows`, `BadRecord` and `BadField`. `Memory`
 /// may come in the place of any answer.
 pub fn read_rows<F: Form>(alloc: Global, form: &F, bytes: &[u8]) -> Result<Vec<F::Row>, Fault>
-    ensures { Gives (λ rows. rows.items) result (rows_of (F.names form.now) (F.row_of form.now) bytes.now) }
+    ensures rows { Gives (λ rows. rows.items) result (rows_of (F.header form.now) (F.row_of form.now) bytes.now) }
+    ensures few { IfOk result (λ rows. length rows.items ≤ most_rows) }
 {
-    if bytes.len() > MAX_BYTES {
+    if bytes.len() > MOST_BYTES {
         return Err(Fault::of(Refusal::FileTooLarge));
     }
     let mut reader = records_in(alloc, bytes);
@@ -78,12 +79,13 @@ fn rows_under<F: Form>(
     reader: &mut Reader<&[u8]>,
 ) -> Result<Vec<F::Row>, Fault>
     requires { IsReading reader.old }
-    ensures { Gives (λ rows. rows.items) result (rows_from (length (F.names form.now)) (F.row_of form.now) 1 (left_of reader.old)) }
+    ensures rows { Gives (λ rows. rows.items) result (rows_from (length (F.header form.now)) (F.row_of form.now) 1 (left_of reader.old)) }
+    ensures few { IfOk result (λ rows. length rows.items ≤ most_rows) }
 {
     let columns = form.header().len();
     let mut rows = Vec::new(alloc);
     let mut fields = ByteRecord::new(alloc);
-    for row in 1..=MAX_ROWS {
+    for row in 1..=MOST_ROWS {
         if !next_record(reader, &mut fields)? {
             return Ok(rows);
         }

@@ -7,7 +7,7 @@ mod period_contracts;
 mod period_meters;
 mod records;
 
-pub use form::{Form, MAX_BYTES, MAX_ROWS, read_rows};
+pub use form::{Form, MOST_BYTES, MOST_ROWS, read_rows};
 pub use period_contracts::{PeriodContractRow, PeriodContracts, read_period_contracts};
 pub use period_meters::{PeriodMeterRow, PeriodMeters, read_period_meters};
 

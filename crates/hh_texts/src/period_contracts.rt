@@ -1,7 +1,9 @@
 //! The file of contract volumes from which one Settlement Period is settled.
 
+ghost use Rattle.std.specs.Prelude.{◌≤◌, length, IfOk};
 ghost use Rattle.hh_texts.specs.Gives.{Gives};
 ghost use Rattle.hh_texts.specs.PeriodFiles.{period_contract_header, period_contract_row, period_contract_rows};
+ghost use Rattle.hh_texts.specs.Rows.{most_rows};
 
 use crate::fields::field_in;
 use crate::form::{Form, read_rows};
@@ -30,7 +32,7 @@ pub struct PeriodContracts;
 impl Form for PeriodContracts {
     type Row = PeriodContractRow;
 
-    ghost names = { λ _. period_contract_header };
+    ghost header = { λ _. period_contract_header };
 
     ghost row_of = { λ _. period_contract_row };
 
@@ -52,7 +54,8 @@ impl Form for PeriodContracts {
 /// The rows of a file of contract volumes, or the first fault in it, in the order of
 /// `read_rows`.
 pub fn read_period_contracts(alloc: Global, bytes: &[u8]) -> Result<Vec<PeriodContractRow>, Fault>
-    ensures { Gives (λ rows. rows.items) result (period_contract_rows bytes.now) }
+    ensures rows { Gives (λ rows. rows.items) result (period_contract_rows bytes.now) }
+    ensures few { IfOk result (λ rows. length rows.items ≤ most_rows) }
 {
     read_rows(alloc, &PeriodContracts, bytes)
 }

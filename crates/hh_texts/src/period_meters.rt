@@ -1,7 +1,9 @@
 //! The file of meter volumes from which one Settlement Period is settled.
 
+ghost use Rattle.std.specs.Prelude.{◌≤◌, length, IfOk};
 ghost use Rattle.hh_texts.specs.Gives.{Gives};
 ghost use Rattle.hh_texts.specs.PeriodFiles.{period_meter_header, period_meter_row, period_meter_rows};
+ghost use Rattle.hh_texts.specs.Rows.{most_rows};
 
 use crate::fields::field_in;
 use crate::form::{Form, read_rows};
@@ -32,7 +34,7 @@ pub struct PeriodMeters;
 impl Form for PeriodMeters {
     type Row = PeriodMeterRow;
 
-    ghost names = { λ _. period_meter_header };
+    ghost header = { λ _. period_meter_header };
 
     ghost row_of = { λ _. period_meter_row };
 
@@ -54,7 +56,8 @@ impl Form for PeriodMeters {
 
 /// The rows of a file of meter volumes, or the first fault in it, in the order of `read_rows`.
 pub fn read_period_meters(alloc: Global, bytes: &[u8]) -> Result<Vec<PeriodMeterRow>, Fault>
-    ensures { Gives (λ rows. rows.items) result (period_meter_rows bytes.now) }
+    ensures rows { Gives (λ rows. rows.items) result (period_meter_rows bytes.now) }
+    ensures few { IfOk result (λ rows. length rows.items ≤ most_rows) }
 {
     read_rows(alloc, &PeriodMeters, bytes)
 }

@@ -6,12 +6,12 @@ use Rattle.hh_texts.proofs.RowFacts.{rows_of-records, rows_under-none, rows_unde
 use Rattle.hh_texts.proofs.form.read_rows.Goals as goal
 use Rattle.hh_texts.proofs.form.read_rows.Goals.{then-not-branch-via-then-not-branch, then-not-branch-via-else-not-branch+then-not-has_fields}
 
-pub returns-then-bytes-gt-MAX_BYTES : goal.returns-then-bytes-gt-MAX_BYTES
+pub returns-then-bytes-gt-MOST_BYTES-clause-rows : goal.returns-then-bytes-gt-MOST_BYTES-clause-rows
 unfolding rows_of
-returns-then-bytes-gt-MAX_BYTES g c = grind (arith, nat_tests)
+returns-then-bytes-gt-MOST_BYTES-clause-rows g c = grind (arith, nat_tests)
 
-pub returns-then-not-branch : goal.returns-then-not-branch
-returns-then-not-branch g c =
+pub returns-then-not-branch-clause-rows : goal.returns-then-not-branch-clause-rows
+returns-then-not-branch-clause-rows g c =
     let records = rows_of-records _ _ _ _ (omega arith) c.records_in-reader.ensures.all in
     rw c.of-then-not-branch.ensures elim c.then-not-branch.branch [
       | then-not-branch-via-then-not-branch w ↦ records ∙ rows_under-none _ _ _ (rw w.if-not-branch.true at c.in_ok-next_record.ensures.record)
@@ -20,10 +20,10 @@ returns-then-not-branch g c =
           (ap (same_fields _) (sym w.header.ensures) ∙ sym w.has_fields.ensures ∙ w.if-not-has_fields.true)
     ]
 
-pub returns : goal.returns
-returns g c =
-    let header = g.F.Form.names c.args.form.now in
+pub returns-clause-rows : goal.returns-clause-rows
+returns-clause-rows g c =
+    let header = g.F.Form.header c.args.form.now in
     let row_of = g.F.Form.row_of c.args.form.now in
     let records = rows_of-records header row_of c.args.bytes.now _ (omega arith) c.records_in-reader.ensures.all in
     let under = rows_under-header header _ row_of _ _ (rw c.if-not-branch.false at c.in_ok-next_record.ensures.record) (ap (same_fields (fields_of c.next_record.new.fields)) (sym c.header.ensures) ∙ sym c.has_fields.ensures ∙ c.if-not-has_fields.false) in
-    rw (records ∙ under) c.rows_under.ensures
+    rw (records ∙ under) c.rows_under.ensures.rows

@@ -1,4 +1,4 @@
-use Rattle.std.proofs.Common.{◌≡◌, length}
+use Rattle.std.proofs.Common.{◌≡◌, ◌+◌, length}
 use Rattle.hh_texts.specs.Records.{IsReading, left_of}
 use Rattle.hh_texts.specs.Rows.{rows_from}
 use Rattle.hh_texts.proofs.RowFacts.{behind}
@@ -7,8 +7,9 @@ use Rattle.hh_texts.proofs.form.rows_under.Given as goal
 -- the rows so far, and those of the records that are left, are all the rows
 abbrev pub invariant-loop-row : goal.invariant-loop-row
 invariant-loop-row g l =
-    let read = rows_from (length (g.F.Form.names l.form)) (g.F.Form.row_of l.form) in
+    let read = rows_from (length (g.F.Form.header l.form)) (g.F.Form.row_of l.form) in
     record {
       reading : IsReading l.reader;
+      few : length l.rows.items + 1 ≡ l.row;
       same : behind l.rows.items (read l.row (left_of l.reader)) ≡ read 1 (left_of l.fn.reader);
     }
