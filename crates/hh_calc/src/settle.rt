@@ -1,6 +1,6 @@
 //! The settlement of one period.
 
-ghost use Rattle.std.specs.Prelude.{◌≡◌, ◌≤◌, ◌^◌, ◌*ℤ◌, pos, neg_ℤ, nat_abs, length, map, IfOk, IfSome, IfNone, IsTrue, IsFalse, Err, Some, None, if◌then◌else◌};
+ghost use Rattle.std.specs.Prelude.{◌≡◌, ◌≤◌, ◌^◌, ◌*ℤ◌, pos, neg_ℤ, nat_abs, map, IfOk, IfSome, IfNone, IsTrue, IsFalse, Err, Some, None, if◌then◌else◌};
 ghost use Rattle.hh_num.specs.Rounding.{near};
 ghost use Rattle.hh_calc.specs.Formulas.{are_accounts_within, are_within, figures, figures_from, figures_of, greatest_cash, greatest_energy, is_at_most, is_within_limits, residual, credited_of, balancing_of, net_of, weight_of, AreInOrder, AreNamed, IsSettled};
 ghost use Rattle.hh_calc.specs.Sums.{AreSumsOver};

@@ -190,7 +190,13 @@ fn limits_of_a_run(rt: HostRuntime) -> Result<(), Fail> {
         told(settle_alone(rt.alloc(), &units[..501], 0)),
         Some(Err(CalcFault::TooLarge))
     );
-    // Credits that cancel weigh as much.
+    Ok(())
+}
+
+// Credits that cancel weigh as much.
+#[test]
+fn limit_of_a_weight(rt: HostRuntime) -> Result<(), Fail> {
+    let mut units = vec![in rt.alloc(); (10_000_000, 20_000_000, 0); 502]?;
     for row in units[..251].iter_mut() {
         row.0 = -10_000_000;
     }

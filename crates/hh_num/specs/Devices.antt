@@ -1,6 +1,6 @@
 -- What a call of a device does to the bytes that it tells and to its count of failures.
-use Rattle.std.specs.Prelude.{◌≡◌, ℕ, ◌+◌, ◌<◌, ◌≤◌, ◌==◌, List, ◌++◌, length, take, Option, Result, Ok, Err, MatchBool, MatchResult}
-use Rattle.std.specs.Io.KnownBytes.{Appends, Consumes, IsAtEnd, Keeps}
+use Rattle.std.specs.Prelude.{◌≡◌, ℕ, ◌+◌, ◌<◌, ◌≤◌, ◌==◌, List, ◌++◌, length, Option, Result, Ok, Err, MatchBool}
+use Rattle.std.specs.Io.KnownBytes.{Appends}
 
 -- the greatest count of failures, at which a device counts no further
 abbrev pub most_failures : ℕ
@@ -28,9 +28,3 @@ CountsErr (Err e) old new = Failed old new
 -- known bytes grow by a front of these
 abbrev pub AppendsFront : Option (List ℕ) → Option (List ℕ) → List ℕ → Type 0
 AppendsFront old new bytes = (front rest : List ℕ) × (bytes ≡ front ++ rest) × Appends old new front
-
--- a read of n bytes takes these off, and gives none only at the end or with no room; a failed one takes nothing
-abbrev pub Reads : {E : Type 0} → Option (List ℕ) → Option (List ℕ) → Result ℕ E → List ℕ → Type 0
-Reads old new r buffer = MatchResult r
-    (λ n. Consumes old new (take n buffer) × (n ≡ 0 → 0 < length buffer → IsAtEnd old))
-    (λ _. Keeps old new)

@@ -1,7 +1,8 @@
 //! A source in memory, for tests and for what is at hand.
 
 ghost use Rattle.std.specs.Prelude.{◌≡◌, ◌≤◌, ◌<◌, min, length, Some, None, IfOk};
-ghost use Rattle.hh_num.specs.Devices.{CountsErr, Reads};
+ghost use Rattle.std.specs.Io.KnownBytes.{ReadConsumes};
+ghost use Rattle.hh_num.specs.Devices.{CountsErr};
 ghost use Rattle.hh_num.specs.Pace.{moved, paced};
 
 use crate::device::DeviceFailed;
@@ -86,7 +87,7 @@ impl Source for MemorySource<'_> {
 
     fn read(&mut self, buffer: &mut [u8]) -> Result<usize, DeviceFailed>
         ensures count { IfOk result (λ n. n ≤ length buffer.old) }
-        ensures bytes { Reads (Some (left_in self.old)) (Some (left_in self.new)) result buffer.new }
+        ensures bytes { ReadConsumes (Some (left_in self.old)) (Some (left_in self.new)) result buffer.new }
         ensures failures { CountsErr result (failures_of self.old) (failures_of self.new) }
 
         // The answer is determined.

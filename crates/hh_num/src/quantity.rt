@@ -1,6 +1,6 @@
 //! Quantities of the market as scaled whole numbers, each kind a type of its own.
 
-ghost use Rattle.std.specs.Prelude.{◌≡◌, ◌≤◌, ◌++◌, ℤ, ℕ, pos, neg_ℤ, ◌≤ℤ◌, SomeIff, OnOk, OnErr, FitsSigned};
+ghost use Rattle.std.specs.Prelude.{◌≡◌, ◌≤◌, ◌++◌, ℤ, ℕ, pos, neg_ℤ, SomeIff, OnOk, OnErr, FitsSigned};
 ghost use Rattle.std.specs.Int.{w64};
 ghost use Rattle.std.proofs.Common.{rules};
 ghost use Rattle.hh_num.specs.Fixed.{fixed_text};

@@ -1,7 +1,8 @@
 //! Devices that give bytes.
 
 ghost use Rattle.std.specs.Prelude.{◌≤◌, ℕ, List, Option, length, IfOk};
-ghost use Rattle.hh_num.specs.Devices.{CountsErr, Reads};
+ghost use Rattle.std.specs.Io.KnownBytes.{ReadConsumes};
+ghost use Rattle.hh_num.specs.Devices.{CountsErr};
 
 use crate::device::DeviceFailed;
 
@@ -17,6 +18,6 @@ pub trait Source {
     /// gives none only at the end, or where the buffer is empty.
     fn read(&mut self, buffer: &mut [u8]) -> Result<usize, DeviceFailed>
         ensures count { IfOk result (λ n. n ≤ length buffer.old) }
-        ensures bytes { Reads (remaining self.old) (remaining self.new) result buffer.new }
+        ensures bytes { ReadConsumes (remaining self.old) (remaining self.new) result buffer.new }
         ensures failures { CountsErr result (failures self.old) (failures self.new) };
 }

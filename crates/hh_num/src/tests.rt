@@ -23,6 +23,11 @@ fn reads_decimal_texts(rt: HostRuntime) -> Result<(), Fail> {
     for (text, decimals, units) in read {
         assert_eq!(rt; read_fixed(text, decimals), Some(units), "at {units}");
     }
+    Ok(())
+}
+
+#[test]
+fn refuses_texts_off_the_grammar(rt: HostRuntime) -> Result<(), Fail> {
     let refused: [&[u8]; 16] = [
         b"",
         b"-",
@@ -100,7 +105,13 @@ fn quantities_keep_their_ranges(rt: HostRuntime) -> Result<(), Fail> {
     assert_eq!(rt; Price::new(10_000_000_000).map(Price::units), None);
     assert_eq!(rt; Tlm::read(b"0.9912345").map(Tlm::units), Some(9_912_345));
     assert_eq!(rt; Tlm::read(b"-0.0000001").map(Tlm::units), None);
+    assert_eq!(rt;
+        Percent::read(b"100.00000").map(Percent::units),
+        Some(10_000_000)
+    );
+    assert_eq!(rt; Percent::read(b"0.00001").map(Percent::units), Some(1));
     assert_eq!(rt; Percent::read(b"100.00001").map(Percent::units), None);
+    assert_eq!(rt; Percent::read(b"-0.00001").map(Percent::units), None);
     assert_eq!(rt; Pence::of(-250).units(), -250);
     assert!(rt; Ticks::of(1) < Ticks::of(2));
     let mut text = Vec::new(rt.alloc());

@@ -1,8 +1,9 @@
 -- Energy accounts: their order, and the texts that name them.
-use Rattle.std.specs.Prelude.{ℕ, ◌-◌, nat_lt, ◌==◌, List, length, take, drop, slice_index, Bool, nat_eq, Option, Some, None, codes, if◌then◌else◌}
+use Rattle.std.specs.Prelude.{ℕ, ◌-◌, nat_lt, ◌==◌, List, length, take, drop, slice_index, Bool, Option, Some, None, codes, if◌then◌else◌}
 use Rattle.std.specs.declared.cmp.Ordering.{Ordering}
 use Rattle.std.specs.Ordering.{nat_cmp, eq_by_cmp, on, then_cmp}
-use Rattle.std.specs.Cmp.Lexicographic.{pointwise, slice_cmp}
+use Rattle.std.specs.Cmp.Lexicographic.{slice_cmp}
+use Rattle.std.specs.Str.{bytes_eq}
 use Rattle.hh_rules.specs.declared.account.Account.{Account}
 use Rattle.hh_rules.specs.declared.account.Side.{Side}
 use Rattle.hh_rules.specs.declared.account.Side.TheVariants.{Production, Consumption}
@@ -27,13 +28,9 @@ account_cmp = then_cmp (on (λ a. a.party) bytes_cmp) (on (λ a. a.side) side_cm
 abbrev pub is_same_account : Account → Account → Bool
 is_same_account = eq_by_cmp account_cmp
 
--- whether two texts are the same
-abbrev pub is_text : List ℕ → List ℕ → Bool
-is_text a b = pointwise nat_eq a b
-
 -- the side that a text names
 unfoldable pub side_value : List ℕ → Option Side
-side_value text = if is_text text (codes "P") then Some Production else if is_text text (codes "C") then Some Consumption else None
+side_value text = if bytes_eq text (codes "P") then Some Production else if bytes_eq text (codes "C") then Some Consumption else None
 
 abbrev pub account_from : Option Side → Option (List ℕ) → Option Account
 account_from None party = None

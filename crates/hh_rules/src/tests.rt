@@ -4,7 +4,7 @@ use super::*;
 use std::test::Fail;
 
 #[test]
-fn reads_words(rt: HostRuntime) -> Result<(), Fail> {
+fn reads_party_ids(rt: HostRuntime) -> Result<(), Fail> {
     let party: [(&[u8], bool); 9] = [
         (b"A", true),
         (b"0", true),
@@ -23,6 +23,11 @@ fn reads_words(rt: HostRuntime) -> Result<(), Fail> {
             assert_eq!(rt; word.as_bytes(), text);
         }
     }
+    Ok(())
+}
+
+#[test]
+fn reads_unit_ids(rt: HostRuntime) -> Result<(), Fail> {
     let unit: [(&[u8], bool); 7] = [
         (b"T_GEN-1", true),
         (b"ABCDEFGH_-123456", true),
@@ -35,6 +40,11 @@ fn reads_words(rt: HostRuntime) -> Result<(), Fail> {
     for (text, good) in unit {
         assert_eq!(rt; UnitId::read(text).is_some(), good);
     }
+    Ok(())
+}
+
+#[test]
+fn reads_references(rt: HostRuntime) -> Result<(), Fail> {
     let reference: [(&[u8], bool); 6] = [
         (b"c-1_Z", true),
         (b"abcdefghijABCDEFGH-_", true),
@@ -69,6 +79,11 @@ fn reads_sides_and_accounts(rt: HostRuntime) -> Result<(), Fail> {
             assert_eq!(rt; account.side, side);
         }
     }
+    Ok(())
+}
+
+#[test]
+fn refuses_accounts(rt: HostRuntime) -> Result<(), Fail> {
     let refused: [&[u8]; 9] = [
         b"",
         b"P",

@@ -2,14 +2,15 @@
 
 ghost use Rattle.std.specs.Prelude.{◌≡◌, ◌≤◌, IfOk, IfSome, take, vec_len};
 
+use hh_texts::MOST_BYTES;
 use std::alloc::Global;
 use std::io::{ErrorKind, Read};
 use std::rt::Files;
 use std::{fs, io};
 
-/// The most bytes that are read of a file: one more than the most that a file may have, so that a
-/// larger one is told, and an endless one ends.
-pub const MOST_BYTES: u64 = 1_048_577;
+/// The most bytes that are read of a file: one more than a file may have, so that a larger one is
+/// told, and an endless one ends.
+pub const MOST_READ: u64 = MOST_BYTES as u64 + 1;
 
 /// Why a file gives no bytes.
 #[derive(Clone, Copy, Debug, PartialEq, Eq)]
@@ -40,10 +41,10 @@ impl From<io::Error> for InputFault {
 ///
 /// `Unreadable` where the file cannot be opened or read, `Memory` where memory was refused.
 pub fn read_input<R: Files + AllocGlobal>(rt: &R, path: &str) -> Result<Vec<u8>, InputFault>
-    ensures { IfOk result (λ bytes. vec_len bytes ≤ MOST_BYTES) }
+    ensures { IfOk result (λ bytes. vec_len bytes ≤ MOST_READ) }
 {
     let file = fs::open(rt, path)?;
-    Ok(read_front(rt.alloc(), file, MOST_BYTES)?)
+    Ok(read_front(rt.alloc(), file, MOST_READ)?)
 }
 
 /// The first bytes that a reader gives, so many or all of them.

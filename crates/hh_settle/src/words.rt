@@ -141,4 +141,4 @@ fn value_of<'a>(given: &ArgMatches<'a>, name: &str) -> Option<&'a str>
 }
 
 #[cfg(test)]
-mod tests;
+pub(crate) mod tests;

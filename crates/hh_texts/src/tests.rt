@@ -116,6 +116,11 @@ fn reads_the_header(rt: HostRuntime) -> Result<(), Fail> {
     for (text, rows) in &good {
         contracts_give(&rt, &[*text], Ok(*rows))?;
     }
+    Ok(())
+}
+
+#[test]
+fn refuses_other_headers(rt: HostRuntime) -> Result<(), Fail> {
     let bad: [&[u8]; 8] = [
         b"",
         b"\n\r\n",
@@ -163,6 +168,11 @@ fn refuses_volumes(rt: HostRuntime) -> Result<(), Fail> {
             Err(Fault::at_field(1, 4)),
         )?;
     }
+    Ok(())
+}
+
+#[test]
+fn reads_volumes(rt: HostRuntime) -> Result<(), Fail> {
     for volume in ["10000.000", "-10000.000", "-0", "0010", "1.5"] {
         contracts_give(&rt, &[CONTRACTS, b"R,A-P,B-C,", volume.as_bytes()], Ok(1))?;
     }
@@ -174,6 +184,11 @@ fn reads_meter_fields(rt: HostRuntime) -> Result<(), Fail> {
     for row in ["\"G1\",A-P,1,2,0", "T_G-1,A-P,1,2.0000000,0"] {
         meters_give(&rt, &[METERS, row.as_bytes()], Ok(1))?;
     }
+    Ok(())
+}
+
+#[test]
+fn refuses_meter_fields(rt: HostRuntime) -> Result<(), Fail> {
     let bad: [(&[u8], u32); 7] = [
         (b"g1,A-P,1,2,0", 1),
         (b"G\x00\xFF,A-P,1,2,0", 1),
@@ -190,7 +205,7 @@ fn reads_meter_fields(rt: HostRuntime) -> Result<(), Fail> {
 }
 
 #[test]
-fn tells_the_first_fault(rt: HostRuntime) -> Result<(), Fail> {
+fn tells_the_first_bad_record(rt: HostRuntime) -> Result<(), Fail> {
     for (rows, row) in [
         ("\"R1,A-P,B-C,1\nR2,A-P,B-C,1\n", 1),
         ("R1,A-P,B-C,1,\n", 1),
@@ -200,6 +215,11 @@ fn tells_the_first_fault(rt: HostRuntime) -> Result<(), Fail> {
         let fault = Fault::at_row(Refusal::BadRecord, row);
         contracts_give(&rt, &[CONTRACTS, rows.as_bytes()], Err(fault))?;
     }
+    Ok(())
+}
+
+#[test]
+fn tells_the_first_bad_field(rt: HostRuntime) -> Result<(), Fail> {
     for (rows, row, column) in [
         ("\n\nR1,A-P,B-C,x\nR2,A-P\n", 1, 4),
         ("R1,A-P,B-C,1\n?,-,B-C,x\n", 2, 1),

@@ -1,19 +1,19 @@
 use super::*;
+use crate::words::tests::line;
 use hh_num::MemorySink;
 use std::alloc::Global;
 use std::fs;
 use std::process::Abort;
 use std::test::Fail;
 
-/// Runs a line of words, and gives its status with what it wrote on the standard error.
-fn told(rt: &HostRuntime, line: &[&str]) -> Result<(u8, Vec<u8>), AllocError> {
-    let words: Vec<String> = line
-        .iter()
-        .map(|word| String::from_str(rt.alloc(), word))
-        .try_collect(rt.alloc())?;
+/// Runs a line of words that writes nothing to the standard output, and gives its status with what
+/// it wrote on the standard error.
+fn told<R: Files + AllocGlobal + Abort>(rt: &R, words: &[&str]) -> Result<(u8, Vec<u8>), Fail> {
+    let words = line(rt.alloc(), words)?;
     let mut out = MemorySink::with_room(rt.alloc(), 4096)?;
     let mut err = MemorySink::with_room(rt.alloc(), 4096)?;
     let status = command(rt, &words, &mut out, &mut err);
+    assert_eq!(rt; out.taken(), b"".as_slice());
     Ok((status, Vec::from_slice(rt.alloc(), err.taken())?))
 }
 
@@ -28,7 +28,7 @@ struct Case<'a> {
     err: &'a str,
 }
 
-/// The words of a call that settles a period.
+/// The words of a call that settles a period. A negative price follows the word `--`.
 fn line_of(
     alloc: Global,
     meter: &str,
@@ -40,7 +40,9 @@ fn line_of(
     words.push(String::from_str(alloc, "period")?)?;
     words.push(String::from_str(alloc, meter)?)?;
     words.push(String::from_str(alloc, contracts)?)?;
-    words.push(String::from_str(alloc, "--")?)?;
+    if price.starts_with("-") {
+        words.push(String::from_str(alloc, "--")?)?;
+    }
     words.push(String::from_str(alloc, price)?)?;
     Ok(words)
 }
@@ -253,6 +255,33 @@ fn files_that_cannot_be_read(rt: HostRuntime) -> Result<(), Fail> {
         assert_eq!(&rt; status, 1);
         assert_eq!(&rt; err.as_slice(), b"fault file\n".as_slice());
     }
+    Ok(())
+}
+
+#[test]
+fn files_that_are_refused(rt: HostRuntime) -> Result<(), Fail> {
+    for (meter, line) in [
+        (
+            "/dev/zero",
+            b"refused 10 FileTooLarge in meter\n".as_slice(),
+        ),
+        ("/dev/null", b"refused 12 BadHeader in meter\n".as_slice()),
+    ] {
+        let (status, err) = told(&rt, &["settle", "period", meter, "/dev/null", "1"])?;
+        assert_eq!(&rt; status, 1);
+        assert_eq!(&rt; err.as_slice(), line);
+    }
+    Ok(())
+}
+
+// The words of this test's own program are none of `settle`'s.
+#[test]
+fn words_of_the_system(rt: HostRuntime) -> Result<(), Fail> {
+    let mut out = MemorySink::with_room(rt.alloc(), 4096)?;
+    let mut err = MemorySink::with_room(rt.alloc(), 4096)?;
+    assert_eq!(&rt; run(&rt, &mut out, &mut err), 2);
+    assert_eq!(&rt; out.taken(), b"".as_slice());
+    assert!(&rt; err.taken().len() > 0);
     Ok(())
 }
 

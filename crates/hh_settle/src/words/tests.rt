@@ -1,7 +1,8 @@
 use super::*;
 use std::test::Fail;
 
-fn line(alloc: Global, words: &[&str]) -> Result<Vec<String>, AllocError> {
+/// A line of words.
+pub(crate) fn line(alloc: Global, words: &[&str]) -> Result<Vec<String>, AllocError> {
     words
         .iter()
         .map(|word| String::from_str(alloc, word))
