@@ -38,7 +38,10 @@ def each_refused(words, preloaded, note):
             print(f"{words}: allocation {fail_at} refused: {got}", file=sys.stderr)
             return None
         if not os.path.exists(note):
-            return (fail_at - 1, spared) if got == wanted else None
+            if got == wanted:
+                return fail_at - 1, spared
+            print(f"{words}: refused, though no allocation was", file=sys.stderr)
+            return None
         os.remove(note)
         spared += got == wanted
     print(f"{words}: no run was without a refusal", file=sys.stderr)
