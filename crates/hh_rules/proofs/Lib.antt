@@ -1,2 +1,3 @@
 pub mod AccountLaws
+pub mod ByteFacts
 pub mod WordFacts

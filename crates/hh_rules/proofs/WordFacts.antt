@@ -1,8 +1,11 @@
 -- Words in buffers padded with zeros.
-use Rattle.std.proofs.Common.{◌≡◌, ℕ, ◌-◌, ◌≤◌, ◌++◌, List, take, drop, length, Bool, true, sym, ap, ◌∙◌}
+use Rattle.std.proofs.Common.{◌≡◌, ℕ, ◌-◌, ◌≤◌, ◌++◌, List, take, drop, length, Bool, true, sym, ap, ◌∙◌, arith}
 use Rattle.std.specs.Prelude.{replicate}
 use Rattle.std.proofs.Math.Seq.{take-append_seam}
 use Rattle.std.proofs.lemmas.List.{drop-replicate}
+use Rattle.std.specs.Ordering.{nat_cmp, ordering_then}
+use Rattle.std.specs.Cmp.Lexicographic.{slice_cmp}
+use Rattle.hh_rules.proofs.ByteFacts.{padded_order}
 use Rattle.hh_rules.specs.Words.{IsPadded}
 
 -- a text written over the front of a buffer of zeros
@@ -18,3 +21,10 @@ padded_by most text copied fits same test passes =
       record { fits = fits; counted = ap length front; padded = whole },
       ap test front ∙ passes,
     )
+
+-- the order of two texts, from their buffers and lengths
+pub order_of_padded : (most n m : ℕ) (a b : List ℕ) → IsPadded most n a → IsPadded most m b
+    → slice_cmp nat_cmp (take n a) (take m b) ≡ ordering_then (slice_cmp nat_cmp a b) (nat_cmp n m)
+order_of_padded most n m a b p q =
+    padded_order (take n a) (take m b) (most - n) (most - m) (omega (arith, p.fits, p.counted, q.fits, q.counted))
+    ∙ (λ i. ordering_then (slice_cmp nat_cmp (sym p.padded i) (sym q.padded i)) (nat_cmp (p.counted i) (q.counted i)))

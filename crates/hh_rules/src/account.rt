@@ -78,9 +78,10 @@ impl Ord for Account {
     ghost matches_eq = { Prim.search (comparing, rules) };
 
     fn cmp(&self, other: &Account) -> Ordering {
-        self.party
-            .cmp(&other.party)
-            .then(self.side.cmp(&other.side))
+        match self.party.cmp(&other.party) {
+            Ordering::Equal => self.side.cmp(&other.side),
+            unequal => unequal,
+        }
     }
 }
 

@@ -2,6 +2,7 @@
 #![tactic(auto)]
 
 mod account;
+mod bytes;
 mod fault;
 mod period;
 mod word;

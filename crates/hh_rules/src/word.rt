@@ -9,6 +9,7 @@ ghost use Rattle.std.specs.Ordering.{as_partial_cmp, nat_cmp};
 ghost use Rattle.std.proofs.Common.{rules};
 ghost use Rattle.hh_rules.specs.Words.{is_capital_or_digit, is_unit_byte, is_reference_byte, is_word, word_value};
 
+use crate::bytes::order_of_bytes;
 use std::cmp::Ordering;
 use std::marker::{Model, PhantomData};
 
@@ -160,8 +161,12 @@ impl<A: Alphabet, const MOST: usize> Ord for Word<A, MOST> {
 
     ghost matches_eq = { Prim.search (comparing, rules) };
 
+    // The buffers decide, and where only zeros tell the two words apart, their lengths.
     fn cmp(&self, other: &Word<A, MOST>) -> Ordering {
-        self.as_bytes().cmp(&other.as_bytes())
+        match order_of_bytes(&self.bytes, &other.bytes) {
+            Ordering::Equal => self.len.cmp(&other.len),
+            unequal => unequal,
+        }
     }
 }
 

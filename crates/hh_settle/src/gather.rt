@@ -93,15 +93,15 @@ pub(crate) fn contracts_in_force(
 {
     let mut contracts: BTreeMap<Reference, Contract> = BTreeMap::new(alloc);
     for (index, row) in rows.iter().enumerate() {
-        if let Some(refusal) = refusal_of(contracts.get(&row.reference), row) {
-            return Err(Fault::at_row(refusal, index as u32 + 1));
-        }
         let contract = Contract {
             seller: row.seller,
             buyer: row.buyer,
             volume: row.volume,
         };
-        contracts.insert(row.reference, contract)?;
+        let known = contracts.insert(row.reference, contract)?;
+        if let Some(refusal) = refusal_of(known.as_ref(), row) {
+            return Err(Fault::at_row(refusal, index as u32 + 1));
+        }
     }
     Ok(contracts.into_values().collect(alloc)?)
 }
