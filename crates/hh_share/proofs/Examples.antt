@@ -1,0 +1,36 @@
+-- Small apportionments, computed.
+use Rattle.std.proofs.Common.{◌≡◌, [], ◌∷◌, refl}
+use Rattle.std.specs.Prelude.{pos, negsuc}
+use Rattle.hh_share.specs.Shares.{shares}
+
+one_penny : shares (pos 1) (5 ∷ 5 ∷ 5 ∷ []) ≡ pos 1 ∷ pos 0 ∷ pos 0 ∷ []
+one_penny = refl
+
+minus_hundred : shares (negsuc 99) (1 ∷ 1 ∷ 1 ∷ []) ≡ negsuc 33 ∷ negsuc 32 ∷ negsuc 32 ∷ []
+minus_hundred = refl
+
+no_weights : shares (pos 10) (0 ∷ 0 ∷ 0 ∷ 0 ∷ []) ≡ pos 3 ∷ pos 3 ∷ pos 2 ∷ pos 2 ∷ []
+no_weights = refl
+
+nobody : shares (pos 0) [] ≡ []
+nobody = refl
+
+seven_weights : shares (pos 10) (0 ∷ 1 ∷ 2 ∷ 4 ∷ []) ≡ pos 0 ∷ pos 1 ∷ pos 3 ∷ pos 6 ∷ []
+seven_weights = refl
+
+minus_five : shares (negsuc 4) (3 ∷ 0 ∷ 3 ∷ []) ≡ negsuc 2 ∷ pos 0 ∷ negsuc 1 ∷ []
+minus_five = refl
+
+least : shares (negsuc 9_223_372_036_854_775_807) (1 ∷ []) ≡ negsuc 9_223_372_036_854_775_807 ∷ []
+least = refl
+
+two_to_one : shares (pos 1) (2 ∷ 1 ∷ []) ≡ pos 1 ∷ pos 0 ∷ []
+two_to_one = refl
+
+-- the shares of the first period: 99.5 and 98.49 MWh of a residual of 5050 pence
+first_period : shares (pos 5050) (995_000_000_000 ∷ 984_900_000_000 ∷ []) ≡ pos 2538 ∷ pos 2512 ∷ []
+first_period = refl
+
+-- the same period, where no account has energy but of interconnector units
+interconnectors : shares (pos 5050) (0 ∷ 0 ∷ 0 ∷ 0 ∷ []) ≡ pos 1263 ∷ pos 1263 ∷ pos 1262 ∷ pos 1262 ∷ []
+interconnectors = refl

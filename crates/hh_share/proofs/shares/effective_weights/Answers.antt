@@ -1,0 +1,10 @@
+use Rattle.std.proofs.Common.{◌∙◌, length, map, nat_abs, sym}
+use Rattle.std.proofs.lemmas.List.{length-map}
+use Rattle.std.proofs.lemmas.Result.{IfOk-weaker}
+use Rattle.hh_share.proofs.ShareFacts.{all_ones}
+use Rattle.hh_share.proofs.shares.effective_weights.Goals as goal
+
+pub returns-then-are_all_zero : goal.returns-then-are_all_zero
+returns-then-are_all_zero c =
+    let weights = c.args.weights.now in
+    IfOk-weaker c.ones.result _ _ (λ v e. e ∙ all_ones (length weights) (map nat_abs weights) (sym (length-map weights nat_abs)) (sym c.are_all_zero.ensures ∙ c.if-are_all_zero.true)) c.ones.ensures

@@ -1,0 +1,60 @@
+-- Apportionment by largest remainders, Hamilton's method.
+use Rattle.std.specs.Prelude.{◌≡◌, ℕ, ◌+◌, ◌-◌, ◌*◌, ◌/◌, ◌%◌, ◌<◌, nat_lt, ◌==◌, ℤ, pos, neg_ℤ, nat_abs, ◌-ℤ◌, ◌*ℤ◌, int_lt, List, length, map, sum, sum_by, count_by, All, Bool, ◌&&◌, ◌||◌, if◌then◌else◌}
+use Rattle.std.specs.List.{enumerate_from, list_all, zip}
+use Rattle.hh_num.specs.Totals.{total}
+
+-- the weights that count: each of them 1 where all are 0
+abbrev pub effective : List ℕ → List ℕ
+effective weights = if list_all (λ w. w == 0) weights then map (λ w. 1) weights else weights
+
+-- Of two places with their remainders, b comes before a: its remainder is larger, or as large and its place earlier.
+abbrev pub comes_before : ℕ × ℕ → ℕ × ℕ → Bool
+comes_before b a = nat_lt a.1 b.1 || ((a.1 == b.1) && nat_lt b.0 a.0)
+
+-- how many of a list of remainders come before a
+abbrev pub rank : List ℕ → ℕ × ℕ → ℕ
+rank remainders a = count_by (λ b. comes_before b a) (enumerate_from 0 remainders)
+
+-- So many pence are apportioned by these weights. The quota of a weight is its exact part, size * weight / sum.
+module _ (size : ℕ) (weights : List ℕ) where
+  -- the whole pence of a quota
+  abbrev pub lower_quota : ℕ → ℕ
+  lower_quota weight = (size * weight) / sum weights
+
+  -- what is over, in parts of a penny of which the sum of the weights makes one
+  abbrev pub remainder : ℕ → ℕ
+  remainder weight = (size * weight) % sum weights
+
+  -- the pence that the whole parts leave
+  abbrev pub leftover : ℕ
+  leftover = size - sum_by lower_quota weights
+
+  -- The share of an account, which is its place and its weight: the whole pence, and one more where fewer
+  -- remainders come before its own than pence are left over.
+  abbrev pub share_size : ℕ × ℕ → ℕ
+  share_size a = lower_quota a.1 + (if nat_lt (rank (map remainder weights) (a.0, remainder a.1)) leftover then 1 else 0)
+
+-- n with the sign of z
+abbrev pub with_sign_of : ℤ → ℕ → ℤ
+with_sign_of z n = if int_lt z (pos 0) then neg_ℤ (pos n) else pos n
+
+-- the share that an account has of an amount
+abbrev pub share_of : ℤ → List ℕ → ℕ × ℕ → ℤ
+share_of amount weights a = with_sign_of amount (share_size (nat_abs amount) weights a)
+
+-- the shares of an amount of pence, in the order of the weights
+abbrev pub shares : ℤ → List ℕ → List ℤ
+shares amount weights = map (share_of amount (effective weights)) (enumerate_from 0 (effective weights))
+
+-- the pence of a split come to this amount
+abbrev pub SumsTo : ℤ → List ℤ → Type 0
+SumsTo amount split = total (λ share. share) split ≡ amount
+
+-- A share is its quota, amount * weight / sum, rounded down or up in size: it lies less than a penny from it.
+abbrev pub IsQuotaRounded : ℤ → List ℕ → ℕ → ℤ → Type 0
+IsQuotaRounded amount weights weight share = nat_abs ((amount *ℤ pos weight) -ℤ (share *ℤ pos (sum weights))) < sum weights
+
+-- there is a share for each weight, and each is the quota of its own rounded so
+abbrev pub AreQuotasRounded : ℤ → List ℕ → List ℤ → Type 0
+AreQuotasRounded amount weights split =
+    (length split ≡ length weights) × All (λ a. IsQuotaRounded amount weights a.0 a.1) (zip weights split)

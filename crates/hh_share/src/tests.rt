@@ -1,0 +1,64 @@
+//! What no clause says: that shares are given, and what the words of the clauses come to.
+
+use super::*;
+use std::alloc::{AllocError, Global};
+use std::test::Fail;
+
+/// The shares of a total by weights of which none is negative, and at least one where there is a
+/// total.
+fn shares_by(alloc: Global, total: i64, weights: &[i64]) -> Result<Option<Vec<i64>>, AllocError> {
+    if weights.iter().any(|weight| *weight < 0) || (total != 0 && weights.is_empty()) {
+        return Ok(None);
+    }
+    Ok(Some(apportion(alloc, total, weights)?))
+}
+
+/// Whether a total is apportioned so.
+fn gives(alloc: Global, total: i64, weights: &[i64], wanted: &[i64]) -> Result<bool, AllocError> {
+    match shares_by(alloc, total, weights)? {
+        Some(shares) => Ok(shares.as_slice() == wanted),
+        None => Ok(false),
+    }
+}
+
+#[test]
+fn worked_shares(rt: HostRuntime) -> Result<(), Fail> {
+    let cases: [(i64, &[i64], &[i64]); 13] = [
+        (1, &[5, 5, 5], &[1, 0, 0]),
+        (-100, &[1, 1, 1], &[-34, -33, -33]),
+        (10, &[0, 0, 0, 0], &[3, 3, 2, 2]),
+        (0, &[], &[]),
+        (0, &[7, 0], &[0, 0]),
+        (10, &[0, 1, 2, 4], &[0, 1, 3, 6]),
+        (-5, &[3, 0, 3], &[-3, 0, -2]),
+        (1, &[2, 1], &[1, 0]),
+        (1, &[1, 2], &[0, 1]),
+        (i64::MIN, &[1], &[i64::MIN]),
+        (i64::MAX, &[0, i64::MAX], &[0, i64::MAX]),
+        // The first period: the weights in ticks, the residual in pence.
+        (5_050, &[995_000_000_000, 984_900_000_000], &[2_538, 2_512]),
+        // Four accounts with no weight, as where all units are of interconnectors.
+        (5_050, &[0, 0, 0, 0], &[1_263, 1_263, 1_262, 1_262]),
+    ];
+    for (total, weights, wanted) in cases {
+        assert!(rt; gives(rt.alloc(), total, weights, wanted)?, "at {total}");
+    }
+    Ok(())
+}
+
+#[test]
+fn many_weights_of_the_greatest_size(rt: HostRuntime) -> Result<(), Fail> {
+    let weights = vec![in rt.alloc(); i64::MAX; 800]?;
+    let mut wanted = vec![in rt.alloc(); 1; 800]?;
+    for share in wanted[..200].iter_mut() {
+        *share = 2;
+    }
+    assert!(rt; gives(rt.alloc(), 1_000, &weights, &wanted)?);
+    // 608 pence are left over the 800 equal parts of 2^63.
+    let mut wanted = vec![in rt.alloc(); -11_529_215_046_068_469; 800]?;
+    for share in wanted[..608].iter_mut() {
+        *share = -11_529_215_046_068_470;
+    }
+    assert!(rt; gives(rt.alloc(), i64::MIN, &weights, &wanted)?);
+    Ok(())
+}
