@@ -1,41 +1,39 @@
--- The periods of the tests: lists of at most two accounts in order, and what they name.
-use Rattle.std.proofs.Common.{◌≡◌, refl, arith}
-use Rattle.std.specs.Prelude.{[], ◌∷◌, List, All, Contains, zero, suc}
+-- The periods of the tests: accounts in order, and what they name.
+use Rattle.std.proofs.Common.{◌≡◌, ℕ, ◌+◌, ◌<◌, ◌≤◌, subst, length, get_or, take}
+use Rattle.std.specs.Prelude.{[], ◌∷◌, List, All, Contains}
+use Rattle.std.specs.declared.cmp.Ordering.{Ordering}
 use Rattle.std.specs.declared.cmp.Ordering.TheVariants.{Less}
+use Rattle.std.specs.Cmp.{IsTotalOrder}
 use Rattle.std.specs.List.Sorted.{IsStrictlySortedBy}
+use Rattle.std.proofs.lemmas.List.{take_all}
+use Rattle.std.proofs.lemmas.List.Elements.{All-more}
+use Rattle.std.proofs.lemmas.Map.Keys.{sorted_from_all_adjacent}
 use Rattle.hh_rules.specs.declared.account.Account.{Account}
-use Rattle.hh_rules.specs.Accounts.{account_cmp}
+use Rattle.hh_calc.specs.declared.data.Contract.{Contract}
+use Rattle.hh_calc.specs.Period.{UnitPeriod}
 
-pub none_in_order : IsStrictlySortedBy account_cmp []
+-- keys rise where each is below the next
+pub in_order : {K : Type 0} {R : K → K → Ordering} (o : IsTotalOrder R) (keys : List K) → ((k : ℕ) (d : K) → k + 1 < length keys → R (get_or keys k d) (get_or keys (k + 1) d) ≡ Less) → IsStrictlySortedBy R keys
 unfolding IsStrictlySortedBy
-none_in_order = record {}
+in_order o [] up = record {}
+in_order o (key ∷ keys) up = sorted_from_all_adjacent o (key ∷ keys) key (λ k. up k key)
 
-pub alone_in_order : (a : Account) → IsStrictlySortedBy account_cmp (a ∷ [])
-unfolding IsStrictlySortedBy
-alone_in_order a = (record {}, record {})
+-- what holds of the elements so far and of this one holds of one more
+pub one_more : {X : Type 0} (P : X → Type 0) (xs : List X) (i : ℕ) (x : X) → i < length xs → x ≡ get_or xs i x → All P (take i xs) → P x → All P (take (i + 1) xs)
+one_more P xs i x inside is before here = All-more P xs i x inside before (subst P is here)
 
-module _ (a b : Account) (accounts : List Account) (are : accounts ≡ a ∷ b ∷ []) where
-  pub two_in_order : account_cmp a b ≡ Less → IsStrictlySortedBy account_cmp accounts
-  unfolding IsStrictlySortedBy
-  two_in_order less = rw are ((less, record {}), (record {}, record {}))
+-- and at the end it holds of each
+pub all_of : {X : Type 0} (P : X → Type 0) (xs : List X) (i : ℕ) → length xs ≤ i → All P (take i xs) → All P xs
+all_of P xs i end before = subst (All P) (take_all i xs end) before
 
-  pub first_named : (x : Account) → x ≡ a → Contains accounts x
-  first_named x e = rw are (rw e (0, omega arith, refl))
+-- each lead and subsidiary of these units is one of the accounts
+abbrev pub AreUnitsNamed : List Account → List UnitPeriod → Type 0
+AreUnitsNamed accounts units = All (λ u. Contains accounts u.lead × All (λ s. Contains accounts s.account) u.subsidiaries) units
 
-  pub second_named : (x : Account) → x ≡ b → Contains accounts x
-  second_named x e = rw are (rw e (1, omega arith, refl))
+-- each seller and buyer of these contracts is one of the accounts
+abbrev pub AreContractsNamed : List Account → List Contract → Type 0
+AreContractsNamed accounts contracts = All (λ c. Contains accounts c.seller × Contains accounts c.buyer) contracts
 
-pub all_of_one : {X : Type 0} (P : X → Type 0) (x : X) (xs : List X) → xs ≡ x ∷ [] → P x → All P xs
-all_of_one P x xs are p = rw are one
-  where
-    one : All P (x ∷ [])
-    one zero d lt = p
-    one (suc k) d lt = absurd (omega arith)
-
-pub all_of_two : {X : Type 0} (P : X → Type 0) (x y : X) (xs : List X) → xs ≡ x ∷ y ∷ [] → P x → P y → All P xs
-all_of_two P x y xs are p q = rw are two
-  where
-    two : All P (x ∷ y ∷ [])
-    two zero d lt = p
-    two (suc zero) d lt = q
-    two (suc (suc k)) d lt = absurd (omega arith)
+-- what holds of two lists holds of the same under other names
+pub carried : {A B : Type 0} (P : A → B → Type 0) (a a' : A) (b b' : B) → a ≡ a' → b ≡ b' → P a b → P a' b'
+carried P a a' b b' e f before = subst (P a') f (subst (λ x. P x b) e before)

@@ -48,14 +48,14 @@ if_none (Some x) P p = tt
 pub contracts_word : (net : ℤ) → nat_abs net ≤ 10 ^ 28
     → to_z w128 (of_z w128 (to_z w128 (of_z w128 net) *ℤ pos (10 ^ 7))) ≡ net *ℤ pos (10 ^ 7)
 contracts_word net le =
-    let small : nat_abs (net *ℤ pos (10 ^ 7)) ≤ 10 ^ 36 = omega (arith, ints) in
+    let small : nat_abs (net *ℤ pos (10 ^ 7)) ≤ 10 ^ 38 = omega (arith, ints) in
     ap (λ z. to_z w128 (of_z w128 (z *ℤ pos (10 ^ 7)))) (long_word net (omega arith)) ∙ long_word (net *ℤ pos (10 ^ 7)) small
 
-pub imbalance_word : (credited balancing contracts word : ℤ) → nat_abs credited ≤ 10 ^ 34 → nat_abs balancing ≤ 10 ^ 34 → nat_abs contracts ≤ 10 ^ 35 → word ≡ contracts
+pub imbalance_word : (credited balancing contracts word : ℤ) → nat_abs credited ≤ 2 * 10 ^ 37 → nat_abs balancing ≤ 10 ^ 34 → nat_abs contracts ≤ 10 ^ 35 → word ≡ contracts
     → to_z w128 (of_z w128 (to_z w128 (of_z w128 (to_z w128 (of_z w128 credited) -ℤ to_z w128 (of_z w128 balancing))) -ℤ word)) ≡ (credited -ℤ balancing) -ℤ contracts
 imbalance_word credited balancing contracts word a b d same =
-    let first : nat_abs (credited -ℤ balancing) ≤ 10 ^ 36 = omega (arith, ints) in
-    let all : nat_abs ((credited -ℤ balancing) -ℤ contracts) ≤ 10 ^ 36 = omega (arith, ints) in
+    let first : nat_abs (credited -ℤ balancing) ≤ 10 ^ 38 = omega (arith, ints) in
+    let all : nat_abs ((credited -ℤ balancing) -ℤ contracts) ≤ 10 ^ 38 = omega (arith, ints) in
     ap (λ z. to_z w128 (of_z w128 (to_z w128 (of_z w128 (z -ℤ to_z w128 (of_z w128 balancing))) -ℤ word))) (long_word credited (omega arith))
     ∙ ap (λ z. to_z w128 (of_z w128 (to_z w128 (of_z w128 (credited -ℤ z)) -ℤ word))) (long_word balancing (omega arith))
     ∙ ap (λ z. to_z w128 (of_z w128 (z -ℤ word))) (long_word (credited -ℤ balancing) (omega arith))
@@ -117,3 +117,7 @@ contracts_size net le = omega (arith, ints)
 -- a word of 128 bits is itself
 pub cash_word : (x : ℤ) → mag x < 2 ^ 127 → to_z w128 (of_z w128 x) ≡ x
 cash_word x h = to_z-of_z w128 x (record { sfits = h })
+
+-- a number of 64 bits, widened twice
+pub wide_word : (v units wide : ℤ) → units ≡ v → nat_abs v ≤ 10 ^ 18 → wide ≡ to_z w64 (of_z w64 units) → to_z w128 (of_z w128 wide) ≡ v
+wide_word v units wide same le e = ap (λ z. to_z w128 (of_z w128 z)) (widened v units wide same le e) ∙ long_word v (omega arith)

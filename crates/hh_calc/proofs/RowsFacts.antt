@@ -1,7 +1,7 @@
 -- Row after row: the accounts of a period so far.
-use Rattle.std.proofs.Common.{◌≡◌, ℕ, zero, suc, ◌+◌, ◌*◌, ◌^◌, ◌<◌, ◌≤◌, Bool, true, false, ◌&&◌, List, [], ◌∷◌, ◌++◌, length, get_or, take, map, refl, sym, ap, ◌∙◌, arith, to_z, of_z, add-one}
-use Rattle.std.specs.Prelude.{ℤ, pos, neg_ℤ, ◌-ℤ◌, nat_abs}
-use Rattle.std.specs.Int.{w128}
+use Rattle.std.proofs.Common.{◌≡◌, ℕ, zero, suc, ◌+◌, ◌*◌, ◌^◌, ◌<◌, ◌≤◌, Bool, true, false, ◌&&◌, List, [], ◌∷◌, ◌++◌, length, get_or, set, take, drop, map, refl, sym, ap, ◌∙◌, arith, to_z, of_z, add-one}
+use Rattle.std.specs.Prelude.{ℤ, pos, neg_ℤ, ◌-ℤ◌, nat_abs, filter, not}
+use Rattle.std.specs.Int.{w64, w128}
 use Rattle.std.specs.List.{list_all}
 use Rattle.std.proofs.Math.IntN.{neg_ℤ-+ℤ}
 use Rattle.std.proofs.Math.Nat.{suc-mul}
@@ -9,10 +9,10 @@ use Rattle.std.proofs.lemmas.Int.{ints}
 use Rattle.std.proofs.lemmas.List.{map-append, take_more}
 use Rattle.hh_num.specs.Totals.{total}
 use Rattle.hh_rules.specs.declared.account.Account.{Account}
-use Rattle.hh_calc.specs.Formulas.{Figures, are_within, are_accounts_within, balancing_of, credited_of, figures, figures_from, greatest_cash, net_of, weight, weight_of}
+use Rattle.hh_calc.specs.Formulas.{Figures, are_within, are_accounts_within, balancing_of, credited_of, credits_of, figures, figures_from, greatest_cash, greatest_energy, is_at_most, net_of, weight, weight_of}
 use Rattle.hh_calc.specs.Period.{Period}
 use Rattle.hh_calc.specs.Sums.{AreSumsOver}
-use Rattle.hh_calc.proofs.RowFacts.{at_most}
+use Rattle.hh_calc.proofs.RowFacts.{at_most, widened}
 use Rattle.hh_calc.proofs.SumLaws.{read_sum, total-more}
 use Rattle.hh_calc.proofs.WordFacts.{long_word}
 
@@ -21,16 +21,17 @@ word x = to_z w128 (of_z w128 x)
 
 -- The figures of an account from the sums at its place are its figures in the period.
 pub figures_read : (p : Period) (credited balancing net weights : List ℤ)
-    → AreSumsOver credited_of p.accounts p.units (10 ^ 34) credited → AreSumsOver balancing_of p.accounts p.units (10 ^ 34) balancing
-    → AreSumsOver net_of p.accounts p.contracts (10 ^ 28) net → AreSumsOver weight_of p.accounts p.units (10 ^ 34) weights
+    → AreSumsOver credited_of p.accounts (credits_of p.units) (2 * 10 ^ 37) credited → AreSumsOver balancing_of p.accounts p.units (10 ^ 34) balancing
+    → AreSumsOver net_of p.accounts p.contracts (10 ^ 28) net
+    → AreSumsOver weight_of p.accounts (credits_of (filter (λ u. not u.interconnector) p.units)) (2 * 10 ^ 37) weights
     → (place : ℕ) (account : Account) → place < length p.accounts → account ≡ get_or p.accounts place account → (price : ℤ) → price ≡ p.price
     → (figures_from account (word (get_or credited place (pos 0))) (word (get_or balancing place (pos 0))) (word (get_or net place (pos 0))) price ≡ figures p account)
     × (word (get_or weights place (pos 0)) ≡ weight p account)
 figures_read p credited balancing net weights hc hb hn hw place account inside is price same =
-    let (c, c_le) = read_sum credited_of p.accounts p.units (10 ^ 34) credited hc place account (pos 0) inside is in
+    let (c, c_le) = read_sum credited_of p.accounts (credits_of p.units) (2 * 10 ^ 37) credited hc place account (pos 0) inside is in
     let (b, b_le) = read_sum balancing_of p.accounts p.units (10 ^ 34) balancing hb place account (pos 0) inside is in
     let (n, n_le) = read_sum net_of p.accounts p.contracts (10 ^ 28) net hn place account (pos 0) inside is in
-    let (w, w_le) = read_sum weight_of p.accounts p.units (10 ^ 34) weights hw place account (pos 0) inside is in
+    let (w, w_le) = read_sum weight_of p.accounts (credits_of (filter (λ u. not u.interconnector) p.units)) (2 * 10 ^ 37) weights hw place account (pos 0) inside is in
     let cs = long_word (get_or credited place (pos 0)) (omega arith) ∙ c in
     let bs = long_word (get_or balancing place (pos 0)) (omega arith) ∙ b in
     let ns = long_word (get_or net place (pos 0)) (omega arith) ∙ n in (
@@ -101,7 +102,36 @@ residual_size place residual charge small le = rw (add-one, suc-mul place (10 ^ 
 pub residual_word : (held wide residual charge : ℤ) → held ≡ residual → wide ≡ charge → nat_abs residual ≤ 10 ^ 35 → nat_abs charge ≤ 10 ^ 12
     → word (held -ℤ word wide) ≡ residual -ℤ charge
 residual_word held wide residual charge same same' small small' =
-    let both : nat_abs (residual -ℤ charge) ≤ 10 ^ 36 = omega (arith, ints) in
+    let both : nat_abs (residual -ℤ charge) ≤ 10 ^ 38 = omega (arith, ints) in
     (λ i. word (same i -ℤ word (same' i)))
     ∙ ap (λ z. word (residual -ℤ z)) (long_word charge (omega arith))
     ∙ long_word (residual -ℤ charge) both
+
+-- the weight of one account more
+pub weights_more : (f : Account → ℤ) (weights : List ℤ) (w : ℤ) (accounts : List Account) (place : ℕ) (account : Account)
+    → place < length accounts → account ≡ get_or accounts place account → weights ≡ map f (take place accounts) → w ≡ f account
+    → (new : List ℤ) → new ≡ weights ++ w ∷ [] → new ≡ map f (take (place + 1) accounts)
+weights_more f weights w accounts place account inside is so_far same new e =
+    e ∙ (λ i. so_far i ++ (same ∙ ap f is) i ∷ [])
+    ∙ sym (ap (map f) (take_more accounts place account inside) ∙ map-append f (take place accounts) (get_or accounts place account ∷ []))
+
+-- one value more of a list in the place of another's
+pub set_next : {X : Type 0} (xs ys : List X) (i : ℕ) (x d : X) → i < length xs → length ys ≡ length xs → x ≡ get_or xs i d
+    → set (take i xs ++ drop i ys) i x ≡ take (i + 1) xs ++ drop (i + 1) ys
+set_next [] ys i x d inside same is = absurd (omega arith)
+set_next (a ∷ xs) [] i x d inside same is = absurd (omega arith)
+set_next (a ∷ xs) (b ∷ ys) zero x d inside same is = ap (λ v. v ∷ ys) is
+set_next (a ∷ xs) (b ∷ ys) (suc i) x d inside same is = simp add-one (ap (λ more. a ∷ more) (simp add-one at (set_next xs ys i x d (omega arith) (omega arith) is)))
+
+and_before : (a b c : Bool) → ((a && b) && c) ≡ true → b ≡ true
+and_before true true c h = refl
+and_before true false c h = cc h
+and_before false b c h = cc h
+
+-- a weight within its limit fits 64 bits
+pub short_weight : (f : Figures) (w units : ℤ) → are_within f w ≡ true → units ≡ w → to_z w64 (of_z w64 units) ≡ w
+short_weight f w units h same =
+    let word : ℤ = to_z w64 (of_z w64 units) in
+    let within : is_at_most greatest_energy w ≡ true = and_before (is_at_most greatest_energy f.credited && is_at_most greatest_energy f.balancing && is_at_most greatest_energy f.contracts && is_at_most greatest_energy f.imbalance) _ (is_at_most greatest_cash f.charge) h in
+    let small : nat_abs w ≤ 10 ^ 17 = at_most greatest_energy w within in
+    widened w units word same (omega arith) refl

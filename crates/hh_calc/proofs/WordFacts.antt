@@ -6,7 +6,7 @@ use Rattle.std.proofs.Math.IntN.{+ℤ_idl}
 use Rattle.std.proofs.lemmas.Int.{ints, to_z-of_z}
 use Rattle.hh_num.specs.Ranges.{IsBetween}
 
-pub long_word : (x : ℤ) → nat_abs x ≤ 10 ^ 36 → to_z w128 (of_z w128 x) ≡ x
+pub long_word : (x : ℤ) → nat_abs x ≤ 10 ^ 38 → to_z w128 (of_z w128 x) ≡ x
 long_word x le = let fits : FitsSigned w128 x = omega (arith, ints) in to_z-of_z w128 x fits
 
 -- a volume in kWh, widened
@@ -24,7 +24,7 @@ volume_size v (low, high) = omega (arith, ints)
 pub turned_word : (v wide : ℤ) → wide ≡ v → nat_abs v ≤ 10 ^ 7 → to_z w128 (of_z w128 (pos 0 -ℤ wide)) ≡ neg_ℤ v
 turned_word v wide same le =
     let turned : pos 0 -ℤ wide ≡ neg_ℤ v = +ℤ_idl (neg_ℤ wide) ∙ ap neg_ℤ same in
-    let small : nat_abs (neg_ℤ v) ≤ 10 ^ 36 = omega (arith, ints) in
+    let small : nat_abs (neg_ℤ v) ≤ 10 ^ 38 = omega (arith, ints) in
     ap (λ z. to_z w128 (of_z w128 z)) turned ∙ long_word (neg_ℤ v) small
 
 pub turned_size : (v : ℤ) → nat_abs v ≤ 10 ^ 7 → nat_abs (neg_ℤ v) ≤ 10 ^ 7

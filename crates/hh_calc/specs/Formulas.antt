@@ -1,41 +1,65 @@
 -- The settlement of one period, in the shape of the Balancing and Settlement Code's Section T (credited energy, imbalance, residual cashflow); the
 -- formulas and numbers are this office's own. Energy is in ticks, 10^10 to the MWh, cash in pence, positive where the account pays.
-use Rattle.std.specs.Prelude.{◌≡◌, ℕ, ◌^◌, nat_le, nat_abs, ℤ, pos, neg_ℤ, ◌-ℤ◌, ◌*ℤ◌, List, map, Bool, ◌&&◌, if◌then◌else◌, Contains, All}
-use Rattle.std.specs.List.{list_all}
+use Rattle.std.specs.Prelude.{◌≡◌, ◌≢◌, ℕ, ◌^◌, ◌≤◌, nat_le, nat_abs, ℤ, pos, neg_ℤ, ◌+ℤ◌, ◌-ℤ◌, ◌*ℤ◌, List, [], ◌∷◌, ◌++◌, length, map, filter, Bool, not, ◌&&◌, if◌then◌else◌, Contains, All, AllPairs, IsPermutation, IsSorted}
+use Rattle.std.specs.declared.cmp.Ordering.{Ordering}
+use Rattle.std.specs.Ordering.{on, then_cmp}
+use Rattle.std.specs.List.{flat_map, list_all}
 use Rattle.std.specs.List.Sorted.{IsStrictlySortedBy}
+use Rattle.std.specs.Str.{bytes_eq}
 use Rattle.hh_num.specs.Rounding.{near}
 use Rattle.hh_num.specs.Totals.{total}
 use Rattle.hh_rules.specs.declared.account.Account.{Account}
-use Rattle.hh_rules.specs.Accounts.{account_cmp, is_same_account}
+use Rattle.hh_rules.specs.Accounts.{account_cmp, bytes_cmp, is_same_account}
+use Rattle.hh_share.specs.Shares.{shares}
 use Rattle.hh_calc.specs.declared.data.Contract.{Contract}
-use Rattle.hh_calc.specs.declared.data.UnitData.{UnitData}
+use Rattle.hh_calc.specs.declared.data.Subsidiary.{Subsidiary}
 use Rattle.hh_calc.specs.declared.result.AccountRow.{AccountRow}
-use Rattle.hh_calc.specs.Period.{Period, Settled}
+use Rattle.hh_calc.specs.declared.result.CreditRow.{CreditRow}
+use Rattle.hh_calc.specs.Period.{Period, Settled, UnitPeriod}
 
 -- loss-adjusted volume: metered energy times the loss multiplier, not rounded
-abbrev pub loss_adjusted : UnitData → ℤ
+abbrev pub loss_adjusted : UnitPeriod → ℤ
 loss_adjusted u = u.metered *ℤ u.tlm
 
 -- the balancing volume of a unit, in ticks
-abbrev pub balanced : UnitData → ℤ
+abbrev pub balanced : UnitPeriod → ℤ
 balanced u = u.balancing *ℤ u.tlm
+
+-- what a reallocation gives a subsidiary: its percentage of the metered energy less the balancing volume, and its fixed volume
+abbrev pub subsidiary_credit : UnitPeriod → Subsidiary → ℤ
+subsidiary_credit u s =
+    near ((((u.metered -ℤ u.balancing) *ℤ s.percent) +ℤ (s.fixed *ℤ pos (10 ^ 7))) *ℤ u.tlm) (pos (10 ^ 7))
+
+-- what the lead account keeps: the exact rest of the loss-adjusted volume
+abbrev pub lead_credit : UnitPeriod → ℤ
+lead_credit u = loss_adjusted u -ℤ total (subsidiary_credit u) u.subsidiaries
+
+-- the credits from a unit: to each subsidiary, and to the lead account
+abbrev pub unit_credits : UnitPeriod → List CreditRow
+unit_credits u =
+    map (λ s. record { unit = u.unit; account = s.account; credited = subsidiary_credit u s }) u.subsidiaries
+    ++ record { unit = u.unit; account = u.lead; credited = lead_credit u } ∷ []
+
+-- credits in the order of their units' bytes, then of their accounts
+abbrev pub credit_cmp : CreditRow → CreditRow → Ordering
+credit_cmp = then_cmp (on (λ c. c.unit) bytes_cmp) (on (λ c. c.account) account_cmp)
 
 module _ (a : Account) where
   -- an amount that counts only where it is for this account
   abbrev pub of_account : Account → ℤ → ℤ
   of_account other amount = if is_same_account other a then amount else pos 0
 
-  -- what the account is credited with from a unit: its loss-adjusted volume, where it leads the unit
-  abbrev pub credited_of : UnitData → ℤ
-  credited_of u = of_account u.lead (loss_adjusted u)
+  -- a credit, where it is to the account
+  abbrev pub credited_of : CreditRow → ℤ
+  credited_of c = of_account c.account c.credited
 
-  -- the balancing volume of a unit, where it leads the unit
-  abbrev pub balancing_of : UnitData → ℤ
+  -- the size of a credit, where it is to the account
+  abbrev pub weight_of : CreditRow → ℤ
+  weight_of c = of_account c.account (pos (nat_abs c.credited))
+
+  -- the balancing volume of a unit, where the account leads the unit
+  abbrev pub balancing_of : UnitPeriod → ℤ
   balancing_of u = of_account u.lead (balanced u)
-
-  -- the size of its credit from a unit
-  abbrev pub weight_of : UnitData → ℤ
-  weight_of u = of_account u.lead (pos (nat_abs (loss_adjusted u)))
 
   -- a contract's volume, for its seller and against its buyer, in kWh
   abbrev pub net_of : Contract → ℤ
@@ -71,6 +95,10 @@ greatest_energy = 100_000_000_000_000_000
 abbrev pub greatest_cash : ℕ
 greatest_cash = 1_000_000_000_000
 
+-- the most subsidiaries that a unit may have
+abbrev pub most_subsidiaries : ℕ
+most_subsidiaries = 799
+
 -- whether the size of an amount is at most so much
 abbrev pub is_at_most : ℕ → ℤ → Bool
 is_at_most most amount = nat_le (nat_abs amount) most
@@ -81,18 +109,26 @@ are_within f w =
     is_at_most greatest_energy f.credited && is_at_most greatest_energy f.balancing && is_at_most greatest_energy f.contracts
     && is_at_most greatest_energy f.imbalance && is_at_most greatest_energy w && is_at_most greatest_cash f.charge
 
-module _ (p : Period) where
-  -- credited energy and balancing volume are sums over the units, net contracts over the contracts
-  abbrev pub figures : Account → Figures
-  figures a = figures_from a (total (credited_of a) p.units) (total (balancing_of a) p.units) (total (net_of a) p.contracts) p.price
+-- the credits from all these units
+abbrev pub credits_of : List UnitPeriod → List CreditRow
+credits_of units = flat_map unit_credits units
 
-  -- the weight of an account: the sizes of its credits
+module _ (p : Period) where
+  -- credited energy is a sum over the credits, balancing volume over the units, net contracts over the contracts
+  abbrev pub figures : Account → Figures
+  figures a = figures_from a (total (credited_of a) (credits_of p.units)) (total (balancing_of a) p.units) (total (net_of a) p.contracts) p.price
+
+  -- the weight of an account: the sizes of its credits from units that are no interconnectors
   abbrev pub weight : Account → ℤ
-  weight a = total (weight_of a) p.units
+  weight a = total (weight_of a) (credits_of (filter (λ u. not u.interconnector) p.units))
 
   -- the residual cashflow: minus the sum of the charges
   abbrev pub residual : ℤ
   residual = neg_ℤ (total (λ a. (figures a).charge) p.accounts)
+
+  -- the residual shared out by the accounts' weights
+  abbrev pub residual_shares : List ℤ
+  residual_shares = shares residual (map (λ a. nat_abs (weight a)) p.accounts)
 
   -- no figure of these accounts passes a limit of a run
   abbrev pub are_accounts_within : List Account → Bool
@@ -106,17 +142,36 @@ module _ (p : Period) where
   abbrev pub AreInOrder : Type 0
   AreInOrder = IsStrictlySortedBy account_cmp p.accounts
 
-  -- each lead, seller and buyer is one of the accounts
+  -- each lead, subsidiary, seller and buyer is one of the accounts
   abbrev pub AreNamed : Type 0
   AreNamed =
-      All (λ u. Contains p.accounts u.lead) p.units
+      All (λ u. Contains p.accounts u.lead × All (λ s. Contains p.accounts s.account) u.subsidiaries) p.units
       × All (λ c. Contains p.accounts c.seller × Contains p.accounts c.buyer) p.contracts
+
+  -- no unit stands twice
+  abbrev pub AreUnitsDistinct : Type 0
+  AreUnitsDistinct = AllPairs (λ u v. u.unit ≢ v.unit) p.units
+
+  -- a unit has at most 799 subsidiaries: all accounts of the market but its lead
+  abbrev pub AreSubsidiariesFew : Type 0
+  AreSubsidiariesFew = All (λ u. length u.subsidiaries ≤ most_subsidiaries) p.units
 
 -- the figures that an account's row shows
 abbrev pub figures_of : AccountRow → Figures
 figures_of row = record { account = row.account; credited = row.credited; balancing = row.balancing; contracts = row.contracts; imbalance = row.imbalance; charge = row.charge }
 
--- the rows hold the figures of the accounts in order, and the residual is the period's
+-- the rows hold the figures and the shares of the accounts in order, the credits are those of the units in order, and the
+-- residual is the period's
 pub record IsSettled (p : Period) (s : Settled) : Type 0 where
   pub rows : map figures_of s.accounts ≡ map (figures p) p.accounts
+  pub shared : map (λ r. r.share) s.accounts ≡ residual_shares p
+  pub credits : IsPermutation (credits_of p.units) s.credits
+  pub ordered : IsSorted credit_cmp s.credits
   pub remainder : s.residual ≡ residual p
+
+-- What a settled period adds up to: contracts come to zero over the accounts, the credits from each unit to its loss-adjusted
+-- volume (if no unit stands twice), charges and shares together to zero.
+pub record AddsUp (p : Period) (s : Settled) : Type 0 where
+  pub contracts : total (λ r. r.contracts) s.accounts ≡ pos 0
+  pub credits : AreUnitsDistinct p → All (λ u. total (λ c. c.credited) (filter (λ c. bytes_eq c.unit u.unit) s.credits) ≡ loss_adjusted u) p.units
+  pub cash : total (λ r. r.charge +ℤ r.share) s.accounts ≡ pos 0

@@ -1,18 +1,30 @@
 -- What contracts see of a period's data and of its settlement.
-use Rattle.std.specs.Prelude.{ℤ, List}
+use Rattle.std.specs.Prelude.{ℕ, ℤ, Bool, List}
 use Rattle.hh_rules.specs.declared.account.Account.{Account}
 use Rattle.hh_calc.specs.declared.data.Contract.{Contract}
-use Rattle.hh_calc.specs.declared.data.UnitData.{UnitData}
+use Rattle.hh_calc.specs.declared.data.Subsidiary.{Subsidiary}
 use Rattle.hh_calc.specs.declared.result.AccountRow.{AccountRow}
+use Rattle.hh_calc.specs.declared.result.CreditRow.{CreditRow}
+
+-- a BM Unit in a period, with its reallocations
+pub record UnitPeriod : Type 0 where
+  pub unit : List ℕ
+  pub lead : Account
+  pub interconnector : Bool
+  pub metered : ℤ
+  pub tlm : ℤ
+  pub balancing : ℤ
+  pub subsidiaries : List Subsidiary
 
 -- all that a period is settled from
 pub record Period : Type 0 where
   pub accounts : List Account
-  pub units : List UnitData
+  pub units : List UnitPeriod
   pub contracts : List Contract
   pub price : ℤ
 
 -- a settled period
 pub record Settled : Type 0 where
   pub accounts : List AccountRow
+  pub credits : List CreditRow
   pub residual : ℤ

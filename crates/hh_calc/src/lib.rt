@@ -1,13 +1,14 @@
 //! The settlement of one Settlement Period.
 #![tactic(auto)]
 
+mod credits;
 mod data;
 mod result;
 mod settle;
 mod sums;
 
-pub use data::{Contract, PeriodData, UnitData};
-pub use result::{AccountRow, CalcFault, PeriodResult};
+pub use data::{Contract, PeriodData, Subsidiary, UnitData, UnitVolumes};
+pub use result::{AccountRow, CalcFault, CreditRow, PeriodResult};
 pub use settle::settle_period;
 
 #[cfg(test)]

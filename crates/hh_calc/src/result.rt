@@ -3,7 +3,7 @@
 ghost use Rattle.std.specs.Prelude.{◌≡◌};
 
 use hh_num::{Pence, Ticks};
-use hh_rules::Account;
+use hh_rules::{Account, UnitId};
 use std::alloc::{AllocError, AllocFailed};
 use std::marker::Model;
 
@@ -16,14 +16,24 @@ pub struct AccountRow {
     pub contracts: Ticks,
     pub imbalance: Ticks,
     pub charge: Pence,
-    /// The account's share of the residual: 0 until the office shares it out.
+    /// The account's share of the residual.
     pub share: Pence,
 }
 
-/// A settled period: a row for each account in account order, and the residual cashflow.
+/// What an account is credited with from a unit: energy in ticks.
+#[derive(Clone, Copy, Debug, PartialEq, Eq)]
+pub struct CreditRow {
+    pub unit: UnitId,
+    pub account: Account,
+    pub credited: Ticks,
+}
+
+/// A settled period: a row for each account in account order, the credits from each unit, and the
+/// residual cashflow.
 #[derive(Debug, Drop)]
 pub struct PeriodResult {
     accounts: Vec<AccountRow>,
+    credits: Vec<CreditRow>,
     residual: Pence,
 }
 
@@ -32,20 +42,37 @@ impl Model for PeriodResult {
 
     ghost Value = { Settled };
 
-    ghost view = { λ r. record { accounts = r.accounts.items; residual = r.residual } };
+    ghost view = { λ r. record { accounts = r.accounts.items; credits = r.credits.items; residual = r.residual } };
 }
 
 impl PeriodResult {
-    pub(crate) fn new(accounts: Vec<AccountRow>, residual: Pence) -> PeriodResult
-        ensures { result ≡ record { accounts = accounts.items; residual = residual } }
+    pub(crate) fn new(
+        accounts: Vec<AccountRow>,
+        credits: Vec<CreditRow>,
+        residual: Pence,
+    ) -> PeriodResult
+        ensures { result ≡ record { accounts = accounts.items; credits = credits.items; residual = residual } }
     {
-        PeriodResult { accounts, residual }
+        PeriodResult {
+            accounts,
+            credits,
+            residual,
+        }
     }
 
+    /// The rows of the accounts, in account order.
     pub fn accounts(&self) -> &[AccountRow]
         ensures { result.now ≡ self.now.accounts }
     {
         &self.accounts
+    }
+
+    /// The credits from each unit to its lead account and its subsidiaries, by the bytes of the
+    /// unit's id, then by account.
+    pub fn credits(&self) -> &[CreditRow]
+        ensures { result.now ≡ self.now.credits }
+    {
+        &self.credits
     }
 
     /// Minus the sum of the charges, in pence.

@@ -4,10 +4,11 @@ ghost use Rattle.std.specs.Prelude.{◌≡◌, ◌<◌, ◌≤◌, ◌^◌, ◌*
 ghost use Rattle.std.specs.List.{HoldsAt};
 ghost use Rattle.std.specs.List.Sorted.{IsStrictlySortedBy};
 ghost use Rattle.hh_rules.specs.Accounts.{account_cmp};
-ghost use Rattle.hh_calc.specs.Formulas.{balanced, balancing_of, credited_of, loss_adjusted, net_of, weight_of};
+ghost use Rattle.hh_calc.specs.Formulas.{balanced, balancing_of, credited_of, net_of, weight_of};
 ghost use Rattle.hh_calc.specs.Sums.{AreSumsOver};
 
 use crate::data::{Contract, UnitData};
+use crate::result::CreditRow;
 use hh_rules::Account;
 
 /// Where an account stands among the accounts.
@@ -32,45 +33,53 @@ fn add_at(sums: &mut [i128], place: usize, amount: i128)
     sums[place] += amount;
 }
 
-/// The loss-adjusted volume of a unit, in ticks.
-fn loss_adjusted_volume(unit: &UnitData) -> i128
-    ensures volume { result ≡ loss_adjusted unit.now }
-    ensures size { nat_abs result ≤ 2 * 10 ^ 14 }
-{
-    i128::from(unit.metered.units()) * i128::from(unit.tlm.units())
-}
-
 /// The balancing volume of a unit, in ticks.
 fn balancing_volume(unit: &UnitData) -> i128
     ensures volume { result ≡ balanced unit.now }
     ensures size { nat_abs result ≤ 2 * 10 ^ 14 }
 {
-    i128::from(unit.balancing.units()) * i128::from(unit.tlm.units())
+    let volumes = unit.volumes();
+    i128::from(volumes.balancing.units()) * i128::from(volumes.tlm.units())
 }
 
-/// Adds the figures of each unit to the sums of the account that leads it.
-pub(crate) fn add_units(
-    accounts: &[Account],
-    units: &[UnitData],
-    credited: &mut [i128],
-    balancing: &mut [i128],
-    weight: &mut [i128],
-)
+/// Adds each credit to its account's sum.
+pub(crate) fn add_credits(accounts: &[Account], credits: &[CreditRow], credited: &mut [i128])
+    requires ordered { IsStrictlySortedBy account_cmp accounts.now }
+    requires named { All (λ c. Contains accounts.now c.account) credits.now }
+    requires small { All (λ c. nat_abs c.credited ≤ 10 ^ 18) credits.now }
+    requires credited { credited.old ≡ replicate (length accounts.now) (pos 0) }
+    ensures credited { AreSumsOver credited_of accounts.now credits.now (2 * 10 ^ 37) credited.new }
+{
+    for credit in credits {
+        let place = place_of(accounts, &credit.account);
+        add_at(credited, place, i128::from(credit.credited.units()));
+    }
+}
+
+/// Adds the size of each credit to its account's sum.
+pub(crate) fn add_weights(accounts: &[Account], credits: &[CreditRow], weight: &mut [i128])
+    requires ordered { IsStrictlySortedBy account_cmp accounts.now }
+    requires named { All (λ c. Contains accounts.now c.account) credits.now }
+    requires small { All (λ c. nat_abs c.credited ≤ 10 ^ 18) credits.now }
+    requires weight { weight.old ≡ replicate (length accounts.now) (pos 0) }
+    ensures weight { AreSumsOver weight_of accounts.now credits.now (2 * 10 ^ 37) weight.new }
+{
+    for credit in credits {
+        let place = place_of(accounts, &credit.account);
+        add_at(weight, place, i128::from(credit.credited.units()).abs());
+    }
+}
+
+/// Adds the balancing volume of each unit to the sum of its lead account.
+pub(crate) fn add_balancing(accounts: &[Account], units: &[UnitData], balancing: &mut [i128])
     requires ordered { IsStrictlySortedBy account_cmp accounts.now }
     requires named { All (λ u. Contains accounts.now u.lead) units.now }
-    requires credited { credited.old ≡ replicate (length accounts.now) (pos 0) }
     requires balancing { balancing.old ≡ replicate (length accounts.now) (pos 0) }
-    requires weight { weight.old ≡ replicate (length accounts.now) (pos 0) }
-    ensures credited { AreSumsOver credited_of accounts.now units.now (10 ^ 34) credited.new }
     ensures balancing { AreSumsOver balancing_of accounts.now units.now (10 ^ 34) balancing.new }
-    ensures weight { AreSumsOver weight_of accounts.now units.now (10 ^ 34) weight.new }
 {
     for unit in units {
-        let place = place_of(accounts, &unit.lead);
-        let energy = loss_adjusted_volume(unit);
-        add_at(credited, place, energy);
+        let place = place_of(accounts, &unit.lead());
         add_at(balancing, place, balancing_volume(unit));
-        add_at(weight, place, energy.abs());
     }
 }
 

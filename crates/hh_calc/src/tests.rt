@@ -1,108 +1,239 @@
 //! What no clause says: that a period is settled, and what the words of the clauses come to.
 
-ghost use Rattle.std.specs.Prelude.{◌≡◌, All, IfSome};
+ghost use Rattle.std.specs.Prelude.{◌≡◌, ◌≤◌, length, All, Contains, IsTrue};
+ghost use Rattle.std.specs.List.Sorted.{IsStrictlySortedBy};
 ghost use Rattle.std.specs.declared.cmp.Ordering.TheVariants.{Less};
 ghost use Rattle.hh_rules.specs.Accounts.{account_cmp};
+ghost use Rattle.hh_calc.specs.Formulas.{most_subsidiaries, AreInOrder, AreNamed, AreSubsidiariesFew};
 
 use super::*;
-use hh_num::{Kwh, Price, Tlm};
+use hh_num::{Kwh, Percent, Price, Ticks, Tlm};
 use hh_rules::{Account, UnitId};
 use std::alloc::Global;
 use std::cmp::Ordering;
 use std::test::Fail;
 
-/// A unit that this account leads: its metered volume, loss multiplier and balancing volume.
-fn unit(lead: Account, volumes: (i64, i64, i64)) -> Option<UnitData>
-    ensures { IfSome result (λ u. u.lead ≡ lead) }
+/// Whether an account stands before another.
+fn is_before(account: &Account, other: &Account) -> bool
+    ensures { IsTrue result → account_cmp account.now other.now ≡ Less }
 {
-    Some(UnitData {
-        unit: UnitId::read(b"U")?,
-        lead,
+    matches!(account.cmp(other), Ordering::Less)
+}
+
+/// Whether the accounts rise in account order.
+fn are_in_order(accounts: &[Account]) -> bool
+    ensures { IsTrue result → IsStrictlySortedBy account_cmp accounts.now }
+{
+    for place in 1..accounts.len() {
+        if !is_before(&accounts[place - 1], &accounts[place]) {
+            return false;
+        }
+    }
+    true
+}
+
+/// Whether an account is one of these.
+fn is_named(accounts: &[Account], account: &Account) -> bool
+    ensures { IsTrue result → Contains accounts.now account.now }
+{
+    match accounts.binary_search(account) {
+        Ok(_) => true,
+        Err(_) => false,
+    }
+}
+
+/// Whether each subsidiary's account is one of these.
+fn are_subsidiaries_named(accounts: &[Account], subsidiaries: &[Subsidiary]) -> bool
+    ensures { IsTrue result → All (λ s. Contains accounts.now s.account) subsidiaries.now }
+{
+    for subsidiary in subsidiaries {
+        if !is_named(accounts, &subsidiary.account) {
+            return false;
+        }
+    }
+    true
+}
+
+/// Whether the lead account and the subsidiaries of a unit are some of these accounts, and the
+/// subsidiaries few.
+fn is_unit_named(accounts: &[Account], unit: &UnitData) -> bool
+    ensures lead { IsTrue result → Contains accounts.now unit.now.lead }
+    ensures subsidiaries { IsTrue result → All (λ s. Contains accounts.now s.account) unit.now.subsidiaries }
+    ensures few { IsTrue result → length unit.now.subsidiaries ≤ most_subsidiaries }
+{
+    if !is_named(accounts, &unit.lead()) {
+        return false;
+    }
+    if !are_subsidiaries_named(accounts, unit.subsidiaries()) {
+        return false;
+    }
+    unit.subsidiaries().len() <= 799
+}
+
+/// Whether this is so of each of these units.
+fn are_units_named(accounts: &[Account], units: &[UnitData]) -> bool
+    ensures named { IsTrue result → All (λ u. Contains accounts.now u.lead × All (λ s. Contains accounts.now s.account) u.subsidiaries) units.now }
+    ensures few { IsTrue result → All (λ u. length u.subsidiaries ≤ most_subsidiaries) units.now }
+{
+    for unit in units {
+        if !is_unit_named(accounts, unit) {
+            return false;
+        }
+    }
+    true
+}
+
+/// Whether the seller and the buyer of each contract are some of these accounts.
+fn are_contracts_named(accounts: &[Account], contracts: &[Contract]) -> bool
+    ensures { IsTrue result → All (λ c. Contains accounts.now c.seller × Contains accounts.now c.buyer) contracts.now }
+{
+    for contract in contracts {
+        if !is_named(accounts, &contract.seller) {
+            return false;
+        }
+        if !is_named(accounts, &contract.buyer) {
+            return false;
+        }
+    }
+    true
+}
+
+/// Whether a period may be settled.
+fn is_ready(period: &PeriodData) -> bool
+    ensures ordered { IsTrue result → AreInOrder period.now }
+    ensures named { IsTrue result → AreNamed period.now }
+    ensures few { IsTrue result → AreSubsidiariesFew period.now }
+{
+    if !are_units_named(period.accounts(), period.units()) {
+        return false;
+    }
+    if !are_contracts_named(period.accounts(), period.contracts()) {
+        return false;
+    }
+    are_in_order(period.accounts())
+}
+
+/// The answer to a period, and none where it could not be asked.
+type Answer = Option<Result<PeriodResult, CalcFault>>;
+
+/// Settles a period of these accounts, where they are in order and all that it names.
+fn settle(
+    alloc: Global,
+    names: &[&str],
+    units: Vec<UnitData>,
+    contracts: Vec<Contract>,
+    price: i64,
+) -> Answer {
+    let accounts = accounts_of(alloc, names)?;
+    let period = PeriodData::new(accounts, units, contracts, Price::new(price)?);
+    if !is_ready(&period) {
+        return None;
+    }
+    Some(settle_period(alloc, &period))
+}
+
+fn accounts_of(alloc: Global, names: &[&str]) -> Option<Vec<Account>> {
+    let mut accounts = Vec::new(alloc);
+    for name in names {
+        accounts.push(Account::read(name.as_bytes())?).ok()?;
+    }
+    Some(accounts)
+}
+
+/// A metered volume, a loss multiplier and a balancing volume.
+type Volumes = (i64, i64, i64);
+
+/// A subsidiary account, its percentage and its fixed volume.
+type Reallocation<'a> = (&'a str, i64, i64);
+
+fn subsidiaries_of(alloc: Global, reallocations: &[Reallocation]) -> Option<Vec<Subsidiary>> {
+    let mut subsidiaries = Vec::new(alloc);
+    for (account, percent, fixed) in reallocations {
+        let subsidiary = Subsidiary {
+            account: Account::read(account.as_bytes())?,
+            percent: Percent::new(*percent)?,
+            fixed: Kwh::new(*fixed)?,
+        };
+        subsidiaries.push(subsidiary).ok()?;
+    }
+    Some(subsidiaries)
+}
+
+/// A unit: its id and lead account, whether it is an interconnector's, its volumes, and its
+/// reallocations.
+fn unit(
+    alloc: Global,
+    names: (&str, &str),
+    interconnector: bool,
+    volumes: Volumes,
+    reallocations: &[Reallocation],
+) -> Option<UnitData> {
+    let id = UnitId::read(names.0.as_bytes())?;
+    let lead = Account::read(names.1.as_bytes())?;
+    let volumes = UnitVolumes {
         metered: Kwh::new(volumes.0)?,
         tlm: Tlm::new(volumes.1)?,
         balancing: Kwh::new(volumes.2)?,
-    })
-}
-
-/// The units that this account leads.
-fn units(alloc: Global, lead: Account, volumes: &[(i64, i64, i64)]) -> Option<Vec<UnitData>>
-    ensures { IfSome result (λ units. All (λ u. u.lead ≡ lead) units.items) }
-{
-    let mut units = Vec::new(alloc);
-    for row in volumes {
-        units.push(unit(lead, *row)?).ok()?;
-    }
-    Some(units)
+    };
+    let subsidiaries = subsidiaries_of(alloc, reallocations)?;
+    Some(UnitData::new(id, lead, interconnector, volumes, subsidiaries))
 }
 
 /// Settles a period of one account, which leads these units and has no contracts.
-#[tactic(auto, using(crate::proofs::FixtureLaws::alone_in_order))]
-fn settle_alone(
-    alloc: Global,
-    volumes: &[(i64, i64, i64)],
-    price: i64,
-) -> Option<Result<PeriodResult, CalcFault>> {
-    let lead = Account::read(b"GENCO-P")?;
-    let units = units(alloc, lead, volumes)?;
-    let accounts = vec![in alloc; lead].ok()?;
-    let contracts = vec![in alloc].ok()?;
-    let period = PeriodData::new(accounts, units, contracts, Price::new(price)?);
-    Some(settle_period(alloc, &period))
+fn settle_alone(alloc: Global, volumes: &[Volumes], price: i64) -> Answer {
+    let mut units = Vec::new(alloc);
+    for of_unit in volumes {
+        let unit = unit(alloc, ("U", "GENCO-P"), false, *of_unit, &[])?;
+        units.push(unit).ok()?;
+    }
+    settle(alloc, &["GENCO-P"], units, vec![in alloc].ok()?, price)
 }
 
-/// Settles a period of two accounts in order, each of which leads a unit, and of a contract by
-/// which the first sells to the second.
-fn settle_two(
-    alloc: Global,
-    units: (UnitData, UnitData),
-    contract: Contract,
-    price: Price,
-) -> Option<Result<PeriodResult, CalcFault>>
-    requires ordered { account_cmp contract.seller contract.buyer ≡ Less }
-    requires first { units.0.lead ≡ contract.seller }
-    requires second { units.1.lead ≡ contract.buyer }
-{
-    let accounts = vec![in alloc; contract.seller, contract.buyer].ok()?;
-    let units = vec![in alloc; units.0, units.1].ok()?;
-    let contracts = vec![in alloc; contract].ok()?;
-    let period = PeriodData::new(accounts, units, contracts, price);
-    Some(settle_period(alloc, &period))
-}
-
-/// Settles a period of two accounts, by the volumes of their units and of the contract.
+/// Settles a period of these accounts, in which GENCO-P and SUPCO-C lead a unit each, maybe of an
+/// interconnector, and the first sells to the second.
 fn settle_pair(
     alloc: Global,
-    volumes: ((i64, i64, i64), (i64, i64, i64)),
+    names: &[&str],
+    interconnectors: (bool, bool),
+    volumes: (Volumes, Volumes),
     sold: i64,
-    price: i64,
-) -> Option<Result<PeriodResult, CalcFault>> {
-    let seller = Account::read(b"GENCO-P")?;
-    let buyer = Account::read(b"SUPCO-C")?;
-    let units = (unit(seller, volumes.0)?, unit(buyer, volumes.1)?);
+) -> Answer {
+    let first = unit(alloc, ("U-1", "GENCO-P"), interconnectors.0, volumes.0, &[])?;
+    let second = unit(alloc, ("U-2", "SUPCO-C"), interconnectors.1, volumes.1, &[])?;
     let contract = Contract {
-        seller,
-        buyer,
+        seller: Account::read(b"GENCO-P")?,
+        buyer: Account::read(b"SUPCO-C")?,
         volume: Kwh::new(sold)?,
     };
-    let price = Price::new(price)?;
-    match seller.cmp(&buyer) {
-        Ordering::Less => settle_two(alloc, units, contract, price),
-        _ => None,
-    }
+    let units = vec![in alloc; first, second].ok()?;
+    let contracts = vec![in alloc; contract].ok()?;
+    settle(alloc, names, units, contracts, 5_000_000)
+}
+
+/// The first period, with these accounts: a generator's unit and a supplier's, maybe of an
+/// interconnector.
+fn settle_first(alloc: Global, names: &[&str], interconnectors: (bool, bool)) -> Answer {
+    let volumes = ((100_000, 9_950_000, 0), (-98_000, 10_050_000, 0));
+    settle_pair(alloc, names, interconnectors, volumes, 99_000)
+}
+
+/// Settles a period of a unit that GENCO-P leads, and of which SUPCO-C is a subsidiary with a
+/// percentage and a fixed volume.
+fn settle_reallocated(alloc: Global, volumes: Volumes, percent: i64, fixed: i64) -> Answer {
+    let names = ("U", "GENCO-P");
+    let unit = unit(alloc, names, false, volumes, &[("SUPCO-C", percent, fixed)])?;
+    let units = vec![in alloc; unit].ok()?;
+    let contracts = vec![in alloc].ok()?;
+    settle(alloc, &["GENCO-P", "SUPCO-C"], units, contracts, 0)
 }
 
 /// Settles a period in which there is nothing.
-#[tactic(auto, using(crate::proofs::FixtureLaws::none_in_order))]
-fn settle_nothing(alloc: Global) -> Option<Result<PeriodResult, CalcFault>> {
-    let accounts = vec![in alloc].ok()?;
-    let units = vec![in alloc].ok()?;
-    let contracts = vec![in alloc].ok()?;
-    let period = PeriodData::new(accounts, units, contracts, Price::new(0)?);
-    Some(settle_period(alloc, &period))
+fn settle_nothing(alloc: Global) -> Answer {
+    settle(alloc, &[], vec![in alloc].ok()?, vec![in alloc].ok()?, 0)
 }
 
-/// An account's credited, balancing, contracted and imbalance energy, and its charge.
-type Row = (i64, i64, i64, i64, i64);
+/// An account's credited, balancing, contracted and imbalance energy, its charge and its share.
+type Row = (i64, i64, i64, i64, i64, i64);
 
 fn row_at(settled: &PeriodResult, place: usize) -> Option<Row> {
     let row = settled.accounts().get(place)?;
@@ -112,13 +243,12 @@ fn row_at(settled: &PeriodResult, place: usize) -> Option<Row> {
         row.contracts.units(),
         row.imbalance.units(),
         row.charge.units(),
+        row.share.units(),
     ))
 }
 
 /// What an answer says: the first two rows and the residual, or why there are none.
-fn told(
-    answer: Option<Result<PeriodResult, CalcFault>>,
-) -> Option<Result<(Option<Row>, Option<Row>, i64), CalcFault>> {
+fn told(answer: Answer) -> Option<Result<(Option<Row>, Option<Row>, i64), CalcFault>> {
     match answer? {
         Ok(settled) => Some(Ok((
             row_at(&settled, 0),
@@ -129,15 +259,137 @@ fn told(
     }
 }
 
+/// The share of the account at a place.
+fn share_at(answer: &Answer, place: usize) -> Option<i64> {
+    match answer {
+        Some(Ok(settled)) => Some(settled.accounts().get(place)?.share.units()),
+        _ => None,
+    }
+}
+
+/// The credit at a place.
+fn credit_at(answer: &Answer, place: usize) -> Option<CreditRow> {
+    match answer {
+        Some(Ok(settled)) => settled.credits().get(place).copied(),
+        _ => None,
+    }
+}
+
+/// A credit of so many ticks from a unit to an account.
+fn credit(unit: &str, account: &str, credited: i64) -> Option<CreditRow> {
+    Some(CreditRow {
+        unit: UnitId::read(unit.as_bytes())?,
+        account: Account::read(account.as_bytes())?,
+        credited: Ticks::new(credited)?,
+    })
+}
+
 #[test]
 fn a_seller_and_a_buyer(rt: HostRuntime) -> Result<(), Fail> {
-    let volumes = ((100_000, 9_950_000, 0), (-98_000, 10_050_000, 0));
-    let seller = (995_000_000_000, 0, 990_000_000_000, 5_000_000_000, -2_500);
-    let buyer = (-984_900_000_000, 0, -990_000_000_000, 5_100_000_000, -2_550);
+    let seller = (
+        995_000_000_000,
+        0,
+        990_000_000_000,
+        5_000_000_000,
+        -2_500,
+        2_538,
+    );
+    let buyer = (
+        -984_900_000_000,
+        0,
+        -990_000_000_000,
+        5_100_000_000,
+        -2_550,
+        2_512,
+    );
     assert_eq!(rt;
-        told(settle_pair(rt.alloc(), volumes, 99_000, 5_000_000)),
+        told(settle_first(rt.alloc(), &["GENCO-P", "SUPCO-C"], (false, false))),
         Some(Ok((Some(seller), Some(buyer), 5_050)))
     );
+    Ok(())
+}
+
+#[test]
+fn interconnectors_weigh_nothing(rt: HostRuntime) -> Result<(), Fail> {
+    let answer = settle_first(rt.alloc(), &["GENCO-P", "SUPCO-C"], (true, false));
+    for (place, share) in [0, 5_050].iter().enumerate() {
+        assert_eq!(rt; share_at(&answer, place), Some(*share), "at {place}");
+    }
+    let names = ["GENCO-P", "GENCO-C", "SUPCO-P", "SUPCO-C"];
+    let answer = settle_first(rt.alloc(), &names, (true, true));
+    for (place, share) in [1_263, 1_263, 1_262, 1_262].iter().enumerate() {
+        assert_eq!(rt; share_at(&answer, place), Some(*share), "at {place}");
+    }
+    assert_eq!(rt; share_at(&answer, 4), None);
+    Ok(())
+}
+
+#[test]
+fn reallocated_energy(rt: HostRuntime) -> Result<(), Fail> {
+    let cases = [
+        // A third of 9 MWh, and half an MWh.
+        (
+            (10_000, 10_123_457, 1_000),
+            3_333_333,
+            500,
+            65_802_473_537,
+            35_432_096_463,
+        ),
+        // A half goes away from zero, and the lead account has the rest.
+        ((1, 10_000_001, 0), 5_000_000, 0, 5_000_000, 5_000_001),
+        ((-1, 10_000_001, 0), 5_000_000, 0, -5_000_000, -5_000_001),
+    ];
+    for (volumes, percent, fixed, lead, subsidiary) in cases {
+        let answer = settle_reallocated(rt.alloc(), volumes, percent, fixed);
+        assert_eq!(rt;
+            credit_at(&answer, 0),
+            credit("U", "GENCO-P", lead),
+            "at {lead}"
+        );
+        assert_eq!(rt;
+            credit_at(&answer, 1),
+            credit("U", "SUPCO-C", subsidiary),
+            "at {lead}"
+        );
+        assert_eq!(rt; credit_at(&answer, 2), None, "at {lead}");
+    }
+    Ok(())
+}
+
+/// Settles a period of three units, which stand in another order than their ids.
+fn settle_unordered(alloc: Global) -> Answer {
+    let plain = 10_000_000;
+    let quarter = [("GENCO-P", 2_500_000, 0)];
+    let both = [("SUPCO-C", 5_000_000, 0), ("GENCO-P", 2_500_000, 0)];
+    let units = vec![in alloc;
+        unit(alloc, ("U-2", "SUPCO-C"), false, (2, plain, 0), &quarter)?,
+        unit(alloc, ("U-10", "GENCO-P"), false, (3, plain, 0), &[])?,
+        unit(alloc, ("U-1", "GENCO-C"), false, (4, plain, 0), &both)?,
+    ]
+    .ok()?;
+    let names = ["GENCO-P", "GENCO-C", "SUPCO-C"];
+    settle(alloc, &names, units, vec![in alloc].ok()?, 0)
+}
+
+#[test]
+fn credits_by_unit_and_account(rt: HostRuntime) -> Result<(), Fail> {
+    let answer = settle_unordered(rt.alloc());
+    let wanted = [
+        ("U-1", "GENCO-P", 10_000_000),
+        ("U-1", "GENCO-C", 10_000_000),
+        ("U-1", "SUPCO-C", 20_000_000),
+        ("U-10", "GENCO-P", 30_000_000),
+        ("U-2", "GENCO-P", 5_000_000),
+        ("U-2", "SUPCO-C", 15_000_000),
+    ];
+    for (place, (unit, account, credited)) in wanted.iter().enumerate() {
+        assert_eq!(rt;
+            credit_at(&answer, place),
+            credit(unit, account, *credited),
+            "at {place}"
+        );
+    }
+    assert_eq!(rt; credit_at(&answer, wanted.len()), None);
     Ok(())
 }
 
@@ -145,14 +397,21 @@ fn a_seller_and_a_buyer(rt: HostRuntime) -> Result<(), Fail> {
 fn an_account_alone(rt: HostRuntime) -> Result<(), Fail> {
     // Half a penny, and a little less.
     for (price, charge) in [(500_000, -1), (499_999, 0), (-500_000, 1)] {
-        let row = (10_000_000, 0, 0, 10_000_000, charge);
+        let row = (10_000_000, 0, 0, 10_000_000, charge, -charge);
         assert_eq!(rt;
             told(settle_alone(rt.alloc(), &[(1, 10_000_000, 0)], price)),
             Some(Ok((Some(row), None, -charge))),
             "at {price}"
         );
     }
-    let row = (100_000_000_000, 10_000_000_000, 0, 90_000_000_000, -9_000);
+    let row = (
+        100_000_000_000,
+        10_000_000_000,
+        0,
+        90_000_000_000,
+        -9_000,
+        9_000,
+    );
     assert_eq!(rt;
         told(settle_alone(rt.alloc(), &[(10_000, 10_000_000, 1_000)], 1_000_000)),
         Some(Ok((Some(row), None, 9_000)))
@@ -171,6 +430,7 @@ fn limits_of_a_run(rt: HostRuntime) -> Result<(), Fail> {
         0,
         1_000_000_000_000_000,
         -999_999_999_900,
+        999_999_999_900,
     );
     assert_eq!(rt;
         told(settle_alone(rt.alloc(), &units[..5], 9_999_999_999)),
@@ -181,7 +441,7 @@ fn limits_of_a_run(rt: HostRuntime) -> Result<(), Fail> {
         Some(Err(CalcFault::TooLarge))
     );
     // 500 of them are the most energy that an account may have.
-    let row = (100_000_000_000_000_000, 0, 0, 100_000_000_000_000_000, 0);
+    let row = (100_000_000_000_000_000, 0, 0, 100_000_000_000_000_000, 0, 0);
     assert_eq!(rt;
         told(settle_alone(rt.alloc(), &units[..500], 0)),
         Some(Ok((Some(row), None, 0)))
@@ -202,7 +462,7 @@ fn limit_of_a_weight(rt: HostRuntime) -> Result<(), Fail> {
     }
     assert_eq!(rt;
         told(settle_alone(rt.alloc(), &units[1..501], 9_999_999_999)),
-        Some(Ok((Some((0, 0, 0, 0, 0)), None, 0)))
+        Some(Ok((Some((0, 0, 0, 0, 0, 0)), None, 0)))
     );
     assert_eq!(rt;
         told(settle_alone(rt.alloc(), &units, 9_999_999_999)),

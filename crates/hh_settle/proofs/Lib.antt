@@ -1,6 +1,6 @@
 pub mod ContractFacts
 pub mod GatherFacts
-pub mod LineLemmas
+pub mod LineFacts
 pub mod NamedFacts
 pub mod PeriodFacts
 pub mod ResultFacts

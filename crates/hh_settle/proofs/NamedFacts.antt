@@ -1,5 +1,5 @@
 -- The accounts of a period's rows are among the period's accounts.
-use Rattle.std.proofs.Common.{◌≡◌, zero, suc, Bool, true, false, cond, List, [], ◌∷◌, map, refl, sym, ap, ◌∙◌, arith, Ordering}
+use Rattle.std.proofs.Common.{◌≡◌, ◌≤◌, zero, suc, Bool, true, false, cond, List, [], ◌∷◌, length, map, refl, sym, ap, ◌∙◌, arith, Ordering}
 use Rattle.std.specs.Prelude.{◌||◌, is_some}
 use Rattle.std.specs.List.{All, Contains, flat_map, list_any}
 use Rattle.std.specs.Cmp.{tied_itself}
@@ -14,10 +14,10 @@ use Rattle.hh_rules.specs.declared.account.Account.{Account}
 use Rattle.hh_rules.specs.Accounts.{account_cmp, bytes_cmp}
 use Rattle.hh_rules.proofs.AccountLaws.{account_total, exact_accounts}
 use Rattle.hh_calc.specs.declared.data.Contract.{Contract}
-use Rattle.hh_calc.specs.declared.data.UnitData.{UnitData}
+use Rattle.hh_calc.specs.Period.{UnitPeriod}
 use Rattle.hh_texts.specs.declared.period_contracts.PeriodContractRow.{PeriodContractRow}
 use Rattle.hh_texts.specs.declared.period_meters.PeriodMeterRow.{PeriodMeterRow}
-use Rattle.hh_settle.specs.Rows.{contract_entry, in_account_order, in_force, named_accounts, unit_entry}
+use Rattle.hh_settle.specs.Rows.{contract_entry, in_account_order, in_force, named_accounts, unit_entry, unit_of}
 use Rattle.hh_settle.proofs.ContractFacts.{equal}
 
 module _ {K V : Type 0} (R : K → K → Ordering) (P : V → Type 0) where
@@ -101,17 +101,26 @@ all-back : {X : Type 0} (name : X → Account) (P : Account → Type 0) (rows : 
 all-back name P [] all = All-nil (λ x. P (name x))
 all-back name P (x ∷ rows) all = All-cons (λ y. P (name y)) x rows (All-head P (name x) (map name rows) all) (all-back name P rows (All-tail P (name x) (map name rows) all))
 
--- each lead of a unit in force is among the accounts
+-- each lead of a unit in force is among the accounts, and each of its subsidiaries, of which it has none
 pub leads_among : (meters : List PeriodMeterRow) (contracts : List PeriodContractRow)
-    → All (λ u. Contains (in_account_order (named_accounts meters contracts)) u.lead) (in_force (map unit_entry meters))
+    → let accounts : List Account = in_account_order (named_accounts meters contracts) in
+    All (λ u. Contains accounts u.lead × All (λ s. Contains accounts s.account) u.subsidiaries) (in_force (map unit_entry meters))
 leads_among meters contracts =
     let names : List Account = named_accounts meters contracts in
-    let P : UnitData → Type 0 = λ u. Contains (in_account_order names) u.lead in
+    let P : UnitPeriod → Type 0 = λ u. Contains (in_account_order names) u.lead × All (λ s. Contains (in_account_order names) s.account) u.subsidiaries in
     all-table bytes_cmp P (map unit_entry meters)
-    (all-values P unit_entry meters (all-back (λ r. r.account) (Contains (in_account_order names)) meters
+    (all-values P unit_entry meters
+    (All-weaker (λ r. Contains (in_account_order names) r.account) (λ r. P (unit_of r)) (λ r h. (h, All-nil (λ s. Contains (in_account_order names) s.account))) meters
+    (all-back (λ r. r.account) (Contains (in_account_order names)) meters
     (All-weaker (Contains (map (λ r. r.account) meters)) (Contains (in_account_order names))
     (λ a h. among names a (Contains-append_left (map (λ r. r.account) meters) (flat_map (λ r. r.seller ∷ r.buyer ∷ []) contracts) a h))
-    (map (λ r. r.account) meters) (named_by (λ r. r.account) meters))))
+    (map (λ r. r.account) meters) (named_by (λ r. r.account) meters)))))
+
+-- a unit in force has no subsidiaries
+pub subsidiaries_few : (meters : List PeriodMeterRow) → All (λ u. length u.subsidiaries ≤ 799) (in_force (map unit_entry meters))
+subsidiaries_few meters =
+    let P : UnitPeriod → Type 0 = λ u. length u.subsidiaries ≤ 799 in
+    all-table bytes_cmp P (map unit_entry meters) (all-values P unit_entry meters (λ k d inside. omega arith))
 
 -- and so are seller and buyer of each contract in force
 pub ends_among : (meters : List PeriodMeterRow) (contracts : List PeriodContractRow)

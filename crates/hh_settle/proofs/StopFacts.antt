@@ -1,5 +1,5 @@
 -- How a command's stops come of the faults of a period.
-use Rattle.std.proofs.Common.{◌≡◌, Result, Ok, Err, List, ℕ, Option, sym, refl, ap, subst, IfErr}
+use Rattle.std.proofs.Common.{◌≡◌, Result, Ok, Err, List, ℕ, Option, sym, refl, subst, IfErr}
 use Rattle.std.specs.Result.{IsErrAnd}
 use Rattle.hh_num.specs.Devices.{AppendsFront}
 use Rattle.hh_rules.specs.declared.fault.Fault.{Fault}

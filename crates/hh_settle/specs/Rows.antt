@@ -10,14 +10,25 @@ use Rattle.hh_rules.specs.declared.fault.Refusal.TheVariants.{ReferenceMoved, Sa
 use Rattle.hh_rules.specs.Accounts.{account_cmp, bytes_cmp, is_same_account}
 use Rattle.hh_rules.specs.Faults.{row_fault}
 use Rattle.hh_calc.specs.declared.data.Contract.{Contract}
-use Rattle.hh_calc.specs.declared.data.UnitData.{UnitData}
-use Rattle.hh_calc.specs.Period.{Period}
+use Rattle.hh_calc.specs.Period.{Period, UnitPeriod}
 use Rattle.hh_texts.specs.declared.period_contracts.PeriodContractRow.{PeriodContractRow}
 use Rattle.hh_texts.specs.declared.period_meters.PeriodMeterRow.{PeriodMeterRow}
 
+-- the unit of a row: no interconnector's, and without subsidiaries
+abbrev pub unit_of : PeriodMeterRow → UnitPeriod
+unit_of r = record {
+  unit = r.unit;
+  lead = r.account;
+  interconnector = false;
+  metered = r.metered;
+  tlm = r.tlm;
+  balancing = r.balancing;
+  subsidiaries = [];
+}
+
 -- what a row puts under its unit
-abbrev pub unit_entry : PeriodMeterRow → List ℕ × UnitData
-unit_entry r = (r.unit, record { unit = r.unit; lead = r.account; metered = r.metered; tlm = r.tlm; balancing = r.balancing })
+abbrev pub unit_entry : PeriodMeterRow → List ℕ × UnitPeriod
+unit_entry r = (r.unit, unit_of r)
 
 -- and under its reference
 abbrev pub contract_entry : PeriodContractRow → List ℕ × Contract

@@ -7,13 +7,25 @@ ghost use Rattle.hh_rules.specs.Accounts.{account_cmp};
 ghost use Rattle.hh_rules.specs.Faults.{memory_fault, ByRefusal};
 ghost use Rattle.hh_rules.specs.declared.account.Account.{Account};
 ghost use Rattle.hh_texts.specs.Rows.{most_rows};
-ghost use Rattle.hh_settle.specs.Rows.{contract_entry, first_refusal, in_account_order, in_force, named_accounts, refusal_beside, unit_entry};
+ghost use Rattle.hh_settle.specs.Rows.{contract_entry, first_refusal, in_account_order, in_force, named_accounts, refusal_beside, unit_entry, unit_of};
 
-use hh_calc::{Contract, UnitData};
+use hh_calc::{Contract, UnitData, UnitVolumes};
 use hh_rules::{Account, Fault, Reference, Refusal};
 use hh_texts::{PeriodContractRow, PeriodMeterRow};
 use std::alloc::{AllocError, Global};
 use std::collections::{BTreeMap, BTreeSet};
+
+/// The unit of a row: no interconnector's, and without subsidiaries.
+fn unit_of(alloc: Global, row: &PeriodMeterRow) -> UnitData
+    ensures { result ≡ unit_of row.now }
+{
+    let volumes = UnitVolumes {
+        metered: row.metered,
+        tlm: row.tlm,
+        balancing: row.balancing,
+    };
+    UnitData::new(row.unit, row.account, false, volumes, Vec::new(alloc))
+}
 
 /// The units of the rows: the last row of each unit counts, in the order of their ids.
 pub(crate) fn units_in_force(
@@ -24,14 +36,7 @@ pub(crate) fn units_in_force(
 {
     let mut units = BTreeMap::new(alloc);
     for row in rows {
-        let unit = UnitData {
-            unit: row.unit,
-            lead: row.account,
-            metered: row.metered,
-            tlm: row.tlm,
-            balancing: row.balancing,
-        };
-        units.insert(row.unit, unit)?;
+        units.insert(row.unit, unit_of(alloc, row))?;
     }
     units.into_values().collect(alloc)
 }

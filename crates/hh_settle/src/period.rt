@@ -3,7 +3,7 @@
 ghost use Rattle.std.specs.Prelude.{◌≡◌, ◌≤◌, length, map, Option, IfOk, OnOk, IsErrOf};
 ghost use Rattle.std.specs.Io.KnownBytes.{Appends};
 ghost use Rattle.hh_num.specs.Devices.{AppendsFront, Failed};
-ghost use Rattle.hh_calc.specs.Formulas.{AreInOrder, AreNamed};
+ghost use Rattle.hh_calc.specs.Formulas.{AreInOrder, AreNamed, AreSubsidiariesFew};
 ghost use Rattle.hh_rules.specs.Fields.{price_value};
 ghost use Rattle.hh_rules.specs.declared.fault.Fault.{Fault};
 ghost use Rattle.hh_settle.specs.declared.refusal.Input.{Input};
@@ -130,6 +130,7 @@ fn gather_period(
     ensures gathered { Answers (λ period. period) result (period_input meter.now contracts.now price.now) }
     ensures ordered { IfOk result (λ period. AreInOrder period) }
     ensures named { IfOk result (λ period. AreNamed period) }
+    ensures few { IfOk result (λ period. AreSubsidiariesFew period) }
 {
     let meters = meter_rows(alloc, meter)?;
     let rows = contract_rows(alloc, contracts)?;

@@ -2,7 +2,7 @@ use Rattle.std.proofs.Common.{arith, ap, sym, ◌∙◌, ◌≡◌, ◌<◌, ◌
 use Rattle.std.specs.Prelude.{nat_abs}
 use Rattle.hh_calc.specs.Formulas.{are_within, figures, figures_of, weight}
 use Rattle.hh_calc.proofs.RowFacts.{widened}
-use Rattle.hh_calc.proofs.RowsFacts.{charge_size, figures_read, past_account, residual_more, residual_size, residual_word, rows_more, within_more}
+use Rattle.hh_calc.proofs.RowsFacts.{charge_size, figures_read, past_account, residual_more, residual_size, residual_word, rows_more, short_weight, weights_more, within_more}
 use Rattle.hh_calc.proofs.settle.account_rows.Goals as goal
 
 pub returns-in_default-clause-too_large : goal.returns-in_default-clause-too_large
@@ -30,6 +30,7 @@ loop-place-preserved c =
     let held = residual_word _ _ c.loop-place.residual paid c.loop-place.residual-is wide (omega arith) paid_size in
     record {
       rows = rows_more figures_of (figures period) _ c.in-Some.row _ _ c.account-item.result inside is c.loop-place.invariant.rows shown _ c.in_ok-push.ensures.items;
+      weights = weights_more (weight period) _ _ _ _ c.account-item.result inside is c.loop-place.invariant.weights (short_weight (figures period c.account-item.result) (weight period c.account-item.result) _ limits (c.units-in-loop-place.ensures.value ∙ c.in-Some.ensures.weight ∙ weighs)) _ c.in_ok-push-2.ensures.items;
       within = within_more period _ c.account-item.result inside is c.loop-place.invariant.within limits;
       residual = held ∙ residual_more (λ a. (figures period a).charge) _ _ c.account-item.result inside is c.loop-place.residual paid (sym c.loop-place.residual-is ∙ c.loop-place.invariant.residual) charge;
       small = rw held (residual_size c.loop-place.place c.loop-place.residual paid so_far paid_size);

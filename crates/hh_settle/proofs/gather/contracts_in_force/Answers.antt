@@ -1,4 +1,4 @@
-use Rattle.std.proofs.Common.{Some, arith, sym, ◌∙◌, ap}
+use Rattle.std.proofs.Common.{arith, sym, ◌∙◌}
 use Rattle.hh_rules.proofs.AccountLaws.{bytes_total}
 use Rattle.std.proofs.lemmas.Map.Lookups.{exact_bytes}
 use Rattle.hh_settle.specs.Rows.{contract_entry, refusal_among}

@@ -7,4 +7,4 @@ use Rattle.hh_settle.proofs.gather.units_in_force.Goals as goal
 
 pub loop-row-preserved : goal.loop-row-preserved
 loop-row-preserved c =
-    entries_more bytes_total exact_bytes unit_entry c.args.rows.now c.loop-row.row-index c.row-item.result (omega arith) c.row-item.is _ c.loop-row.invariant _ c.in_ok-insert.ensures.entries
+    entries_more bytes_total exact_bytes unit_entry c.args.rows.now c.loop-row.row-index c.row-item.result (omega arith) c.row-item.is _ c.loop-row.invariant _ (rw c.unit_of.ensures at c.in_ok-insert.ensures.entries)

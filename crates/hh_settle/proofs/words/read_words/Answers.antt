@@ -1,7 +1,7 @@
 use Rattle.std.proofs.Common.{Some, None}
 use Rattle.clap.specs.Words.{app_of}
 use Rattle.hh_settle.specs.Lines.{line_of}
-use Rattle.hh_settle.proofs.LineLemmas.{line_value-parsed, line_value-refused}
+use Rattle.hh_settle.proofs.LineFacts.{line_value-parsed, line_value-refused}
 use Rattle.hh_settle.proofs.words.read_words.Goals as goal
 
 pub returns-in-Some-clause-command : goal.returns-in-Some-clause-command

@@ -1,0 +1,122 @@
+-- What a settled period adds up to.
+use Rattle.std.proofs.Common.{◌≡◌, ℕ, suc, ◌<◌, Bool, true, false, cond, List, [], ◌∷◌, length, get_or, map, refl, sym, ap, ◌∙◌, arith, inl, inr}
+use Rattle.std.specs.Prelude.{◌≢◌, ℤ, pos, neg_ℤ, ◌+ℤ◌, ◌*ℤ◌, filter, All, Contains}
+use Rattle.std.specs.Ordering.{is_eq, ordering_reverse}
+use Rattle.std.specs.Str.{bytes_eq}
+use Rattle.std.specs.Cmp.{tied_itself}
+use Rattle.std.proofs.Math.IntN.{+ℤ_idr, +ℤ_comm, +ℤ_invr, -ℤ-+ℤ_cancel}
+use Rattle.std.proofs.lemmas.Bool.{cases_lt, false_from_ne_true}
+use Rattle.std.proofs.lemmas.Slice.Eq.{bytes_eq-Decides}
+use Rattle.hh_num.specs.Totals.{total}
+use Rattle.hh_num.proofs.TotalLaws.{total-append, total-filter, total-map, total-neg, total-plus, total-same, total-swap, total-zero}
+use Rattle.hh_rules.specs.declared.account.Account.{Account}
+use Rattle.hh_rules.specs.Accounts.{account_cmp, is_same_account}
+use Rattle.hh_rules.proofs.AccountLaws.{account_total}
+use Rattle.hh_share.specs.Shares.{SumsTo}
+use Rattle.hh_calc.specs.declared.data.Contract.{Contract}
+use Rattle.hh_calc.specs.declared.data.Subsidiary.{Subsidiary}
+use Rattle.hh_calc.specs.declared.result.AccountRow.{AccountRow}
+use Rattle.hh_calc.specs.declared.result.CreditRow.{CreditRow}
+use Rattle.hh_calc.specs.Formulas.{AddsUp, AreInOrder, AreNamed, AreUnitsDistinct, Figures, IsSettled, credits_of, figures, figures_of, lead_credit, loss_adjusted, net_of, of_account, residual, subsidiary_credit, unit_credits}
+use Rattle.hh_calc.specs.Period.{Period, Settled, UnitPeriod}
+use Rattle.hh_calc.proofs.OrderLaws.{rises}
+use Rattle.hh_calc.proofs.SpreadLaws.{counted, counts_once, total-IsPermutation, total-flat_map, total-ticks}
+
+module _ (p : Period) (up : AreInOrder p) where
+  -- no other place of the accounts is the account's
+  others_differ : (d : Account) (k j : ℕ) → k < length p.accounts → j < length p.accounts → j ≢ k
+      → is_same_account (get_or p.accounts k d) (get_or p.accounts j d) ≡ false
+  others_differ d k j inside among ne = elim (cases_lt k j) [
+    | inl lt ↦ ap is_eq (rises account_cmp p.accounts up k j d lt among)
+    | inr le ↦ ap is_eq (
+        account_total.antisymm (get_or p.accounts k d) (get_or p.accounts j d)
+        ∙ ap ordering_reverse (rises account_cmp p.accounts up j k d (omega arith) inside))
+  ]
+
+  -- an amount of a named account comes up once over the accounts
+  spread : (b : Account) → Contains p.accounts b → (amount : ℤ) → total (λ a. of_account a b amount) p.accounts ≡ amount
+  spread b (k, inside, is) amount =
+      counts_once (is_same_account b) (λ a. amount) p.accounts b k inside
+      (ap is_eq (ap (account_cmp b) is ∙ tied_itself account_total b))
+      (λ j among ne. ap (λ c. is_same_account c (get_or p.accounts j b)) (sym is) ∙ others_differ b k j inside among ne)
+
+  -- a contract is for its seller what it is against its buyer
+  one_contract : (c : Contract) → Contains p.accounts c.seller × Contains p.accounts c.buyer → total (λ a. net_of a c) p.accounts ≡ pos 0
+  one_contract c (sells, buys) =
+      total-plus (λ a. of_account a c.seller c.volume) (λ a. neg_ℤ (of_account a c.buyer c.volume)) p.accounts
+      ∙ (λ i. spread c.seller sells c.volume i +ℤ total-neg (λ a. of_account a c.buyer c.volume) p.accounts i)
+      ∙ ap (λ z. c.volume +ℤ neg_ℤ z) (spread c.buyer buys c.volume)
+      ∙ +ℤ_invr c.volume
+
+  -- so all contracts together sum to zero over the accounts
+  all_contracts : (cs : List Contract) → All (λ c. Contains p.accounts c.seller × Contains p.accounts c.buyer) cs
+      → total (λ c. total (λ a. net_of a c) p.accounts) cs ≡ pos 0
+  all_contracts [] named = refl
+  all_contracts (c ∷ cs) named = λ i. one_contract c (named 0 c (omega arith)) i +ℤ all_contracts cs (λ k d lt. named (suc k) d (omega arith)) i
+
+  -- and so do the accounts' net contracts, in ticks
+  contracts_sum : AreNamed p → total (λ a. (figures p a).contracts) p.accounts ≡ pos 0
+  contracts_sum named =
+      total-ticks (λ a. total (net_of a) p.contracts) p.accounts
+      ∙ ap (λ z. z *ℤ pos 10_000_000) (total-swap net_of p.accounts p.contracts ∙ all_contracts p.contracts named.1)
+
+-- The credits from a unit sum to its loss-adjusted volume; where they do not count, to zero.
+unit_credits_sum : (u : UnitPeriod) (do_count : Bool)
+    → total (λ s. cond do_count (subsidiary_credit u s) (pos 0)) u.subsidiaries +ℤ cond do_count (lead_credit u) (pos 0) ≡ cond do_count (loss_adjusted u) (pos 0)
+unit_credits_sum u true =
+    +ℤ_comm (total (subsidiary_credit u) u.subsidiaries) (lead_credit u)
+    ∙ -ℤ-+ℤ_cancel (loss_adjusted u) (total (subsidiary_credit u) u.subsidiaries)
+unit_credits_sum u false = +ℤ_idr (total (λ (s : Subsidiary). pos 0) u.subsidiaries) ∙ total-zero u.subsidiaries
+
+-- a credit, where it is from the unit of this name
+abbrev credited_under : List ℕ → CreditRow → ℤ
+credited_under name = counted (λ c. bytes_eq c.unit name) (λ c. c.credited)
+
+-- under a unit's name count all its credits, and under any other none
+credits_under : (name : List ℕ) (u : UnitPeriod) → total (credited_under name) (unit_credits u) ≡ counted (λ v. bytes_eq v.unit name) loss_adjusted u
+credits_under name u =
+    let given : Subsidiary → CreditRow = λ s. record { unit = u.unit; account = s.account; credited = subsidiary_credit u s } in
+    let kept : CreditRow = record { unit = u.unit; account = u.lead; credited = lead_credit u } in
+    total-append (credited_under name) (map given u.subsidiaries) (kept ∷ [])
+    ∙ (λ i. total-map (credited_under name) given u.subsidiaries i +ℤ +ℤ_idr (credited_under name kept) i)
+    ∙ unit_credits_sum u (bytes_eq u.unit name)
+
+-- no other unit has a unit's name, so the credits under it sum to its loss-adjusted volume
+credits_sum : (p : Period) (s : Settled) → AreUnitsDistinct p → IsSettled p s
+    → All (λ u. total (λ c. c.credited) (filter (λ c. bytes_eq c.unit u.unit) s.credits) ≡ loss_adjusted u) p.units
+credits_sum p s distinct settled k d inside =
+    let u : UnitPeriod = get_or p.units k d in
+    total-filter (λ c. c.credited) (λ c. bytes_eq c.unit u.unit) s.credits
+    ∙ total-IsPermutation (credited_under u.unit) (credits_of p.units) s.credits settled.credits
+    ∙ total-flat_map (credited_under u.unit) unit_credits p.units
+    ∙ total-same (λ v. total (credited_under u.unit) (unit_credits v)) (counted (λ v. bytes_eq v.unit u.unit) loss_adjusted) p.units (credits_under u.unit)
+    ∙ counts_once (λ v. bytes_eq v.unit u.unit) loss_adjusted p.units d k inside ((bytes_eq-Decides u.unit u.unit).1 refl) others
+  where
+    others : (j : ℕ) → j < length p.units → j ≢ k → bytes_eq (get_or p.units j d).unit (get_or p.units k d).unit ≡ false
+    others j among ne = false_from_ne_true _ (λ e.
+        let same = (bytes_eq-Decides (get_or p.units j d).unit (get_or p.units k d).unit).0 e in
+        elim (cases_lt k j) [
+          | inl lt ↦ distinct k j d lt among (sym same)
+          | inr le ↦ distinct j k d (omega arith) inside same
+        ])
+
+module _ (p : Period) (s : Settled) (settled : IsSettled p s) where
+  -- the rows sum to what the figures do
+  rows_sum : (f : Figures → ℤ) → total (λ r. f (figures_of r)) s.accounts ≡ total (λ a. f (figures p a)) p.accounts
+  rows_sum f = sym (total-map f figures_of s.accounts) ∙ ap (total f) settled.rows ∙ total-map f (figures p) p.accounts
+
+  -- charges and shares together sum to zero, where the shares sum to the residual
+  cash_sum : SumsTo (residual p) (map (λ r. r.share) s.accounts) → total (λ r. r.charge +ℤ r.share) s.accounts ≡ pos 0
+  cash_sum shares =
+      total-plus (λ (r : AccountRow). r.charge) (λ r. r.share) s.accounts
+      ∙ (λ i. rows_sum (λ f. f.charge) i +ℤ (sym (total-map (λ x. x) (λ r. r.share) s.accounts) ∙ shares) i)
+      ∙ +ℤ_invr (total (λ a. (figures p a).charge) p.accounts)
+
+-- What a settled period adds up to: contracts to zero, the credits from each unit to its loss-adjusted volume, cash to zero.
+pub adds_up : (p : Period) (s : Settled) → AreInOrder p → AreNamed p → IsSettled p s
+    → SumsTo (residual p) (map (λ r. r.share) s.accounts) → AddsUp p s
+adds_up p s up named settled shares = record {
+  contracts = rows_sum p s settled (λ f. f.contracts) ∙ contracts_sum p up named;
+  credits = λ distinct. credits_sum p s distinct settled;
+  cash = cash_sum p s settled shares;
+}

@@ -1,0 +1,109 @@
+//! The credits from units: to their subsidiaries, and the rest to their lead accounts.
+
+ghost use Rattle.std.specs.Prelude.{◌≡◌, ◌≤◌, ◌^◌, ◌*◌, ◌++◌, nat_abs, length, filter, not, All, IfOk, OnOk, IsPermutation, IsSorted};
+ghost use Rattle.hh_calc.specs.Formulas.{credit_cmp, credits_of, loss_adjusted, most_subsidiaries, subsidiary_credit, unit_credits};
+
+use crate::data::{Subsidiary, UnitData};
+use crate::result::CreditRow;
+use hh_num::{Ticks, round_div};
+use std::alloc::{AllocError, Global};
+
+/// Ticks to the kWh, and the scale of a loss multiplier and of a whole part in percentages.
+pub(crate) const TICKS_PER_KWH: i128 = 10_000_000;
+
+/// The loss-adjusted volume of a unit, in ticks (Section T).
+fn loss_adjusted_volume(unit: &UnitData) -> i128
+    ensures volume { result ≡ loss_adjusted unit.now }
+    ensures size { nat_abs result ≤ 2 * 10 ^ 14 }
+{
+    let volumes = unit.volumes();
+    i128::from(volumes.metered.units()) * i128::from(volumes.tlm.units())
+}
+
+/// What a subsidiary is credited with from a unit, in ticks (Section T).
+fn credit_to(unit: &UnitData, subsidiary: &Subsidiary) -> i128
+    ensures credit { result ≡ subsidiary_credit unit.now subsidiary.now }
+    ensures size { nat_abs result ≤ 10 ^ 15 }
+{
+    let volumes = unit.volumes();
+    let volume = i128::from(volumes.metered.units()) - i128::from(volumes.balancing.units());
+    let part = volume * i128::from(subsidiary.percent.units())
+        + i128::from(subsidiary.fixed.units()) * TICKS_PER_KWH;
+    round_div(part * i128::from(volumes.tlm.units()), TICKS_PER_KWH)
+}
+
+/// Appends the credits from a unit: to each subsidiary, and the exact rest to the lead account.
+fn push_credits(credits: &mut Vec<CreditRow>, unit: &UnitData) -> Result<(), AllocError>
+    requires few { length unit.now.subsidiaries ≤ most_subsidiaries }
+    ensures credits { OnOk result (credits.new.items ≡ credits.old.items ++ unit_credits unit.now) }
+    ensures small { OnOk result (All (λ c. nat_abs c.credited ≤ 10 ^ 18) (unit_credits unit.now)) }
+{
+    let mut rest = loss_adjusted_volume(unit);
+    for subsidiary in unit.subsidiaries() {
+        let credited = credit_to(unit, subsidiary);
+        rest -= credited;
+        credits.push(CreditRow {
+            unit: unit.unit(),
+            account: subsidiary.account,
+            credited: Ticks::of(credited as i64),
+        })?;
+    }
+    credits.push(CreditRow {
+        unit: unit.unit(),
+        account: unit.lead(),
+        credited: Ticks::of(rest as i64),
+    })?;
+    Ok(())
+}
+
+/// The credits from all these units.
+pub(crate) fn all_credits(alloc: Global, units: &[UnitData]) -> Result<Vec<CreditRow>, AllocError>
+    requires few { All (λ u. length u.subsidiaries ≤ most_subsidiaries) units.now }
+    ensures credits { IfOk result (λ credits. credits.items ≡ credits_of units.now) }
+    ensures small { IfOk result (λ credits. All (λ c. nat_abs c.credited ≤ 10 ^ 18) credits.items) }
+{
+    let mut credits = Vec::new(alloc);
+    for unit in units {
+        push_credits(&mut credits, unit)?;
+    }
+    Ok(credits)
+}
+
+/// The credits that weigh: those from the units that are no interconnectors.
+pub(crate) fn weighing_credits(
+    alloc: Global,
+    units: &[UnitData],
+) -> Result<Vec<CreditRow>, AllocError>
+    requires few { All (λ u. length u.subsidiaries ≤ most_subsidiaries) units.now }
+    ensures credits { IfOk result (λ credits. credits.items ≡ credits_of (filter (λ u. not u.interconnector) units.now)) }
+    ensures small { IfOk result (λ credits. All (λ c. nat_abs c.credited ≤ 10 ^ 18) credits.items) }
+{
+    let mut credits = Vec::new(alloc);
+    for unit in units {
+        if !unit.is_interconnector() {
+            push_credits(&mut credits, unit)?;
+        }
+    }
+    Ok(credits)
+}
+
+/// The credits in the order of their units' bytes, then of their accounts.
+pub(crate) fn sorted_credits(mut credits: Vec<CreditRow>) -> Vec<CreditRow>
+    ensures same { IsPermutation credits.items result.items }
+    ensures ordered { IsSorted credit_cmp result.items }
+{
+    sort_credits(&mut credits);
+    credits
+}
+
+/// Puts credits in that order.
+fn sort_credits(credits: &mut [CreditRow])
+    ensures same { IsPermutation credits.old credits.new }
+    ensures ordered { IsSorted credit_cmp credits.new }
+{
+    credits.sort_unstable_by(|left, right| {
+        left.unit
+            .cmp(&right.unit)
+            .then(left.account.cmp(&right.account))
+    });
+}
