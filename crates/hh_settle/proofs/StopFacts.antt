@@ -3,12 +3,12 @@ use Rattle.std.proofs.Common.{◌≡◌, Result, Ok, Err, List, ℕ, Option, sym
 use Rattle.std.specs.Result.{IsErrAnd}
 use Rattle.hh_num.specs.Devices.{AppendsFront}
 use Rattle.hh_rules.specs.declared.fault.Fault.{Fault}
-use Rattle.hh_settle.specs.declared.refusal.Input.{Input}
-use Rattle.hh_settle.specs.declared.period.PeriodFault.{PeriodFault}
-use Rattle.hh_settle.specs.declared.period.PeriodFault.TheVariants.{Refused, Write}
+use Rattle.hh_period.specs.declared.rejection.Input.{Input}
+use Rattle.hh_period.specs.declared.inputs.PeriodFault.{PeriodFault}
+use Rattle.hh_period.specs.declared.inputs.PeriodFault.TheVariants.{Refused, Write}
 use Rattle.hh_settle.specs.declared.program.Stop.{Stop}
 use Rattle.hh_settle.specs.Lines.{PeriodLine}
-use Rattle.hh_settle.specs.Outcome.{period_outcome, GivesText, Rejects}
+use Rattle.hh_period.specs.Outcome.{period_outcome, GivesText, Rejects}
 use Rattle.hh_settle.specs.Stops.{period_stop, StopsLine}
 
 -- An output had these bytes and has those, and it failed if this holds. The files of a period had bytes, and its price is this.

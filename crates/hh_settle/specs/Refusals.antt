@@ -2,8 +2,8 @@
 use Rattle.std.specs.Prelude.{ℕ, List, [], ◌++◌, Option, Some, None, codes, decimal}
 use Rattle.hh_rules.specs.declared.fault.Fault.{Fault}
 use Rattle.hh_rules.specs.Faults.{refusal_number, refusal_name}
-use Rattle.hh_settle.specs.declared.refusal.Input.{Input}
-use Rattle.hh_settle.specs.declared.refusal.Input.TheVariants.{Meter, Contracts, Price}
+use Rattle.hh_period.specs.declared.rejection.Input.{Input}
+use Rattle.hh_period.specs.declared.rejection.Input.TheVariants.{Meter, Contracts, Price}
 
 -- the word of an input
 abbrev pub input_word : Input → List ℕ

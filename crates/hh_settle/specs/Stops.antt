@@ -7,12 +7,12 @@ use Rattle.hh_num.specs.Devices.{AppendsFront}
 use Rattle.hh_rules.specs.Faults.{memory_fault}
 use Rattle.hh_settle.specs.declared.files.InputFault.{InputFault}
 use Rattle.hh_settle.specs.declared.files.InputFault.TheVariants.{Unreadable, Memory}
-use Rattle.hh_settle.specs.declared.period.PeriodFault.{PeriodFault}
-use Rattle.hh_settle.specs.declared.period.PeriodFault.TheVariants as period
+use Rattle.hh_period.specs.declared.inputs.PeriodFault.{PeriodFault}
+use Rattle.hh_period.specs.declared.inputs.PeriodFault.TheVariants as period
 use Rattle.hh_settle.specs.declared.program.Stop.{Stop}
 use Rattle.hh_settle.specs.declared.program.Stop.TheVariants as stop
 use Rattle.hh_settle.specs.Lines.{Line, PeriodLine}
-use Rattle.hh_settle.specs.Outcome.{period_outcome, GivesText, Rejects}
+use Rattle.hh_period.specs.Outcome.{period_outcome, GivesText, Rejects}
 use Rattle.hh_settle.specs.Refusals.{refusal_line}
 
 -- want of memory is told apart, and every other error of a file is one

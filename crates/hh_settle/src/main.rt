@@ -2,12 +2,8 @@
 #![tactic(auto)]
 
 mod files;
-mod gather;
-mod period;
-mod period_text;
 mod program;
 mod refusal;
-mod rejection;
 mod words;
 
 use hh_num::StreamSink;

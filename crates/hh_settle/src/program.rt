@@ -10,10 +10,10 @@ ghost use Rattle.hh_settle.specs.declared.program.Stop.{Stop};
 ghost use Rattle.hh_settle.specs.Stops.{Does, StopsLine, StopsWords, Tells};
 
 use crate::files::{InputFault, read_input};
-use crate::period::{PeriodFault, period};
-use crate::refusal::{Input, push_refusal};
+use crate::refusal::push_refusal;
 use crate::words::{self, USAGE, WordsFault, read_words};
 use hh_num::{DeviceFailed, Sink, write_whole};
+use hh_period::{Input, PeriodFault, period};
 use hh_rules::{Fault, Refusal};
 use std::alloc::{AllocError, Global};
 use std::io::ErrorKind;

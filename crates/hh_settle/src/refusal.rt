@@ -4,28 +4,19 @@ ghost use Rattle.std.specs.Prelude.{◌≡◌, ◌++◌, OnOk, OnErr, codes};
 ghost use Rattle.hh_num.specs.Fixed.{Extends};
 ghost use Rattle.hh_settle.specs.Refusals.{input_word, input_ending, number_place, place, refusal_head, refusal_places, refusal_line};
 
+use hh_period::Input;
 use hh_rules::{Fault, UnitId};
 use itoa::Buffer;
 use std::alloc::AllocError;
 
-/// The inputs that a refusal may name.
-#[derive(Clone, Copy, Debug, PartialEq, Eq)]
-pub enum Input {
-    Meter,
-    Contracts,
-    Price,
-}
-
-impl Input {
-    /// The word by which a refusal's line names it.
-    pub fn word(self) -> &'static str
-        ensures { result.now ≡ input_word self }
-    {
-        match self {
-            Input::Meter => "meter",
-            Input::Contracts => "contracts",
-            Input::Price => "price",
-        }
+/// The word by which a refusal's line names an input.
+fn word_of(input: Input) -> &'static str
+    ensures { result.now ≡ input_word input }
+{
+    match input {
+        Input::Meter => "meter",
+        Input::Contracts => "contracts",
+        Input::Price => "price",
     }
 }
 
@@ -116,7 +107,7 @@ fn push_ending(line: &mut Vec<u8>, input: Option<Input>) -> Result<(), AllocErro
 {
     if let Some(input) = input {
         line.extend_from_slice(b" in ")?;
-        line.extend_from_slice(input.word().as_bytes())?;
+        line.extend_from_slice(word_of(input).as_bytes())?;
     }
     Ok(())
 }

@@ -1,0 +1,5 @@
+pub mod ContractFacts
+pub mod GatherFacts
+pub mod NamedFacts
+pub mod PeriodFacts
+pub mod TextFacts

@@ -1,0 +1,76 @@
+-- What the inputs of `settle period` give: the text of the settled period, or the first refusal.
+use Rattle.std.specs.Prelude.{◌≡◌, ℕ, ℤ, List, Option, Some, None, Result, Ok, Err, if◌then◌else◌}
+use Rattle.hh_rules.specs.declared.fault.Fault.{Fault}
+use Rattle.hh_rules.specs.declared.fault.Refusal.TheVariants.{BadField, TooLarge}
+use Rattle.hh_rules.specs.Faults.{memory_fault, plain_fault, ByRefusal}
+use Rattle.hh_rules.specs.Fields.{price_value}
+use Rattle.hh_calc.specs.Formulas.{is_within_limits}
+use Rattle.hh_calc.specs.Period.{Period}
+use Rattle.hh_texts.specs.PeriodFiles.{period_contract_rows, period_meter_rows}
+use Rattle.hh_texts.specs.declared.period_contracts.PeriodContractRow.{PeriodContractRow}
+use Rattle.hh_period.specs.declared.rejection.Input.{Input}
+use Rattle.hh_period.specs.declared.rejection.Input.TheVariants.{Contracts, Meter, Price}
+use Rattle.hh_period.specs.declared.rejection.Rejection.{Rejection}
+use Rattle.hh_period.specs.PeriodText.{period_text}
+use Rattle.hh_period.specs.Rows.{first_refusal, period_of}
+
+-- what the inputs give, or why they are refused
+abbrev pub Outcome : Type 0 → Type 0
+Outcome A = Result A Rejection
+
+infixl 10 ◌>>=◌
+abbrev pub ◌>>=◌ : {A B : Type 0} → Outcome A → (A → Outcome B) → Outcome B
+(Ok x) >>= f = f x
+(Err e) >>= f = Err e
+
+-- what a file reads as, or the fault in it
+abbrev pub read_from : {A : Type 0} → Input → Result A Fault → Outcome A
+read_from input (Ok x) = Ok x
+read_from input (Err fault) = Err (record { fault = fault; input = Some input })
+
+-- contract rows, unless one of them is refused
+abbrev pub accepted_or : List PeriodContractRow → Option Fault → Outcome (List PeriodContractRow)
+accepted_or rows None = Ok rows
+accepted_or rows (Some fault) = Err (record { fault = fault; input = Some Contracts })
+
+abbrev pub accepted_rows : List PeriodContractRow → Outcome (List PeriodContractRow)
+accepted_rows rows = accepted_or rows (first_refusal rows)
+
+-- a price in its grammar and range
+abbrev pub priced : Option ℤ → Outcome ℤ
+priced None = Err (record { fault = plain_fault BadField; input = Some Price })
+priced (Some price) = Ok price
+
+-- the period of the inputs: meter rows are judged first, then contract rows, then the price
+abbrev pub period_input : List ℕ → List ℕ → List ℕ → Outcome Period
+period_input meter contracts price = do
+  meter_rows ← read_from Meter (period_meter_rows meter)
+  rows ← read_from Contracts (period_contract_rows contracts)
+  contract_rows ← accepted_rows rows
+  value ← priced (price_value price)
+  Ok (period_of meter_rows contract_rows value)
+
+-- the text of a period, if no figure of it passes a limit of a run
+abbrev pub settled_text : Period → Outcome (List ℕ)
+settled_text p = if is_within_limits p then Ok (period_text p) else Err (record { fault = plain_fault TooLarge; input = None })
+
+-- the text for the inputs
+abbrev pub period_outcome : List ℕ → List ℕ → List ℕ → Outcome (List ℕ)
+period_outcome meter contracts price = period_input meter contracts price >>= settled_text
+
+-- want of memory, which names no input
+abbrev pub memory_rejection : Rejection
+memory_rejection = record { fault = memory_fault; input = None }
+
+-- the refusal is the outcome's; want of memory may stand in the place of any outcome
+abbrev pub Rejects : {A : Type 0} → Rejection → Outcome A → Type 0
+Rejects e outcome = ByRefusal e.fault.refusal (e ≡ memory_rejection) (outcome ≡ Err e)
+
+-- what was answered is the outcome
+abbrev pub Answers : {A B : Type 0} → (A → B) → Result A Rejection → Outcome B → Type 0
+Answers view (Ok x) outcome = outcome ≡ Ok (view x)
+Answers view (Err e) outcome = Rejects e outcome
+
+-- the outcome is a text, of which this holds
+abbrev pub GivesText : Outcome (List ℕ) → (List ℕ → Type 0) → Type 0
+GivesText outcome P = (text : List ℕ) × (outcome ≡ Ok text) × P text

@@ -1,0 +1,162 @@
+//! One Settlement Period from the texts of its inputs.
+
+ghost use Rattle.std.specs.Prelude.{◌≡◌, ◌≤◌, length, map, Option, IfOk, OnOk, IsErrOf};
+ghost use Rattle.std.specs.Io.KnownBytes.{Appends};
+ghost use Rattle.hh_num.specs.Devices.{AppendsFront, Failed};
+ghost use Rattle.hh_calc.specs.Formulas.{AreInOrder, AreNamed, AreSubsidiariesFew};
+ghost use Rattle.hh_rules.specs.Fields.{price_value};
+ghost use Rattle.hh_rules.specs.declared.fault.Fault.{Fault};
+ghost use Rattle.hh_period.specs.declared.rejection.Input.{Input};
+ghost use Rattle.hh_texts.specs.PeriodFiles.{period_contract_rows, period_meter_rows};
+ghost use Rattle.hh_texts.specs.Rows.{most_rows};
+ghost use Rattle.hh_period.specs.Outcome.{accepted_rows, period_input, period_outcome, priced, read_from, Answers, GivesText, Rejects};
+ghost use Rattle.hh_period.specs.Rows.{contract_entry, in_force};
+
+use crate::gather::{accounts_named, contracts_in_force, units_in_force};
+use crate::period_text::push_period;
+use crate::rejection::{Input, Rejection};
+use hh_calc::{CalcFault, Contract, PeriodData, settle_period};
+use hh_num::{DeviceFailed, Price, Sink, write_whole};
+use hh_rules::{Fault, Refusal};
+use hh_texts::{PeriodContractRow, PeriodMeterRow, read_period_contracts, read_period_meters};
+use std::alloc::Global;
+
+/// Why a period is not settled, or not told.
+#[derive(Clone, Copy, Debug, PartialEq, Eq)]
+pub enum PeriodFault {
+    /// The inputs are refused, and nothing was written. 55 and 90 name no input.
+    Refused(Fault, Option<Input>),
+    /// The output failed or took nothing, and a beginning of the text went out.
+    Write,
+}
+
+impl From<Rejection> for PeriodFault {
+    ghost use Rattle.std.specs.Prelude.{◌≡◌};
+    ghost use Rattle.hh_period.specs.declared.inputs.PeriodFault.TheVariants.{Refused};
+
+    ghost from_gives = { λ rejection fault. fault ≡ Refused rejection.fault rejection.input };
+
+    fn from(rejection: Rejection) -> PeriodFault {
+        PeriodFault::Refused(rejection.fault, rejection.input)
+    }
+}
+
+/// Settles one period from two files and a price (Section T), and writes a line for each account
+/// that the files name, in account order, and the residual.
+///
+/// # Errors
+///
+/// `Refused` with the first refusal in the order METER (10 to 14), CONTRACTS (10 to 14, then 35 and
+/// 36), PRICE (14), the limits of a run (55), or with 90 for want of memory in the place of any
+/// answer; nothing was written then. `Write` where the output failed or took nothing in this call;
+/// a beginning of the text went out then.
+pub fn period<S: Sink>(
+    alloc: Global,
+    meter: &[u8],
+    contracts: &[u8],
+    price: &[u8],
+    out: &mut S,
+) -> Result<(), PeriodFault>
+    // The text of the settled period went out, and nothing else.
+    ensures written { OnOk result (GivesText (period_outcome meter.now contracts.now price.now) (λ text. Appends (S.taken out.old) (S.taken out.new) text)) }
+    ensures well { OnOk result (S.failures out.new ≡ S.failures out.old) }
+
+    // The first refusal, or want of memory, and then nothing was written.
+    ensures refused { (fault : Fault) (input : Option Input) → result ≡ Err (PeriodFault.Refused fault input) → Rejects (record { fault = fault; input = input }) (period_outcome meter.now contracts.now price.now) }
+    ensures untouched { (fault : Fault) (input : Option Input) → result ≡ Err (PeriodFault.Refused fault input) → out.new ≡ out.old }
+
+    // The device failed in this call, and a beginning of the text went out.
+    ensures cut { IsErrOf result PeriodFault.Write → GivesText (period_outcome meter.now contracts.now price.now) (λ text. AppendsFront (S.taken out.old) (S.taken out.new) text) }
+    ensures failed { IsErrOf result PeriodFault.Write → Failed (S.failures out.old) (S.failures out.new) }
+{
+    let text = settle_inputs(alloc, meter, contracts, price)?;
+    match write_whole(out, &text) {
+        Ok(()) => Ok(()),
+        Err(DeviceFailed) => Err(PeriodFault::Write),
+    }
+}
+
+/// The rows of METER.
+fn meter_rows(alloc: Global, meter: &[u8]) -> Result<Vec<PeriodMeterRow>, Rejection>
+    ensures { Answers (λ rows. rows.items) result (read_from Input.Meter (period_meter_rows meter.now)) }
+{
+    match read_period_meters(alloc, meter) {
+        Ok(rows) => Ok(rows),
+        Err(fault) => Err(Rejection::of_input(Input::Meter, fault)),
+    }
+}
+
+/// The rows of CONTRACTS.
+fn contract_rows(alloc: Global, contracts: &[u8]) -> Result<Vec<PeriodContractRow>, Rejection>
+    ensures rows { Answers (λ rows. rows.items) result (read_from Input.Contracts (period_contract_rows contracts.now)) }
+    ensures few { IfOk result (λ rows. length rows.items ≤ most_rows) }
+{
+    match read_period_contracts(alloc, contracts) {
+        Ok(rows) => Ok(rows),
+        Err(fault) => Err(Rejection::of_input(Input::Contracts, fault)),
+    }
+}
+
+/// The contracts in force of rows of which none is refused.
+fn accepted_contracts(alloc: Global, rows: &[PeriodContractRow]) -> Result<Vec<Contract>, Rejection>
+    requires { length rows.now ≤ most_rows }
+    ensures accepted { Answers (λ _. rows.now) result (accepted_rows rows.now) }
+    ensures contracts { IfOk result (λ contracts. contracts.items ≡ in_force (map contract_entry rows.now)) }
+{
+    match contracts_in_force(alloc, rows) {
+        Ok(contracts) => Ok(contracts),
+        Err(fault) => Err(Rejection::of_input(Input::Contracts, fault)),
+    }
+}
+
+/// The price in PRICE.
+fn read_price(price: &[u8]) -> Result<Price, Rejection>
+    ensures { Answers (λ value. value) result (priced (price_value price.now)) }
+{
+    match Price::read(price) {
+        Some(value) => Ok(value),
+        None => Err(Rejection::of_input(Input::Price, Fault::of(Refusal::BadField))),
+    }
+}
+
+/// The period of the inputs.
+fn gather_period(
+    alloc: Global,
+    meter: &[u8],
+    contracts: &[u8],
+    price: &[u8],
+) -> Result<PeriodData, Rejection>
+    ensures gathered { Answers (λ period. period) result (period_input meter.now contracts.now price.now) }
+    ensures ordered { IfOk result (λ period. AreInOrder period) }
+    ensures named { IfOk result (λ period. AreNamed period) }
+    ensures few { IfOk result (λ period. AreSubsidiariesFew period) }
+{
+    let meters = meter_rows(alloc, meter)?;
+    let rows = contract_rows(alloc, contracts)?;
+    let contracts = accepted_contracts(alloc, &rows)?;
+    let price = read_price(price)?;
+    let accounts = accounts_named(alloc, &meters, &rows)?;
+    let units = units_in_force(alloc, &meters)?;
+    Ok(PeriodData::new(accounts, units, contracts, price))
+}
+
+/// The text of the settled period of the inputs.
+fn settle_inputs(
+    alloc: Global,
+    meter: &[u8],
+    contracts: &[u8],
+    price: &[u8],
+) -> Result<Vec<u8>, Rejection>
+    ensures { Answers (λ text. text.items) result (period_outcome meter.now contracts.now price.now) }
+{
+    let period = gather_period(alloc, meter, contracts, price)?;
+    match settle_period(alloc, &period) {
+        Ok(settled) => {
+            let mut text = Vec::new(alloc);
+            push_period(&mut text, &settled)?;
+            Ok(text)
+        }
+        Err(CalcFault::TooLarge) => Err(Rejection::of(Refusal::TooLarge)),
+        Err(CalcFault::Memory) => Err(Rejection::of(Refusal::Memory)),
+    }
+}

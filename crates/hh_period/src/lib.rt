@@ -1,0 +1,10 @@
+//! One Settlement Period from the bytes of its inputs to the bytes of its text.
+#![tactic(auto)]
+
+mod gather;
+mod inputs;
+mod period_text;
+mod rejection;
+
+pub use inputs::{PeriodFault, period};
+pub use rejection::Input;
