@@ -1,0 +1,4 @@
+pub mod Calendar
+pub mod DateText
+pub mod Days
+pub mod Zone

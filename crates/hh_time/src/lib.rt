@@ -1,0 +1,17 @@
+//! Settlement Days: their dates, their periods, and the deadlines of these.
+#![tactic(auto)]
+
+mod date;
+mod day;
+mod fault;
+mod text;
+mod zone;
+
+pub use date::{SettlementDate, date_at, day_number};
+pub use day::{Day, day_of, deadline, period_start};
+pub use fault::TimeFault;
+pub use text::read_date;
+pub use zone::{london, midnight};
+
+#[cfg(test)]
+mod tests;

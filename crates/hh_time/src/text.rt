@@ -1,0 +1,62 @@
+//! Dates as texts, `YYYY-MM-DD`.
+
+ghost use Rattle.std.specs.Prelude.{◌≡◌, ℕ, ◌+◌, ◌<◌, ◌/◌, ◌%◌, IfSome, IfNone, IsTrue};
+ghost use Rattle.jiff.specs.Types.{Date as PlainDate};
+ghost use Rattle.hh_time.specs.DateText.{dashed, date_text, date_value, text_of};
+ghost use Rattle.hh_time.specs.Days.{is_accepted};
+ghost use Rattle.hh_time.specs.Zone.{IsAccepted};
+
+use crate::date::SettlementDate;
+use jiff::civil::Date;
+
+/// The date from 2001-01-01 to 2099-12-31 that a text of the form `YYYY-MM-DD` names; none where it
+/// names none (profile).
+pub fn read_date(text: &[u8]) -> Option<Date>
+    ensures date { IfSome result (λ date. IsAccepted date × (text.now ≡ text_of date)) }
+    ensures none { IfNone result ((date : PlainDate) → IsAccepted date → ¬ (text.now ≡ text_of date)) }
+{
+    let (century, year, month, day) = pairs(text)?;
+    let year = i16::from(century) * 100 + i16::from(year);
+    if year < 2001 || year > 2099 {
+        return None;
+    }
+    Date::new(year, month as i8, day as i8).ok()
+}
+
+impl SettlementDate {
+    /// The date that a text of the form `YYYY-MM-DD` names; none where it names none that is accepted
+    /// (profile).
+    pub fn read(text: &[u8]) -> Option<SettlementDate>
+        ensures some { IfSome result (λ d. text.now ≡ date_text d) }
+        ensures none { IfNone result ((d : ℕ) → IsTrue (is_accepted d) → ¬ (text.now ≡ date_text d)) }
+        ensures exact { result ≡ date_value text.now }
+    {
+        SettlementDate::of_date(read_date(text)?)
+    }
+}
+
+/// The four numbers of two digits in a text of the form `NNNN-NN-NN`.
+fn pairs(text: &[u8]) -> Option<(u8, u8, u8, u8)>
+    ensures some { IfSome result (λ p. (p.0 < 100) × (p.1 < 100) × (p.2 < 100) × (p.3 < 100) × (text.now ≡ dashed p.0 p.1 p.2 p.3)) }
+    ensures none { IfNone result ((a b c d : ℕ) → a < 100 → b < 100 → c < 100 → d < 100 → ¬ (text.now ≡ dashed a b c d)) }
+{
+    if text.len() != 10 || text[4] != b'-' || text[7] != b'-' {
+        return None;
+    }
+    let a = two_digits(text[0], text[1])?;
+    let b = two_digits(text[2], text[3])?;
+    let c = two_digits(text[5], text[6])?;
+    let d = two_digits(text[8], text[9])?;
+    Some((a, b, c, d))
+}
+
+/// The number of two digits.
+fn two_digits(tens: u8, ones: u8) -> Option<u8>
+    ensures number { IfSome result (λ n. (n < 100) × (tens ≡ 48 + n / 10) × (ones ≡ 48 + n % 10)) }
+    ensures none { IfNone result ((n : ℕ) → n < 100 → tens ≡ 48 + n / 10 → ¬ (ones ≡ 48 + n % 10)) }
+{
+    if tens < b'0' || tens > b'9' || ones < b'0' || ones > b'9' {
+        return None;
+    }
+    Some((tens - b'0') * 10 + (ones - b'0'))
+}
