@@ -1,1 +1,5 @@
+pub mod AcceptedLaws
 pub mod CalendarLaws
+pub mod DateTextLaws
+pub mod DayFacts
+pub mod MidnightFacts

@@ -1,8 +1,7 @@
 -- Dates as texts, YYYY-MM-DD.
-use Rattle.std.specs.Prelude.{ℕ, ◌+◌, ◌*◌, ◌/◌, ◌%◌, nat_le, ◌==◌, pos, unsigned_abs, List, [], ◌∷◌, ◌&&◌, if◌then◌else◌, Option, Some, None}
+use Rattle.std.specs.Prelude.{ℕ, ◌+◌, ◌-◌, ◌*◌, ◌/◌, ◌%◌, nat_le, ◌==◌, pos, unsigned_abs, List, [], ◌∷◌, ◌&&◌, if◌then◌else◌, Option, Some, None}
 use Rattle.std.specs.List.{list_all}
 use Rattle.std.specs.Char.{is_ascii_digit}
-use Rattle.std.specs.Str.Parse.{digits_value}
 use Rattle.jiff.specs.Types.{Date}
 use Rattle.jiff_core.specs.Calendar.{days_in_month, days_from_civil}
 use Rattle.hh_time.specs.Calendar.{date_on}
@@ -30,10 +29,14 @@ civil_day y m d =
     then Some (unsigned_abs (days_from_civil (pos y) m d))
     else None
 
+-- the number that two digits write
+abbrev pub pair_value : ℕ → ℕ → ℕ
+pair_value tens ones = (tens - 48) * 10 + (ones - 48)
+
 -- the day number of the date that a text names, if it names one that is accepted
 unfoldable pub date_value : List ℕ → Option ℕ
 date_value (y ∷ e ∷ a ∷ r ∷ s ∷ m ∷ n ∷ t ∷ d ∷ f ∷ []) =
     if list_all is_ascii_digit (y ∷ e ∷ a ∷ r ∷ m ∷ n ∷ d ∷ f ∷ []) && (s == 45) && (t == 45)
-    then civil_day (digits_value 10 (y ∷ e ∷ a ∷ r ∷ [])) (digits_value 10 (m ∷ n ∷ [])) (digits_value 10 (d ∷ f ∷ []))
+    then civil_day (pair_value y e * 100 + pair_value a r) (pair_value m n) (pair_value d f)
     else None
 date_value _ = None

@@ -53,7 +53,17 @@ impl SettlementDate {
         ensures number { IfSome result (λ d. epoch_day date ≡ pos d) }
         ensures accepted { IsSome result ↔ IsAccepted date }
     {
-        let number = day_number(date).ok()?;
+        SettlementDate::of_number(date.to_plain().to_unix_epoch_day())
+    }
+
+    /// The date so many days after 1970-01-01, if it is accepted.
+    fn of_number(number: i32) -> Option<SettlementDate>
+        ensures number { IfSome result (λ d. pos d ≡ number) }
+        ensures accepted { IsSome result ↔ IsBetween (pos 11_323) (pos 47_481) number }
+    {
+        if number < 11_323 || number > 47_481 {
+            return None;
+        }
         SettlementDate::new(number as u16)
     }
 
@@ -85,10 +95,8 @@ pub fn day_number(date: Date) -> Result<i32, TimeFault>
     ensures accepted { IsOk result ↔ IsAccepted date }
     ensures fault { IfErr result (λ fault. fault ≡ TimeFault.OutOfRange) }
 {
-    if date.year() < 2001 || date.year() > 2099 {
-        return Err(TimeFault::OutOfRange);
-    }
-    Ok(date.to_plain().to_unix_epoch_day())
+    let date = SettlementDate::of_date(date).ok_or(TimeFault::OutOfRange)?;
+    Ok(i32::from(date.number()))
 }
 
 /// The accepted date so many days after 1970-01-01; `OutOfRange` where the number is not 11,323 to
@@ -98,8 +106,6 @@ pub fn date_at(number: i32) -> Result<Date, TimeFault>
     ensures accepted { IsOk result ↔ IsBetween (pos 11_323) (pos 47_481) number }
     ensures fault { IfErr result (λ fault. fault ≡ TimeFault.OutOfRange) }
 {
-    if number < 11_323 || number > 47_481 {
-        return Err(TimeFault::OutOfRange);
-    }
-    Ok(calendar_date(number as u16))
+    let date = SettlementDate::of_number(number).ok_or(TimeFault::OutOfRange)?;
+    Ok(date.date())
 }

@@ -1,6 +1,6 @@
 //! Settlement Days, their periods and deadlines.
 
-ghost use Rattle.std.specs.Prelude.{◌≡◌, ◌≢◌, ◌↔◌, ◌*◌, ◌-◌, ◌≤◌, ◌&&◌, nat_le, int_le, pos, ◌+ℤ◌, ◌-ℤ◌, Some, None, Err, IfOk, IsErrOf, IfSome, IfNone, IsTrue, unsigned_abs};
+ghost use Rattle.std.specs.Prelude.{◌≡◌, ◌≢◌, ◌↔◌, ◌+◌, ◌*◌, ◌-◌, ◌≤◌, ◌&&◌, nat_le, int_le, pos, ◌+ℤ◌, ◌-ℤ◌, Some, None, Err, IfOk, IsErrOf, IfSome, IfNone, IsTrue, unsigned_abs};
 ghost use Rattle.jiff.specs.Words.{epoch_day, plain_zone, IsBetween};
 ghost use Rattle.hh_time.specs.Days.{Midnights, begins, count_of, has_period, half_hours, is_count, is_over};
 ghost use Rattle.hh_time.specs.Days as words;
@@ -47,13 +47,23 @@ impl Day {
         1 <= period && period <= self.count
     }
 
+    /// The instant at which the day ends, in seconds since 1970-01-01T00:00:00Z: the local midnight of
+    /// the next date (profile).
+    pub fn end(&self) -> i64
+        ensures value { result ≡ self.now.start +ℤ pos (1800 * self.now.count) }
+        ensures next { (midnight : Midnights) → midnight self.now.date ≡ self.now.start
+            → count_of midnight self.now.date ≡ Some self.now.count → result ≡ midnight (self.now.date + 1) }
+    {
+        self.start + 1800 * i64::from(self.count)
+    }
+
     /// Whether the day is over at a moment, in seconds since 1970-01-01T00:00:00Z (profile).
     pub fn is_over(&self, moment: i64) -> bool
         ensures value { result ≡ int_le (self.now.start +ℤ pos (1800 * self.now.count)) moment }
         ensures over { (midnight : Midnights) → midnight self.now.date ≡ self.now.start
             → count_of midnight self.now.date ≡ Some self.now.count → result ≡ is_over midnight self.now.date moment }
     {
-        self.start + 1800 * i64::from(self.count) <= moment
+        self.end() <= moment
     }
 }
 

@@ -10,7 +10,7 @@ mod zone;
 pub use date::{SettlementDate, date_at, day_number};
 pub use day::{Day, day_of, deadline, period_start};
 pub use fault::TimeFault;
-pub use text::read_date;
+pub use text::{dates_read_back, read_date};
 pub use zone::{london, midnight};
 
 #[cfg(test)]

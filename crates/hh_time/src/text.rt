@@ -1,8 +1,8 @@
 //! Dates as texts, `YYYY-MM-DD`.
 
-ghost use Rattle.std.specs.Prelude.{◌≡◌, ℕ, ◌+◌, ◌<◌, ◌/◌, ◌%◌, IfSome, IfNone, IsTrue};
+ghost use Rattle.std.specs.Prelude.{◌≡◌, ℕ, ◌+◌, ◌<◌, ◌/◌, ◌%◌, List, [], Some, IfSome, IfNone, IsTrue};
 ghost use Rattle.jiff.specs.Types.{Date as PlainDate};
-ghost use Rattle.hh_time.specs.DateText.{dashed, date_text, date_value, text_of};
+ghost use Rattle.hh_time.specs.DateText.{dashed, date_text, date_value, text_of, two_digits};
 ghost use Rattle.hh_time.specs.Days.{is_accepted};
 ghost use Rattle.hh_time.specs.Zone.{IsAccepted};
 
@@ -33,7 +33,27 @@ impl SettlementDate {
     {
         SettlementDate::of_date(read_date(text)?)
     }
+
+    /// The text of the date, `YYYY-MM-DD`.
+    pub fn text(self) -> [u8; 10]
+        ensures { result ≡ date_text self }
+    {
+        let date = self.date();
+        let year = date.year() as u16;
+        let [a, b] = digits((year / 100) as u8);
+        let [c, d] = digits((year % 100) as u8);
+        let [e, f] = digits(date.month() as u8);
+        let [g, h] = digits(date.day() as u8);
+        [a, b, c, d, b'-', e, f, b'-', g, h]
+    }
 }
+
+/// The text of an accepted date names that date, and a text names no other date than the one whose
+/// text it is: so what is written is read back.
+pub fn dates_read_back()
+    ensures spelled { (d : ℕ) → IsTrue (is_accepted d) → date_value (date_text d) ≡ Some d }
+    ensures one_date { (text : List ℕ) (d : ℕ) → date_value text ≡ Some d → text ≡ date_text d }
+{}
 
 /// The four numbers of two digits in a text of the form `NNNN-NN-NN`.
 fn pairs(text: &[u8]) -> Option<(u8, u8, u8, u8)>
@@ -48,6 +68,14 @@ fn pairs(text: &[u8]) -> Option<(u8, u8, u8, u8)>
     let c = two_digits(text[5], text[6])?;
     let d = two_digits(text[8], text[9])?;
     Some((a, b, c, d))
+}
+
+/// The two digits of a number below 100.
+fn digits(number: u8) -> [u8; 2]
+    requires { number < 100 }
+    ensures { result ≡ two_digits number [] }
+{
+    [b'0' + number / 10, b'0' + number % 10]
 }
 
 /// The number of two digits.
