@@ -24,20 +24,3 @@ count_is midnight d start end low high s e near far =
     let accepted : is_accepted d ≡ true = grind (arith, rules) in
     let within : IsBetween (pos 0) (pos 5_000_000_000) end = (omega (arith, signed_arith), omega (arith, signed_arith)) in
     rw (accepted, gap start end near within, s, e) refl
-
-half_is : (seconds : ℤ) (n : ℕ) → half_hours seconds ≡ Some n → seconds ≡ pos (1800 * n)
-half_is seconds n e = grind (arith, signed_arith, rules)
-
--- and then that many half hours lie there
-pub ends : (midnight : Midnights) (d n : ℕ) → count_of midnight d ≡ Some n → midnight (d + 1) ≡ midnight d +ℤ pos (1800 * n)
-ends midnight d n e =
-    let half : half_hours (midnight (d + 1) -ℤ midnight d) ≡ Some n = grind (rules) in
-    let long : midnight (d + 1) -ℤ midnight d ≡ pos (1800 * n) = half_is _ n half in
-    omega (arith, signed_arith)
-
--- and the day is over where they have passed
-pub over_is : (midnight : Midnights) (d n : ℕ) (start end moment : ℤ) → midnight d ≡ start → count_of midnight d ≡ Some n → end ≡ start +ℤ pos (1800 * n)
-    → int_le end moment ≡ is_over midnight d moment
-over_is midnight d n start end moment s e long =
-    let last : midnight (d + 1) ≡ end = ends midnight d n e ∙ ap (λ (z : ℤ). z +ℤ pos (1800 * n)) s ∙ sym long in
-    rw (e, last) refl

@@ -73,7 +73,7 @@ impl SettlementDate {
         ensures number { epoch_day result ≡ pos self }
         ensures accepted { IsAccepted result }
     {
-        calendar_date(self.days)
+        calendar_date(self.number())
     }
 }
 

@@ -6,6 +6,6 @@ use Rattle.hh_time.proofs.date.SettlementDate.date.Goals as goal
 
 pub returns-clause-accepted : goal.returns-clause-accepted
 returns-clause-accepted c =
-    let inside = c.self.invariant in
-    let range : IsBetween (pos 11_323) (pos 47_481) (epoch_day c.calendar_date.result) = omega (arith, signed_arith, c.calendar_date.ensures.number) in
-    (accepted-number c.calendar_date.result).1 range
+    let range = c.number.ensures.range in
+    let within : IsBetween (pos 11_323) (pos 47_481) (epoch_day c.calendar_date.result) = omega (arith, signed_arith, c.calendar_date.ensures.number, c.number.ensures.value) in
+    (accepted-number c.calendar_date.result).1 within
