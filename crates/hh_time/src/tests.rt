@@ -50,7 +50,6 @@ fn spring_day(rt: HostRuntime) -> Result<(), Fail> {
 fn autumn_day(rt: HostRuntime) -> Result<(), Fail> {
     let zone = london();
     let day = day_of(Date::new(2024, 10, 27)?, &zone)?;
-    assert!(rt; day.count == 50);
     assert_eq!(rt; day.start, 1_729_983_600);
     assert!(rt; day.count == 50);
     assert_eq!(rt; period_start(&day, 50), 1_730_071_800);
@@ -61,11 +60,9 @@ fn autumn_day(rt: HostRuntime) -> Result<(), Fail> {
 fn summer_day(rt: HostRuntime) -> Result<(), Fail> {
     let zone = london();
     let day = day_of(Date::new(2024, 7, 1)?, &zone)?;
-    assert!(rt; day.count == 48);
     assert_eq!(rt; day.start, 1_719_788_400);
     assert!(rt; day.count == 48);
     assert_eq!(rt; period_start(&day, 1), 1_719_788_400);
-    assert!(rt; day.count == 48);
     assert_eq!(rt; deadline(&day, 1, 60), 1_719_784_800);
     Ok(())
 }
