@@ -1,6 +1,6 @@
 -- What credits come to, and the machine's words that hold it.
 use Rattle.std.proofs.Common.{◌≡◌, ℕ, ◌+◌, ◌*◌, ◌^◌, ◌<◌, ◌≤◌, Bool, true, false, cond, List, [], ◌∷◌, ◌++◌, length, get_or, take, map, refl, sym, ap, ◌∙◌, arith, FitsSigned, to_z, of_z, add-one}
-use Rattle.std.specs.Prelude.{ℤ, pos, negsuc, neg_ℤ, ◌+ℤ◌, ◌-ℤ◌, ◌*ℤ◌, nat_abs, filter, not}
+use Rattle.std.specs.Prelude.{ℤ, pos, negsuc, ◌+ℤ◌, ◌-ℤ◌, ◌*ℤ◌, nat_abs, filter, not}
 use Rattle.std.specs.Int.{w64, w128}
 use Rattle.std.specs.Int.Signed.{mag}
 use Rattle.std.specs.Cmp.{IsTotalOrder, on_total, then_total}
@@ -19,10 +19,7 @@ use Rattle.hh_calc.specs.declared.result.CreditRow.{CreditRow}
 use Rattle.hh_calc.specs.Formulas.{credit_cmp, credits_of, lead_credit, loss_adjusted, most_subsidiaries, subsidiary_credit, unit_credits}
 use Rattle.hh_calc.specs.Period.{UnitPeriod}
 use Rattle.hh_calc.proofs.SumLaws.{total-more}
-use Rattle.hh_calc.proofs.WordFacts.{long_word}
-
-abbrev word : ℤ → ℤ
-word x = to_z w128 (of_z w128 x)
+use Rattle.hh_calc.proofs.WordFacts.{long_word, word}
 
 -- a word holds an amount of at most this size
 pub record Holds (held amount : ℤ) (most : ℕ) : Type 0 where
@@ -64,9 +61,6 @@ module _ (a x b y : ℤ) (m n : ℕ) (h : Holds a x m) (k : Holds b y n) where
       record { is = λ i. h.is i -ℤ k.is i; small = omega (arith, ints) }
 
 -- sizes of what a credit is reckoned from
-pub volume_most : (v : ℤ) → IsBetween (neg_ℤ (pos 10_000_000)) (pos 10_000_000) v → nat_abs v ≤ 10 ^ 7
-volume_most v (low, high) = omega (arith, ints)
-
 pub percent_most : (v : ℤ) → IsBetween (pos 0) (pos 10_000_000) v → nat_abs v ≤ 10 ^ 7
 percent_most v (low, high) = omega (arith, ints)
 

@@ -9,4 +9,4 @@ pub mod SpreadLaws
 pub mod SumLaws
 pub mod WordFacts
 mod Examples
-mod FixtureLaws
+mod ReadyLaws

@@ -1,11 +1,11 @@
 -- The figures of one account, and the limits.
-use Rattle.std.proofs.Common.{◌≡◌, ℕ, zero, suc, ◌*◌, ◌^◌, ◌<◌, ◌≤◌, Bool, true, false, ◌&&◌, cond, Option, Some, None, refl, sym, ap, ◌∙◌, arith, FitsSigned, to_z, of_z, IfNone}
-use Rattle.std.specs.Prelude.{ℤ, pos, negsuc, neg_ℤ, ◌-ℤ◌, ◌*ℤ◌, nat_abs}
+use Rattle.std.proofs.Common.{◌≡◌, ℕ, ◌*◌, ◌^◌, ◌<◌, ◌≤◌, Bool, true, false, cond, Option, Some, None, refl, sym, ap, ◌∙◌, arith, FitsSigned, to_z, of_z, IfNone}
+use Rattle.std.specs.Prelude.{ℤ, pos, neg_ℤ, ◌-ℤ◌, ◌*ℤ◌, nat_abs}
 use Rattle.std.specs.Int.{w64, w128}
 use Rattle.std.specs.Int.Signed.{mag}
 use Rattle.std.proofs.Math.IntN.{+ℤ_idl}
 use Rattle.std.proofs.Math.Nat.{mul-le-mul}
-use Rattle.std.proofs.lemmas.Int.{ints, to_z-of_z}
+use Rattle.std.proofs.lemmas.Int.{ints, to_z-of_z, unsigned_abs-mul}
 use Rattle.hh_num.specs.Ranges.{IsBetween}
 use Rattle.std.proofs.lemmas.Bool.Decides.{nat_tests}
 use Rattle.hh_num.specs.Rounding.{near}
@@ -27,18 +27,6 @@ past_limit most x word r e same none = go (is_at_most most word) refl (sym e ∙
     go : (b : Bool) → is_at_most most word ≡ b → cond b (Some word) None ≡ None → is_at_most most x ≡ false
     go true k h = cc h
     go false k h = ap (is_at_most most) (sym same) ∙ k
-
-pub and_left : (a b : Bool) → a ≡ false → (a && b) ≡ false
-and_left true b h = cc h
-and_left false b h = refl
-
-pub and_right : (a b : Bool) → b ≡ false → (a && b) ≡ false
-and_right true b h = h
-and_right false b h = refl
-
-pub both : (a b : Bool) → a ≡ true → b ≡ true → (a && b) ≡ true
-both true b h k = k
-both false b h k = cc h
 
 pub if_none : {A : Type 0} (r : Option A) (P : Type 0) → P → IfNone r P
 if_none None P p = p
@@ -62,26 +50,15 @@ imbalance_word credited balancing contracts word a b d same =
     ∙ ap (λ z. to_z w128 (of_z w128 ((credited -ℤ balancing) -ℤ z))) same
     ∙ long_word ((credited -ℤ balancing) -ℤ contracts) all
 
-nat_abs-neg : (z : ℤ) → nat_abs (neg_ℤ z) ≡ nat_abs z
-nat_abs-neg (pos zero) = refl
-nat_abs-neg (pos (suc n)) = refl
-nat_abs-neg (negsuc n) = refl
-
-nat_abs-times : (a b : ℤ) → nat_abs (a *ℤ b) ≡ nat_abs a * nat_abs b
-nat_abs-times (pos a) (pos b) = refl
-nat_abs-times (pos a) (negsuc b) = nat_abs-neg (pos (a * suc b))
-nat_abs-times (negsuc a) (pos b) = nat_abs-neg (pos (suc a * b))
-nat_abs-times (negsuc a) (negsuc b) = refl
-
 -- the energy's price, turned round: it stays far below the limits of rounding
 pub charge_word : (imbalance price wide wide' : ℤ) → nat_abs imbalance ≤ 10 ^ 17 → nat_abs price ≤ 10 ^ 10 → wide ≡ imbalance → wide' ≡ price
     → let amount : ℤ = to_z w128 (of_z w128 (pos 0 -ℤ to_z w128 (of_z w128 (to_z w128 (of_z w128 wide) *ℤ to_z w128 (of_z w128 wide'))))) in
     (amount ≡ neg_ℤ (imbalance *ℤ price)) × (nat_abs amount ≤ 10 ^ 30)
 charge_word imbalance price wide wide' a b same same' =
-    let product = nat_abs-times imbalance price in
+    let product = unsigned_abs-mul imbalance price in
     let low : nat_abs imbalance * nat_abs price ≤ 10 ^ 17 * 10 ^ 10 = mul-le-mul a b in
     let small : nat_abs (imbalance *ℤ price) ≤ 10 ^ 27 = omega arith in
-    let turned : nat_abs (neg_ℤ (imbalance *ℤ price)) ≤ 10 ^ 27 = rw (nat_abs-neg (imbalance *ℤ price)) small in
+    let turned : nat_abs (neg_ℤ (imbalance *ℤ price)) ≤ 10 ^ 27 = omega (arith, ints) in
     let is =
     (λ i. to_z w128 (of_z w128 (pos 0 -ℤ to_z w128 (of_z w128 (to_z w128 (of_z w128 (same i)) *ℤ to_z w128 (of_z w128 (same' i)))))))
     ∙ (λ i. to_z w128 (of_z w128 (pos 0 -ℤ to_z w128 (of_z w128 (long_word imbalance (omega arith) i *ℤ long_word price (omega arith) i)))))

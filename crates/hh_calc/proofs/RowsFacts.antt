@@ -1,23 +1,21 @@
 -- Row after row: the accounts of a period so far.
-use Rattle.std.proofs.Common.{◌≡◌, ℕ, zero, suc, ◌+◌, ◌*◌, ◌^◌, ◌<◌, ◌≤◌, Bool, true, false, ◌&&◌, List, [], ◌∷◌, ◌++◌, length, get_or, set, take, drop, map, refl, sym, ap, ◌∙◌, arith, to_z, of_z, add-one}
+use Rattle.std.proofs.Common.{◌≡◌, ℕ, zero, suc, ◌+◌, ◌*◌, ◌^◌, ◌<◌, ◌≤◌, Bool, true, false, List, [], ◌∷◌, ◌++◌, length, get_or, set, take, drop, map, refl, sym, ap, ◌∙◌, arith, to_z, of_z, add-one}
 use Rattle.std.specs.Prelude.{ℤ, pos, neg_ℤ, ◌-ℤ◌, nat_abs, filter, not}
-use Rattle.std.specs.Int.{w64, w128}
-use Rattle.std.specs.List.{list_all}
+use Rattle.std.specs.Int.{w64}
 use Rattle.std.proofs.Math.IntN.{neg_ℤ-+ℤ}
 use Rattle.std.proofs.Math.Nat.{suc-mul}
+use Rattle.std.proofs.lemmas.Bool.{and_from, and_parts}
 use Rattle.std.proofs.lemmas.Int.{ints}
 use Rattle.std.proofs.lemmas.List.{map-append, take_more}
+use Rattle.std.proofs.lemmas.List.Folds.{list_all_at, list_all_more}
 use Rattle.hh_num.specs.Totals.{total}
 use Rattle.hh_rules.specs.declared.account.Account.{Account}
-use Rattle.hh_calc.specs.Formulas.{Figures, are_within, are_accounts_within, balancing_of, credited_of, credits_of, figures, figures_from, greatest_cash, greatest_energy, is_at_most, net_of, weight, weight_of}
+use Rattle.hh_calc.specs.Formulas.{Figures, are_within, are_accounts_within, balancing_of, credited_of, credits_of, figures, figures_from, greatest_cash, greatest_energy, net_of, weight, weight_of}
 use Rattle.hh_calc.specs.Period.{Period}
 use Rattle.hh_calc.specs.Sums.{AreSumsOver}
 use Rattle.hh_calc.proofs.RowFacts.{at_most, widened}
 use Rattle.hh_calc.proofs.SumLaws.{read_sum, total-more}
-use Rattle.hh_calc.proofs.WordFacts.{long_word}
-
-abbrev word : ℤ → ℤ
-word x = to_z w128 (of_z w128 x)
+use Rattle.hh_calc.proofs.WordFacts.{long_word, word}
 
 -- The figures of an account from the sums at its place are its figures in the period.
 pub figures_read : (p : Period) (credited balancing net weights : List ℤ)
@@ -40,38 +38,19 @@ figures_read p credited balancing net weights hc hb hn hw place account inside i
     )
 
 -- One account past the limits decides.
-list_all-false : (test : Account → Bool) (accounts : List Account) (i : ℕ) (d : Account) → i < length accounts → test (get_or accounts i d) ≡ false → list_all test accounts ≡ false
-list_all-false test [] i d inside h = absurd (omega arith)
-list_all-false test (a ∷ accounts) zero d inside h = rw h refl
-list_all-false test (a ∷ accounts) (suc i) d inside h = go (test a) (list_all-false test accounts i d (omega arith) h)
-  where
-    go : (b : Bool) → list_all test accounts ≡ false → (b && list_all test accounts) ≡ false
-    go true k = k
-    go false k = refl
-
 pub past_account : (p : Period) (place : ℕ) (account : Account) → place < length p.accounts → account ≡ get_or p.accounts place account
     → are_within (figures p account) (weight p account) ≡ false → are_accounts_within p p.accounts ≡ false
 past_account p place account inside is past =
-    list_all-false (λ a. are_within (figures p a) (weight p a)) p.accounts place account inside
+    list_all_at (λ a. are_within (figures p a) (weight p a)) p.accounts place account inside
     (ap (λ a. are_within (figures p a) (weight p a)) (sym is) ∙ past)
 
 -- One account more.
-list_all-push : (test : Account → Bool) (accounts : List Account) (a : Account) → list_all test accounts ≡ true → test a ≡ true → list_all test (accounts ++ a ∷ []) ≡ true
-list_all-push test [] a h k = rw k refl
-list_all-push test (b ∷ accounts) a h k = go (test b) h (λ m. list_all-push test accounts a m k)
-  where
-    go : (t : Bool) → (t && list_all test accounts) ≡ true → (list_all test accounts ≡ true → list_all test (accounts ++ a ∷ []) ≡ true)
-        → (t && list_all test (accounts ++ a ∷ [])) ≡ true
-    go true m more = more m
-    go false m more = cc m
-
 pub within_more : (p : Period) (place : ℕ) (account : Account) → place < length p.accounts → account ≡ get_or p.accounts place account
     → are_accounts_within p (take place p.accounts) ≡ true → are_within (figures p account) (weight p account) ≡ true
     → are_accounts_within p (take (place + 1) p.accounts) ≡ true
 within_more p place account inside is h k =
     let test : Account → Bool = λ a. are_within (figures p a) (weight p a) in
-    ap (list_all test) (take_more p.accounts place account inside)
-    ∙ list_all-push test (take place p.accounts) (get_or p.accounts place account) h (ap test (sym is) ∙ k)
+    list_all_more test p.accounts place account inside ∙ and_from _ _ h (ap test (sym is) ∙ k)
 
 pub rows_more : {R : Type 0} (f : R → Figures) (g : Account → Figures) (rows : List R) (row : R) (accounts : List Account) (place : ℕ) (account : Account)
     → place < length accounts → account ≡ get_or accounts place account → map f rows ≡ map g (take place accounts) → f row ≡ g account
@@ -88,12 +67,8 @@ residual_more f accounts place account inside is residual charge so_far same =
     (λ i. so_far i -ℤ same i)
     ∙ sym (ap neg_ℤ (total-more f accounts place account inside is) ∙ neg_ℤ-+ℤ (total f (take place accounts)) (f account))
 
-and_true : (a b : Bool) → (a && b) ≡ true → b ≡ true
-and_true true b h = h
-and_true false b h = cc h
-
 pub charge_size : (f : Figures) (w : ℤ) → are_within f w ≡ true → nat_abs f.charge ≤ 10 ^ 12
-charge_size f w h = at_most greatest_cash f.charge (and_true _ _ h)
+charge_size f w h = at_most greatest_cash f.charge (and_parts _ _ h).1
 
 pub residual_size : (place : ℕ) (residual charge : ℤ) → nat_abs residual ≤ place * 10 ^ 12 → nat_abs charge ≤ 10 ^ 12 → nat_abs (residual -ℤ charge) ≤ (place + 1) * 10 ^ 12
 residual_size place residual charge small le = rw (add-one, suc-mul place (10 ^ 12)) (omega (arith, ints))
@@ -123,15 +98,11 @@ set_next (a ∷ xs) [] i x d inside same is = absurd (omega arith)
 set_next (a ∷ xs) (b ∷ ys) zero x d inside same is = ap (λ v. v ∷ ys) is
 set_next (a ∷ xs) (b ∷ ys) (suc i) x d inside same is = simp add-one (ap (λ more. a ∷ more) (simp add-one at (set_next xs ys i x d (omega arith) (omega arith) is)))
 
-and_before : (a b c : Bool) → ((a && b) && c) ≡ true → b ≡ true
-and_before true true c h = refl
-and_before true false c h = cc h
-and_before false b c h = cc h
+pub weight_size : (f : Figures) (w : ℤ) → are_within f w ≡ true → nat_abs w ≤ 10 ^ 17
+weight_size f w h = at_most greatest_energy w (and_parts _ _ (and_parts _ _ h).0).1
 
 -- a weight within its limit fits 64 bits
 pub short_weight : (f : Figures) (w units : ℤ) → are_within f w ≡ true → units ≡ w → to_z w64 (of_z w64 units) ≡ w
 short_weight f w units h same =
-    let word : ℤ = to_z w64 (of_z w64 units) in
-    let within : is_at_most greatest_energy w ≡ true = and_before (is_at_most greatest_energy f.credited && is_at_most greatest_energy f.balancing && is_at_most greatest_energy f.contracts && is_at_most greatest_energy f.imbalance) _ (is_at_most greatest_cash f.charge) h in
-    let small : nat_abs w ≤ 10 ^ 17 = at_most greatest_energy w within in
-    widened w units word same (omega arith) refl
+    let small : nat_abs w ≤ 10 ^ 17 = weight_size f w h in
+    widened w units _ same (omega arith) refl

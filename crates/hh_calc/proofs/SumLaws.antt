@@ -7,8 +7,8 @@ use Rattle.std.specs.Ordering.{is_eq, ordering_reverse}
 use Rattle.std.specs.declared.cmp.Ordering.TheVariants.{Less, Equal, Greater}
 use Rattle.std.specs.Cmp.{tied_itself}
 use Rattle.std.proofs.Math.IntN.{+ℤ_idr, +ℤ_assoc}
-use Rattle.std.proofs.lemmas.List.{take_more, take_all, length-map, length-set, get_or-map}
-use Rattle.std.proofs.Math.Nat.{suc-mul, mul-le-mul, mul-le-mul_right}
+use Rattle.std.proofs.lemmas.List.{take_more, length-map, length-set, get_or-map}
+use Rattle.std.proofs.Math.Nat.{suc-mul, mul-le-mul}
 use Rattle.std.proofs.lemmas.List.Elements.{All-from_recursion, All-set, All-weaker, All-replicate}
 use Rattle.std.proofs.lemmas.Int.{ints}
 use Rattle.hh_num.specs.Totals.{total}
@@ -102,9 +102,6 @@ pub record AreSums {X : Type 0} (f : Account → X → ℤ) (accounts : List Acc
 nat_abs-plus : (x y : ℤ) → nat_abs (x +ℤ y) ≤ nat_abs x + nat_abs y
 nat_abs-plus x y = omega (arith, ints)
 
-nat_abs-minus : (x y : ℤ) → nat_abs (x -ℤ y) ≤ nat_abs x + nat_abs y
-nat_abs-minus x y = omega (arith, ints)
-
 -- no rows
 pub sums_start : {X : Type 0} (f : Account → X → ℤ) (accounts : List Account) (rows : List X) (most : ℕ) (sums : List ℤ)
     → sums ≡ replicate (length accounts) (pos 0) → AreSums f accounts rows 0 most sums
@@ -130,15 +127,6 @@ small_add sums most more place x d small le inside =
 pub length-sums : {X : Type 0} (f : Account → X → ℤ) (accounts : List Account) (rows : List X) (i most : ℕ) (sums : List ℤ)
     → AreSums f accounts rows i most sums → length sums ≡ length accounts
 length-sums f accounts rows i most sums h = ap length h.summed ∙ length-map accounts (λ a. total (f a) (take i rows))
-
--- of which each has room for one amount more
-pub room_for : {X : Type 0} (f : Account → X → ℤ) (accounts : List Account) (rows : List X) (i most : ℕ) (sums : List ℤ)
-    → AreSums f accounts rows i most sums → i < 2 ^ 64 → most ≤ 2 ^ 60 → (place : ℕ) → place < length accounts → (x : ℤ) → nat_abs x ≤ most
-    → nat_abs (get_or sums place (pos 0)) + nat_abs x < 2 ^ 127
-room_for f accounts rows i most sums h low few place inside x le =
-    let here : nat_abs (get_or sums place (pos 0)) ≤ i * most = h.small place (pos 0) (rw (length-sums f accounts rows i most sums h) inside) in
-    let product : i * most ≤ 2 ^ 64 * 2 ^ 60 = mul-le-mul {n₁ = i} {n₂ = 2 ^ 64} (omega arith) few in
-    omega arith
 
 pub sums_step : {X : Type 0} (f : Account → X → ℤ) (accounts : List Account) → IsStrictlySortedBy account_cmp accounts
     → (rows : List X) (i : ℕ) (row : X) → i < length rows → row ≡ get_or rows i row
@@ -187,16 +175,6 @@ room_between f accounts rows i half sums h low few place inside x le d once e pl
     rw e (small place' (pos 0) (rw (length-set sums place (get_or sums place d +ℤ x), long) inside')) in
     let product : i * (half + half) ≤ 2 ^ 64 * 2 ^ 61 = mul-le-mul {n₁ = i} {n₂ = 2 ^ 64} {m₂ = 2 ^ 61} (omega arith) (omega arith) in
     omega arith
-
--- all the rows
-pub sums_over : {X : Type 0} (f : Account → X → ℤ) (accounts : List Account) (rows : List X) (i each most : ℕ) (sums : List ℤ)
-    → AreSums f accounts rows i each sums → i ≡ length rows → i < 2 ^ 64 → 2 ^ 64 * each ≤ most → AreSumsOver f accounts rows most sums
-sums_over f accounts rows i each most sums h all low few =
-    let product : i * each ≤ 2 ^ 64 * each = mul-le-mul_right each (omega arith) in
-    record {
-      summed = h.summed ∙ ap (λ taken. sums_of f accounts taken) (take_all i rows (omega arith));
-      small = All-weaker (λ s. nat_abs s ≤ i * each) (λ s. nat_abs s ≤ most) (λ s k. omega arith) sums h.small;
-    }
 
 -- the sum of an account that is read at its place
 pub read_sum : {X : Type 0} (f : Account → X → ℤ) (accounts : List Account) (rows : List X) (most : ℕ) (sums : List ℤ) → AreSumsOver f accounts rows most sums

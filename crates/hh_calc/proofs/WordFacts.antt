@@ -6,6 +6,10 @@ use Rattle.std.proofs.Math.IntN.{+ℤ_idl}
 use Rattle.std.proofs.lemmas.Int.{ints, to_z-of_z}
 use Rattle.hh_num.specs.Ranges.{IsBetween}
 
+-- a number as a word of 128 bits holds it
+abbrev pub word : ℤ → ℤ
+word x = to_z w128 (of_z w128 x)
+
 pub long_word : (x : ℤ) → nat_abs x ≤ 10 ^ 38 → to_z w128 (of_z w128 x) ≡ x
 long_word x le = let fits : FitsSigned w128 x = omega (arith, ints) in to_z-of_z w128 x fits
 

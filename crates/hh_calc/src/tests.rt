@@ -1,117 +1,10 @@
 //! What no clause says: that a period is settled, and what the words of the clauses come to.
 
-ghost use Rattle.std.specs.Prelude.{◌≡◌, ◌≤◌, length, All, Contains, IsTrue};
-ghost use Rattle.std.specs.List.Sorted.{IsStrictlySortedBy};
-ghost use Rattle.std.specs.declared.cmp.Ordering.TheVariants.{Less};
-ghost use Rattle.hh_rules.specs.Accounts.{account_cmp};
-ghost use Rattle.hh_calc.specs.Formulas.{most_subsidiaries, AreInOrder, AreNamed, AreSubsidiariesFew};
-
 use super::*;
 use hh_num::{Kwh, Percent, Price, Ticks, Tlm};
 use hh_rules::{Account, UnitId};
 use std::alloc::Global;
-use std::cmp::Ordering;
 use std::test::Fail;
-
-/// Whether an account stands before another.
-fn is_before(account: &Account, other: &Account) -> bool
-    ensures { IsTrue result → account_cmp account.now other.now ≡ Less }
-{
-    matches!(account.cmp(other), Ordering::Less)
-}
-
-/// Whether the accounts rise in account order.
-fn are_in_order(accounts: &[Account]) -> bool
-    ensures { IsTrue result → IsStrictlySortedBy account_cmp accounts.now }
-{
-    for place in 1..accounts.len() {
-        if !is_before(&accounts[place - 1], &accounts[place]) {
-            return false;
-        }
-    }
-    true
-}
-
-/// Whether an account is one of these.
-fn is_named(accounts: &[Account], account: &Account) -> bool
-    ensures { IsTrue result → Contains accounts.now account.now }
-{
-    match accounts.binary_search(account) {
-        Ok(_) => true,
-        Err(_) => false,
-    }
-}
-
-/// Whether each subsidiary's account is one of these.
-fn are_subsidiaries_named(accounts: &[Account], subsidiaries: &[Subsidiary]) -> bool
-    ensures { IsTrue result → All (λ s. Contains accounts.now s.account) subsidiaries.now }
-{
-    for subsidiary in subsidiaries {
-        if !is_named(accounts, &subsidiary.account) {
-            return false;
-        }
-    }
-    true
-}
-
-/// Whether the lead account and the subsidiaries of a unit are some of these accounts, and the
-/// subsidiaries few.
-fn is_unit_named(accounts: &[Account], unit: &UnitData) -> bool
-    ensures lead { IsTrue result → Contains accounts.now unit.now.lead }
-    ensures subsidiaries { IsTrue result → All (λ s. Contains accounts.now s.account) unit.now.subsidiaries }
-    ensures few { IsTrue result → length unit.now.subsidiaries ≤ most_subsidiaries }
-{
-    if !is_named(accounts, &unit.lead()) {
-        return false;
-    }
-    if !are_subsidiaries_named(accounts, unit.subsidiaries()) {
-        return false;
-    }
-    unit.subsidiaries().len() <= 799
-}
-
-/// Whether this is so of each of these units.
-fn are_units_named(accounts: &[Account], units: &[UnitData]) -> bool
-    ensures named { IsTrue result → All (λ u. Contains accounts.now u.lead × All (λ s. Contains accounts.now s.account) u.subsidiaries) units.now }
-    ensures few { IsTrue result → All (λ u. length u.subsidiaries ≤ most_subsidiaries) units.now }
-{
-    for unit in units {
-        if !is_unit_named(accounts, unit) {
-            return false;
-        }
-    }
-    true
-}
-
-/// Whether the seller and the buyer of each contract are some of these accounts.
-fn are_contracts_named(accounts: &[Account], contracts: &[Contract]) -> bool
-    ensures { IsTrue result → All (λ c. Contains accounts.now c.seller × Contains accounts.now c.buyer) contracts.now }
-{
-    for contract in contracts {
-        if !is_named(accounts, &contract.seller) {
-            return false;
-        }
-        if !is_named(accounts, &contract.buyer) {
-            return false;
-        }
-    }
-    true
-}
-
-/// Whether a period may be settled.
-fn is_ready(period: &PeriodData) -> bool
-    ensures ordered { IsTrue result → AreInOrder period.now }
-    ensures named { IsTrue result → AreNamed period.now }
-    ensures few { IsTrue result → AreSubsidiariesFew period.now }
-{
-    if !are_units_named(period.accounts(), period.units()) {
-        return false;
-    }
-    if !are_contracts_named(period.accounts(), period.contracts()) {
-        return false;
-    }
-    are_in_order(period.accounts())
-}
 
 /// The answer to a period, and none where it could not be asked.
 type Answer = Option<Result<PeriodResult, CalcFault>>;
@@ -126,7 +19,7 @@ fn settle(
 ) -> Answer {
     let accounts = accounts_of(alloc, names)?;
     let period = PeriodData::new(accounts, units, contracts, Price::new(price)?);
-    if !is_ready(&period) {
+    if !period.is_ready() {
         return None;
     }
     Some(settle_period(alloc, &period))

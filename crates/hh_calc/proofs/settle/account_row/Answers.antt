@@ -1,7 +1,8 @@
 use Rattle.std.proofs.Common.{arith, ◌∙◌, ◌≤◌, ◌*◌, ◌^◌}
 use Rattle.std.specs.Prelude.{nat_abs, pos, ◌-ℤ◌, ◌*ℤ◌}
+use Rattle.std.proofs.lemmas.Bool.{and_from, and_left, and_right}
 use Rattle.hh_calc.specs.Formulas.{greatest_energy, greatest_cash}
-use Rattle.hh_calc.proofs.RowFacts.{and_left, and_right, at_most, both, cash_word, contracts_size, contracts_word, if_none, imbalance_word, in_limit, past_limit, same_figures}
+use Rattle.hh_calc.proofs.RowFacts.{at_most, cash_word, contracts_size, contracts_word, if_none, imbalance_word, in_limit, past_limit, same_figures}
 use Rattle.hh_calc.proofs.WordFacts.{long_word}
 use Rattle.hh_calc.proofs.settle.account_row.Goals as goal
 
@@ -72,7 +73,7 @@ returns-clause-row c =
     let paid = cash_word c.charge_of.result c.charge_of.type_inv ∙ rw imbalance_is at c.charge_of.ensures in
     let (charge_is, charge_in) = in_limit greatest_cash _ _ _ _ c.cash_within.ensures paid c.in_ok-charge.was in (
       same_figures c.args.account _ _ _ _ _ sums.credited sums.balancing sums.net c.args.price credited_is balancing_is contracts_is imbalance_is charge_is,
-      both _ _ (both _ _ (both _ _ (both _ _ (both _ _ credited_in balancing_in) contracts_in) imbalance_in) weight_in) charge_in,
+      and_from _ _ (and_from _ _ (and_from _ _ (and_from _ _ (and_from _ _ credited_in balancing_in) contracts_in) imbalance_in) weight_in) charge_in,
     )
 
 pub returns-clause-weight : goal.returns-clause-weight

@@ -2,8 +2,8 @@ use Rattle.std.proofs.Common.{arith, ap, sym, ◌∙◌, length}
 use Rattle.hh_calc.specs.Formulas.{figures, figures_of, greatest_cash, residual, weight}
 use Rattle.std.proofs.lemmas.List.{length-map}
 use Rattle.hh_calc.proofs.PeriodLaws.{adds_up}
-use Rattle.hh_calc.proofs.RowFacts.{at_most, in_limit}
-use Rattle.hh_calc.proofs.SettleFacts.{shares_are, short_amount, weights_positive}
+use Rattle.hh_calc.proofs.RowFacts.{in_limit}
+use Rattle.hh_calc.proofs.SettleFacts.{shares_are, short_residual, weights_positive}
 use Rattle.hh_calc.proofs.WordFacts.{long_word}
 use Rattle.hh_calc.proofs.settle.settle_period.Goals as goal
 
@@ -21,7 +21,7 @@ pub returns-clause-settled : goal.returns-clause-settled
 returns-clause-settled c =
     let p = c.args.period.now in
     let (is, within) = in_limit greatest_cash (residual p) _ _ _ c.cash_within.ensures (long_word c.in_ok-rows.residual (omega (arith, c.in_ok-rows.ensures.small)) ∙ c.in_ok-rows.ensures.residual) c.in-Some.is in
-    let word = short_amount (residual p) c.units-3.result (at_most greatest_cash (residual p) within) (c.units-3.ensures.value ∙ is) in
+    let word = short_residual p c.units-3.result within (c.units-3.ensures.value ∙ is) in
     rw c.new.ensures record {
       rows = c.with_shares.ensures.figures ∙ c.in_ok-rows.ensures.rows;
       shared = c.with_shares.ensures.shares ∙ c.deref-8.ensures.value ∙ c.in_ok-shares.ensures.shares ∙ shares_are p (residual p) _ c.deref-7.result.now (λ i. residual p) word (c.deref-7.ensures.value ∙ c.in_ok-rows.ensures.weights);
@@ -34,6 +34,6 @@ pub returns-clause-sums : goal.returns-clause-sums
 returns-clause-sums c =
     let p = c.args.period.now in
     let (is, within) = in_limit greatest_cash (residual p) _ _ _ c.cash_within.ensures (long_word c.in_ok-rows.residual (omega (arith, c.in_ok-rows.ensures.small)) ∙ c.in_ok-rows.ensures.residual) c.in-Some.is in
-    let word = short_amount (residual p) c.units-3.result (at_most greatest_cash (residual p) within) (c.units-3.ensures.value ∙ is) in
+    let word = short_residual p c.units-3.result within (c.units-3.ensures.value ∙ is) in
     adds_up p c.new.result c.requires.ordered c.requires.named (returns-clause-settled c)
     (rw (c.new.ensures, c.with_shares.ensures.shares, c.deref-8.ensures.value) (rw word at c.in_ok-shares.ensures.sum))

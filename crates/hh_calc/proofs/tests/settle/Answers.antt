@@ -2,4 +2,4 @@ use Rattle.std.proofs.Common.{refl}
 use Rattle.hh_calc.proofs.tests.settle.Goals as goal
 
 pub settle_period-requires-clause-named : goal.settle_period-requires-clause-named
-settle_period-requires-clause-named c = c.if-not-is_ready.ensures.named refl
+settle_period-requires-clause-named c = (c.if-not-is_ready.ensures.0 refl).1

@@ -1,6 +1,6 @@
--- The periods of the tests: accounts in order, and what they name.
-use Rattle.std.proofs.Common.{◌≡◌, ℕ, ◌+◌, ◌<◌, ◌≤◌, subst, length, get_or, take}
-use Rattle.std.specs.Prelude.{[], ◌∷◌, List, All, Contains}
+-- What a period is tested for before it is settled: accounts in order, and what they name.
+use Rattle.std.proofs.Common.{◌≡◌, ℕ, ◌+◌, ◌<◌, ◌≤◌, refl, subst, length, get_or, take, true, false}
+use Rattle.std.specs.Prelude.{[], ◌∷◌, List, All, Contains, IsTrue, ◌↔◌}
 use Rattle.std.specs.declared.cmp.Ordering.{Ordering}
 use Rattle.std.specs.declared.cmp.Ordering.TheVariants.{Less}
 use Rattle.std.specs.Cmp.{IsTotalOrder}
@@ -10,7 +10,16 @@ use Rattle.std.proofs.lemmas.List.Elements.{All-more}
 use Rattle.std.proofs.lemmas.Map.Keys.{sorted_from_all_adjacent}
 use Rattle.hh_rules.specs.declared.account.Account.{Account}
 use Rattle.hh_calc.specs.declared.data.Contract.{Contract}
+use Rattle.hh_calc.specs.Formulas.{most_subsidiaries}
 use Rattle.hh_calc.specs.Period.{UnitPeriod}
+use Rattle.hh_calc.proofs.CreditLaws.{IsUnitNamed}
+
+-- what a test found
+pub passed : (P : Type 0) → P → IsTrue true ↔ P
+passed P here = (λ _. here, λ _. refl)
+
+pub failed : (P : Type 0) → (P → ⊥) → IsTrue false ↔ P
+failed P never = (λ e. cc e, λ here. absurd (never here))
 
 -- keys rise where each is below the next
 pub in_order : {K : Type 0} {R : K → K → Ordering} (o : IsTotalOrder R) (keys : List K) → ((k : ℕ) (d : K) → k + 1 < length keys → R (get_or keys k d) (get_or keys (k + 1) d) ≡ Less) → IsStrictlySortedBy R keys
@@ -28,11 +37,15 @@ all_of P xs i end before = subst (All P) (take_all i xs end) before
 
 -- each lead and subsidiary of these units is one of the accounts
 abbrev pub AreUnitsNamed : List Account → List UnitPeriod → Type 0
-AreUnitsNamed accounts units = All (λ u. Contains accounts u.lead × All (λ s. Contains accounts s.account) u.subsidiaries) units
+AreUnitsNamed accounts units = All (IsUnitNamed accounts) units
 
 -- each seller and buyer of these contracts is one of the accounts
 abbrev pub AreContractsNamed : List Account → List Contract → Type 0
 AreContractsNamed accounts contracts = All (λ c. Contains accounts c.seller × Contains accounts c.buyer) contracts
+
+-- these units have no more subsidiaries than the most
+abbrev pub AreFew : List UnitPeriod → Type 0
+AreFew units = All (λ u. length u.subsidiaries ≤ most_subsidiaries) units
 
 -- what holds of two lists holds of the same under other names
 pub carried : {A B : Type 0} (P : A → B → Type 0) (a a' : A) (b b' : B) → a ≡ a' → b ≡ b' → P a b → P a' b'

@@ -1,0 +1,130 @@
+//! Whether a period may be settled.
+
+ghost use Rattle.std.specs.Prelude.{◌≡◌, ◌≤◌, ◌↔◌, length, All, Contains, IsTrue};
+ghost use Rattle.std.specs.List.Sorted.{IsStrictlySortedBy};
+ghost use Rattle.std.specs.declared.cmp.Ordering.TheVariants.{Less};
+ghost use Rattle.hh_rules.specs.Accounts.{account_cmp};
+ghost use Rattle.hh_calc.specs.Formulas.{most_subsidiaries, AreInOrder, AreNamed, AreSubsidiariesFew};
+
+use crate::data::{Contract, PeriodData, Subsidiary, UnitData};
+use hh_rules::Account;
+use std::cmp::Ordering;
+
+/// The most subsidiaries that a unit may have.
+const MOST_SUBSIDIARIES: usize = 799;
+
+/// Whether an account stands before another.
+fn is_before(account: &Account, other: &Account) -> bool
+    ensures { IsTrue result ↔ (account_cmp account.now other.now ≡ Less) }
+{
+    matches!(account.cmp(other), Ordering::Less)
+}
+
+/// Whether the accounts rise in account order.
+fn are_in_order(accounts: &[Account]) -> bool
+    ensures { IsTrue result ↔ IsStrictlySortedBy account_cmp accounts.now }
+{
+    for place in 1..accounts.len() {
+        if !is_before(&accounts[place - 1], &accounts[place]) {
+            return false;
+        }
+    }
+    true
+}
+
+/// Whether an account is one of these.
+fn is_named(accounts: &[Account], account: &Account) -> bool
+    requires { IsStrictlySortedBy account_cmp accounts.now }
+    ensures { IsTrue result ↔ Contains accounts.now account.now }
+{
+    match accounts.binary_search(account) {
+        Ok(_) => true,
+        Err(_) => false,
+    }
+}
+
+/// Whether each subsidiary's account is one of these.
+fn are_subsidiaries_named(accounts: &[Account], subsidiaries: &[Subsidiary]) -> bool
+    requires { IsStrictlySortedBy account_cmp accounts.now }
+    ensures { IsTrue result ↔ All (λ s. Contains accounts.now s.account) subsidiaries.now }
+{
+    for subsidiary in subsidiaries {
+        if !is_named(accounts, &subsidiary.account) {
+            return false;
+        }
+    }
+    true
+}
+
+/// Whether the lead account and the subsidiaries of a unit are some of these accounts.
+fn is_unit_named(accounts: &[Account], unit: &UnitData) -> bool
+    requires { IsStrictlySortedBy account_cmp accounts.now }
+    ensures { IsTrue result ↔ (Contains accounts.now unit.now.lead × All (λ s. Contains accounts.now s.account) unit.now.subsidiaries) }
+{
+    is_named(accounts, &unit.lead()) && are_subsidiaries_named(accounts, unit.subsidiaries())
+}
+
+/// Whether this is so of each of these units.
+fn are_units_named(accounts: &[Account], units: &[UnitData]) -> bool
+    requires { IsStrictlySortedBy account_cmp accounts.now }
+    ensures { IsTrue result ↔ All (λ u. Contains accounts.now u.lead × All (λ s. Contains accounts.now s.account) u.subsidiaries) units.now }
+{
+    for unit in units {
+        if !is_unit_named(accounts, unit) {
+            return false;
+        }
+    }
+    true
+}
+
+/// Whether no unit has more subsidiaries than the most.
+fn are_subsidiaries_few(units: &[UnitData]) -> bool
+    ensures { IsTrue result ↔ All (λ u. length u.subsidiaries ≤ most_subsidiaries) units.now }
+{
+    for unit in units {
+        if unit.subsidiaries().len() > MOST_SUBSIDIARIES {
+            return false;
+        }
+    }
+    true
+}
+
+/// Whether the seller and the buyer of a contract are some of these accounts.
+fn is_contract_named(accounts: &[Account], contract: &Contract) -> bool
+    requires { IsStrictlySortedBy account_cmp accounts.now }
+    ensures { IsTrue result ↔ (Contains accounts.now contract.now.seller × Contains accounts.now contract.now.buyer) }
+{
+    is_named(accounts, &contract.seller) && is_named(accounts, &contract.buyer)
+}
+
+/// Whether this is so of each of these contracts.
+fn are_contracts_named(accounts: &[Account], contracts: &[Contract]) -> bool
+    requires { IsStrictlySortedBy account_cmp accounts.now }
+    ensures { IsTrue result ↔ All (λ c. Contains accounts.now c.seller × Contains accounts.now c.buyer) contracts.now }
+{
+    for contract in contracts {
+        if !is_contract_named(accounts, contract) {
+            return false;
+        }
+    }
+    true
+}
+
+impl PeriodData {
+    /// Whether the period may be settled: the accounts rise in account order, each lead,
+    /// subsidiary, seller and buyer is one of them, and no unit has more than 799 subsidiaries.
+    pub fn is_ready(&self) -> bool
+        ensures { IsTrue result ↔ (AreInOrder self.now × AreNamed self.now × AreSubsidiariesFew self.now) }
+    {
+        if !are_in_order(self.accounts()) {
+            return false;
+        }
+        if !are_units_named(self.accounts(), self.units()) {
+            return false;
+        }
+        if !are_contracts_named(self.accounts(), self.contracts()) {
+            return false;
+        }
+        are_subsidiaries_few(self.units())
+    }
+}
