@@ -1,0 +1,108 @@
+//! A period of the market's size.
+
+use crate::draw::Draw;
+use hh_calc::{Contract, PeriodData, Subsidiary, UnitData, UnitVolumes};
+use hh_num::{Kwh, Percent, Price, Tlm};
+use hh_rules::{Account, UnitId};
+use std::alloc::Global;
+
+/// Two to each of 400 parties.
+const ACCOUNTS: u32 = 800;
+
+const UNITS: u32 = 2_000;
+
+const CONTRACTS: u32 = 400;
+
+/// The accounts of a unit stand so far apart that none of the four is another's.
+const STEP: u32 = 199;
+
+/// The period: always the same.
+pub(crate) fn generated_period(alloc: Global) -> Option<PeriodData> {
+    let mut draw = Draw::new();
+    let accounts = accounts(alloc)?;
+    let units = units(alloc, &accounts, &mut draw)?;
+    let contracts = contracts(alloc, &accounts, &mut draw)?;
+    Some(PeriodData::new(accounts, units, contracts, Price::new(7_345_678)?))
+}
+
+/// All accounts, in account order.
+fn accounts(alloc: Global) -> Option<Vec<Account>> {
+    let mut accounts = Vec::new(alloc);
+    for place in 0..ACCOUNTS {
+        accounts.push(account(alloc, place)?).ok()?;
+    }
+    Some(accounts)
+}
+
+/// The account at a place.
+fn account(alloc: Global, place: u32) -> Option<Account> {
+    let side = if place % 2 == 0 { 'P' } else { 'C' };
+    let text = format!(in alloc; "PARTY{:04}-{side}", place / 2).ok()?;
+    Account::read(text.as_bytes())
+}
+
+fn units(alloc: Global, accounts: &[Account], draw: &mut Draw) -> Option<Vec<UnitData>> {
+    let mut units = Vec::new(alloc);
+    for number in 0..UNITS {
+        units.push(unit(alloc, accounts, number, draw)?).ok()?;
+    }
+    Some(units)
+}
+
+/// A unit: one of ten is an interconnector's.
+fn unit(alloc: Global, accounts: &[Account], number: u32, draw: &mut Draw) -> Option<UnitData> {
+    let id = format!(in alloc; "T_UNIT-{number}").ok()?;
+    let lead = draw.below(ACCOUNTS);
+    let interconnector = draw.below(10) == 0;
+    let volumes = UnitVolumes {
+        metered: Kwh::new(draw.signed(500_000))?,
+        tlm: Tlm::new(9_700_000 + i64::from(draw.below(600_000)))?,
+        balancing: Kwh::new(draw.signed(5_000))?,
+    };
+    Some(UnitData::new(
+        UnitId::read(id.as_bytes())?,
+        account_at(accounts, lead)?,
+        interconnector,
+        volumes,
+        subsidiaries(alloc, accounts, lead, draw)?,
+    ))
+}
+
+/// The three subsidiaries of a unit whose lead account has this place.
+fn subsidiaries(
+    alloc: Global,
+    accounts: &[Account],
+    lead: u32,
+    draw: &mut Draw,
+) -> Option<Vec<Subsidiary>> {
+    let mut subsidiaries = Vec::new(alloc);
+    for number in 1..4 {
+        let subsidiary = Subsidiary {
+            account: account_at(accounts, lead.wrapping_add(number * STEP))?,
+            percent: Percent::new(i64::from(draw.below(3_000_000)))?,
+            fixed: Kwh::new(draw.signed(1_000))?,
+        };
+        subsidiaries.push(subsidiary).ok()?;
+    }
+    Some(subsidiaries)
+}
+
+fn contracts(alloc: Global, accounts: &[Account], draw: &mut Draw) -> Option<Vec<Contract>> {
+    let mut contracts = Vec::new(alloc);
+    for _ in 0..CONTRACTS {
+        let seller = draw.below(ACCOUNTS);
+        let buyer = seller.wrapping_add(1 + draw.below(ACCOUNTS - 1));
+        let contract = Contract {
+            seller: account_at(accounts, seller)?,
+            buyer: account_at(accounts, buyer)?,
+            volume: Kwh::new(draw.signed(90_000))?,
+        };
+        contracts.push(contract).ok()?;
+    }
+    Some(contracts)
+}
+
+/// The account at a place, counted round.
+fn account_at(accounts: &[Account], place: u32) -> Option<Account> {
+    accounts.get((place % ACCOUNTS) as usize).copied()
+}
