@@ -1,16 +1,16 @@
--- Words of one alphabet: the ids of parties and units, and references.
-use Rattle.std.specs.Prelude.{◌≡◌, ℕ, ◌-◌, ◌≤◌, ◌++◌, take, replicate, Bool, ◌&&◌, ◌||◌, ◌==◌, nat_le, List, length, Option, Some, None, if◌then◌else◌}
+-- Words of one alphabet: ids of parties and units, references, access keys and names of files.
+use Rattle.std.specs.Prelude.{◌≡◌, ℕ, ◌-◌, ◌≤◌, ◌++◌, take, drop, replicate, Bool, ◌&&◌, ◌||◌, ◌==◌, nat_le, List, length, Option, Some, None, codes, bytes_eq, if◌then◌else◌}
 use Rattle.std.proofs.Common.{sym, ap, ◌∙◌}
 use Rattle.std.specs.Char.{is_ascii_digit, is_ascii_uppercase, is_ascii_alphanumeric}
 use Rattle.std.specs.List.{list_all}
 
--- 1 to so many bytes, each of them allowed
-unfoldable pub is_word : (ℕ → Bool) → ℕ → List ℕ → Bool
-is_word allows most text = nat_le 1 (length text) && nat_le (length text) most && list_all allows text
+-- least to most bytes, each of them allowed
+unfoldable pub is_word : (ℕ → Bool) → ℕ → ℕ → List ℕ → Bool
+is_word allows least most text = nat_le least (length text) && nat_le (length text) most && list_all allows text
 
 -- the word that a text is, if it is one
-abbrev pub word_value : (ℕ → Bool) → ℕ → List ℕ → Option (List ℕ)
-word_value allows most text = if is_word allows most text then Some text else None
+abbrev pub word_value : (ℕ → Bool) → ℕ → ℕ → List ℕ → Option (List ℕ)
+word_value allows least most text = if is_word allows least most text then Some text else None
 
 -- the bytes of a party's id
 abbrev pub is_capital_or_digit : ℕ → Bool
@@ -24,15 +24,36 @@ is_unit_byte b = is_capital_or_digit b || b == 95 || b == 45
 abbrev pub is_reference_byte : ℕ → Bool
 is_reference_byte b = is_ascii_alphanumeric b || b == 95 || b == 45
 
--- the ids and references that texts are
+-- the bytes of an access key
+abbrev pub is_letter_or_digit : ℕ → Bool
+is_letter_or_digit = is_ascii_alphanumeric
+
+-- the bytes of a file's name: letters, digits, a point, an underscore and a dash
+abbrev pub is_file_name_byte : ℕ → Bool
+is_file_name_byte b = is_ascii_alphanumeric b || b == 46 || b == 95 || b == 45
+
+-- the ids, references, keys and names that texts are
 abbrev pub party_value : List ℕ → Option (List ℕ)
-party_value = word_value is_capital_or_digit 10
+party_value = word_value is_capital_or_digit 1 10
 
 abbrev pub unit_value : List ℕ → Option (List ℕ)
-unit_value = word_value is_unit_byte 16
+unit_value = word_value is_unit_byte 1 16
 
 abbrev pub reference_value : List ℕ → Option (List ℕ)
-reference_value = word_value is_reference_byte 20
+reference_value = word_value is_reference_byte 1 20
+
+abbrev pub access_key_value : List ℕ → Option (List ℕ)
+access_key_value = word_value is_letter_or_digit 8 64
+
+abbrev pub file_name_value : List ℕ → Option (List ℕ)
+file_name_value = word_value is_file_name_byte 1 64
+
+-- the operator's key: op- and 8 to 61 letters or digits
+unfoldable pub is_operator_key : List ℕ → Bool
+is_operator_key text = bytes_eq (take 3 text) (codes "op-") && is_word is_letter_or_digit 8 61 (drop 3 text)
+
+abbrev pub operator_key_value : List ℕ → Option (List ℕ)
+operator_key_value text = if is_operator_key text then Some text else None
 
 -- the first bytes of a buffer of this length are a text of len bytes, and zeros follow
 pub record IsPadded (most len : ℕ) (buffer : List ℕ) : Type 0 where

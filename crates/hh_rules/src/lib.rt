@@ -4,15 +4,20 @@
 mod account;
 mod bytes;
 mod fault;
+mod operator_key;
 mod period;
 mod word;
+mod yes_no;
 
 pub use account::{Account, Side};
 pub use fault::{Fault, Refusal};
+pub use operator_key::OperatorKey;
 pub use period::Period;
 pub use word::{
-    Alphabet, PartyId, PartyIdAlphabet, Reference, ReferenceAlphabet, UnitId, UnitIdAlphabet, Word,
+    AccessKey, AccessKeyAlphabet, Alphabet, FileName, FileNameAlphabet, PartyId, PartyIdAlphabet,
+    Reference, ReferenceAlphabet, UnitId, UnitIdAlphabet, Word,
 };
+pub use yes_no::read_yes_no;
 
 #[cfg(test)]
 mod tests;

@@ -1,7 +1,9 @@
 //! The numbers of Settlement Periods.
 
 ghost use Rattle.std.specs.Prelude.{◌≡◌, ◌≤◌, SomeIff};
+ghost use Rattle.hh_rules.specs.Fields.{period_value};
 
+use hh_num::read_fixed;
 use std::marker::Model;
 
 /// The number of a Settlement Period within its Settlement Day, 1 to 50.
@@ -32,6 +34,15 @@ impl Period {
         } else {
             None
         }
+    }
+
+    /// The period that a text numbers: 1 to 50, in the grammar of `read_fixed` without decimals.
+    #[tactic(auto, unfolding(crate::specs::Fields::period_value))]
+    pub fn read(text: &[u8]) -> Option<Period>
+        ensures { result ≡ period_value text.now }
+    {
+        let number = read_fixed(text, 0)?;
+        Period::new(u8::try_from(number).ok()?)
     }
 
     /// The number.

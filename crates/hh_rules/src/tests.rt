@@ -1,6 +1,8 @@
 //! What no clause says: that the words of the clauses come to the market's texts and numbers.
 
 use super::*;
+use std::alloc::AllocError;
+use std::process::Abort;
 use std::test::Fail;
 
 #[test]
@@ -195,6 +197,102 @@ fn periods_are_1_to_50(rt: HostRuntime) -> Result<(), Fail> {
         (255, None),
     ] {
         assert_eq!(rt; Period::new(number).map(Period::number), period);
+    }
+    Ok(())
+}
+
+#[test]
+fn reads_periods(rt: HostRuntime) -> Result<(), Fail> {
+    let texts: [(&[u8], Option<u8>); 12] = [
+        (b"1", Some(1)),
+        (b"50", Some(50)),
+        (b"07", Some(7)),
+        (b"0", None),
+        (b"-0", None),
+        (b"51", None),
+        (b"-1", None),
+        (b"256", None),
+        (b"257", None),
+        (b"1.0", None),
+        (b"", None),
+        (b" 1", None),
+    ];
+    for (text, period) in texts {
+        assert_eq!(rt; Period::read(text).map(Period::number), period);
+    }
+    Ok(())
+}
+
+#[test]
+fn reads_yes_and_no(rt: HostRuntime) -> Result<(), Fail> {
+    assert_eq!(rt; read_yes_no(b"yes"), Some(true));
+    assert_eq!(rt; read_yes_no(b"no"), Some(false));
+    for text in ["", "y", "Yes", "no ", "yesno"] {
+        assert_eq!(rt; read_yes_no(text.as_bytes()), None, "{text}");
+    }
+    Ok(())
+}
+
+/// So many letters behind a front.
+fn letters(
+    rt: &(impl AllocGlobal + Abort),
+    front: &[u8],
+    count: usize,
+) -> Result<Vec<u8>, AllocError> {
+    let mut text = Vec::new(rt.alloc());
+    text.extend_from_slice(front)?;
+    for _ in 0..count {
+        text.push(b'k')?;
+    }
+    Ok(text)
+}
+
+#[test]
+fn reads_access_keys(rt: HostRuntime) -> Result<(), Fail> {
+    for (count, good) in [(7, false), (8, true), (64, true), (65, false)] {
+        let text = letters(&rt, b"", count)?;
+        assert_eq!(rt; AccessKey::read(&text).is_some(), good, "{count}");
+    }
+    let key = AccessKey::read(b"Genco0001");
+    assert_eq!(rt; key.map(|key| key.as_bytes().len()), Some(9));
+    assert_eq!(rt; AccessKey::read(b"genco_0001"), None);
+    assert_eq!(rt; AccessKey::read(b"op-settle001"), None);
+    Ok(())
+}
+
+#[test]
+fn reads_file_names(rt: HostRuntime) -> Result<(), Fail> {
+    for (count, good) in [(0, false), (1, true), (64, true), (65, false)] {
+        let text = letters(&rt, b"", count)?;
+        assert_eq!(rt; FileName::read(&text).is_some(), good, "{count}");
+    }
+    assert!(rt; FileName::read(b"p2_A-x.csv").is_some());
+    assert_eq!(rt; FileName::read(b"a/b.csv"), None);
+    assert_eq!(rt; FileName::read(b"a b"), None);
+    Ok(())
+}
+
+#[test]
+fn reads_operator_keys(rt: HostRuntime) -> Result<(), Fail> {
+    let key = OperatorKey::read(b"op-settle001");
+    assert!(rt; key.is_some());
+    if let Some(key) = key {
+        assert_eq!(rt; key.as_bytes(), b"op-settle001".as_slice());
+    }
+    for (count, good) in [(7, false), (8, true), (61, true), (62, false)] {
+        let text = letters(&rt, b"op-", count)?;
+        assert_eq!(rt; OperatorKey::read(&text).is_some(), good, "{count}");
+    }
+    for text in [
+        "",
+        "op",
+        "op-",
+        "settle0001",
+        "OP-settle001",
+        "op-settle_01",
+        "op--settle001",
+    ] {
+        assert_eq!(rt; OperatorKey::read(text.as_bytes()), None, "{text}");
     }
     Ok(())
 }

@@ -2,11 +2,13 @@
 #![tactic(auto)]
 
 mod fields;
+mod files;
 mod form;
 mod period_contracts;
 mod period_meters;
 mod records;
 
+pub use files::read_file;
 pub use form::{Form, MOST_BYTES, MOST_ROWS, read_rows};
 pub use period_contracts::{PeriodContractRow, PeriodContracts, read_period_contracts};
 pub use period_meters::{PeriodMeterRow, PeriodMeters, read_period_meters};

@@ -6,4 +6,4 @@ use Rattle.hh_rules.proofs.word.Word.of.Goals as goal
 
 pub invariant_of-result : goal.invariant_of-result
 unfolding is_word
-invariant_of-result g c = padded_by _ _ _ (grind (arith, nat_tests)) (search rules) (is_word g.A.Alphabet.allows g.row.MOST) c.requires
+invariant_of-result g c = padded_by _ _ _ (grind (arith, nat_tests)) (search rules) (is_word g.A.Alphabet.allows g.row.LEAST g.row.MOST) c.requires

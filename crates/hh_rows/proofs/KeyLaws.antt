@@ -1,0 +1,26 @@
+-- The orders of Settlement Periods and of the keys tell each two apart.
+use Rattle.std.proofs.Common.{ℕ, List, ap}
+use Rattle.std.specs.Ordering.{nat_cmp}
+use Rattle.std.proofs.lemmas.Map.Lookups.{CmpEqualImpliesEq, exact_bytes, exact_pairs, exact_unsigned}
+use Rattle.hh_rules.specs.declared.account.Account.{Account}
+use Rattle.hh_rules.specs.Accounts.{bytes_cmp, account_cmp}
+use Rattle.hh_rules.proofs.AccountLaws.{exact_accounts}
+use Rattle.hh_rows.specs.declared.keys.UnitPeriod.{UnitPeriod}
+use Rattle.hh_rows.specs.declared.settlement_period.SettlementPeriod.{SettlementPeriod}
+use Rattle.hh_rows.specs.Keys.{settlement_period_cmp, unit_period_cmp, contract_key_cmp, reallocation_key_cmp}
+
+pub exact_settlement_periods : CmpEqualImpliesEq settlement_period_cmp
+exact_settlement_periods a b h =
+    ap (λ (p : ℕ × ℕ). record { date = p.0; number = p.1 }) (exact_pairs nat_cmp nat_cmp exact_unsigned exact_unsigned (a.date, a.number) (b.date, b.number) h)
+
+pub exact_unit_periods : CmpEqualImpliesEq unit_period_cmp
+exact_unit_periods a b h =
+    ap (λ (p : List ℕ × SettlementPeriod). record { unit = p.0; at = p.1 }) (exact_pairs bytes_cmp settlement_period_cmp exact_bytes exact_settlement_periods (a.unit, a.at) (b.unit, b.at) h)
+
+pub exact_contract_keys : CmpEqualImpliesEq contract_key_cmp
+exact_contract_keys a b h =
+    ap (λ (p : List ℕ × SettlementPeriod). record { reference = p.0; at = p.1 }) (exact_pairs bytes_cmp settlement_period_cmp exact_bytes exact_settlement_periods (a.reference, a.at) (b.reference, b.at) h)
+
+pub exact_reallocation_keys : CmpEqualImpliesEq reallocation_key_cmp
+exact_reallocation_keys a b h =
+    ap (λ (p : UnitPeriod × Account). record { unit_period = p.0; account = p.1 }) (exact_pairs unit_period_cmp account_cmp exact_unit_periods exact_accounts (a.unit_period, a.account) (b.unit_period, b.account) h)

@@ -1,0 +1,4 @@
+pub mod DateRanges
+pub mod KeyOrders
+pub mod Keys
+pub mod Kinds

@@ -1,0 +1,91 @@
+//! Ranges of dates.
+
+ghost use Rattle.std.specs.Prelude.{◌≡◌, ◌≤◌, SomeIff};
+ghost use Rattle.hh_rows.specs.DateRanges.{Range, holds, is_inside, last_date_value, range_to_value};
+
+use hh_time::SettlementDate;
+use std::marker::Model;
+
+/// The last date that a range may have, 2099-12-31, in days since 1970-01-01.
+const LAST_DATE: u16 = 47_481;
+
+/// The dates from a first to a last, both included.
+#[derive(Clone, Copy, Debug, PartialEq, Eq)]
+pub struct DateRange {
+    from: SettlementDate,
+    to: SettlementDate,
+}
+
+impl Model for DateRange {
+    ghost use Rattle.std.specs.Prelude.{◌≤◌};
+    ghost use Rattle.hh_rows.specs.DateRanges.{Range};
+
+    ghost Value = { Range };
+
+    ghost view = { λ r. record { from = r.from; to = r.to } };
+
+    ghost invariant = { λ r. r.from ≤ r.to };
+
+    ghost inverse = { λ r. record { from = r.from; to = r.to } };
+}
+
+impl DateRange {
+    /// The range from one date to another, if the second isn't before the first.
+    pub fn new(from: SettlementDate, to: SettlementDate) -> Option<DateRange>
+        ensures { SomeIff result (from ≤ to) (record { from = from; to = to }) }
+    {
+        if from <= to {
+            Some(DateRange { from, to })
+        } else {
+            None
+        }
+    }
+
+    /// The range from a date to the one that a text names, no text standing for 2099-12-31. `None`
+    /// where the text names no date, or one before the first.
+    #[tactic(auto, unfolding(crate::specs::DateRanges::range_to_value))]
+    pub fn read_to(from: SettlementDate, to: &[u8]) -> Option<DateRange>
+        ensures { result ≡ range_to_value from to.now }
+    {
+        DateRange::new(from, read_last_date(to)?)
+    }
+
+    /// The first date.
+    pub fn from(self) -> SettlementDate
+        ensures { result ≡ self.from }
+    {
+        self.from
+    }
+
+    /// The last date.
+    pub fn to(self) -> SettlementDate
+        ensures { result ≡ self.to }
+    {
+        self.to
+    }
+
+    /// Whether the date is one of the range.
+    pub fn holds(self, date: SettlementDate) -> bool
+        ensures { result ≡ holds self date }
+    {
+        self.from <= date && date <= self.to
+    }
+
+    /// Whether each date of this range is one of the other.
+    pub fn is_inside(self, other: DateRange) -> bool
+        ensures { result ≡ is_inside self other }
+    {
+        other.from <= self.from && self.to <= other.to
+    }
+}
+
+/// The last date of a range that a text names, no text standing for 2099-12-31.
+fn read_last_date(text: &[u8]) -> Option<SettlementDate>
+    ensures { result ≡ last_date_value text.now }
+{
+    if text.is_empty() {
+        SettlementDate::new(LAST_DATE)
+    } else {
+        SettlementDate::read(text)
+    }
+}

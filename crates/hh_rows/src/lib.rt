@@ -1,0 +1,22 @@
+//! The rows of the six kinds of file, the keys that they stand under, and an office's settings.
+#![tactic(auto)]
+
+mod date_range;
+mod file_kind;
+mod keys;
+mod rows;
+mod settings;
+mod settlement_period;
+
+pub use date_range::DateRange;
+pub use file_kind::FileKind;
+pub use keys::{ContractKey, ReallocationKey, UnitPeriod};
+pub use rows::{
+    ContractRow, Counterparties, MeterRow, PartyRegistration, PartyRow, PriceRow, Reading,
+    Reallocation, ReallocationRow, Row, UnitRegistration, UnitRow,
+};
+pub use settings::{LeadMinutes, Settings};
+pub use settlement_period::SettlementPeriod;
+
+#[cfg(test)]
+mod tests;

@@ -1,0 +1,108 @@
+//! The rows of the six kinds of file.
+
+use crate::date_range::DateRange;
+use crate::keys::{ContractKey, ReallocationKey, UnitPeriod};
+use crate::settlement_period::SettlementPeriod;
+use hh_num::{Kwh, Percent, Price, Tlm};
+use hh_rules::{AccessKey, Account, PartyId, UnitId};
+
+/// What is registered of a party: the dates on which it takes part, and the key that it shows
+/// (profile).
+#[derive(Clone, Copy, Debug, PartialEq, Eq)]
+pub struct PartyRegistration {
+    pub range: DateRange,
+    pub key: AccessKey,
+}
+
+/// What is registered of a BM Unit: its lead account, whether it is an interconnector unit, and the
+/// dates on which it takes part (profile).
+#[derive(Clone, Copy, Debug, PartialEq, Eq)]
+pub struct UnitRegistration {
+    /// The account of the Lead Party that the unit's side names.
+    pub lead: Account,
+    pub interconnector: bool,
+    pub range: DateRange,
+}
+
+/// What was metered of a unit in a Settlement Period.
+#[derive(Clone, Copy, Debug, PartialEq, Eq)]
+pub struct Reading {
+    /// The metered volume, in kWh: positive where the unit delivers.
+    pub metered: Kwh,
+    /// The transmission loss multiplier, in 10^-7.
+    pub tlm: Tlm,
+    /// The volume of its balancing services, in kWh.
+    pub balancing: Kwh,
+}
+
+/// The two accounts of a contract (Section P in shape).
+#[derive(Clone, Copy, Debug, PartialEq, Eq)]
+pub struct Counterparties {
+    pub seller: Account,
+    pub buyer: Account,
+}
+
+/// The part of a unit's energy that goes to another account than its lead (Section P in shape).
+#[derive(Clone, Copy, Debug, PartialEq, Eq)]
+pub struct Reallocation {
+    /// The part of the unit's volume, in 10^-5 percent.
+    pub percent: Percent,
+    /// A volume beside it, in kWh.
+    pub fixed: Kwh,
+}
+
+/// A row of a file of parties.
+#[derive(Clone, Copy, Debug, PartialEq, Eq)]
+pub struct PartyRow {
+    pub party: PartyId,
+    pub registration: PartyRegistration,
+}
+
+/// A row of a file of units.
+#[derive(Clone, Copy, Debug, PartialEq, Eq)]
+pub struct UnitRow {
+    pub unit: UnitId,
+    pub registration: UnitRegistration,
+}
+
+/// A row of a file of meter volumes.
+#[derive(Clone, Copy, Debug, PartialEq, Eq)]
+pub struct MeterRow {
+    pub key: UnitPeriod,
+    pub reading: Reading,
+}
+
+/// A row of a file of prices.
+#[derive(Clone, Copy, Debug, PartialEq, Eq)]
+pub struct PriceRow {
+    pub at: SettlementPeriod,
+    /// The imbalance price, in 10^-5 pound per MWh.
+    pub price: Price,
+}
+
+/// A row of a file of contracts: a volume that one account sells to another (Section P in shape).
+#[derive(Clone, Copy, Debug, PartialEq, Eq)]
+pub struct ContractRow {
+    pub key: ContractKey,
+    pub counterparties: Counterparties,
+    /// The volume, in kWh; a negative one goes the other way.
+    pub volume: Kwh,
+}
+
+/// A row of a file of reallocations.
+#[derive(Clone, Copy, Debug, PartialEq, Eq)]
+pub struct ReallocationRow {
+    pub key: ReallocationKey,
+    pub reallocation: Reallocation,
+}
+
+/// A row of a file.
+#[derive(Clone, Copy, Debug, PartialEq, Eq)]
+pub enum Row {
+    Party(PartyRow),
+    Unit(UnitRow),
+    Meter(MeterRow),
+    Price(PriceRow),
+    Contract(ContractRow),
+    Reallocation(ReallocationRow),
+}

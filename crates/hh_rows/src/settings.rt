@@ -1,0 +1,64 @@
+//! What an office is set up with.
+
+ghost use Rattle.std.specs.Prelude.{◌≡◌, ◌≤◌, SomeIff};
+
+use hh_rules::OperatorKey;
+use std::marker::Model;
+
+/// The whole minutes by which notifications close before the start of their Settlement Period, 0
+/// to 1,440 (profile). Contracts see the number.
+#[derive(Clone, Copy, Debug, PartialEq, Eq, PartialOrd, Ord)]
+pub struct LeadMinutes {
+    minutes: u16,
+}
+
+impl Model for LeadMinutes {
+    ghost use Rattle.std.specs.Prelude.{ℕ, ◌≤◌};
+
+    ghost Value = { ℕ };
+
+    ghost view = { λ m. m.minutes };
+
+    ghost invariant = { λ m. m.minutes ≤ 1440 };
+
+    ghost inverse = { λ n. record { minutes = n } };
+}
+
+impl LeadMinutes {
+    /// So many minutes, if they are at most 1,440.
+    pub fn new(minutes: u16) -> Option<LeadMinutes>
+        ensures { SomeIff result (minutes ≤ 1440) minutes }
+    {
+        if minutes <= 1440 {
+            Some(LeadMinutes { minutes })
+        } else {
+            None
+        }
+    }
+
+    /// The number of minutes.
+    pub fn minutes(self) -> u16
+        ensures value { result ≡ self }
+        ensures range { self ≤ 1440 }
+    {
+        self.minutes
+    }
+}
+
+impl Default for LeadMinutes {
+    ghost is_default = { λ minutes. minutes ≡ 60 };
+
+    /// An hour.
+    fn default() -> LeadMinutes {
+        LeadMinutes { minutes: 60 }
+    }
+}
+
+/// What an office is set up with (profile).
+#[derive(Clone, Copy, Debug, PartialEq, Eq)]
+pub struct Settings {
+    /// How long before a Settlement Period its notifications close.
+    pub lead_minutes: LeadMinutes,
+    /// The key that the operator shows.
+    pub operator_key: OperatorKey,
+}

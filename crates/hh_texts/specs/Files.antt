@@ -1,0 +1,97 @@
+-- The six kinds of file: their headers, rows and meaning.
+use Rattle.std.specs.Prelude.{ℕ, List, [], ◌∷◌, Result, Ok, codes}
+use Rattle.hh_time.specs.DateText.{date_value}
+use Rattle.hh_rules.specs.declared.fault.Fault.{Fault}
+use Rattle.hh_rules.specs.Accounts.{account_value, side_value}
+use Rattle.hh_rules.specs.Fields.{multiplier_value, percent_value, period_value, price_value, volume_value, yes_no_value}
+use Rattle.hh_rules.specs.Words.{access_key_value, party_value, reference_value, unit_value}
+use Rattle.hh_rows.specs.DateRanges.{range_to_value}
+use Rattle.hh_rows.specs.declared.file_kind.FileKind.{FileKind}
+use Rattle.hh_rows.specs.declared.file_kind.FileKind.TheVariants as kind
+use Rattle.hh_rows.specs.declared.rows.Row.{Row}
+use Rattle.hh_rows.specs.declared.rows.Row.TheVariants as row
+use Rattle.hh_texts.specs.Fields.{column, ◌>>=◌}
+use Rattle.hh_texts.specs.Rows.{rows_of}
+
+-- the columns of each kind of file
+abbrev pub kind_header : FileKind → List (List ℕ)
+kind_header kind.Parties = codes "party" ∷ codes "from" ∷ codes "to" ∷ codes "key" ∷ []
+kind_header kind.Units = codes "unit" ∷ codes "party" ∷ codes "side" ∷ codes "interconnector" ∷ codes "from" ∷ codes "to" ∷ []
+kind_header kind.Meters = codes "unit" ∷ codes "date" ∷ codes "period" ∷ codes "metered_mwh" ∷ codes "tlm" ∷ codes "balancing_mwh" ∷ []
+kind_header kind.Prices = codes "date" ∷ codes "period" ∷ codes "price" ∷ []
+kind_header kind.Contracts = codes "reference" ∷ codes "seller" ∷ codes "buyer" ∷ codes "date" ∷ codes "period" ∷ codes "mwh" ∷ []
+kind_header kind.Reallocations = codes "unit" ∷ codes "account" ∷ codes "date" ∷ codes "period" ∷ codes "percent" ∷ codes "fixed_mwh" ∷ []
+
+-- the row that a record of parties reads as, or the first column that doesn't read
+unfoldable pub party_row : List (List ℕ) → Result Row ℕ
+party_row fields = do
+  party ← column fields 1 party_value
+  from ← column fields 2 date_value
+  range ← column fields 3 (range_to_value from)
+  key ← column fields 4 access_key_value
+  Ok (row.Party (record { party = party; registration = record { range = range; key = key } }))
+
+-- of units
+unfoldable pub unit_row : List (List ℕ) → Result Row ℕ
+unit_row fields = do
+  unit ← column fields 1 unit_value
+  party ← column fields 2 party_value
+  side ← column fields 3 side_value
+  interconnector ← column fields 4 yes_no_value
+  from ← column fields 5 date_value
+  range ← column fields 6 (range_to_value from)
+  Ok (row.Unit (record { unit = unit; registration = record { lead = record { party = party; side = side }; interconnector = interconnector; range = range } }))
+
+-- of meter volumes
+unfoldable pub meter_row : List (List ℕ) → Result Row ℕ
+meter_row fields = do
+  unit ← column fields 1 unit_value
+  date ← column fields 2 date_value
+  period ← column fields 3 period_value
+  metered ← column fields 4 volume_value
+  tlm ← column fields 5 multiplier_value
+  balancing ← column fields 6 volume_value
+  Ok (row.Meter (record { key = record { unit = unit; at = record { date = date; number = period } }; reading = record { metered = metered; tlm = tlm; balancing = balancing } }))
+
+-- of prices
+unfoldable pub price_row : List (List ℕ) → Result Row ℕ
+price_row fields = do
+  date ← column fields 1 date_value
+  period ← column fields 2 period_value
+  price ← column fields 3 price_value
+  Ok (row.Price (record { at = record { date = date; number = period }; price = price }))
+
+-- of contracts
+unfoldable pub contract_row : List (List ℕ) → Result Row ℕ
+contract_row fields = do
+  reference ← column fields 1 reference_value
+  seller ← column fields 2 account_value
+  buyer ← column fields 3 account_value
+  date ← column fields 4 date_value
+  period ← column fields 5 period_value
+  volume ← column fields 6 volume_value
+  Ok (row.Contract (record { key = record { reference = reference; at = record { date = date; number = period } }; counterparties = record { seller = seller; buyer = buyer }; volume = volume }))
+
+-- of reallocations
+unfoldable pub reallocation_row : List (List ℕ) → Result Row ℕ
+reallocation_row fields = do
+  unit ← column fields 1 unit_value
+  account ← column fields 2 account_value
+  date ← column fields 3 date_value
+  period ← column fields 4 period_value
+  percent ← column fields 5 percent_value
+  fixed ← column fields 6 volume_value
+  Ok (row.Reallocation (record { key = record { unit_period = record { unit = unit; at = record { date = date; number = period } }; account = account }; reallocation = record { percent = percent; fixed = fixed } }))
+
+-- the row that a record of a kind reads as, or the first column that doesn't read
+abbrev pub kind_row : FileKind → List (List ℕ) → Result Row ℕ
+kind_row kind.Parties = party_row
+kind_row kind.Units = unit_row
+kind_row kind.Meters = meter_row
+kind_row kind.Prices = price_row
+kind_row kind.Contracts = contract_row
+kind_row kind.Reallocations = reallocation_row
+
+-- the rows of a file of a kind, or the first fault in it
+abbrev pub file_rows : FileKind → List ℕ → Result (List Row) Fault
+file_rows kind = rows_of (kind_header kind) (kind_row kind)

@@ -1,0 +1,183 @@
+//! The six kinds of file.
+
+ghost use Rattle.std.specs.Prelude.{◌≡◌, ◌≤◌, length, IfOk};
+ghost use Rattle.csv.specs.Records.{fields_of};
+ghost use Rattle.hh_texts.specs.Files.{contract_row, file_rows, kind_header, kind_row, meter_row, party_row, price_row, reallocation_row, unit_row};
+ghost use Rattle.hh_texts.specs.Gives.{Gives};
+ghost use Rattle.hh_texts.specs.Rows.{most_rows};
+
+use crate::fields::field_in;
+use crate::form::{Form, read_rows};
+use csv::ByteRecord;
+use hh_num::{Kwh, Percent, Price, Tlm};
+use hh_rows::{
+    ContractKey, ContractRow, Counterparties, DateRange, FileKind, MeterRow, PartyRegistration,
+    PartyRow, PriceRow, Reading, Reallocation, ReallocationKey, ReallocationRow, Row,
+    SettlementPeriod, UnitPeriod, UnitRegistration, UnitRow,
+};
+use hh_rules::{AccessKey, Account, Fault, PartyId, Period, Reference, Side, UnitId, read_yes_no};
+use hh_time::SettlementDate;
+use std::alloc::Global;
+
+impl Form for FileKind {
+    type Row = Row;
+
+    ghost header = { kind_header };
+
+    ghost row_of = { kind_row };
+
+    fn header(&self) -> &'static [&'static str] {
+        match self {
+            FileKind::Parties => &["party", "from", "to", "key"],
+            FileKind::Units => &["unit", "party", "side", "interconnector", "from", "to"],
+            FileKind::Meters => &[
+                "unit",
+                "date",
+                "period",
+                "metered_mwh",
+                "tlm",
+                "balancing_mwh",
+            ],
+            FileKind::Prices => &["date", "period", "price"],
+            FileKind::Contracts => &["reference", "seller", "buyer", "date", "period", "mwh"],
+            FileKind::Reallocations => &[
+                "unit",
+                "account",
+                "date",
+                "period",
+                "percent",
+                "fixed_mwh",
+            ],
+        }
+    }
+
+    fn read_row(&self, fields: &ByteRecord) -> Result<Row, u32> {
+        match self {
+            FileKind::Parties => read_party(fields),
+            FileKind::Units => read_unit(fields),
+            FileKind::Meters => read_meter(fields),
+            FileKind::Prices => read_price(fields),
+            FileKind::Contracts => read_contract(fields),
+            FileKind::Reallocations => read_reallocation(fields),
+        }
+    }
+}
+
+/// The row of a record of parties, or the first column that doesn't read.
+#[tactic(auto, unfolding(crate::specs::Files::party_row))]
+fn read_party(fields: &ByteRecord) -> Result<Row, u32>
+    ensures { result ≡ party_row (fields_of fields.now) }
+{
+    let party = PartyId::read(field_in(fields, 0)).ok_or(1u32)?;
+    let from = SettlementDate::read(field_in(fields, 1)).ok_or(2u32)?;
+    let range = DateRange::read_to(from, field_in(fields, 2)).ok_or(3u32)?;
+    let key = AccessKey::read(field_in(fields, 3)).ok_or(4u32)?;
+    let registration = PartyRegistration { range, key };
+    Ok(Row::Party(PartyRow {
+        party,
+        registration,
+    }))
+}
+
+/// The row of a record of units, or the first column that doesn't read.
+#[tactic(auto, unfolding(crate::specs::Files::unit_row))]
+fn read_unit(fields: &ByteRecord) -> Result<Row, u32>
+    ensures { result ≡ unit_row (fields_of fields.now) }
+{
+    let unit = UnitId::read(field_in(fields, 0)).ok_or(1u32)?;
+    let party = PartyId::read(field_in(fields, 1)).ok_or(2u32)?;
+    let side = Side::read(field_in(fields, 2)).ok_or(3u32)?;
+    let interconnector = read_yes_no(field_in(fields, 3)).ok_or(4u32)?;
+    let from = SettlementDate::read(field_in(fields, 4)).ok_or(5u32)?;
+    let range = DateRange::read_to(from, field_in(fields, 5)).ok_or(6u32)?;
+    let registration = UnitRegistration {
+        lead: Account { party, side },
+        interconnector,
+        range,
+    };
+    Ok(Row::Unit(UnitRow { unit, registration }))
+}
+
+/// The row of a record of meter volumes, or the first column that doesn't read.
+#[tactic(auto, unfolding(crate::specs::Files::meter_row))]
+fn read_meter(fields: &ByteRecord) -> Result<Row, u32>
+    ensures { result ≡ meter_row (fields_of fields.now) }
+{
+    let unit = UnitId::read(field_in(fields, 0)).ok_or(1u32)?;
+    let date = SettlementDate::read(field_in(fields, 1)).ok_or(2u32)?;
+    let number = Period::read(field_in(fields, 2)).ok_or(3u32)?;
+    let at = SettlementPeriod { date, number };
+    Ok(Row::Meter(MeterRow {
+        key: UnitPeriod { unit, at },
+        reading: Reading {
+            metered: Kwh::read(field_in(fields, 3)).ok_or(4u32)?,
+            tlm: Tlm::read(field_in(fields, 4)).ok_or(5u32)?,
+            balancing: Kwh::read(field_in(fields, 5)).ok_or(6u32)?,
+        },
+    }))
+}
+
+/// The row of a record of prices, or the first column that doesn't read.
+#[tactic(auto, unfolding(crate::specs::Files::price_row))]
+fn read_price(fields: &ByteRecord) -> Result<Row, u32>
+    ensures { result ≡ price_row (fields_of fields.now) }
+{
+    let date = SettlementDate::read(field_in(fields, 0)).ok_or(1u32)?;
+    let number = Period::read(field_in(fields, 1)).ok_or(2u32)?;
+    let at = SettlementPeriod { date, number };
+    let price = Price::read(field_in(fields, 2)).ok_or(3u32)?;
+    Ok(Row::Price(PriceRow { at, price }))
+}
+
+/// The row of a record of contracts, or the first column that doesn't read.
+#[tactic(auto, unfolding(crate::specs::Files::contract_row))]
+fn read_contract(fields: &ByteRecord) -> Result<Row, u32>
+    ensures { result ≡ contract_row (fields_of fields.now) }
+{
+    let reference = Reference::read(field_in(fields, 0)).ok_or(1u32)?;
+    let seller = Account::read(field_in(fields, 1)).ok_or(2u32)?;
+    let buyer = Account::read(field_in(fields, 2)).ok_or(3u32)?;
+    let date = SettlementDate::read(field_in(fields, 3)).ok_or(4u32)?;
+    let number = Period::read(field_in(fields, 4)).ok_or(5u32)?;
+    let at = SettlementPeriod { date, number };
+    Ok(Row::Contract(ContractRow {
+        key: ContractKey { reference, at },
+        counterparties: Counterparties { seller, buyer },
+        volume: Kwh::read(field_in(fields, 5)).ok_or(6u32)?,
+    }))
+}
+
+/// The row of a record of reallocations, or the first column that doesn't read.
+#[tactic(auto, unfolding(crate::specs::Files::reallocation_row))]
+fn read_reallocation(fields: &ByteRecord) -> Result<Row, u32>
+    ensures { result ≡ reallocation_row (fields_of fields.now) }
+{
+    let unit = UnitId::read(field_in(fields, 0)).ok_or(1u32)?;
+    let account = Account::read(field_in(fields, 1)).ok_or(2u32)?;
+    let date = SettlementDate::read(field_in(fields, 2)).ok_or(3u32)?;
+    let number = Period::read(field_in(fields, 3)).ok_or(4u32)?;
+    let at = SettlementPeriod { date, number };
+    let unit_period = UnitPeriod { unit, at };
+    Ok(Row::Reallocation(ReallocationRow {
+        key: ReallocationKey {
+            unit_period,
+            account,
+        },
+        reallocation: Reallocation {
+            percent: Percent::read(field_in(fields, 4)).ok_or(5u32)?,
+            fixed: Kwh::read(field_in(fields, 5)).ok_or(6u32)?,
+        },
+    }))
+}
+
+/// The rows of a file of a kind, or the first fault in it, in the order of `read_rows`.
+///
+/// A field is in the grammar and range of its column (profile); an empty `to` is 2099-12-31, and a
+/// `to` before `from` is a fault of the column `to`. Of each row only its own fields are judged,
+/// not what is registered or in force.
+pub fn read_file(alloc: Global, kind: FileKind, bytes: &[u8]) -> Result<Vec<Row>, Fault>
+    ensures rows { Gives (λ rows. rows.items) result (file_rows kind bytes.now) }
+    ensures few { IfOk result (λ rows. length rows.items ≤ most_rows) }
+{
+    read_rows(alloc, &kind, bytes)
+}
