@@ -1,5 +1,5 @@
 -- The day numbers of the accepted dates.
-use Rattle.std.proofs.Common.{◌≡◌, ℤ, pos, ◌+ℤ◌, ◌<ℤ◌, ◌≤ℤ◌, inl, inr, refl, arith, rules}
+use Rattle.std.proofs.Common.{◌≡◌, pos, ◌<ℤ◌, ◌≤ℤ◌, inl, inr, refl, arith, rules}
 use Rattle.std.specs.Prelude.{◌↔◌}
 use Rattle.std.proofs.lemmas.Int.{by_lt_z}
 use Rattle.jiff_core.specs.Calendar.{days_from_civil, day_count, days_of_years, days_of_months}
@@ -69,4 +69,3 @@ accepted-number d = (
     by_lt_z (pos 2099) d.year (λ lt. absurd (let e = after_2099 d lt in omega (arith, signed_arith))) (λ ge. ge),
   ),
 )
-

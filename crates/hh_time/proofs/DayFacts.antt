@@ -1,10 +1,9 @@
 -- How many half hours lie between two local midnights.
-use Rattle.std.proofs.Common.{◌≡◌, ◌∙◌, ◌≤◌, ℕ, ◌+◌, ◌*◌, ℤ, pos, ◌+ℤ◌, ◌-ℤ◌, to_z, of_z, w64, FitsSigned, Some, Option, true, false, refl, ap, sym, arith, rules}
-use Rattle.std.specs.Prelude.{int_le}
+use Rattle.std.proofs.Common.{◌≡◌, ◌≤◌, ℕ, ◌+◌, ◌*◌, ℤ, pos, ◌+ℤ◌, ◌-ℤ◌, to_z, of_z, w64, FitsSigned, true, refl, arith, rules}
 use Rattle.std.proofs.lemmas.Int.{to_z-of_z}
 use Rattle.jiff.proofs.SpanFacts.{signed_arith}
 use Rattle.jiff.specs.Words.{IsBetween}
-use Rattle.hh_time.specs.Days.{Midnights, half_hours, is_accepted, count_of, is_over}
+use Rattle.hh_time.specs.Days.{Midnights, half_hours, is_accepted, count_of}
 
 -- the difference of two such instants doesn't wrap
 gap : (a b : ℤ) → IsBetween (pos 0) (pos 5_000_000_000) a → IsBetween (pos 0) (pos 5_000_000_000) b

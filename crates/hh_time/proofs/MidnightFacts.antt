@@ -1,5 +1,5 @@
 -- Where local midnights lie.
-use Rattle.std.proofs.Common.{◌≡◌, ◌≤◌, ℕ, ◌*◌, ℤ, pos, ◌+ℤ◌, ◌-ℤ◌, ◌*ℤ◌, arith}
+use Rattle.std.proofs.Common.{◌≡◌, ◌≤◌, ℕ, ◌*◌, pos, ◌+ℤ◌, ◌-ℤ◌, arith}
 use Rattle.jiff.proofs.Family.{civil_nanos-parts, same_time}
 use Rattle.jiff.proofs.SpanFacts.{signed_arith}
 use Rattle.jiff.specs.Spans.{midnight_of}

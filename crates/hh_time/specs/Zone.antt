@@ -1,6 +1,6 @@
 -- The local midnights of dates in the time zones of `jiff`.
-use Rattle.std.specs.Prelude.{◌≡◌, ℕ, ◌+◌, ◌/◌, ◌%◌, ◌∷◌, [], List, ℤ, pos, int_div, unsigned_abs}
-use Rattle.jiff.specs.Words.{epoch_day, picked_instant, IsBetween}
+use Rattle.std.specs.Prelude.{ℤ, pos, int_div}
+use Rattle.jiff.specs.Words.{picked_instant, IsBetween}
 use Rattle.jiff.specs.Spans.{midnight_of}
 use Rattle.jiff.specs.Types.{Date, TimeZone}
 use Rattle.hh_time.specs.Days.{Midnights}

@@ -1,4 +1,4 @@
-use Rattle.std.proofs.Common.{◌≡◌, arith, pos}
+use Rattle.std.proofs.Common.{arith, pos}
 use Rattle.jiff.proofs.SpanFacts.{signed_arith}
 use Rattle.jiff.specs.Words.{epoch_day, IsBetween}
 use Rattle.hh_time.proofs.AcceptedLaws.{accepted-number}

@@ -1,4 +1,4 @@
-use Rattle.std.proofs.Common.{◌≡◌, ◌∙◌, None, refl}
+use Rattle.std.proofs.Common.{◌≡◌, ◌∙◌, None}
 use Rattle.hh_time.proofs.DateTextLaws.{none_reads, none_value, some_texts, whole_value}
 use Rattle.hh_time.proofs.date.SettlementDate.read.Goals as goal
 

@@ -1,6 +1,5 @@
-use Rattle.std.proofs.Common.{◌≡◌, ◌∙◌, ap, sym, subst, ℕ, ◌+◌, ◌*◌, ℤ, pos, ◌+ℤ◌, ◌-ℤ◌, Some}
+use Rattle.std.proofs.Common.{◌∙◌, ap, sym, subst, ℕ, ◌+◌, ◌*◌, pos, ◌+ℤ◌, ◌-ℤ◌}
 use Rattle.jiff.specs.Words.{plain_zone, IsBetween}
-use Rattle.hh_time.specs.Days.{count_of}
 use Rattle.hh_time.specs.Zone.{midnight_in}
 use Rattle.hh_time.proofs.DayFacts.{count_is}
 use Rattle.hh_time.proofs.day.Day.of.Goals as goal

@@ -1,0 +1,9 @@
+mod Examples
+pub mod HistoryLaws
+mod JudgeFacts
+mod PercentFacts
+pub mod RowLaws
+pub mod ServingLaws
+pub mod StandingLaws
+mod SumFacts
+mod TableFacts
