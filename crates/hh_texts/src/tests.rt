@@ -491,26 +491,37 @@ fn reads_reallocations(rt: HostRuntime) -> Result<(), Fail> {
     Ok(())
 }
 
+/// A text that is a header alone has no rows as one kind, and another header as each other kind.
+fn only_this_kind_reads(
+    rt: &(impl AllocGlobal + Abort),
+    kind: FileKind,
+    header: &[u8],
+) -> Result<(), AllocError> {
+    file_gives(rt, kind, &[b""], Err(Fault::of(Refusal::BadHeader)))?;
+    file_gives(rt, kind, &[header], Ok(0))?;
+    for other in [
+        FileKind::Parties,
+        FileKind::Units,
+        FileKind::Meters,
+        FileKind::Prices,
+        FileKind::Contracts,
+        FileKind::Reallocations,
+    ] {
+        let text = joined(rt, &[header])?;
+        let read = read_file(rt.alloc(), other, &text);
+        assert_eq!(rt; read.is_ok(), other == kind);
+    }
+    Ok(())
+}
+
 #[test]
 fn each_kind_has_its_own_header(rt: HostRuntime) -> Result<(), Fail> {
-    let headers = [
-        (FileKind::Parties, PARTIES),
-        (FileKind::Units, UNITS),
-        (FileKind::Meters, METER_ROWS),
-        (FileKind::Prices, PRICES),
-        (FileKind::Contracts, CONTRACT_ROWS),
-        (FileKind::Reallocations, REALLOCATIONS),
-    ];
-    let bad_header = Fault::of(Refusal::BadHeader);
-    for (kind, header) in headers {
-        file_gives(&rt, kind, &[header], Ok(0))?;
-        file_gives(&rt, kind, &[b""], Err(bad_header))?;
-        for (other, other_header) in headers {
-            if other != kind {
-                file_gives(&rt, kind, &[other_header], Err(bad_header))?;
-            }
-        }
-    }
+    only_this_kind_reads(&rt, FileKind::Parties, PARTIES)?;
+    only_this_kind_reads(&rt, FileKind::Units, UNITS)?;
+    only_this_kind_reads(&rt, FileKind::Meters, METER_ROWS)?;
+    only_this_kind_reads(&rt, FileKind::Prices, PRICES)?;
+    only_this_kind_reads(&rt, FileKind::Contracts, CONTRACT_ROWS)?;
+    only_this_kind_reads(&rt, FileKind::Reallocations, REALLOCATIONS)?;
     Ok(())
 }
 
@@ -632,28 +643,36 @@ fn tells_the_first_fault_of_a_file(rt: HostRuntime) -> Result<(), Fail> {
     Ok(())
 }
 
-#[test]
-fn reads_so_many_rows_of_a_kind(rt: HostRuntime) -> Result<(), Fail> {
-    let row = b"2024-07-01,1,1\n";
-    let most = repeated(&rt, row, 20_000)?;
+/// A text of prices with so many rows.
+fn price_rows_give(
+    rt: &(impl AllocGlobal + Abort),
+    count: usize,
+    want: Result<usize, Fault>,
+) -> Result<(), AllocError> {
+    let rows = repeated(rt, b"2024-07-01,1,1\n", count)?;
+    file_gives(rt, FileKind::Prices, &[PRICES, rows.as_slice()], want)
+}
+
+/// A text of prices that is one line of so many bytes.
+fn price_line_gives(
+    rt: &(impl AllocGlobal + Abort),
+    len: usize,
+    refusal: Refusal,
+) -> Result<(), AllocError> {
+    let line = repeated(rt, b"a", len)?;
     file_gives(
-        &rt,
-        FileKind::Prices,
-        &[PRICES, most.as_slice()],
-        Ok(20_000),
-    )?;
-    file_gives(
-        &rt,
-        FileKind::Prices,
-        &[PRICES, most.as_slice(), row],
-        Err(Fault::of(Refusal::TooManyRows)),
-    )?;
-    let line = repeated(&rt, b"a", 1_048_577)?;
-    file_gives(
-        &rt,
+        rt,
         FileKind::Prices,
         &[line.as_slice()],
-        Err(Fault::of(Refusal::FileTooLarge)),
-    )?;
+        Err(Fault::of(refusal)),
+    )
+}
+
+#[test]
+fn reads_so_many_rows_of_a_kind(rt: HostRuntime) -> Result<(), Fail> {
+    price_rows_give(&rt, 20_000, Ok(20_000))?;
+    price_rows_give(&rt, 20_001, Err(Fault::of(Refusal::TooManyRows)))?;
+    price_line_gives(&rt, 1_048_576, Refusal::BadHeader)?;
+    price_line_gives(&rt, 1_048_577, Refusal::FileTooLarge)?;
     Ok(())
 }
