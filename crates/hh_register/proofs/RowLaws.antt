@@ -22,7 +22,7 @@ use Rattle.hh_register.specs.declared.apply.RowDone.{RowDone}
 use Rattle.hh_register.specs.declared.apply.RowDone.TheVariants.{Applied, Late}
 use Rattle.hh_register.proofs.StandingLaws.{standing-append}
 use Rattle.hh_register.specs.RowEffects.{KeepsRowsInForce, KeepsReferences, ReplacesRowOf, IsOneMoreRow}
-use Rattle.hh_register.specs.RowRule.{Standing, put_row, put_new, with_row, standing_with, whole_standing}
+use Rattle.hh_register.specs.RowRule.{Standing, put_row, put_new, with_row, standing_with}
 
 -- a late row changes no row in force
 pub keeps_rows_in_force : (cal : Calendar) (a : Accepted) (tables : Registered) → is_in_time cal a ≡ false → KeepsRowsInForce tables (with_row cal a tables)

@@ -10,7 +10,9 @@ ghost use Rattle.hh_register.specs.RowRule.{contract_refusals, first_met, hundre
 
 use crate::register::Register;
 use crate::timing::Timing;
-use hh_rows::{ContractRow, MeterRow, PartyRow, PriceRow, ReallocationRow, UnitRegistration, UnitRow};
+use hh_rows::{
+    ContractRow, MeterRow, PartyRow, PriceRow, ReallocationRow, UnitRegistration, UnitRow,
+};
 use hh_rules::Refusal;
 
 /// How many parties there may be.
@@ -77,11 +79,7 @@ impl Register {
     }
 
     /// Why a row of contracts is refused, if it is.
-    pub(crate) fn refusal_of_contract(
-        &self,
-        has_period: bool,
-        row: &ContractRow,
-    ) -> Option<Refusal>
+    pub(crate) fn refusal_of_contract(&self, has_period: bool, row: &ContractRow) -> Option<Refusal>
         ensures { (cal : Calendar) → has_period ≡ days.has_period cal.midnight row.now.key.at.date row.now.key.at.number
             → result ≡ first_met (contract_refusals cal self.now.standing row.now) }
     {

@@ -48,20 +48,20 @@ impl Model for Register {
     ghost Value = { RegisterView };
 
     ghost view = { λ r. record {
-        lead_minutes = r.lead;
-        standing = record {
-            tables = record {
-                parties = r.parties;
-                units = r.units;
-                references = r.references;
-                meters = r.meters;
-                prices = r.prices;
-                contracts = r.contracts;
-                reallocations = r.reallocations;
-            };
-            party_count = r.party_count;
-            unit_count = r.unit_count;
+      lead_minutes = r.lead;
+      standing = record {
+        tables = record {
+          parties = r.parties;
+          units = r.units;
+          references = r.references;
+          meters = r.meters;
+          prices = r.prices;
+          contracts = r.contracts;
+          reallocations = r.reallocations;
         };
+        party_count = r.party_count;
+        unit_count = r.unit_count;
+      };
     } };
 
     ghost invariant = { λ r. AddsUp r.percents r.reallocations };
@@ -214,16 +214,16 @@ impl Register {
     }
 
     /// Fixes a new reference, and takes a contract that is in time in the place of its key's.
-    pub(crate) fn put_contract(
-        &mut self,
-        in_time: bool,
-        row: ContractRow,
-    ) -> Result<(), AllocError>
+    pub(crate) fn put_contract(&mut self, in_time: bool, row: ContractRow) -> Result<(), AllocError>
         ensures ok { (cal : Calendar) (moment : ℤ) → in_time ≡ is_before_deadline cal moment row.key.at
             → OnOk result (self.new ≡ record self.old { standing = standing_with cal (record { moment = moment; row = rows.Contract row }) self.old.standing }) }
         ensures err { OnErr result (self.new ≡ self.old) }
     {
-        let ContractRow { key, counterparties, volume } = row;
+        let ContractRow {
+            key,
+            counterparties,
+            volume,
+        } = row;
         let is_new = self.references.get(&key.reference).is_none();
         let fixed = (key.reference, counterparties);
         let contract = (key, volume);
@@ -253,7 +253,12 @@ impl Register {
         let sum = Percent::of(self.percent_of_others(&key) + reallocation.percent.units());
         let percent = (key.unit_period, sum);
         let reallocation = (key, reallocation);
-        put_both(&mut self.percents, percent, &mut self.reallocations, reallocation)
+        put_both(
+            &mut self.percents,
+            percent,
+            &mut self.reallocations,
+            reallocation,
+        )
     }
 }
 

@@ -17,11 +17,17 @@ use std::test::Fail;
 /// The moment at which rows come where none is named: 2024-06-29T22:26:40Z.
 const MOMENT: i64 = 1_719_700_000;
 
-const APPLIED: Option<u8> = Some(0);
-const LATE: Option<u8> = Some(1);
+/// What `outcome` says of a row that is applied.
+const APPLIED: u8 = 0;
+
+/// What it says of a late one.
+const LATE: u8 = 1;
 
 fn range_from(from: &[u8]) -> Option<DateRange> {
-    DateRange::new(SettlementDate::read(from)?, SettlementDate::read(b"2099-12-31")?)
+    DateRange::new(
+        SettlementDate::read(from)?,
+        SettlementDate::read(b"2099-12-31")?,
+    )
 }
 
 fn party_row(party: &[u8], from: &[u8]) -> Option<Row> {
@@ -116,15 +122,20 @@ fn reallocation_row(account: &[u8], percent: i64) -> Option<Row> {
 
 fn number_of(answer: Result<RowDone, Fault>) -> u8 {
     match answer {
-        Ok(RowDone::Applied) => 0,
-        Ok(RowDone::Late) => 1,
+        Ok(RowDone::Applied) => APPLIED,
+        Ok(RowDone::Late) => LATE,
         Err(fault) => fault.refusal.number(),
     }
 }
 
 /// What becomes of a row: 0 where it is applied, 1 where it is late, else the number of its refusal.
 /// None where there is no such row, or where `check_row` says something else.
-fn outcome(register: &mut Register, zone: &TimeZone<'_>, moment: i64, row: Option<Row>) -> Option<u8> {
+fn outcome(
+    register: &mut Register,
+    zone: &TimeZone<'_>,
+    moment: i64,
+    row: Option<Row>,
+) -> Option<u8> {
     let row = row?;
     let refused = match register.check_row(zone, moment, &row) {
         Ok(()) => 0,
@@ -149,7 +160,19 @@ fn fixture(alloc: Global, zone: &TimeZone<'_>) -> Option<Register> {
         contract_row(b"C1", b"GENCO-P", b"SUPCO-C", 99_000),
     ];
     for row in rows {
-        if outcome(&mut register, zone, MOMENT, row) != APPLIED {
+        if outcome(&mut register, zone, MOMENT, row) != Some(APPLIED) {
+            return None;
+        }
+    }
+    Some(register)
+}
+
+/// The register after the fixture and some rows, with the moments at which they come, if each becomes
+/// what stands beside it.
+fn after(alloc: Global, zone: &TimeZone<'_>, steps: &[(i64, Option<Row>, u8)]) -> Option<Register> {
+    let mut register = fixture(alloc, zone)?;
+    for (moment, row, becomes) in steps {
+        if outcome(&mut register, zone, *moment, *row) != Some(*becomes) {
             return None;
         }
     }
@@ -157,43 +180,55 @@ fn fixture(alloc: Global, zone: &TimeZone<'_>) -> Option<Register> {
 }
 
 fn volume_of(register: &Register, reference: &[u8]) -> Option<i64> {
-    Some(register.contract(&contract_key(reference, b"2024-07-01", 1)?)?.units())
+    Some(
+        register
+            .contract(&contract_key(reference, b"2024-07-01", 1)?)?
+            .units(),
+    )
+}
+
+/// Whether each reader finds what the rows gave it.
+fn finds_all(register: &Register) -> Option<bool> {
+    let day: &[u8] = b"2024-07-01";
+    Some(
+        register.party(&PartyId::read(b"GENCO")?).is_some()
+            && register.party(&PartyId::read(b"NEWCO")?).is_none()
+            && register.unit(&UnitId::read(b"S1")?).is_some()
+            && register.reference(&Reference::read(b"C1")?).is_some()
+            && register.reading(&unit_period(b"G1", day, 1)?).is_some()
+            && register.price(&settlement_period(day, 1)?).is_some()
+            && register
+                .reallocation(&reallocation_key(b"SUPCO-P")?)
+                .is_some(),
+    )
 }
 
 #[test]
 fn holds_what_it_was_given(rt: HostRuntime) -> Result<(), Fail> {
-    let zone = london();
-    let Some(mut register) = fixture(rt.alloc(), &zone) else {
-        panic!(&rt; "the fixture is accepted");
+    let steps = [
+        (MOMENT, meter_row(b"G1", b"2024-07-01", 1), APPLIED),
+        (MOMENT, price_row(b"2024-07-01", 1, 5_000_000), APPLIED),
+        (MOMENT, reallocation_row(b"SUPCO-P", 1), APPLIED),
+    ];
+    let Some(register) = after(rt.alloc(), &london(), &steps) else {
+        panic!(&rt; "each row becomes what stands beside it");
     };
     assert_eq!(rt; register.lead().number(), 60);
     assert_eq!(rt; register.party_count(), 2);
     assert_eq!(rt; register.unit_count(), 2);
-    assert!(rt; PartyId::read(b"GENCO").is_some_and(|p| register.party(&p).is_some()));
-    assert!(rt; PartyId::read(b"NEWCO").is_some_and(|p| register.party(&p).is_none()));
-    assert!(rt; UnitId::read(b"S1").is_some_and(|u| register.unit(&u).is_some()));
-    assert!(rt; Reference::read(b"C1").is_some_and(|r| register.reference(&r).is_some()));
-    assert_eq!(rt; volume_of(&register, b"C1"), Some(99_000));
-    let day: &[u8] = b"2024-07-01";
-    assert_eq!(rt; outcome(&mut register, &zone, MOMENT, meter_row(b"G1", day, 1)), APPLIED);
-    assert_eq!(rt; outcome(&mut register, &zone, MOMENT, price_row(day, 1, 5_000_000)), APPLIED);
-    assert_eq!(rt; outcome(&mut register, &zone, MOMENT, reallocation_row(b"SUPCO-P", 1)), APPLIED);
-    assert!(rt; unit_period(b"G1", day, 1).is_some_and(|k| register.reading(&k).is_some()));
-    assert!(rt; settlement_period(day, 1).is_some_and(|at| register.price(&at).is_some()));
-    assert!(rt; reallocation_key(b"SUPCO-P").is_some_and(|k| register.reallocation(&k).is_some()));
+    assert_eq!(rt; finds_all(&register), Some(true));
     Ok(())
 }
 
 #[test]
 fn periods_of_clock_change_days(rt: HostRuntime) -> Result<(), Fail> {
-    let zone = london();
-    let Some(mut register) = fixture(rt.alloc(), &zone) else {
-        panic!(&rt; "the fixture is accepted");
-    };
-    assert_eq!(rt; outcome(&mut register, &zone, MOMENT, meter_row(b"G1", b"2024-03-31", 46)), APPLIED);
-    assert_eq!(rt; outcome(&mut register, &zone, MOMENT, meter_row(b"G1", b"2024-03-31", 47)), Some(34));
-    assert_eq!(rt; outcome(&mut register, &zone, MOMENT, meter_row(b"G1", b"2024-10-27", 50)), APPLIED);
-    assert_eq!(rt; outcome(&mut register, &zone, MOMENT, meter_row(b"G1", b"2024-07-01", 49)), Some(34));
+    let steps = [
+        (MOMENT, meter_row(b"G1", b"2024-03-31", 46), APPLIED),
+        (MOMENT, meter_row(b"G1", b"2024-03-31", 47), 34),
+        (MOMENT, meter_row(b"G1", b"2024-10-27", 50), APPLIED),
+        (MOMENT, meter_row(b"G1", b"2024-07-01", 49), 34),
+    ];
+    assert!(rt; after(rt.alloc(), &london(), &steps).is_some());
     Ok(())
 }
 
@@ -202,87 +237,131 @@ fn day_of_an_odd_zone(rt: HostRuntime) -> Result<(), Fail> {
     let Ok(zone) = TimeZone::posix("AAA0BBB-2,M3.5.0/1,M10.5.0/3") else {
         panic!(&rt; "the zone is read");
     };
-    let Some(mut register) = fixture(rt.alloc(), &zone) else {
-        panic!(&rt; "the fixture is accepted");
-    };
-    assert_eq!(rt; outcome(&mut register, &zone, MOMENT, meter_row(b"G1", b"2024-03-31", 1)), Some(34));
-    assert_eq!(rt; outcome(&mut register, &zone, MOMENT, price_row(b"2024-03-31", 1, 0)), Some(34));
+    let steps = [
+        (MOMENT, meter_row(b"G1", b"2024-03-31", 1), 34),
+        (MOMENT, price_row(b"2024-03-31", 1, 0), 34),
+    ];
+    assert!(rt; after(rt.alloc(), &zone, &steps).is_some());
     Ok(())
 }
 
 #[test]
 fn late_at_the_deadline(rt: HostRuntime) -> Result<(), Fail> {
     let zone = london();
-    let Some(mut register) = fixture(rt.alloc(), &zone) else {
-        panic!(&rt; "the fixture is accepted");
-    };
-    let (seller, buyer): (&[u8], &[u8]) = (b"GENCO-P", b"SUPCO-C");
-    let row = contract_row(b"C1", seller, buyer, 98_000);
-    assert_eq!(rt; outcome(&mut register, &zone, 1_719_784_799, row), APPLIED);
-    let row = contract_row(b"C1", seller, buyer, 97_000);
-    assert_eq!(rt; outcome(&mut register, &zone, 1_719_784_800, row), LATE);
-    assert_eq!(rt; volume_of(&register, b"C1"), Some(98_000));
-    let row = contract_row(b"C1", seller, buyer, 96_000);
-    assert_eq!(rt; outcome(&mut register, &zone, MOMENT, row), APPLIED);
-    assert_eq!(rt; volume_of(&register, b"C1"), Some(96_000));
+    let steps = [
+        (
+            1_719_784_799,
+            contract_row(b"C1", b"GENCO-P", b"SUPCO-C", 98_000),
+            APPLIED,
+        ),
+        (
+            1_719_784_800,
+            contract_row(b"C1", b"GENCO-P", b"SUPCO-C", 97_000),
+            LATE,
+        ),
+        (
+            MOMENT,
+            contract_row(b"C1", b"GENCO-P", b"SUPCO-C", 96_000),
+            APPLIED,
+        ),
+    ];
+    let before = after(rt.alloc(), &zone, &steps[..2]);
+    assert_eq!(rt; before.and_then(|r| volume_of(&r, b"C1")), Some(98_000));
+    let last = after(rt.alloc(), &zone, &steps);
+    assert_eq!(rt; last.and_then(|r| volume_of(&r, b"C1")), Some(96_000));
     Ok(())
 }
 
 #[test]
 fn late_row_fixes_its_reference(rt: HostRuntime) -> Result<(), Fail> {
-    let zone = london();
-    let Some(mut register) = fixture(rt.alloc(), &zone) else {
-        panic!(&rt; "the fixture is accepted");
-    };
-    let row = contract_row(b"C9", b"GENCO-P", b"SUPCO-C", 1000);
-    assert_eq!(rt; outcome(&mut register, &zone, 1_719_784_800, row), LATE);
-    assert_eq!(rt; volume_of(&register, b"C9"), None);
-    let row = contract_row(b"C9", b"SUPCO-C", b"GENCO-P", 1000);
-    assert_eq!(rt; outcome(&mut register, &zone, MOMENT, row), Some(36));
-    let row = contract_row(b"C8", b"GENCO-P", b"GENCO-P", 1000);
-    assert_eq!(rt; outcome(&mut register, &zone, MOMENT, row), Some(35));
+    let steps = [
+        (
+            1_719_784_800,
+            contract_row(b"C9", b"GENCO-P", b"SUPCO-C", 1000),
+            LATE,
+        ),
+        (
+            MOMENT,
+            contract_row(b"C9", b"SUPCO-C", b"GENCO-P", 1000),
+            36,
+        ),
+        (
+            MOMENT,
+            contract_row(b"C8", b"GENCO-P", b"GENCO-P", 1000),
+            35,
+        ),
+    ];
+    assert!(rt; after(rt.alloc(), &london(), &steps).is_some());
     Ok(())
 }
 
 #[test]
 fn no_more_than_a_hundred_percent(rt: HostRuntime) -> Result<(), Fail> {
-    let zone = london();
-    let Some(mut register) = fixture(rt.alloc(), &zone) else {
-        panic!(&rt; "the fixture is accepted");
-    };
-    let late = 1_719_784_800;
-    assert_eq!(rt; outcome(&mut register, &zone, MOMENT, reallocation_row(b"SUPCO-P", 6_000_000)), APPLIED);
-    assert_eq!(rt; outcome(&mut register, &zone, MOMENT, reallocation_row(b"SUPCO-C", 4_000_000)), APPLIED);
-    assert_eq!(rt; outcome(&mut register, &zone, MOMENT, reallocation_row(b"SUPCO-C", 4_000_001)), Some(38));
-    assert_eq!(rt; outcome(&mut register, &zone, MOMENT, reallocation_row(b"SUPCO-C", 4_000_000)), APPLIED);
-    assert_eq!(rt; outcome(&mut register, &zone, late, reallocation_row(b"SUPCO-C", 10_000_000)), LATE);
-    assert_eq!(rt; outcome(&mut register, &zone, MOMENT, reallocation_row(b"GENCO-P", 0)), Some(37));
+    let steps = [
+        (MOMENT, reallocation_row(b"SUPCO-P", 6_000_000), APPLIED),
+        (MOMENT, reallocation_row(b"SUPCO-C", 4_000_000), APPLIED),
+        (MOMENT, reallocation_row(b"SUPCO-C", 4_000_001), 38),
+        (
+            1_719_784_800,
+            reallocation_row(b"SUPCO-C", 10_000_000),
+            LATE,
+        ),
+        (MOMENT, reallocation_row(b"GENCO-P", 0), 37),
+    ];
+    assert!(rt; after(rt.alloc(), &london(), &steps).is_some());
     Ok(())
 }
 
 #[test]
 fn known_parties_and_units_change(rt: HostRuntime) -> Result<(), Fail> {
-    let zone = london();
-    let Some(mut register) = fixture(rt.alloc(), &zone) else {
-        panic!(&rt; "the fixture is accepted");
-    };
-    assert_eq!(rt; outcome(&mut register, &zone, MOMENT, party_row(b"GENCO", b"2024-01-02")), Some(39));
-    assert_eq!(rt; outcome(&mut register, &zone, MOMENT, party_row(b"GENCO", b"2023-01-01")), APPLIED);
-    assert_eq!(rt; outcome(&mut register, &zone, MOMENT, unit_row(b"G1", b"NEWCO-P", b"2024-01-01")), Some(30));
-    assert_eq!(rt; outcome(&mut register, &zone, MOMENT, unit_row(b"G1", b"GENCO-P", b"2022-01-01")), Some(33));
-    assert_eq!(rt; outcome(&mut register, &zone, MOMENT, unit_row(b"G1", b"GENCO-C", b"2024-01-02")), Some(39));
-    assert_eq!(rt; outcome(&mut register, &zone, MOMENT, unit_row(b"G1", b"GENCO-C", b"2023-01-01")), Some(40));
-    assert_eq!(rt; outcome(&mut register, &zone, MOMENT, unit_row(b"G1", b"GENCO-P", b"2023-01-01")), APPLIED);
-    assert_eq!(rt; outcome(&mut register, &zone, MOMENT, meter_row(b"G2", b"2024-07-01", 1)), Some(31));
-    assert_eq!(rt; outcome(&mut register, &zone, MOMENT, meter_row(b"G1", b"2022-07-01", 1)), Some(33));
-    assert_eq!(rt; register.party_count(), 2);
+    let steps = [
+        (MOMENT, party_row(b"GENCO", b"2024-01-02"), 39),
+        (MOMENT, party_row(b"GENCO", b"2023-01-01"), APPLIED),
+        (MOMENT, unit_row(b"G1", b"NEWCO-P", b"2024-01-01"), 30),
+        (MOMENT, unit_row(b"G1", b"GENCO-P", b"2022-01-01"), 33),
+        (MOMENT, unit_row(b"G1", b"GENCO-C", b"2024-01-02"), 39),
+        (MOMENT, unit_row(b"G1", b"GENCO-C", b"2023-01-01"), 40),
+        (MOMENT, unit_row(b"G1", b"GENCO-P", b"2023-01-01"), APPLIED),
+        (MOMENT, meter_row(b"G2", b"2024-07-01", 1), 31),
+        (MOMENT, meter_row(b"G1", b"2022-07-01", 1), 33),
+    ];
+    assert!(rt; after(rt.alloc(), &london(), &steps).is_some());
     Ok(())
 }
 
-/// Four letters and digits that no other number below 10,000 has.
+/// Four digits that no other number below 10,000 has.
 fn id_of(number: u32) -> [u8; 4] {
     let digit = |n: u32| b'0'.saturating_add((n % 10) as u8);
-    [digit(number / 1000), digit(number / 100), digit(number / 10), digit(number)]
+    [
+        digit(number / 1000),
+        digit(number / 100),
+        digit(number / 10),
+        digit(number),
+    ]
+}
+
+/// What becomes of the parties and units of these numbers, if of each the same.
+fn becomes(
+    register: &mut Register,
+    zone: &TimeZone<'_>,
+    numbers: (u32, u32),
+    units: bool,
+) -> Option<u8> {
+    let mut last = None;
+    for number in numbers.0..numbers.1 {
+        let id = id_of(number);
+        let row = if units {
+            unit_row(&id, b"GENCO-P", b"2024-01-01")
+        } else {
+            party_row(&id, b"2024-01-01")
+        };
+        let next = outcome(register, zone, MOMENT, row);
+        if last.is_some() && last != next {
+            return None;
+        }
+        last = next;
+    }
+    last
 }
 
 #[test]
@@ -291,17 +370,15 @@ fn no_party_401_and_no_unit_2001(rt: HostRuntime) -> Result<(), Fail> {
     let Some(mut register) = fixture(rt.alloc(), &zone) else {
         panic!(&rt; "the fixture is accepted");
     };
-    let from: &[u8] = b"2024-01-01";
-    for number in 2..400u32 {
-        assert_eq!(rt; outcome(&mut register, &zone, MOMENT, party_row(&id_of(number), from)), APPLIED);
-    }
-    assert_eq!(rt; outcome(&mut register, &zone, MOMENT, party_row(&id_of(400), from)), Some(42));
-    assert_eq!(rt; outcome(&mut register, &zone, MOMENT, party_row(&id_of(399), from)), APPLIED);
-    for number in 2..2000u32 {
-        assert_eq!(rt; outcome(&mut register, &zone, MOMENT, unit_row(&id_of(number), b"GENCO-P", from)), APPLIED);
-    }
-    assert_eq!(rt; outcome(&mut register, &zone, MOMENT, unit_row(&id_of(2000), b"GENCO-P", from)), Some(42));
-    assert_eq!(rt; register.party_count(), 400);
-    assert_eq!(rt; register.unit_count(), 2000);
+    assert_eq!(rt;
+        becomes(&mut register, &zone, (2, 400), false),
+        Some(APPLIED)
+    );
+    assert_eq!(rt; becomes(&mut register, &zone, (400, 402), false), Some(42));
+    assert_eq!(rt;
+        becomes(&mut register, &zone, (2, 2000), true),
+        Some(APPLIED)
+    );
+    assert_eq!(rt; becomes(&mut register, &zone, (2000, 2002), true), Some(42));
     Ok(())
 }

@@ -18,8 +18,8 @@ returns-in-Some-clause-refused c =
     let cal = calendar_of (midnight_in (plain_zone c.args.zone.now)) c.args.self.now in
     let passed : to_z w64 (of_z w64 c.args.moment) ≡ c.args.moment = to_z-of_z w64 c.args.moment c.ranges.moment in
     let refused : refusal_of cal c.args.self.now.standing (record { moment = c.args.moment; row = c.args.row }) ≡ Some c.in-Some.refusal =
-            sym (c.refusal_of.ensures cal (to_z w64 (of_z w64 c.args.moment)) c.timing_of-timing.ensures.period c.timing_of-timing.ensures.in_time
-            ∙ ap (λ z. refusal_of cal c.args.self.now.standing (record { moment = z; row = c.args.row })) passed) ∙ c.in-Some.is in
+    sym (c.refusal_of.ensures cal (to_z w64 (of_z w64 c.args.moment)) c.timing_of-timing.ensures.period c.timing_of-timing.ensures.in_time
+    ∙ ap (λ z. refusal_of cal c.args.self.now.standing (record { moment = z; row = c.args.row })) passed) ∙ c.in-Some.is in
     subst (λ f. ByRefusal f.refusal (f ≡ memory_fault) (option_map plain_fault (refusal_of cal c.args.self.now.standing (record { moment = c.args.moment; row = c.args.row })) ≡ Some f)) (sym c.of.ensures)
     (by_refusal _ c.in-Some.refusal (ap (option_map plain_fault) refused))
 
@@ -28,9 +28,9 @@ put_row-requires c =
     let cal = calendar_of (midnight_in (plain_zone c.args.zone.now)) c.args.self.now in
     let moment = to_z w64 (of_z w64 c.args.moment) in
     let none : refusal_of cal c.args.self.now.standing (record { moment = moment; row = c.args.row }) ≡ None =
-            sym (c.refusal_of.ensures cal moment c.timing_of-timing.ensures.period c.timing_of-timing.ensures.in_time) ∙ c.in_default.is in
+    sym (c.refusal_of.ensures cal moment c.timing_of-timing.ensures.period c.timing_of-timing.ensures.in_time) ∙ c.in_default.is in
     let in_time : c.timing_of-timing.result.in_time ≡ is_in_time cal (record { moment = moment; row = c.args.row }) =
-            c.timing_of-timing.ensures.in_time (c.timing_of-timing.ensures.period ∙ accepted_has_period cal c.args.self.now.standing moment c.args.row none) in
+    c.timing_of-timing.ensures.in_time (c.timing_of-timing.ensures.period ∙ accepted_has_period cal c.args.self.now.standing moment c.args.row none) in
     subst (λ b. HasRoomFor b c.args.self.now.standing c.args.row) (sym in_time) (accepted_has_room cal c.args.self.now.standing moment c.args.row none)
 
 pub returns-then-timing-clause-accepted : goal.returns-then-timing-clause-accepted
@@ -39,7 +39,7 @@ returns-then-timing-clause-accepted c =
     let moment = to_z w64 (of_z w64 c.args.moment) in
     let passed : to_z w64 (of_z w64 c.args.moment) ≡ c.args.moment = to_z-of_z w64 c.args.moment c.ranges.moment in
     let none : refusal_of cal c.args.self.now.standing (record { moment = moment; row = c.args.row }) ≡ None =
-            sym (c.refusal_of.ensures cal moment c.timing_of-timing.ensures.period c.timing_of-timing.ensures.in_time) ∙ c.in_default.is in
+    sym (c.refusal_of.ensures cal moment c.timing_of-timing.ensures.period c.timing_of-timing.ensures.in_time) ∙ c.in_default.is in
     ap (λ z. refusal_of cal c.args.self.now.standing (record { moment = z; row = c.args.row })) (sym passed) ∙ none
 
 pub returns-then-timing-clause-applied : goal.returns-then-timing-clause-applied
@@ -48,10 +48,10 @@ returns-then-timing-clause-applied c =
     let moment = to_z w64 (of_z w64 c.args.moment) in
     let passed : to_z w64 (of_z w64 c.args.moment) ≡ c.args.moment = to_z-of_z w64 c.args.moment c.ranges.moment in
     let none : refusal_of cal c.args.self.now.standing (record { moment = moment; row = c.args.row }) ≡ None =
-            sym (c.refusal_of.ensures cal moment c.timing_of-timing.ensures.period c.timing_of-timing.ensures.in_time) ∙ c.in_default.is in
+    sym (c.refusal_of.ensures cal moment c.timing_of-timing.ensures.period c.timing_of-timing.ensures.in_time) ∙ c.in_default.is in
     let in_time : c.timing_of-timing.result.in_time ≡ is_in_time cal (record { moment = c.args.moment; row = c.args.row }) =
-            c.timing_of-timing.ensures.in_time (c.timing_of-timing.ensures.period ∙ accepted_has_period cal c.args.self.now.standing moment c.args.row none)
-            ∙ ap (λ z. is_in_time cal (record { moment = z; row = c.args.row })) passed in
+    c.timing_of-timing.ensures.in_time (c.timing_of-timing.ensures.period ∙ accepted_has_period cal c.args.self.now.standing moment c.args.row none)
+    ∙ ap (λ z. is_in_time cal (record { moment = z; row = c.args.row })) passed in
     subst (λ r. OnOk r (c.put_row.new.self ≡ record c.args.self.now { standing = standing_with cal (record { moment = c.args.moment; row = c.args.row }) c.args.self.now.standing }))
     (c.in_ok-put_row.was) (c.put_row.ensures.ok cal c.args.moment in_time)
 
@@ -61,10 +61,10 @@ returns-then-timing-clause-done c =
     let moment = to_z w64 (of_z w64 c.args.moment) in
     let passed : to_z w64 (of_z w64 c.args.moment) ≡ c.args.moment = to_z-of_z w64 c.args.moment c.ranges.moment in
     let none : refusal_of cal c.args.self.now.standing (record { moment = moment; row = c.args.row }) ≡ None =
-            sym (c.refusal_of.ensures cal moment c.timing_of-timing.ensures.period c.timing_of-timing.ensures.in_time) ∙ c.in_default.is in
+    sym (c.refusal_of.ensures cal moment c.timing_of-timing.ensures.period c.timing_of-timing.ensures.in_time) ∙ c.in_default.is in
     let in_time : c.timing_of-timing.result.in_time ≡ is_in_time cal (record { moment = c.args.moment; row = c.args.row }) =
-            c.timing_of-timing.ensures.in_time (c.timing_of-timing.ensures.period ∙ accepted_has_period cal c.args.self.now.standing moment c.args.row none)
-            ∙ ap (λ z. is_in_time cal (record { moment = z; row = c.args.row })) passed in
+    c.timing_of-timing.ensures.in_time (c.timing_of-timing.ensures.period ∙ accepted_has_period cal c.args.self.now.standing moment c.args.row none)
+    ∙ ap (λ z. is_in_time cal (record { moment = z; row = c.args.row })) passed in
     ap (λ b. if b then Applied else Late) (sym c.if-timing.true ∙ in_time)
 
 pub returns-else-timing-clause-accepted : goal.returns-else-timing-clause-accepted
@@ -73,7 +73,7 @@ returns-else-timing-clause-accepted c =
     let moment = to_z w64 (of_z w64 c.args.moment) in
     let passed : to_z w64 (of_z w64 c.args.moment) ≡ c.args.moment = to_z-of_z w64 c.args.moment c.ranges.moment in
     let none : refusal_of cal c.args.self.now.standing (record { moment = moment; row = c.args.row }) ≡ None =
-            sym (c.refusal_of.ensures cal moment c.timing_of-timing.ensures.period c.timing_of-timing.ensures.in_time) ∙ c.in_default.is in
+    sym (c.refusal_of.ensures cal moment c.timing_of-timing.ensures.period c.timing_of-timing.ensures.in_time) ∙ c.in_default.is in
     ap (λ z. refusal_of cal c.args.self.now.standing (record { moment = z; row = c.args.row })) (sym passed) ∙ none
 
 pub returns-else-timing-clause-applied : goal.returns-else-timing-clause-applied
@@ -82,10 +82,10 @@ returns-else-timing-clause-applied c =
     let moment = to_z w64 (of_z w64 c.args.moment) in
     let passed : to_z w64 (of_z w64 c.args.moment) ≡ c.args.moment = to_z-of_z w64 c.args.moment c.ranges.moment in
     let none : refusal_of cal c.args.self.now.standing (record { moment = moment; row = c.args.row }) ≡ None =
-            sym (c.refusal_of.ensures cal moment c.timing_of-timing.ensures.period c.timing_of-timing.ensures.in_time) ∙ c.in_default.is in
+    sym (c.refusal_of.ensures cal moment c.timing_of-timing.ensures.period c.timing_of-timing.ensures.in_time) ∙ c.in_default.is in
     let in_time : c.timing_of-timing.result.in_time ≡ is_in_time cal (record { moment = c.args.moment; row = c.args.row }) =
-            c.timing_of-timing.ensures.in_time (c.timing_of-timing.ensures.period ∙ accepted_has_period cal c.args.self.now.standing moment c.args.row none)
-            ∙ ap (λ z. is_in_time cal (record { moment = z; row = c.args.row })) passed in
+    c.timing_of-timing.ensures.in_time (c.timing_of-timing.ensures.period ∙ accepted_has_period cal c.args.self.now.standing moment c.args.row none)
+    ∙ ap (λ z. is_in_time cal (record { moment = z; row = c.args.row })) passed in
     subst (λ r. OnOk r (c.put_row.new.self ≡ record c.args.self.now { standing = standing_with cal (record { moment = c.args.moment; row = c.args.row }) c.args.self.now.standing }))
     (c.in_ok-put_row.was) (c.put_row.ensures.ok cal c.args.moment in_time)
 
@@ -95,10 +95,10 @@ returns-else-timing-clause-done c =
     let moment = to_z w64 (of_z w64 c.args.moment) in
     let passed : to_z w64 (of_z w64 c.args.moment) ≡ c.args.moment = to_z-of_z w64 c.args.moment c.ranges.moment in
     let none : refusal_of cal c.args.self.now.standing (record { moment = moment; row = c.args.row }) ≡ None =
-            sym (c.refusal_of.ensures cal moment c.timing_of-timing.ensures.period c.timing_of-timing.ensures.in_time) ∙ c.in_default.is in
+    sym (c.refusal_of.ensures cal moment c.timing_of-timing.ensures.period c.timing_of-timing.ensures.in_time) ∙ c.in_default.is in
     let in_time : c.timing_of-timing.result.in_time ≡ is_in_time cal (record { moment = c.args.moment; row = c.args.row }) =
-            c.timing_of-timing.ensures.in_time (c.timing_of-timing.ensures.period ∙ accepted_has_period cal c.args.self.now.standing moment c.args.row none)
-            ∙ ap (λ z. is_in_time cal (record { moment = z; row = c.args.row })) passed in
+    c.timing_of-timing.ensures.in_time (c.timing_of-timing.ensures.period ∙ accepted_has_period cal c.args.self.now.standing moment c.args.row none)
+    ∙ ap (λ z. is_in_time cal (record { moment = z; row = c.args.row })) passed in
     ap (λ b. if b then Applied else Late) (sym c.if-timing.false ∙ in_time)
 
 pub returns-then-timing-clause-one_more_row : goal.returns-then-timing-clause-one_more_row

@@ -12,6 +12,6 @@ returns-in-Some c =
     let cal = calendar_of (midnight_in (plain_zone c.args.zone.now)) c.args.self.now in
     let passed : to_z w64 (of_z w64 c.args.moment) ≡ c.args.moment = to_z-of_z w64 c.args.moment c.ranges.moment in
     let refused : refusal_of cal c.args.self.now.standing (record { moment = c.args.moment; row = c.args.row.now }) ≡ Some c.in-Some.refusal =
-            sym (c.refusal_of.ensures cal (to_z w64 (of_z w64 c.args.moment)) c.timing_of.ensures.period c.timing_of.ensures.in_time
-            ∙ ap (λ z. refusal_of cal c.args.self.now.standing (record { moment = z; row = c.args.row.now })) passed) ∙ c.in-Some.is in
+    sym (c.refusal_of.ensures cal (to_z w64 (of_z w64 c.args.moment)) c.timing_of.ensures.period c.timing_of.ensures.in_time
+    ∙ ap (λ z. refusal_of cal c.args.self.now.standing (record { moment = z; row = c.args.row.now })) passed) ∙ c.in-Some.is in
     ap Err c.of.ensures ∙ ap judged (sym refused)

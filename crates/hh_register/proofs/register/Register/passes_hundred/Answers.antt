@@ -11,6 +11,6 @@ returns c = λ cal.
     let part = c.units.ensures.value in
     let part-range = c.units.ensures.range in
     let sum : to_z w64 (of_z w64 (to_z w64 (of_z w64 c.percent_of_others.result) +ℤ to_z w64 (of_z w64 c.units.result)))
-                ≡ percent_of_others cal c.args.self.now.standing c.args.row.now.key +ℤ c.args.row.now.reallocation.percent =
-            omega (arith, ints) in
+    ≡ percent_of_others cal c.args.self.now.standing c.args.row.now.key +ℤ c.args.row.now.reallocation.percent =
+    omega (arith, ints) in
     ap (int_lt hundred_percent) sum

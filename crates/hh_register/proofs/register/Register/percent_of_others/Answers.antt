@@ -13,7 +13,7 @@ returns-clause-value c = λ cal.
     let key = c.args.key.now in
     let rows = c.self.inside.reallocations in
     let all : c.units_of-all.result ≡ percent_at rows key.unit_period =
-            c.units_of-all.ensures.value ∙ ap (λ o. unwrap_or o (pos 0)) c.get.ensures.value ∙ c.self.invariant.sums key.unit_period in
+    c.units_of-all.ensures.value ∙ ap (λ o. unwrap_or o (pos 0)) c.get.ensures.value ∙ c.self.invariant.sums key.unit_period in
     let own : c.percent_in-own.result ≡ percent_in (find reallocation_key_cmp key rows) = c.percent_in-own.ensures.value ∙ ap percent_in c.get-2.ensures.value in
     let both = others_and_own key rows c.get-2.ensures.rising in
     let range = c.units_of-all.ensures.range in
@@ -26,7 +26,7 @@ returns-clause-range c =
     let key = c.args.key.now in
     let rows = c.self.inside.reallocations in
     let all : c.units_of-all.result ≡ percent_at rows key.unit_period =
-            c.units_of-all.ensures.value ∙ ap (λ o. unwrap_or o (pos 0)) c.get.ensures.value ∙ c.self.invariant.sums key.unit_period in
+    c.units_of-all.ensures.value ∙ ap (λ o. unwrap_or o (pos 0)) c.get.ensures.value ∙ c.self.invariant.sums key.unit_period in
     let own : c.percent_in-own.result ≡ percent_in (find reallocation_key_cmp key rows) = c.percent_in-own.ensures.value ∙ ap percent_in c.get-2.ensures.value in
     let both = others_and_own key rows c.get-2.ensures.rising in
     let range = c.units_of-all.ensures.range in

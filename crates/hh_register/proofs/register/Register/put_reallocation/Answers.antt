@@ -23,7 +23,7 @@ invariant_of-self c =
     let part-range = c.units.ensures.range in
     let range = c.percent_of_others.ensures.range in
     let rest : c.percent_of_others.result ≡ others key rows =
-            c.percent_of_others.ensures.value some_calendar ∙ ap (λ v. others key v.standing.tables.reallocations) (sym c.self.view_is) in
+    c.percent_of_others.ensures.value some_calendar ∙ ap (λ v. others key v.standing.tables.reallocations) (sym c.self.view_is) in
     let sum : c.of-sum.result ≡ others key rows +ℤ c.args.row.reallocation.percent = c.of-sum.ensures ∙ (omega (arith, ints)) in
     let positive : pos 0 ≤ℤ c.args.row.reallocation.percent = omega (arith, ints) in
     let rising : IsTable reallocation_key_cmp rows = subst (λ v. IsTable reallocation_key_cmp v.standing.tables.reallocations) (sym c.self.view_is) c.percent_of_others.ensures.rising in

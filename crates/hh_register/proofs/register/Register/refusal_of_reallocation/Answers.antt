@@ -12,7 +12,7 @@ returns-in-Some c = λ cal in_time period time.
 pub returns : goal.returns
 returns c = λ cal in_time period time.
     let none : first_met (reallocation_refusals cal c.args.self.now.standing false c.args.row.now) ≡ None =
-            sym (c.refusal_before_percent.ensures cal period) ∙ c.in_default.is in
+    sym (c.refusal_before_percent.ensures cal period) ∙ c.in_default.is in
     let same = time (period ∙ has_reallocation_period cal c.args.self.now.standing false c.args.row.now none) in
     c.refusal_of_percent.ensures
     ∙ ap (λ b. if b && c.passes_hundred.result then Some OverHundred else None) same
