@@ -82,11 +82,11 @@ pub one_more_row : (cal : Calendar) (a : Accepted) (done : RowDone) (old new : S
 one_more_row cal a done old new changed became = record {
   late = λ late. subst (λ s. KeepsRowsInForce old.tables s.tables) (sym changed) (keeps_rows_in_force cal a old.tables (late_is (is_in_time cal a) done became late));
   contract = λ r is applied. subst (λ s. ReplacesRowOf contract_key_cmp r.key r.volume old.tables.contracts s.tables.contracts) (sym changed)
-    (subst (λ (x : Row). is_in_time cal (record a { row = x }) ≡ true → ReplacesRowOf contract_key_cmp r.key r.volume old.tables.contracts (with_row cal (record a { row = x }) old.tables).contracts) (sym is) (replaces_contract cal a.moment r old.tables)
-    (applied_is (is_in_time cal a) done became applied));
+      (subst (λ (x : Row). is_in_time cal (record a { row = x }) ≡ true → ReplacesRowOf contract_key_cmp r.key r.volume old.tables.contracts (with_row cal (record a { row = x }) old.tables).contracts) (sym is) (replaces_contract cal a.moment r old.tables)
+      (applied_is (is_in_time cal a) done became applied));
   reallocation = λ r is applied. subst (λ s. ReplacesRowOf reallocation_key_cmp r.key r.reallocation old.tables.reallocations s.tables.reallocations) (sym changed)
-    (subst (λ (x : Row). is_in_time cal (record a { row = x }) ≡ true → ReplacesRowOf reallocation_key_cmp r.key r.reallocation old.tables.reallocations (with_row cal (record a { row = x }) old.tables).reallocations) (sym is) (replaces_reallocation cal a.moment r old.tables)
-    (applied_is (is_in_time cal a) done became applied));
+      (subst (λ (x : Row). is_in_time cal (record a { row = x }) ≡ true → ReplacesRowOf reallocation_key_cmp r.key r.reallocation old.tables.reallocations (with_row cal (record a { row = x }) old.tables).reallocations) (sym is) (replaces_reallocation cal a.moment r old.tables)
+      (applied_is (is_in_time cal a) done became applied));
   references = subst (λ s. KeepsReferences old.tables s.tables) (sym changed) (keeps_references cal a old.tables);
   looks_back = λ history stands. changed ∙ ap (standing_with cal a) stands ∙ standing-append cal history a;
 }

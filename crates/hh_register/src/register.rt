@@ -12,12 +12,12 @@ ghost use Rattle.hh_register.specs.Percents.{percent_in};
 ghost use Rattle.hh_register.specs.RegisterView.{empty_register};
 ghost use Rattle.hh_register.specs.RowRule.{hundred_percent, most_parties, most_units, percent_of_others, standing_with};
 
-use crate::tree_table::{put_both, TreeTable};
+use crate::tree_table::{TreeTable, put_both};
 use hh_num::{Kwh, Percent, Price};
 use hh_rows::{
     ContractKey, ContractRow, Counterparties, LeadMinutes, MeterRow, PartyRegistration, PartyRow,
-    PriceRow, Reading, Reallocation, ReallocationKey, ReallocationRow, SettlementPeriod, UnitPeriod,
-    UnitRegistration, UnitRow,
+    PriceRow, Reading, Reallocation, ReallocationKey, ReallocationRow, SettlementPeriod,
+    UnitPeriod, UnitRegistration, UnitRow,
 };
 use hh_rules::{PartyId, Reference, UnitId};
 use std::alloc::{AllocError, Global};

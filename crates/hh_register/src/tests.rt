@@ -4,9 +4,9 @@
 use super::*;
 use hh_num::{Kwh, Percent, Price, Tlm};
 use hh_rows::{
-    ContractKey, ContractRow, Counterparties, DateRange, LeadMinutes, MeterRow, PartyRegistration, PartyRow,
-    PriceRow, Reading, Reallocation, ReallocationKey, ReallocationRow, Row, SettlementPeriod,
-    UnitPeriod, UnitRegistration, UnitRow,
+    ContractKey, ContractRow, Counterparties, DateRange, LeadMinutes, MeterRow, PartyRegistration,
+    PartyRow, PriceRow, Reading, Reallocation, ReallocationKey, ReallocationRow, Row,
+    SettlementPeriod, UnitPeriod, UnitRegistration, UnitRow,
 };
 use hh_rules::{AccessKey, Account, Fault, PartyId, Period, Reference, UnitId};
 use hh_time::{SettlementDate, london};
@@ -213,7 +213,7 @@ fn holds_what_it_was_given(rt: HostRuntime) -> Result<(), Fail> {
     let Some(register) = after(rt.alloc(), &london(), &steps) else {
         panic!(&rt; "each row becomes what stands beside it");
     };
-    assert_eq!(rt; register.lead().number(), 60);
+    assert_eq!(rt; register.lead().minutes(), 60);
     assert_eq!(rt; register.party_count(), 2);
     assert_eq!(rt; register.unit_count(), 2);
     assert_eq!(rt; finds_all(&register), Some(true));
