@@ -8,6 +8,7 @@ use Rattle.std.specs.Map.{lookup}
 use Rattle.std.specs.FinMap.{find}
 use Rattle.std.specs.FinMap.Entries.{find-put}
 use Rattle.std.proofs.lemmas.List.{drop_more, map-append, take-append-drop, take_more}
+use Rattle.hh_num.proofs.TableLaws.{insert_entry-put, lookup-find}
 use Rattle.hh_rules.specs.declared.account.Account.{Account}
 use Rattle.hh_rules.specs.declared.fault.Fault.{Fault}
 use Rattle.hh_rules.specs.declared.fault.Refusal.{Refusal}
@@ -20,18 +21,12 @@ use Rattle.std.proofs.lemmas.Map.Lookups.{exact_bytes}
 use Rattle.hh_calc.specs.declared.data.Contract.{Contract}
 use Rattle.hh_texts.specs.declared.period_contracts.PeriodContractRow.{PeriodContractRow}
 use Rattle.hh_period.specs.Rows.{contract_entry, ends_entry, first_refused, is_moved, refusal_among, refusal_beside, refused_or}
-use Rattle.hh_period.proofs.GatherFacts.{insert_entry-put}
 use Rattle.std.specs.BTreeMap.{insert_entry}
 
 pub equal : (o : Ordering) → is_eq o ≡ true → o ≡ Equal
 equal Equal e = refl
 equal Less e = cc e
 equal Greater e = cc e
-
--- a map's look-up finds the first entry
-pub lookup-find : {K V : Type 0} (R : K → K → Ordering) (q : K) (es : List (K × V)) → lookup (is_at (R q)) es ≡ find R q es
-lookup-find R q [] = refl
-lookup-find R q (e ∷ es) = ap (cond (is_eq (R q e.0)) (Some e.1)) (lookup-find R q es)
 
 unfoldable or_else : {A : Type 0} → Option A → Option A → Option A
 or_else None other = other

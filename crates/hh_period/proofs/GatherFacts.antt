@@ -11,23 +11,13 @@ use Rattle.std.specs.declared.cmp.Ordering.TheVariants.{Less, Equal, Greater}
 use Rattle.std.proofs.lemmas.List.{append-nil, append_assoc, map-append, take_more}
 use Rattle.std.proofs.lemmas.List.Concat.{flat_map-append}
 use Rattle.hh_num.specs.Tables.{table_of_last}
-use Rattle.hh_num.proofs.TableLaws.{table_of_last-append}
+use Rattle.hh_num.proofs.TableLaws.{insert_entry-put, table_of_last-append}
 use Rattle.hh_rules.specs.declared.account.Account.{Account}
 use Rattle.hh_rules.specs.Accounts.{account_cmp}
 use Rattle.hh_rules.proofs.AccountLaws.{account_total, exact_accounts}
 use Rattle.hh_period.specs.Rows.{in_account_order}
 
 module _ {K V : Type 0} (R : K → K → Ordering) (k : K) (v : V) where
-  -- a map's insertion puts a row into the table
-  pub insert_entry-put : (es : List (K × V)) → insert_entry R es k v ≡ put R k v es
-  insert_entry-put [] = refl
-  insert_entry-put (e ∷ es) = elim (R k e.0) as (λ o.
-      match_ordering o ((k, v) ∷ e ∷ es) ((e.0, v) ∷ es) (e ∷ insert_entry R es k v) ≡ by_order o ((k, v) ∷ e ∷ es) ((e.0, v) ∷ es) (e ∷ put R k v es)) [
-        | Less ↦ refl
-        | Equal ↦ refl
-        | Greater ↦ ap (λ more. e ∷ more) (insert_entry-put es)
-      ]
-
   -- a set's insertion adds the key of a row
   pub keys-put : (es : List (K × V)) → map (λ e. e.0) (put R k v es) ≡ insert_key R (map (λ e. e.0) es) k
   keys-put [] = refl

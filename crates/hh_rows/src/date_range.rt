@@ -6,10 +6,7 @@ ghost use Rattle.hh_rows.specs.DateRanges.{Range, holds, is_inside, last_date_va
 use hh_time::SettlementDate;
 use std::marker::Model;
 
-/// The last date that a range may have, 2099-12-31, in days since 1970-01-01.
-const LAST_DATE: u16 = 47_481;
-
-/// The dates from a first to a last, both included.
+/// The dates from a first to a last, both included (profile).
 #[derive(Clone, Copy, Debug, PartialEq, Eq)]
 pub struct DateRange {
     from: SettlementDate,
@@ -71,7 +68,7 @@ impl DateRange {
         self.from <= date && date <= self.to
     }
 
-    /// Whether each date of this range is one of the other.
+    /// Whether each date of this range is one of the other, as are its first and its last.
     pub fn is_inside(self, other: DateRange) -> bool
         ensures { result ≡ is_inside self other }
     {
@@ -84,7 +81,7 @@ fn read_last_date(text: &[u8]) -> Option<SettlementDate>
     ensures { result ≡ last_date_value text.now }
 {
     if text.is_empty() {
-        SettlementDate::new(LAST_DATE)
+        Some(SettlementDate::last())
     } else {
         SettlementDate::read(text)
     }

@@ -11,8 +11,8 @@ use crate::settlement_period::SettlementPeriod;
 use hh_rules::{Account, Reference, UnitId};
 use std::cmp::Ordering;
 
-/// A BM Unit in a Settlement Period, which a meter row stands under. Ordered by the bytes of the
-/// unit's id, then by Settlement Period.
+/// A BM Unit in a Settlement Period, which a meter row stands under (profile). Ordered by the bytes of
+/// the unit's id, then by Settlement Period.
 #[derive(Clone, Copy, Debug)]
 pub struct UnitPeriod {
     pub unit: UnitId,

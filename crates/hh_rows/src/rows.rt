@@ -24,7 +24,7 @@ pub struct UnitRegistration {
     pub range: DateRange,
 }
 
-/// What was metered of a unit in a Settlement Period.
+/// What was metered of a unit in a Settlement Period (Section T in shape).
 #[derive(Clone, Copy, Debug, PartialEq, Eq)]
 pub struct Reading {
     /// The metered volume, in kWh: positive where the unit delivers.
@@ -51,28 +51,28 @@ pub struct Reallocation {
     pub fixed: Kwh,
 }
 
-/// A row of a file of parties.
+/// A row of a file of parties (profile).
 #[derive(Clone, Copy, Debug, PartialEq, Eq)]
 pub struct PartyRow {
     pub party: PartyId,
     pub registration: PartyRegistration,
 }
 
-/// A row of a file of units.
+/// A row of a file of units (profile).
 #[derive(Clone, Copy, Debug, PartialEq, Eq)]
 pub struct UnitRow {
     pub unit: UnitId,
     pub registration: UnitRegistration,
 }
 
-/// A row of a file of meter volumes.
+/// A row of a file of meter volumes (profile).
 #[derive(Clone, Copy, Debug, PartialEq, Eq)]
 pub struct MeterRow {
     pub key: UnitPeriod,
     pub reading: Reading,
 }
 
-/// A row of a file of prices.
+/// A row of a file of prices (profile).
 #[derive(Clone, Copy, Debug, PartialEq, Eq)]
 pub struct PriceRow {
     pub at: SettlementPeriod,
@@ -89,14 +89,14 @@ pub struct ContractRow {
     pub volume: Kwh,
 }
 
-/// A row of a file of reallocations.
+/// A row of a file of reallocations (Section P in shape).
 #[derive(Clone, Copy, Debug, PartialEq, Eq)]
 pub struct ReallocationRow {
     pub key: ReallocationKey,
     pub reallocation: Reallocation,
 }
 
-/// A row of a file.
+/// A row of a file of any kind (profile).
 #[derive(Clone, Copy, Debug, PartialEq, Eq)]
 pub enum Row {
     Party(PartyRow),

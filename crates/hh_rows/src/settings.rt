@@ -48,7 +48,7 @@ impl LeadMinutes {
 impl Default for LeadMinutes {
     ghost is_default = { λ minutes. minutes ≡ 60 };
 
-    /// An hour.
+    /// 60 minutes (profile).
     fn default() -> LeadMinutes {
         LeadMinutes { minutes: 60 }
     }

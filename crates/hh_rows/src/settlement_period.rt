@@ -11,8 +11,8 @@ use hh_rules::Period;
 use hh_time::SettlementDate;
 use std::cmp::Ordering;
 
-/// A Settlement Period: a date with the number of one of its half hours. Settlement Periods are
-/// ordered by date, then by number.
+/// A Settlement Period: a date with the number of one of its half hours (profile). Settlement Periods
+/// are ordered by date, then by number.
 #[derive(Clone, Copy, Debug)]
 pub struct SettlementPeriod {
     pub date: SettlementDate,

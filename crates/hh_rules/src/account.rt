@@ -10,7 +10,7 @@ ghost use Rattle.hh_rules.specs.Accounts.{account_cmp, account_value, is_same_ac
 use crate::word::PartyId;
 use std::cmp::Ordering;
 
-/// Which of a party's two accounts.
+/// Which of a party's two accounts (Section P in shape).
 #[derive(Clone, Copy, Debug, PartialEq, Eq, PartialOrd, Ord)]
 pub enum Side {
     Production,

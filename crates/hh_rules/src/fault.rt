@@ -18,7 +18,7 @@ pub enum Refusal {
     BadHeader,
     /// A record has another number of fields than the header.
     BadRecord,
-    /// A field is off its grammar or range.
+    /// A field is off its grammar or range, or ends a range of dates before it begins.
     BadField,
     /// A file of this kind and name was accepted with other bytes.
     FileChanged,
@@ -26,7 +26,8 @@ pub enum Refusal {
     UnknownParty,
     /// The unit is not registered.
     UnknownUnit,
-    /// The date is outside the range of the unit or of an account's party.
+    /// The date is outside the range of the unit or of an account's party; of a row of units, its range
+    /// is not inside its party's.
     NotEffective,
     /// The period is above the date's count.
     NoSuchPeriod,

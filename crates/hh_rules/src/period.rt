@@ -6,7 +6,7 @@ ghost use Rattle.hh_rules.specs.Fields.{period_value};
 use hh_num::read_fixed;
 use std::marker::Model;
 
-/// The number of a Settlement Period within its Settlement Day, 1 to 50.
+/// The number of a Settlement Period within its Settlement Day, 1 to 50 (profile).
 #[derive(Clone, Copy, Debug, PartialEq, Eq, PartialOrd, Ord)]
 pub struct Period {
     number: u8,

@@ -105,7 +105,7 @@ impl Alphabet for PartyIdAlphabet {
     }
 }
 
-/// A party's id.
+/// A party's id: 1 to 10 capital letters or digits (profile).
 pub type PartyId = Word<PartyIdAlphabet, 1, 10>;
 
 /// Capital letters, digits, the underscore and the dash.
@@ -120,7 +120,7 @@ impl Alphabet for UnitIdAlphabet {
     }
 }
 
-/// A unit's id.
+/// A BM Unit's id: 1 to 16 capital letters, digits, underscores or dashes (profile).
 pub type UnitId = Word<UnitIdAlphabet, 1, 16>;
 
 /// Letters, digits, the underscore and the dash.
@@ -135,7 +135,7 @@ impl Alphabet for ReferenceAlphabet {
     }
 }
 
-/// A contract's reference.
+/// A contract's reference: 1 to 20 letters, digits, underscores or dashes (profile).
 pub type Reference = Word<ReferenceAlphabet, 1, 20>;
 
 /// Letters and digits.
@@ -150,7 +150,7 @@ impl Alphabet for AccessKeyAlphabet {
     }
 }
 
-/// The key that a party shows.
+/// The key that a party shows: 8 to 64 letters or digits (profile).
 pub type AccessKey = Word<AccessKeyAlphabet, 8, 64>;
 
 /// Letters, digits, the point, the underscore and the dash.
@@ -165,7 +165,8 @@ impl Alphabet for FileNameAlphabet {
     }
 }
 
-/// The name by which a file is registered; never a path.
+/// The name by which a file is registered, never a path: 1 to 64 letters, digits, points, underscores
+/// or dashes (profile).
 pub type FileName = Word<FileNameAlphabet, 1, 64>;
 
 impl<A: Alphabet, const LEAST: usize, const MOST: usize> PartialEq for Word<A, LEAST, MOST> {

@@ -5,6 +5,7 @@ use Rattle.std.specs.Char.{is_ascii_digit}
 use Rattle.std.specs.List.{list_all}
 use Rattle.std.proofs.lemmas.Bool.{and_parts}
 use Rattle.std.proofs.lemmas.Bool.Decides.{nat_tests}
+use Rattle.std.proofs.lemmas.Option.{same_Some}
 use Rattle.jiff_core.specs.Calendar.{days_in_month, days_from_civil, IsYear}
 use Rattle.jiff_core.proofs.CalendarLemmas.{days_in_month_bounds}
 use Rattle.jiff.proofs.SpanFacts.{signed_arith}
@@ -89,9 +90,6 @@ number_of_accepted x n h e =
     let range = (accepted-number x).0 h in
     sym (size_of (epoch_day x) (omega (arith, signed_arith))) ∙ ap (λ (k : ℕ). pos k) e
 
-some_injective : (a b : ℕ) → Some a ≡ Some b → a ≡ b
-some_injective a b e = cc
-
 -- the date that parts within their bounds name
 date_of_parts : (y m d n : ℕ) → civil_day y m d ≡ Some n → (x : Date) × (x.year ≡ pos y) × (x.month ≡ m) × (x.day ≡ d) × IsAccepted x × (epoch_day x ≡ pos n)
 date_of_parts y m d n e =
@@ -101,7 +99,7 @@ date_of_parts y m d n e =
     let year_in : IsYear (pos y) = (omega (arith, signed_arith), omega (arith, signed_arith)) in
     let x : Date = record { year = pos y; month = m; day = d; year_in = year_in; month_in = (within.2, within.3); day_in = (within.4, within.5) } in
     let accepted : IsAccepted x = (omega (arith, signed_arith), omega (arith, signed_arith)) in
-    (x, refl, refl, refl, accepted, number_of_accepted x n accepted (some_injective _ _ passed.1))
+    (x, refl, refl, refl, accepted, number_of_accepted x n accepted (same_Some _ _ passed.1))
 
 with_dashes : (y e a r s m n t d f : ℕ) → s ≡ 45 → t ≡ 45 → y ∷ e ∷ a ∷ r ∷ s ∷ m ∷ n ∷ t ∷ d ∷ f ∷ [] ≡ y ∷ e ∷ a ∷ r ∷ 45 ∷ m ∷ n ∷ 45 ∷ d ∷ f ∷ []
 with_dashes y e a r s m n t d f first second = rw (first, second) refl

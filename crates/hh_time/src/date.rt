@@ -3,12 +3,18 @@
 ghost use Rattle.std.specs.Prelude.{◌≡◌, ◌≤◌, ◌↔◌, SomeIff, IfSome, IsSome, IsOk, IfOk, IfErr, IsTrue, pos};
 ghost use Rattle.jiff.specs.Words.{epoch_day, IsBetween};
 ghost use Rattle.hh_time.specs.Calendar.{date_on};
-ghost use Rattle.hh_time.specs.Days.{is_accepted};
+ghost use Rattle.hh_time.specs.Days.{is_accepted, last_date};
 ghost use Rattle.hh_time.specs.Zone.{IsAccepted};
 
 use crate::fault::TimeFault;
 use jiff::civil::Date;
 use std::marker::Model;
+
+/// Days from 1970-01-01 to 2001-01-01.
+const FIRST: u16 = 11_323;
+
+/// Days from 1970-01-01 to 2099-12-31.
+const LAST: u16 = 47_481;
 
 /// A date from 2001-01-01 to 2099-12-31 (profile). Contracts see its days since 1970-01-01.
 #[derive(Clone, Copy, Debug, PartialEq, Eq, PartialOrd, Ord)]
@@ -33,11 +39,18 @@ impl SettlementDate {
     pub fn new(days: u16) -> Option<SettlementDate>
         ensures { SomeIff result (IsTrue (is_accepted days)) days }
     {
-        if 11_323 <= days && days <= 47_481 {
+        if FIRST <= days && days <= LAST {
             Some(SettlementDate { days })
         } else {
             None
         }
+    }
+
+    /// The last date, 2099-12-31.
+    pub fn last() -> SettlementDate
+        ensures { result ≡ last_date }
+    {
+        SettlementDate { days: LAST }
     }
 
     /// Days since 1970-01-01.
@@ -61,10 +74,7 @@ impl SettlementDate {
         ensures number { IfSome result (λ d. pos d ≡ number) }
         ensures accepted { IsSome result ↔ IsBetween (pos 11_323) (pos 47_481) number }
     {
-        if number < 11_323 || number > 47_481 {
-            return None;
-        }
-        SettlementDate::new(number as u16)
+        SettlementDate::new(u16::try_from(number).ok()?)
     }
 
     /// The date in the calendar.

@@ -5,6 +5,17 @@ use jiff::civil::Date;
 use jiff::tz::TimeZone;
 use std::test::Fail;
 
+/// The periods of a date by the rule of the market's clocks, which go forward on the last Sunday of
+/// March and back on the last Sunday of October. The number is in days since 1970-01-01, a Thursday.
+fn count_by_rule(number: i32, date: Date) -> u8 {
+    let is_last_sunday = number.wrapping_add(4) % 7 == 0 && date.day() >= 25;
+    match date.month() {
+        3 if is_last_sunday => 46,
+        10 if is_last_sunday => 50,
+        _ => 48,
+    }
+}
+
 #[test]
 fn counts_of_all_dates(rt: HostRuntime) -> Result<(), Fail> {
     let zone = london();
@@ -13,15 +24,15 @@ fn counts_of_all_dates(rt: HostRuntime) -> Result<(), Fail> {
     let mut plain = 0u32;
     let mut end = 978_307_200i64;
     for number in 11_323..47_482i32 {
-        let day = day_of(date_at(number)?, &zone)?;
+        let date = date_at(number)?;
+        let day = day_of(date, &zone)?;
         assert_eq!(rt; day.start, end);
+        assert!(rt; day.count == count_by_rule(number, date));
         end = day.end();
-        if day.count == 46 {
-            short = short.wrapping_add(1);
-        } else if day.count == 50 {
-            long = long.wrapping_add(1);
-        } else {
-            plain = plain.wrapping_add(1);
+        match day.count {
+            46 => short = short.wrapping_add(1),
+            50 => long = long.wrapping_add(1),
+            _ => plain = plain.wrapping_add(1),
         }
     }
     assert_eq!(rt; short, 99);
@@ -92,6 +103,14 @@ fn odd_day(rt: HostRuntime) -> Result<(), Fail> {
 }
 
 #[test]
+fn numbers_of_faults(rt: HostRuntime) -> Result<(), Fail> {
+    assert!(rt; TimeFault::OutOfRange as u8 == 1);
+    assert!(rt; TimeFault::OddDay as u8 == 2);
+    assert!(rt; TimeFault::Memory as u8 == 3);
+    Ok(())
+}
+
+#[test]
 fn ends_of_the_range(rt: HostRuntime) -> Result<(), Fail> {
     let zone = london();
     let before = Date::new(2000, 12, 31)?;
@@ -119,6 +138,11 @@ fn reads_dates(rt: HostRuntime) -> Result<(), Fail> {
     assert!(rt; read_date(b"2024-02-29") == Date::new(2024, 2, 29).ok());
     assert!(rt; read_date(b"2001-01-01") == Date::new(2001, 1, 1).ok());
     assert!(rt; read_date(b"2099-12-31") == Date::new(2099, 12, 31).ok());
+    assert_eq!(rt;
+        SettlementDate::read(b"2099-12-31"),
+        Some(SettlementDate::last())
+    );
+    dates_read_back();
     let off: [&[u8]; 16] = [
         b"",
         b"2023-02-29",
