@@ -9,7 +9,7 @@ use Rattle.hh_rows.specs.DateRanges.{Range}
 use Rattle.hh_rows.specs.declared.rows.Row.{Row}
 use Rattle.hh_rows.specs.declared.rows.Row.TheVariants as row
 use Rattle.hh_rows.specs.declared.settlement_period.SettlementPeriod.{SettlementPeriod}
-use Rattle.hh_register.specs.History.{Calendar, Accepted, History, registered_in}
+use Rattle.hh_register.specs.History.{Calendar, Accepted, History, accepted_at, registered_in}
 use Rattle.hh_register.specs.RowRule.{refusal_of, whole_standing}
 
 -- 2024-07-01 is day 19905 and begins at 1719788400; each day here has 48 periods
@@ -24,9 +24,6 @@ supco_p = record { party = codes "SUPCO"; side = Production }
 
 abbrev supco_c : Account
 supco_c = record { party = codes "SUPCO"; side = Consumption }
-
-abbrev accepted_at : ℤ → Row → Accepted
-accepted_at moment r = record { moment = moment; row = r }
 
 -- the moment at which files come
 abbrev loading : ℤ

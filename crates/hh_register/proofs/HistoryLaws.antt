@@ -9,7 +9,7 @@ use Rattle.hh_num.proofs.TableLaws.{false_is_not_true}
 use Rattle.std.proofs.lemmas.List.{append-nil}
 use Rattle.hh_rows.specs.declared.rows.Row.{Row}
 use Rattle.hh_rules.specs.Accounts.{bytes_cmp}
-use Rattle.hh_register.specs.History.{Calendar, Accepted, History, Registered, is_in_time, entries_of, registered_in}
+use Rattle.hh_register.specs.History.{Calendar, Accepted, History, Registered, is_in_time, entries_of, registered_in, accepted_at}
 use Rattle.hh_rows.specs.Keys.{settlement_period_cmp, unit_period_cmp, contract_key_cmp, reallocation_key_cmp}
 use Rattle.hh_register.specs.Entries.{party_entry, unit_entry, reference_entry, meter_entry, price_entry, contract_entry, reallocation_entry}
 use Rattle.hh_register.specs.RowRule.{put_entry, put_new, put_row, LooksBack}
@@ -75,7 +75,7 @@ none_late true e h = absurd (false_is_not_true (sym e))
 none_late false e h = absurd (false_is_not_true (sym h))
 
 module _ (cal : Calendar) (moment : ℤ) where
-  late_party : (r : Row) → is_in_time cal (record { moment = moment; row = r }) ≡ false → party_entry r ≡ None
+  late_party : (r : Row) → is_in_time cal (accepted_at moment r) ≡ false → party_entry r ≡ None
   late_party (row.Party r) e = absurd (false_is_not_true (sym e))
   late_party (row.Unit r) e = refl
   late_party (row.Meter r) e = refl
@@ -83,7 +83,7 @@ module _ (cal : Calendar) (moment : ℤ) where
   late_party (row.Contract r) e = refl
   late_party (row.Reallocation r) e = refl
 
-  late_unit : (r : Row) → is_in_time cal (record { moment = moment; row = r }) ≡ false → unit_entry r ≡ None
+  late_unit : (r : Row) → is_in_time cal (accepted_at moment r) ≡ false → unit_entry r ≡ None
   late_unit (row.Party r) e = refl
   late_unit (row.Unit r) e = absurd (false_is_not_true (sym e))
   late_unit (row.Meter r) e = refl
@@ -91,7 +91,7 @@ module _ (cal : Calendar) (moment : ℤ) where
   late_unit (row.Contract r) e = refl
   late_unit (row.Reallocation r) e = refl
 
-  late_meter : (r : Row) → is_in_time cal (record { moment = moment; row = r }) ≡ false → meter_entry r ≡ None
+  late_meter : (r : Row) → is_in_time cal (accepted_at moment r) ≡ false → meter_entry r ≡ None
   late_meter (row.Party r) e = refl
   late_meter (row.Unit r) e = refl
   late_meter (row.Meter r) e = absurd (false_is_not_true (sym e))
@@ -99,7 +99,7 @@ module _ (cal : Calendar) (moment : ℤ) where
   late_meter (row.Contract r) e = refl
   late_meter (row.Reallocation r) e = refl
 
-  late_price : (r : Row) → is_in_time cal (record { moment = moment; row = r }) ≡ false → price_entry r ≡ None
+  late_price : (r : Row) → is_in_time cal (accepted_at moment r) ≡ false → price_entry r ≡ None
   late_price (row.Party r) e = refl
   late_price (row.Unit r) e = refl
   late_price (row.Meter r) e = refl

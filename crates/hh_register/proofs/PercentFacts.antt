@@ -12,8 +12,9 @@ use Rattle.hh_num.specs.Tables.{Table, IsTable}
 use Rattle.hh_num.specs.Totals.{total}
 use Rattle.hh_num.proofs.TotalLaws.{total-same}
 use Rattle.hh_rules.specs.Accounts.{account_cmp, is_same_account}
+use Rattle.hh_rules.proofs.AccountLaws.{account_total}
 use Rattle.hh_rows.specs.Keys.{unit_period_cmp, reallocation_key_cmp}
-use Rattle.hh_rows.specs.KeyOrders.{account_total, unit_period_total, reallocation_key_total}
+use Rattle.hh_rows.specs.KeyOrders.{unit_period_total, reallocation_key_total}
 use Rattle.hh_rows.specs.declared.keys.UnitPeriod.{UnitPeriod}
 use Rattle.hh_rows.specs.declared.keys.ReallocationKey.{ReallocationKey}
 use Rattle.hh_rows.specs.declared.rows.Reallocation.{Reallocation}

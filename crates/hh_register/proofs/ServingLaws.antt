@@ -13,7 +13,7 @@ use Rattle.hh_rows.specs.declared.keys.ReallocationKey.{ReallocationKey}
 use Rattle.hh_rows.specs.declared.rows.Reallocation.{Reallocation}
 use Rattle.hh_rows.specs.declared.rows.Row.{Row}
 use Rattle.hh_rows.specs.declared.rows.Row.TheVariants as row
-use Rattle.hh_register.specs.History.{Calendar, is_in_time}
+use Rattle.hh_register.specs.History.{Calendar, is_in_time, accepted_at}
 use Rattle.hh_register.specs.RegisterView.{AgreesOn, reallocations_at}
 use Rattle.hh_register.specs.RowRule.{Standing, first_met, is_some_that, is_same_mark, are_same_counterparties, is_no_period, percent_of_others, most_parties, most_units, hundred_percent, refusal_of}
 
@@ -32,7 +32,7 @@ others_at cal standing key =
     ∙ sym (total-filter (λ e. cond (is_other e) e.1.percent (pos 0)) is_here rows)
 
 module _ (cal : Calendar) (whole part : Standing) (parties : part.party_count ≡ whole.party_count) (units : part.unit_count ≡ whole.unit_count) (moment : ℤ) where
-  pub judged_alike : (r : Row) → AgreesOn whole.tables part.tables r → refusal_of cal part (record { moment = moment; row = r }) ≡ refusal_of cal whole (record { moment = moment; row = r })
+  pub judged_alike : (r : Row) → AgreesOn whole.tables part.tables r → refusal_of cal part (accepted_at moment r) ≡ refusal_of cal whole (accepted_at moment r)
   judged_alike (row.Party r) party = λ i. first_met (
       (refusal.ShrinksRange, is_some_that (λ p. not (is_inside p.range r.registration.range)) (party i))
       ∷ (refusal.TooMany, is_none (party i) && nat_le most_parties (parties i)) ∷ [])
@@ -64,4 +64,4 @@ module _ (cal : Calendar) (whole part : Standing) (parties : part.party_count �
       ∷ (refusal.NotEffective, is_some_that (λ u. not (holds u.range r.key.unit_period.at.date)) (unit i) || is_some_that (λ p. not (holds p.range r.key.unit_period.at.date)) (party i))
       ∷ (refusal.NoSuchPeriod, is_no_period cal whole r.key.unit_period.at)
       ∷ (refusal.OwnLead, is_some_that (λ u. is_same_account u.lead r.key.account) (unit i))
-      ∷ (refusal.OverHundred, is_in_time cal (record { moment = moment; row = row.Reallocation r }) && int_lt hundred_percent (others i +ℤ r.reallocation.percent)) ∷ [])
+      ∷ (refusal.OverHundred, is_in_time cal (accepted_at moment (row.Reallocation r)) && int_lt hundred_percent (others i +ℤ r.reallocation.percent)) ∷ [])

@@ -10,13 +10,13 @@ use Rattle.hh_rules.proofs.AccountLaws.{bytes_total}
 use Rattle.hh_rows.specs.declared.rows.Row.{Row}
 use Rattle.hh_rows.specs.declared.rows.Row.TheVariants as row
 use Rattle.hh_register.specs.Entries.{party_entry, unit_entry}
-use Rattle.hh_register.specs.History.{Calendar, Accepted, History, Registered, is_before_deadline, entries_of, registered_in}
+use Rattle.hh_register.specs.History.{Calendar, Accepted, History, Registered, is_before_deadline, entries_of, registered_in, accepted_at}
 use Rattle.hh_register.specs.RowRule.{count_new, put_row, with_row, standing_with, whole_standing}
 use Rattle.hh_register.proofs.HistoryLaws.{looks_back}
 
 module _ (cal : Calendar) (moment : ℤ) (tables : Registered) where
   abbrev with_one : Row → Registered
-  with_one r = with_row cal (record { moment = moment; row = r }) tables
+  with_one r = with_row cal (accepted_at moment r) tables
 
   -- a party is counted where it is new
   party_count-with : (r : Row) → T (is_sorted bytes_cmp tables.parties)

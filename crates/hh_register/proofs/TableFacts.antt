@@ -1,31 +1,18 @@
--- A tree's look-up and insertion are those of a table.
+-- What an insertion into a tree makes of its table, and that putting back undoes it.
 use Rattle.std.proofs.Common.{◌≡◌, ◌+◌, List, [], ◌∷◌, length, refl, sym, ap, subst, ◌∙◌, cond, Bool, true, false, Ordering, arith}
 use Rattle.std.specs.Prelude.{Option, Some, None, is_some, unwrap_or, Result, Ok, Err, OnOk, OnErr, T}
 use Rattle.std.specs.Option.{MatchOption}
 use Rattle.std.specs.BTreeMap.{insert_entry, is_at}
 use Rattle.std.specs.Map.{lookup, remove_entry, set_value}
 use Rattle.std.specs.Cmp.{IsTotalOrder, eq_by_cmp_equiv}
-use Rattle.std.specs.FinMap.{find, put, is_sorted}
-use Rattle.std.specs.FinMap.Entries.{by_order, is_sorted-put}
-use Rattle.std.specs.Ordering.{match_ordering, eq_by_cmp, is_eq}
+use Rattle.std.specs.FinMap.{put, is_sorted}
+use Rattle.std.specs.FinMap.Entries.{is_sorted-put}
+use Rattle.std.specs.Ordering.{match_ordering, is_eq}
 use Rattle.std.specs.declared.cmp.Ordering.TheVariants.{Less, Equal, Greater}
 use Rattle.hh_num.specs.Tables.{IsTable}
+use Rattle.hh_num.proofs.TableLaws.{insert_entry-put}
 
-module _ {K V : Type 0} (R : K → K → Ordering) where
-  pub lookup-find : (k : K) (es : List (K × V)) → lookup (is_at (R k)) es ≡ find R k es
-  lookup-find k [] = refl
-  lookup-find k (e ∷ es) = ap (cond (eq_by_cmp R k e.0) (Some e.1)) (lookup-find k es)
-
-  pub insert_entry-put : (k : K) (v : V) (es : List (K × V)) → insert_entry R es k v ≡ put R k v es
-  insert_entry-put k v [] = refl
-  insert_entry-put k v (e ∷ es) = elim (R k e.0) as (λ o.
-      match_ordering o ((k, v) ∷ e ∷ es) ((e.0, v) ∷ es) (e ∷ insert_entry R es k v) ≡ by_order o ((k, v) ∷ e ∷ es) ((e.0, v) ∷ es) (e ∷ put R k v es)) [
-        | Less ↦ refl
-        | Equal ↦ refl
-        | Greater ↦ ap (λ more. e ∷ more) (insert_entry-put k v es)
-      ]
-
-pub true_from : (b : Bool) → T b → b ≡ true
+true_from : (b : Bool) → T b → b ≡ true
 true_from true h = refl
 true_from false h = absurd h
 

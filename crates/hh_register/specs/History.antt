@@ -31,6 +31,10 @@ pub record Accepted : Type 0 where
   pub moment : ℤ
   pub row : Row
 
+-- a row that came at a moment, if it is accepted
+abbrev pub accepted_at : ℤ → Row → Accepted
+accepted_at moment r = record { moment = moment; row = r }
+
 -- all accepted rows, in the order of acceptance
 abbrev pub History : Type 0
 History = List Accepted

@@ -2,8 +2,9 @@
 use Rattle.std.specs.Prelude.{◌≡◌, ℕ, List, [], filter, All, Option, Some, None, Result, Ok, Err}
 use Rattle.std.specs.FinMap.{find}
 use Rattle.std.specs.Ordering.{eq_by_cmp}
+use Rattle.jiff.specs.Types.{TimeZone}
 use Rattle.hh_num.specs.Tables.{Table}
-use Rattle.hh_time.specs.Days.{Midnights}
+use Rattle.hh_time.specs.Zone.{midnight_in}
 use Rattle.hh_rules.specs.Accounts.{bytes_cmp}
 use Rattle.hh_rules.specs.Faults.{plain_fault}
 use Rattle.hh_rules.specs.declared.fault.Fault.{Fault}
@@ -22,9 +23,9 @@ pub record RegisterView : Type 0 where
   pub lead_minutes : ℕ
   pub standing : Standing
 
--- when local midnights fall, and the register's lead
-abbrev pub calendar_of : Midnights → RegisterView → Calendar
-calendar_of midnight register = record { midnight = midnight; lead_minutes = register.lead_minutes }
+-- when local midnights fall in a zone, and the register's lead
+abbrev pub calendar_in : TimeZone → RegisterView → Calendar
+calendar_in zone register = record { midnight = midnight_in zone; lead_minutes = register.lead_minutes }
 
 -- the answer to a row that is refused for a reason, or for none
 abbrev pub judged : Option Refusal → Result (Unit {0}) Fault

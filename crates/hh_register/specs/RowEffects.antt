@@ -1,16 +1,18 @@
 -- What one more row may change.
-use Rattle.std.specs.Prelude.{◌≡◌, ℕ, List, [], ◌∷◌, ◌++◌, true, Some, is_some, if◌then◌else◌}
+use Rattle.std.specs.Prelude.{◌≡◌, ℕ, List, [], ◌∷◌, ◌++◌, true, Some, None, is_some, if◌then◌else◌}
 use Rattle.std.specs.declared.cmp.Ordering.{Ordering}
 use Rattle.std.specs.FinMap.{find}
 use Rattle.std.specs.Ordering.{eq_by_cmp}
 use Rattle.hh_num.specs.Tables.{Table}
 use Rattle.hh_rules.specs.Accounts.{bytes_cmp}
-use Rattle.hh_rows.specs.Keys.{contract_key_cmp, reallocation_key_cmp}
+use Rattle.hh_rows.specs.Keys.{contract_key_cmp, reallocation_key_cmp, settlement_period_cmp, unit_period_cmp}
 use Rattle.hh_rows.specs.declared.rows.ContractRow.{ContractRow}
+use Rattle.hh_rows.specs.declared.rows.MeterRow.{MeterRow}
+use Rattle.hh_rows.specs.declared.rows.PriceRow.{PriceRow}
 use Rattle.hh_rows.specs.declared.rows.ReallocationRow.{ReallocationRow}
 use Rattle.hh_rows.specs.declared.rows.Row.TheVariants as row
-use Rattle.hh_register.specs.declared.apply.RowDone.{RowDone}
-use Rattle.hh_register.specs.declared.apply.RowDone.TheVariants.{Applied, Late}
+use Rattle.hh_register.specs.declared.row_done.RowDone.{RowDone}
+use Rattle.hh_register.specs.declared.row_done.RowDone.TheVariants.{Applied, Late}
 use Rattle.hh_register.specs.History.{Calendar, Accepted, History, Registered, registered_in}
 use Rattle.hh_register.specs.RowRule.{Standing, whole_standing}
 
@@ -36,10 +38,14 @@ KeepsReferences old new =
 pub record IsOneMoreRow (cal : Calendar) (a : Accepted) (done : RowDone) (old new : Standing) : Type 0 where
   -- a late row changes no row in force
   pub late : done ≡ Late → KeepsRowsInForce old.tables new.tables
-  -- a row in time replaces exactly the row of its key
+  -- a row in time replaces exactly the row of its key; readings and prices are never late
+  pub meter : (r : MeterRow) → a.row ≡ row.Meter r → ReplacesRowOf unit_period_cmp r.key r.reading old.tables.meters new.tables.meters
+  pub price : (r : PriceRow) → a.row ≡ row.Price r → ReplacesRowOf settlement_period_cmp r.at r.price old.tables.prices new.tables.prices
   pub contract : (r : ContractRow) → a.row ≡ row.Contract r → done ≡ Applied → ReplacesRowOf contract_key_cmp r.key r.volume old.tables.contracts new.tables.contracts
   pub reallocation : (r : ReallocationRow) → a.row ≡ row.Reallocation r → done ≡ Applied → ReplacesRowOf reallocation_key_cmp r.key r.reallocation old.tables.reallocations new.tables.reallocations
-  -- the first row of a reference fixes its seller and buyer
+  -- the first row of a reference fixes its seller and buyer, also where it is late, and no row moves them
+  pub fixes : (r : ContractRow) → a.row ≡ row.Contract r → find bytes_cmp r.key.reference old.tables.references ≡ None
+      → find bytes_cmp r.key.reference new.tables.references ≡ Some r.counterparties
   pub references : KeepsReferences old.tables new.tables
   -- what a history stands for becomes what the history with this row stands for
   pub looks_back : (history : History) → old ≡ whole_standing (registered_in cal history) → new ≡ whole_standing (registered_in cal (history ++ a ∷ []))

@@ -1,14 +1,16 @@
 -- The rule by which a row is accepted or refused, and what an accepted row changes.
-use Rattle.std.specs.Prelude.{◌≡◌, ℕ, ◌+◌, nat_le, ℤ, pos, ◌+ℤ◌, int_lt, List, [], ◌∷◌, ◌++◌, length, Bool, true, false, not, ◌&&◌, ◌||◌, if◌then◌else◌, Option, Some, None, is_some, is_none}
+use Rattle.std.specs.Prelude.{◌≡◌, ℕ, ◌+◌, ◌≤◌, nat_le, ℤ, pos, ◌+ℤ◌, int_lt, List, [], ◌∷◌, ◌++◌, length, Bool, true, false, not, ◌&&◌, ◌||◌, if◌then◌else◌, Option, Some, None, is_some, is_none}
 use Rattle.std.specs.declared.cmp.Ordering.{Ordering}
 use Rattle.std.specs.Ordering.{eq_by_cmp}
 use Rattle.std.specs.FinMap.{find, put}
+use Rattle.std.specs.List.{AllByRecursion}
 use Rattle.hh_num.specs.Totals.{total}
 use Rattle.hh_num.specs.Tables.{Table}
 use Rattle.hh_time.specs.Days.{has_period}
 use Rattle.hh_rules.specs.declared.fault.Refusal.{Refusal}
 use Rattle.hh_rules.specs.declared.fault.Refusal.TheVariants as refusal
 use Rattle.hh_rules.specs.Accounts.{bytes_cmp, is_same_account}
+use Rattle.hh_rules.specs.Faults.{refusal_number}
 use Rattle.hh_rows.specs.DateRanges.{holds, is_inside}
 use Rattle.hh_rows.specs.Keys.{settlement_period_cmp, unit_period_cmp, contract_key_cmp, reallocation_key_cmp}
 use Rattle.hh_rows.specs.declared.keys.ReallocationKey.{ReallocationKey}
@@ -58,6 +60,10 @@ is_some_that test (Some x) = test x
 abbrev pub first_met : List (Refusal × Bool) → Option Refusal
 first_met [] = None
 first_met (r ∷ rs) = if r.1 then Some r.0 else first_met rs
+
+-- of the refusals of a list whose conditions are met, none has a lesser number
+abbrev pub IsLeast : Refusal → List (Refusal × Bool) → Type 0
+IsLeast least rs = AllByRecursion (λ r. r.1 ≡ true → refusal_number least ≤ refusal_number r.0) rs
 
 abbrev pub is_same_mark : Bool → Bool → Bool
 is_same_mark true mark = mark
@@ -140,16 +146,20 @@ module _ (cal : Calendar) (standing : Standing) where
       ∷ (refusal.OverHundred, in_time && int_lt hundred_percent (percent_of_others r.key +ℤ r.reallocation.percent))
       ∷ []
 
-  -- why a row that comes at its moment is refused, if it is
-  abbrev pub refusal_of : Accepted → Option Refusal
-  refusal_of a = first_met (elim a.row [
+  -- those of a row that comes at its moment
+  abbrev pub refusals_of : Accepted → List (Refusal × Bool)
+  refusals_of a = elim a.row [
     | row.Party r ↦ party_refusals r
     | row.Unit r ↦ unit_refusals r
     | row.Meter r ↦ meter_refusals r
     | row.Price r ↦ price_refusals r
     | row.Contract r ↦ contract_refusals r
     | row.Reallocation r ↦ reallocation_refusals (is_in_time cal a) r
-  ])
+  ]
+
+  -- why it is refused, if it is
+  abbrev pub refusal_of : Accepted → Option Refusal
+  refusal_of a = first_met (refusals_of a)
 
 -- the table with an entry, if there is one, in the place of its key's
 abbrev pub put_entry : {K V : Type 0} → (K → K → Ordering) → Option (K × V) → Table K V → Table K V

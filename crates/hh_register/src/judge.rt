@@ -1,19 +1,23 @@
 //! Why a row is refused: the rules of each kind, in the order of their numbers.
 
-ghost use Rattle.std.specs.Prelude.{◌≡◌, ◌∷◌, [], Bool, true, false, not, ◌&&◌, if◌then◌else◌, Some, None, ◌+ℤ◌, int_lt};
+ghost use Rattle.std.specs.Prelude.{◌≡◌, ◌∷◌, [], ℤ, ◌+ℤ◌, int_lt, Bool, true, false, not, ◌&&◌, if◌then◌else◌, Some, None, Ok, Err, IfErr};
+ghost use Rattle.jiff.specs.Words.{plain_zone};
 ghost use Rattle.hh_rules.specs.declared.fault.Refusal.TheVariants.{NoSuchPeriod, OverHundred, ShrinksRange, UnitMoved};
 ghost use Rattle.hh_time.specs.Days as days;
 ghost use Rattle.hh_rules.specs.Accounts.{is_same_account};
 ghost use Rattle.hh_rows.specs.DateRanges.{is_inside};
-ghost use Rattle.hh_register.specs.History.{Calendar};
-ghost use Rattle.hh_register.specs.RowRule.{contract_refusals, first_met, hundred_percent, is_same_mark, percent_of_others, meter_refusals, party_refusals, price_refusals, reallocation_refusals, unit_refusals};
+ghost use Rattle.hh_register.specs.History.{Calendar, accepted_at, is_in_time};
+ghost use Rattle.hh_register.specs.Judging.{has_its_period};
+ghost use Rattle.hh_register.specs.RegisterView.{calendar_in, judged};
+ghost use Rattle.hh_register.specs.RowRule.{contract_refusals, first_met, hundred_percent, is_same_mark, percent_of_others, meter_refusals, party_refusals, price_refusals, reallocation_refusals, refusal_of, refusals_of, unit_refusals, IsLeast};
 
 use crate::register::Register;
 use crate::timing::Timing;
 use hh_rows::{
-    ContractRow, MeterRow, PartyRow, PriceRow, ReallocationRow, UnitRegistration, UnitRow,
+    ContractRow, MeterRow, PartyRow, PriceRow, ReallocationRow, Row, UnitRegistration, UnitRow,
 };
-use hh_rules::Refusal;
+use hh_rules::{Fault, Refusal};
+use jiff::tz::TimeZone;
 
 /// How many parties there may be.
 const MOST_PARTIES: u32 = 400;
@@ -25,6 +29,34 @@ const MOST_UNITS: u32 = 2000;
 const HUNDRED_PERCENT: i64 = 10_000_000;
 
 impl Register {
+    /// Whether a row that comes at a moment, in seconds since 1970-01-01T00:00:00Z, would be accepted,
+    /// and why not: refusals 30 to 42, of which the least number wins (profile). Takes no memory.
+    pub fn check_row(&self, zone: &TimeZone<'_>, moment: i64, row: &Row) -> Result<(), Fault>
+        ensures answer { result ≡ judged (refusal_of (calendar_in (plain_zone zone.now) self.now) self.now.standing (accepted_at moment row.now)) }
+        ensures least { IfErr result (λ fault. IsLeast fault.refusal (refusals_of (calendar_in (plain_zone zone.now) self.now) self.now.standing (accepted_at moment row.now))) }
+    {
+        match self.refusal_of(self.timing_of(zone, moment, row), row) {
+            Some(refusal) => Err(Fault::of(refusal)),
+            None => Ok(()),
+        }
+    }
+
+    /// Why a row is refused, if it is.
+    pub(crate) fn refusal_of(&self, timing: Timing, row: &Row) -> Option<Refusal>
+        ensures { (cal : Calendar) (moment : ℤ) → timing.has_period ≡ has_its_period cal.midnight row.now
+            → (timing.has_period ≡ true → timing.in_time ≡ is_in_time cal (accepted_at moment row.now))
+            → result ≡ refusal_of cal self.now.standing (accepted_at moment row.now) }
+    {
+        match row {
+            Row::Party(row) => self.refusal_of_party(row),
+            Row::Unit(row) => self.refusal_of_unit(row),
+            Row::Meter(row) => self.refusal_of_meter(timing.has_period, row),
+            Row::Price(row) => self.refusal_of_price(timing.has_period, row),
+            Row::Contract(row) => self.refusal_of_contract(timing.has_period, row),
+            Row::Reallocation(row) => self.refusal_of_reallocation(timing, row),
+        }
+    }
+
     /// Why a row of parties is refused, if it is.
     pub(crate) fn refusal_of_party(&self, row: &PartyRow) -> Option<Refusal>
         ensures { (cal : Calendar) → result ≡ first_met (party_refusals cal self.now.standing row.now) }

@@ -2,14 +2,14 @@
 //! accepted or refused.
 #![tactic(auto)]
 
-mod apply;
 mod judge;
 mod register;
+mod row_done;
 mod timing;
 mod tree_table;
 
-pub use apply::RowDone;
 pub use register::Register;
+pub use row_done::RowDone;
 
 #[cfg(test)]
 mod tests;

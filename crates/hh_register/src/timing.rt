@@ -4,9 +4,12 @@ ghost use Rattle.std.specs.Prelude.{◌≡◌, true};
 ghost use Rattle.jiff.specs.Words.{plain_zone};
 ghost use Rattle.hh_time.specs.Days as days;
 ghost use Rattle.hh_time.specs.Zone.{midnight_in};
-ghost use Rattle.hh_register.specs.History.{is_before_deadline};
+ghost use Rattle.hh_register.specs.History.{accepted_at, is_before_deadline, is_in_time};
+ghost use Rattle.hh_register.specs.Judging.{has_its_period};
+ghost use Rattle.hh_register.specs.RegisterView.{calendar_in};
 
-use hh_rows::{LeadMinutes, SettlementPeriod};
+use crate::register::Register;
+use hh_rows::{LeadMinutes, Row, SettlementPeriod};
 use hh_time::{Day, deadline};
 use jiff::tz::TimeZone;
 
@@ -27,6 +30,28 @@ impl Timing {
         Timing {
             in_time: true,
             ..self
+        }
+    }
+}
+
+impl Register {
+    /// Whether the Settlement Period of a row is there, and whether the row comes in time for it. Rows
+    /// of parties and units have none, and only contracts and reallocations are ever late.
+    pub(crate) fn timing_of(&self, zone: &TimeZone<'_>, moment: i64, row: &Row) -> Timing
+        ensures period { result.has_period ≡ has_its_period (midnight_in (plain_zone zone.now)) row.now }
+        ensures in_time { result.has_period ≡ true → result.in_time ≡ is_in_time (calendar_in (plain_zone zone.now) self.now) (accepted_at moment row.now) }
+    {
+        match row {
+            Row::Party(_) | Row::Unit(_) => Timing {
+                has_period: true,
+                in_time: true,
+            },
+            Row::Meter(row) => timing_of(row.key.at, zone, self.lead(), moment).never_late(),
+            Row::Price(row) => timing_of(row.at, zone, self.lead(), moment).never_late(),
+            Row::Contract(row) => timing_of(row.key.at, zone, self.lead(), moment),
+            Row::Reallocation(row) => {
+                timing_of(row.key.unit_period.at, zone, self.lead(), moment)
+            }
         }
     }
 }

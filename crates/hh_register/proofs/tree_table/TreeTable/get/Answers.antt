@@ -1,6 +1,6 @@
 use Rattle.std.proofs.Common.{◌∙◌, ap}
 use Rattle.std.specs.FinMap.{find}
-use Rattle.hh_register.proofs.TableFacts.{lookup-find}
+use Rattle.hh_num.proofs.TableLaws.{lookup-find}
 use Rattle.hh_register.proofs.tree_table.TreeTable.get.Goals as goal
 
 pub returns-clause-value : goal.returns-clause-value

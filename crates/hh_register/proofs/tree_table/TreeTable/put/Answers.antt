@@ -1,6 +1,7 @@
 use Rattle.std.proofs.Common.{◌∙◌, ap}
 use Rattle.std.specs.FinMap.{put}
-use Rattle.hh_register.proofs.TableFacts.{insert_entry-put, put_table}
+use Rattle.hh_num.proofs.TableLaws.{insert_entry-put}
+use Rattle.hh_register.proofs.TableFacts.{put_table}
 use Rattle.hh_register.proofs.tree_table.TreeTable.put.Goals as goal
 
 pub invariant_of-self-2 : goal.invariant_of-self-2
