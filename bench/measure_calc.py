@@ -21,9 +21,9 @@ def build_peer(folder):
     return built
 
 
-def settled(program, times):
-    """The checksum that a program prints, and the median of its times in milliseconds."""
-    done = subprocess.run([str(program), str(times)], capture_output=True, text=True, check=True)
+def settled(command, times):
+    """The checksum that a command prints, and the median of its times in milliseconds."""
+    done = subprocess.run([*command, str(times)], capture_output=True, text=True, check=True)
     return done.stdout.strip(), statistics.median(int(line) for line in done.stderr.split()) / 1e6
 
 
@@ -35,16 +35,16 @@ def main():
     arguments = parser.parse_args()
     program = pathlib.Path(arguments.program).resolve()
     if not program.is_file():
-        sys.exit(f"no program at {program}: build it by `rt run -- 1` in crates/hh_bench")
+        sys.exit(f"no program at {program}: build it by `rt run -- settle 1` in crates/hh_bench")
     if arguments.rounds < 1 or arguments.times < 1:
         sys.exit("--rounds and --times are at least 1")
     with tempfile.TemporaryDirectory() as name:
-        programs = {"settle_period": program, "Rust peer": build_peer(pathlib.Path(name))}
-        medians = {name: [] for name in programs}
+        commands = {"settle_period": [str(program), "settle"], "Rust peer": [str(build_peer(pathlib.Path(name)))]}
+        medians = {name: [] for name in commands}
         checksums = set()
         for _ in range(arguments.rounds):
-            for name, built in programs.items():
-                checksum, median = settled(built, arguments.times)
+            for name, command in commands.items():
+                checksum, median = settled(command, arguments.times)
                 checksums.add(checksum)
                 medians[name].append(median)
     if len(checksums) != 1:

@@ -22,10 +22,10 @@ fn mixed_credit(sum: u64, row: &CreditRow) -> u64 {
     mixed(sum, row.credited.units())
 }
 
-/// A checksum with one amount more.
-fn mixed(sum: u64, amount: i64) -> u64 {
+/// A checksum with one number more.
+pub(crate) fn mixed(sum: u64, number: i64) -> u64 {
     let sum = sum.wrapping_mul(1_099_511_628_211);
-    sum.wrapping_add(amount.unsigned_abs())
+    sum.wrapping_add(number.unsigned_abs())
         .wrapping_mul(2)
-        .wrapping_add(u64::from(amount < 0))
+        .wrapping_add(u64::from(number < 0))
 }

@@ -1,54 +1,55 @@
-//! The program `hh_bench`: settles a period of the market's size again and again.
+//! The program `hh_bench`: what is measured, each in a command of its own.
 //!
-//! It is called with how many times. It prints a checksum of what was settled, and on standard error
-//! the nanoseconds that each time took.
+//! - `settle TIMES` settles a period of the market's size so often.
+//! - `read KIND FILE TIMES` reads a file of a kind so often.
+//! - `load KIND FILE ..` reads files and applies their rows to a new register.
+//!
+//! What was done goes to standard output, and the nanoseconds that it took to standard error.
 #![tactic(auto)]
 
 mod checksum;
 mod draw;
 mod generated;
+mod load;
+mod read;
+mod row_checksum;
+mod settle;
+mod stop;
+mod watch;
+mod words;
 
-use checksum::checksum_of;
-use generated::generated_period;
-use hh_calc::{PeriodData, settle_period};
+use load::load_files;
+use read::read_again;
+use settle::settle_again;
 use std::env;
-use std::io::{Eprint, Print};
+use std::io::{Eprint, ErrorKind, Print};
 use std::process::ExitCode;
-use std::rt::{Clock, Env};
-use std::time::Instant;
+use std::rt::{Clock, Env, Files};
+use stop::{Stop, tell};
+use words::{Command, read_words};
 
 fn main(rt: HostRuntime) -> ExitCode {
-    match measure(&rt) {
-        Some(()) => ExitCode::SUCCESS,
-        None => ExitCode::FAILURE,
+    match run(&rt) {
+        Ok(()) => ExitCode::SUCCESS,
+        Err(stop) => ExitCode::from(tell(&rt, stop)),
     }
 }
 
-/// Settles the generated period as often as the program's word says, and prints the checksum of the
-/// last time.
-fn measure<R: Env + Clock + Print + Eprint + AllocGlobal>(rt: &R) -> Option<()> {
-    let times = times_asked(rt)?;
-    let period = generated_period(rt.alloc())?;
-    let mut checksum = 0;
-    for _ in 0..times {
-        checksum = settle_once(rt, &period)?;
+/// Does what the program's words ask for.
+fn run<R: Env + Files + Clock + Print + Eprint + AllocGlobal>(rt: &R) -> Result<(), Stop> {
+    let words = words_of(rt)?;
+    match read_words(rt.alloc(), &words)? {
+        Command::Settle { times } => settle_again(rt, times),
+        Command::Read { file, times } => read_again(rt, file, times),
+        Command::Load { files } => load_files(rt, &files),
     }
-    println!(rt; "{checksum}").ok()
 }
 
-fn times_asked<R: Env + AllocGlobal>(rt: &R) -> Option<u32> {
-    let words: Vec<String> = env::args(rt).ok()?.collect(rt.alloc()).ok()?;
-    words.get(1)?.parse().ok()
-}
-
-/// Settles the period, if it may be settled, and prints the nanoseconds that it took.
-fn settle_once<R: Clock + Eprint + AllocGlobal>(rt: &R, period: &PeriodData) -> Option<u64> {
-    if !period.is_ready() {
-        return None;
+/// The program's words, its own name in front.
+fn words_of<R: Env + AllocGlobal>(rt: &R) -> Result<Vec<String>, Stop> {
+    match env::args(rt) {
+        Ok(words) => Ok(words.collect(rt.alloc())?),
+        Err(error) if error.kind() == ErrorKind::OutOfMemory => Err(Stop::no_memory()),
+        Err(_) => Err(Stop::Words),
     }
-    let begin = Instant::now(rt).ok()?;
-    let settled = settle_period(rt.alloc(), period).ok()?;
-    let taken = begin.elapsed(rt).ok()?;
-    eprintln!(rt; "{}", taken.as_nanos()).ok()?;
-    Some(checksum_of(&settled))
 }

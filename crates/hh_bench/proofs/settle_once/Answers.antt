@@ -1,5 +1,0 @@
-use Rattle.std.proofs.Common.{refl}
-use Rattle.hh_bench.proofs.settle_once.Goals as goal
-
-pub settle_period-requires-clause-named : goal.settle_period-requires-clause-named
-settle_period-requires-clause-named g c = (c.if-not-is_ready.ensures.0 refl).1

@@ -1,0 +1,90 @@
+//! A number that tells lists of rows apart.
+
+use crate::checksum::mixed;
+use hh_rows::{
+    ContractRow, DateRange, MeterRow, PartyRow, PriceRow, ReallocationRow, Row, SettlementPeriod,
+    UnitPeriod, UnitRow,
+};
+use hh_rules::{Account, Side};
+
+/// The checksum of all fields of the rows, in their order.
+pub(crate) fn checksum_of_rows(rows: &[Row]) -> u64 {
+    rows.iter().fold(0, mixed_row)
+}
+
+fn mixed_row(sum: u64, row: &Row) -> u64 {
+    match row {
+        Row::Party(row) => mixed_party(sum, row),
+        Row::Unit(row) => mixed_unit(sum, row),
+        Row::Meter(row) => mixed_meter(sum, row),
+        Row::Price(row) => mixed_price(sum, row),
+        Row::Contract(row) => mixed_contract(sum, row),
+        Row::Reallocation(row) => mixed_reallocation(sum, row),
+    }
+}
+
+fn mixed_party(sum: u64, row: &PartyRow) -> u64 {
+    let sum = mixed_bytes(sum, row.party.as_bytes());
+    let sum = mixed_range(sum, row.registration.range);
+    mixed_bytes(sum, row.registration.key.as_bytes())
+}
+
+fn mixed_unit(sum: u64, row: &UnitRow) -> u64 {
+    let sum = mixed_bytes(sum, row.unit.as_bytes());
+    let sum = mixed_account(sum, row.registration.lead);
+    let sum = mixed(sum, i64::from(row.registration.interconnector));
+    mixed_range(sum, row.registration.range)
+}
+
+fn mixed_meter(sum: u64, row: &MeterRow) -> u64 {
+    let sum = mixed_unit_period(sum, row.key);
+    let sum = mixed(sum, row.reading.metered.units());
+    let sum = mixed(sum, row.reading.tlm.units());
+    mixed(sum, row.reading.balancing.units())
+}
+
+fn mixed_price(sum: u64, row: &PriceRow) -> u64 {
+    let sum = mixed_period(sum, row.at);
+    mixed(sum, row.price.units())
+}
+
+fn mixed_contract(sum: u64, row: &ContractRow) -> u64 {
+    let sum = mixed_bytes(sum, row.key.reference.as_bytes());
+    let sum = mixed_account(sum, row.counterparties.seller);
+    let sum = mixed_account(sum, row.counterparties.buyer);
+    let sum = mixed_period(sum, row.key.at);
+    mixed(sum, row.volume.units())
+}
+
+fn mixed_reallocation(sum: u64, row: &ReallocationRow) -> u64 {
+    let sum = mixed_unit_period(sum, row.key.unit_period);
+    let sum = mixed_account(sum, row.key.account);
+    let sum = mixed(sum, row.reallocation.percent.units());
+    mixed(sum, row.reallocation.fixed.units())
+}
+
+fn mixed_unit_period(sum: u64, key: UnitPeriod) -> u64 {
+    let sum = mixed_bytes(sum, key.unit.as_bytes());
+    mixed_period(sum, key.at)
+}
+
+fn mixed_period(sum: u64, at: SettlementPeriod) -> u64 {
+    let sum = mixed(sum, i64::from(at.date.number()));
+    mixed(sum, i64::from(at.number.number()))
+}
+
+fn mixed_range(sum: u64, range: DateRange) -> u64 {
+    let sum = mixed(sum, i64::from(range.from().number()));
+    mixed(sum, i64::from(range.to().number()))
+}
+
+fn mixed_account(sum: u64, account: Account) -> u64 {
+    let sum = mixed_bytes(sum, account.party.as_bytes());
+    mixed(sum, i64::from(account.side == Side::Consumption))
+}
+
+fn mixed_bytes(sum: u64, bytes: &[u8]) -> u64 {
+    bytes
+        .iter()
+        .fold(sum, |sum, byte| mixed(sum, i64::from(*byte)))
+}

@@ -1,0 +1,27 @@
+//! The clock that measures.
+
+use crate::stop::Stop;
+use std::io::Eprint;
+use std::rt::Clock;
+use std::time::Instant;
+
+/// When something began that is measured.
+#[derive(Clone, Copy)]
+pub(crate) struct Watch {
+    begin: Instant,
+}
+
+impl Watch {
+    /// It begins now.
+    pub(crate) fn start<R: Clock>(rt: &R) -> Result<Watch, Stop> {
+        Ok(Watch {
+            begin: Instant::now(rt)?,
+        })
+    }
+
+    /// It ends now: prints on standard error the nanoseconds that it took.
+    pub(crate) fn stop<R: Clock + Eprint>(self, rt: &R) -> Result<(), Stop> {
+        let taken = self.begin.elapsed(rt)?;
+        eprintln!(rt; "{}", taken.as_nanos()).map_err(|_| Stop::Output)
+    }
+}

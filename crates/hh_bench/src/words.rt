@@ -1,0 +1,81 @@
+//! The words of the command line.
+
+use crate::stop::Stop;
+use hh_rows::FileKind;
+use std::alloc::Global;
+
+/// What the program is to do.
+#[derive(Drop)]
+pub(crate) enum Command<'a> {
+    Settle { times: u32 },
+    Read { file: NamedFile<'a>, times: u32 },
+    Load { files: Vec<NamedFile<'a>> },
+}
+
+/// A file that the words name, and what its rows are.
+#[derive(Clone, Copy)]
+pub(crate) struct NamedFile<'a> {
+    pub(crate) kind: FileKind,
+    pub(crate) path: &'a str,
+}
+
+/// Reads a line of words, the program's own name in front.
+pub(crate) fn read_words(alloc: Global, words: &[String]) -> Result<Command<'_>, Stop> {
+    let [_, command, given @ ..] = words else {
+        return Err(Stop::Words);
+    };
+    match command.as_str() {
+        "settle" => settle_of(given),
+        "read" => read_of(given),
+        "load" => load_of(alloc, given),
+        _ => Err(Stop::Words),
+    }
+}
+
+fn settle_of(words: &[String]) -> Result<Command<'_>, Stop> {
+    match words {
+        [times] => Ok(Command::Settle {
+            times: number_of(times)?,
+        }),
+        _ => Err(Stop::Words),
+    }
+}
+
+fn read_of(words: &[String]) -> Result<Command<'_>, Stop> {
+    match words {
+        [file @ .., times] => Ok(Command::Read {
+            file: file_of(file)?,
+            times: number_of(times)?,
+        }),
+        _ => Err(Stop::Words),
+    }
+}
+
+fn load_of(alloc: Global, words: &[String]) -> Result<Command<'_>, Stop> {
+    if words.is_empty() {
+        return Err(Stop::Words);
+    }
+    let mut files = Vec::new(alloc);
+    for pair in words.chunks(2) {
+        files.push(file_of(pair)?)?;
+    }
+    Ok(Command::Load { files })
+}
+
+/// The file that a kind's word and a path name.
+fn file_of(words: &[String]) -> Result<NamedFile<'_>, Stop> {
+    match words {
+        [kind, path] => Ok(NamedFile {
+            kind: FileKind::read(kind.as_bytes()).ok_or(Stop::Words)?,
+            path: path.as_str(),
+        }),
+        _ => Err(Stop::Words),
+    }
+}
+
+fn number_of(word: &String) -> Result<u32, Stop> {
+    match word.parse() {
+        Ok(number) => Ok(number),
+        Err(_) => Err(Stop::Words),
+    }
+}
