@@ -105,7 +105,7 @@ fn count_before(quotas: &[Quota], place: usize, remainder: u128) -> usize
         .iter()
         .enumerate()
         .filter(|(other, quota)| {
-            remainder < quota.remainder || (remainder == quota.remainder && *other < place)
+            (remainder < quota.remainder) | ((remainder == quota.remainder) & (*other < place))
         })
         .count()
 }
