@@ -104,10 +104,12 @@ fn count_before(quotas: &[Quota], place: usize, remainder: u128) -> usize
     quotas
         .iter()
         .enumerate()
-        .filter(|(other, quota)| {
-            (remainder < quota.remainder) | ((remainder == quota.remainder) & (*other < place))
+        .map(|(other, quota)| {
+            usize::from(
+                (remainder < quota.remainder) | ((remainder == quota.remainder) & (other < place)),
+            )
         })
-        .count()
+        .sum()
 }
 
 /// The size of a share: its whole pence, and one more where fewer come before it than pence are left.
