@@ -676,3 +676,11 @@ fn reads_so_many_rows_of_a_kind(rt: HostRuntime) -> Result<(), Fail> {
     price_line_gives(&rt, 1_048_577, Refusal::FileTooLarge)?;
     Ok(())
 }
+
+#[test]
+fn a_kind_is_a_form(rt: HostRuntime) -> Result<(), Fail> {
+    let text = joined(&rt, &[PRICES, b"2024-07-01,1,50\n"])?;
+    let rows = read_rows(rt.alloc(), &FileKind::Prices, &text).map(|rows| rows.len());
+    assert_eq!(rt; rows, Ok(1));
+    Ok(())
+}
