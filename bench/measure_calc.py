@@ -5,20 +5,13 @@ usage: measure_calc.py [PROGRAM] [--rounds 7] [--times 50]
 PROGRAM is the built program hh_bench, by default crates/hh_bench/out/hh_bench at the top of this repository.
 Each round starts both programs, and each program settles its period so many times and tells the time of each.
 The checksums of what they settled are compared. It needs `rustc`."""
-import argparse
 import pathlib
 import statistics
 import subprocess
 import sys
 import tempfile
 
-BENCH = pathlib.Path(__file__).resolve().parent
-
-
-def build_peer(folder):
-    built = folder / "peer_calc"
-    subprocess.run(["rustc", "-O", "-o", str(built), str(BENCH / "peer_calc.rs")], check=True)
-    return built
+from measuring import build_rust_peer, print_table, read_words
 
 
 def settled(command, times):
@@ -28,18 +21,10 @@ def settled(command, times):
 
 
 def main():
-    parser = argparse.ArgumentParser(description=__doc__, formatter_class=argparse.RawDescriptionHelpFormatter)
-    parser.add_argument("program", nargs="?", default=str(BENCH.parent / "crates/hh_bench/out/hh_bench"))
-    parser.add_argument("--rounds", type=int, default=7)
-    parser.add_argument("--times", type=int, default=50)
-    arguments = parser.parse_args()
-    program = pathlib.Path(arguments.program).resolve()
-    if not program.is_file():
-        sys.exit(f"no program at {program}: build it by `rt run -- settle 1` in crates/hh_bench")
-    if arguments.rounds < 1 or arguments.times < 1:
-        sys.exit("--rounds and --times are at least 1")
+    arguments = read_words(__doc__, "hh_bench", times=50)
     with tempfile.TemporaryDirectory() as name:
-        commands = {"settle_period": [str(program), "settle"], "Rust peer": [str(build_peer(pathlib.Path(name)))]}
+        peer = build_rust_peer("peer_calc", pathlib.Path(name))
+        commands = {"settle_period": [arguments.program, "settle"], "Rust peer": [peer]}
         medians = {name: [] for name in commands}
         checksums = set()
         for _ in range(arguments.rounds):
@@ -50,13 +35,7 @@ def main():
     if len(checksums) != 1:
         sys.exit(f"the checksums differ: {sorted(checksums)}")
     print(f"All checksums are {checksums.pop()}.")
-    peer = statistics.median(medians["Rust peer"])
-    print()
-    print("| Program | Median, ms | Least, ms | Most, ms | To the Rust peer |")
-    print("|---|---:|---:|---:|---:|")
-    for name, taken in medians.items():
-        median = statistics.median(taken)
-        print(f"| {name} | {median:.2f} | {min(taken):.2f} | {max(taken):.2f} | {median / peer:.2f} |")
+    print_table(medians, 2)
 
 
 if __name__ == "__main__":

@@ -7,22 +7,16 @@ PROGRAM is the built program hh_bench, by default crates/hh_bench/out/hh_bench a
 The day is that of gen_day.py, and the file its largest of meter volumes. Each round starts the three
 programs, each of which reads the file so many times and tells the time of each, and then loads the
 day's files. The numbers of rows and the checksums are compared. It needs `rustc`."""
-import argparse
 import pathlib
 import statistics
 import subprocess
 import sys
 import tempfile
 
-BENCH = pathlib.Path(__file__).resolve().parent
+from measuring import BENCH, build_rust_peer, print_table, read_words
 
-
-def build_peer(folder):
-    """Built as one unit: of several, the time changed by a fifth with the name of the built file."""
-    built = folder / "peer_read"
-    options = ["-O", "-C", "codegen-units=1"]
-    subprocess.run(["rustc", *options, "-o", str(built), str(BENCH / "peer_read.rs")], check=True)
-    return str(built)
+# As one unit: of several, the time changed by a fifth with the name of the built file.
+ONE_UNIT = ["-C", "codegen-units=1"]
 
 
 def generate(folder):
@@ -57,19 +51,6 @@ def read_in_turn(commands, rounds):
     return medians
 
 
-def print_readings(medians):
-    rust, python = (statistics.median(medians[name]) for name in ("Rust peer", "Python peer"))
-    print()
-    print("| Program | Median, ms | Least, ms | Most, ms | To the Rust peer | To the Python peer |")
-    print("|---|---:|---:|---:|---:|---:|")
-    for name, taken in medians.items():
-        median = statistics.median(taken)
-        print(
-            f"| {name} | {median:.2f} | {min(taken):.2f} | {max(taken):.2f} "
-            f"| {median / rust:.2f} | {median / python:.3f} |"
-        )
-
-
 def load_once(program, files):
     """What became of the rows of each kind, and the milliseconds that they took."""
     output, taken = measured([program, "load", *(word for file in files for word in file)])
@@ -96,26 +77,18 @@ def print_loads(loads):
 
 
 def main():
-    parser = argparse.ArgumentParser(description=__doc__, formatter_class=argparse.RawDescriptionHelpFormatter)
-    parser.add_argument("program", nargs="?", default=str(BENCH.parent / "crates/hh_bench/out/hh_bench"))
-    parser.add_argument("--rounds", type=int, default=7)
-    parser.add_argument("--times", type=int, default=20)
-    arguments = parser.parse_args()
-    program = str(pathlib.Path(arguments.program).resolve())
-    if not pathlib.Path(program).is_file():
-        sys.exit(f"no program at {program}: build it by `rt run -- settle 1` in crates/hh_bench")
-    if arguments.rounds < 1 or arguments.times < 1:
-        sys.exit("--rounds and --times are at least 1")
+    arguments = read_words(__doc__, "hh_bench", times=20)
+    program = arguments.program
     with tempfile.TemporaryDirectory() as name:
         folder = pathlib.Path(name)
         files = generate(folder / "day")
         words = [largest_of_meters(files), str(arguments.times)]
         commands = {
             "read_file": [program, "read", "meters", *words],
-            "Rust peer": [build_peer(folder), *words],
+            "Rust peer": [build_rust_peer("peer_read", folder, *ONE_UNIT), *words],
             "Python peer": [sys.executable, str(BENCH / "peer_read.py"), *words],
         }
-        print_readings(read_in_turn(commands, arguments.rounds))
+        print_table(read_in_turn(commands, arguments.rounds), 2)
         print_loads([load_once(program, files) for _ in range(arguments.rounds)])
 
 
