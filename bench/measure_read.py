@@ -1,6 +1,6 @@
 #!/usr/bin/env python3
 """Measures the reading of a file, `read_file` of hh_texts, beside a Rust and a Python peer, and the
-judging and applying of a day's rows, `apply_row` of hh_register.
+judging and applying of a day's rows, `apply_row` of hh_rules.
 
 usage: measure_read.py [PROGRAM] [--rounds 7] [--times 20]
 PROGRAM is the built program hh_bench, by default crates/hh_bench/out/hh_bench at the top of this repository.

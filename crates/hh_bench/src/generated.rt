@@ -3,7 +3,7 @@
 use crate::draw::Draw;
 use hh_calc::{Contract, PeriodData, Subsidiary, UnitData, UnitVolumes};
 use hh_num::{Kwh, Percent, Price, Tlm};
-use hh_rules::{Account, UnitId};
+use hh_names::{Account, UnitId};
 use std::alloc::Global;
 
 /// Two to each of 400 parties.

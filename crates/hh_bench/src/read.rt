@@ -5,7 +5,7 @@ use crate::stop::Stop;
 use crate::watch::Watch;
 use crate::words::NamedFile;
 use hh_rows::FileKind;
-use hh_rules::Refusal;
+use hh_names::Refusal;
 use hh_texts::read_file;
 use std::fs;
 use std::io::{Eprint, Print};

@@ -5,7 +5,7 @@ use hh_rows::{
     ContractRow, DateRange, MeterRow, PartyRow, PriceRow, ReallocationRow, Row, SettlementPeriod,
     UnitPeriod, UnitRow,
 };
-use hh_rules::{Account, Side};
+use hh_names::{Account, Side};
 
 /// The checksum of all fields of the rows, in their order.
 pub(crate) fn checksum_of_rows(rows: &[Row]) -> u64 {

@@ -2,9 +2,9 @@
 //! example market; they are read by `read_file`, and their rows judged by `check_row` and applied by
 //! `apply_row`.
 
-use hh_register::{Register, RowDone};
+use hh_rules::{Register, RowDone};
 use hh_rows::{ContractKey, FileKind, LeadMinutes, Row, SettlementPeriod};
-use hh_rules::{Fault, Period, Reference, Refusal};
+use hh_names::{Fault, Period, Reference, Refusal};
 use hh_texts::read_file;
 use hh_time::{SettlementDate, london};
 use jiff::tz::TimeZone;

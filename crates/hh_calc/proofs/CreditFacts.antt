@@ -13,7 +13,7 @@ use Rattle.std.proofs.lemmas.List.Elements.{All-map, All-more, All-push, filter_
 use Rattle.hh_num.specs.Ranges.{IsBetween}
 use Rattle.hh_num.specs.Rounding.{near}
 use Rattle.hh_num.specs.Totals.{total}
-use Rattle.hh_rules.proofs.AccountLaws.{account_total, bytes_total}
+use Rattle.hh_names.proofs.AccountLaws.{account_total, bytes_total}
 use Rattle.hh_calc.specs.declared.data.Subsidiary.{Subsidiary}
 use Rattle.hh_calc.specs.declared.result.CreditRow.{CreditRow}
 use Rattle.hh_calc.specs.Formulas.{credit_cmp, credits_of, lead_credit, loss_adjusted, most_subsidiaries, subsidiary_credit, unit_credits}

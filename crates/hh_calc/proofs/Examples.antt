@@ -1,7 +1,7 @@
 -- Small reallocations, computed.
 use Rattle.std.proofs.Common.{◌≡◌, [], ◌∷◌, refl}
 use Rattle.std.specs.Prelude.{ℤ, pos, negsuc, false}
-use Rattle.hh_rules.specs.declared.account.Account.{Account}
+use Rattle.hh_names.specs.declared.account.Account.{Account}
 use Rattle.hh_calc.specs.declared.data.Subsidiary.{Subsidiary}
 use Rattle.hh_calc.specs.Formulas.{lead_credit, subsidiary_credit}
 use Rattle.hh_calc.specs.Period.{UnitPeriod}

@@ -9,9 +9,9 @@ use Rattle.std.proofs.lemmas.Bool.{cases_lt, false_from_ne_true}
 use Rattle.std.proofs.lemmas.Slice.Eq.{bytes_eq-Decides}
 use Rattle.hh_num.specs.Totals.{total}
 use Rattle.hh_num.proofs.TotalLaws.{total-append, total-filter, total-map, total-neg, total-plus, total-same, total-swap, total-zero}
-use Rattle.hh_rules.specs.declared.account.Account.{Account}
-use Rattle.hh_rules.specs.Accounts.{account_cmp, is_same_account}
-use Rattle.hh_rules.proofs.AccountLaws.{account_total}
+use Rattle.hh_names.specs.declared.account.Account.{Account}
+use Rattle.hh_names.specs.Accounts.{account_cmp, is_same_account}
+use Rattle.hh_names.proofs.AccountLaws.{account_total}
 use Rattle.hh_share.specs.Shares.{SumsTo}
 use Rattle.hh_calc.specs.declared.data.Contract.{Contract}
 use Rattle.hh_calc.specs.declared.data.Subsidiary.{Subsidiary}

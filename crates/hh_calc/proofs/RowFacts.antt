@@ -9,7 +9,7 @@ use Rattle.std.proofs.lemmas.Int.{ints, to_z-of_z, unsigned_abs-mul}
 use Rattle.hh_num.specs.Ranges.{IsBetween}
 use Rattle.std.proofs.lemmas.Bool.Decides.{nat_tests}
 use Rattle.hh_num.specs.Rounding.{near}
-use Rattle.hh_rules.specs.declared.account.Account.{Account}
+use Rattle.hh_names.specs.declared.account.Account.{Account}
 use Rattle.hh_calc.specs.Formulas.{Figures, figures_from, is_at_most}
 use Rattle.hh_calc.proofs.WordFacts.{long_word}
 

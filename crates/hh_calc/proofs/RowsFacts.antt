@@ -9,7 +9,7 @@ use Rattle.std.proofs.lemmas.Int.{ints}
 use Rattle.std.proofs.lemmas.List.{map-append, take_more}
 use Rattle.std.proofs.lemmas.List.Folds.{list_all_at, list_all_more}
 use Rattle.hh_num.specs.Totals.{total}
-use Rattle.hh_rules.specs.declared.account.Account.{Account}
+use Rattle.hh_names.specs.declared.account.Account.{Account}
 use Rattle.hh_calc.specs.Formulas.{Figures, are_within, are_accounts_within, balancing_of, credited_of, credits_of, figures, figures_from, greatest_cash, greatest_energy, net_of, weight, weight_of}
 use Rattle.hh_calc.specs.Period.{Period}
 use Rattle.hh_calc.specs.Sums.{AreSumsOver}

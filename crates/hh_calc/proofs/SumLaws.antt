@@ -13,9 +13,9 @@ use Rattle.std.proofs.lemmas.List.Elements.{All-from_recursion, All-set, All-wea
 use Rattle.std.proofs.lemmas.Int.{ints}
 use Rattle.hh_num.specs.Totals.{total}
 use Rattle.hh_num.proofs.TotalLaws.{total-append}
-use Rattle.hh_rules.specs.declared.account.Account.{Account}
-use Rattle.hh_rules.specs.Accounts.{account_cmp}
-use Rattle.hh_rules.proofs.AccountLaws.{account_total}
+use Rattle.hh_names.specs.declared.account.Account.{Account}
+use Rattle.hh_names.specs.Accounts.{account_cmp}
+use Rattle.hh_names.proofs.AccountLaws.{account_total}
 use Rattle.hh_calc.specs.Formulas.{of_account}
 use Rattle.hh_calc.specs.Sums.{sums_of, AreSumsOver}
 

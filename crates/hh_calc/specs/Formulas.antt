@@ -8,8 +8,8 @@ use Rattle.std.specs.List.Sorted.{IsStrictlySortedBy}
 use Rattle.std.specs.Str.{bytes_eq}
 use Rattle.hh_num.specs.Rounding.{near}
 use Rattle.hh_num.specs.Totals.{total}
-use Rattle.hh_rules.specs.declared.account.Account.{Account}
-use Rattle.hh_rules.specs.Accounts.{account_cmp, bytes_cmp, is_same_account}
+use Rattle.hh_names.specs.declared.account.Account.{Account}
+use Rattle.hh_names.specs.Accounts.{account_cmp, bytes_cmp, is_same_account}
 use Rattle.hh_share.specs.Shares.{shares}
 use Rattle.hh_calc.specs.declared.data.Contract.{Contract}
 use Rattle.hh_calc.specs.declared.data.Subsidiary.{Subsidiary}

@@ -1,6 +1,6 @@
 -- What contracts see of a period's data and of its settlement.
 use Rattle.std.specs.Prelude.{ℕ, ℤ, Bool, List}
-use Rattle.hh_rules.specs.declared.account.Account.{Account}
+use Rattle.hh_names.specs.declared.account.Account.{Account}
 use Rattle.hh_calc.specs.declared.data.Contract.{Contract}
 use Rattle.hh_calc.specs.declared.data.Subsidiary.{Subsidiary}
 use Rattle.hh_calc.specs.declared.result.AccountRow.{AccountRow}

@@ -1,7 +1,7 @@
 -- The sums of the accounts of a period over rows, as lists in account order.
 use Rattle.std.specs.Prelude.{◌≡◌, ℕ, ◌≤◌, ℤ, List, map, All, nat_abs}
 use Rattle.hh_num.specs.Totals.{total}
-use Rattle.hh_rules.specs.declared.account.Account.{Account}
+use Rattle.hh_names.specs.declared.account.Account.{Account}
 
 -- what each account has from all the rows
 abbrev pub sums_of : {X : Type 0} → (Account → X → ℤ) → List Account → List X → List ℤ

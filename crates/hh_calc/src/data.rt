@@ -3,7 +3,7 @@
 ghost use Rattle.std.specs.Prelude.{◌≡◌};
 
 use hh_num::{Kwh, Percent, Price, Tlm};
-use hh_rules::{Account, UnitId};
+use hh_names::{Account, UnitId};
 use std::marker::Model;
 
 /// A reallocation in force: a subsidiary account gets a percentage of a unit's metered volume less

@@ -3,11 +3,11 @@
 ghost use Rattle.std.specs.Prelude.{◌≡◌, ◌≤◌, ◌↔◌, length, All, Contains, IsTrue};
 ghost use Rattle.std.specs.List.Sorted.{IsStrictlySortedBy};
 ghost use Rattle.std.specs.declared.cmp.Ordering.TheVariants.{Less};
-ghost use Rattle.hh_rules.specs.Accounts.{account_cmp};
+ghost use Rattle.hh_names.specs.Accounts.{account_cmp};
 ghost use Rattle.hh_calc.specs.Formulas.{most_subsidiaries, AreInOrder, AreNamed, AreSubsidiariesFew};
 
 use crate::data::{Contract, PeriodData, Subsidiary, UnitData};
-use hh_rules::Account;
+use hh_names::Account;
 use std::cmp::Ordering;
 
 /// The most subsidiaries that a unit may have.

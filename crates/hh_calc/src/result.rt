@@ -3,7 +3,7 @@
 ghost use Rattle.std.specs.Prelude.{◌≡◌};
 
 use hh_num::{Pence, Ticks};
-use hh_rules::{Account, UnitId};
+use hh_names::{Account, UnitId};
 use std::alloc::{AllocError, AllocFailed};
 use std::marker::Model;
 

@@ -10,7 +10,7 @@ use crate::data::PeriodData;
 use crate::result::{AccountRow, CalcFault, CreditRow, PeriodResult};
 use crate::sums::{add_balancing, add_contracts, add_credits, add_weights};
 use hh_num::{Pence, Price, Ticks, round_div};
-use hh_rules::Account;
+use hh_names::Account;
 use hh_share::apportion;
 use std::alloc::{AllocError, Global};
 

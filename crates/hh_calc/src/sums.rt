@@ -3,13 +3,13 @@
 ghost use Rattle.std.specs.Prelude.{◌≡◌, ◌<◌, ◌≤◌, ◌^◌, ◌*◌, ◌+◌, ◌+ℤ◌, pos, length, slice_index_or, slice_set, replicate, Contains, All, nat_abs};
 ghost use Rattle.std.specs.List.{HoldsAt};
 ghost use Rattle.std.specs.List.Sorted.{IsStrictlySortedBy};
-ghost use Rattle.hh_rules.specs.Accounts.{account_cmp};
+ghost use Rattle.hh_names.specs.Accounts.{account_cmp};
 ghost use Rattle.hh_calc.specs.Formulas.{balanced, balancing_of, credited_of, net_of, weight_of};
 ghost use Rattle.hh_calc.specs.Sums.{AreSumsOver};
 
 use crate::data::{Contract, UnitData};
 use crate::result::CreditRow;
-use hh_rules::Account;
+use hh_names::Account;
 
 /// Where an account stands among the accounts.
 fn place_of(accounts: &[Account], account: &Account) -> usize

@@ -2,7 +2,7 @@
 
 use super::*;
 use hh_num::{Kwh, Percent, Price, Ticks, Tlm};
-use hh_rules::{Account, UnitId};
+use hh_names::{Account, UnitId};
 use std::alloc::Global;
 use std::test::Fail;
 

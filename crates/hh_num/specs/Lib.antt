@@ -1,11 +1,4 @@
-pub mod Devices
 pub mod Fixed
-pub mod MemorySink
-pub mod MemorySource
-pub mod Pace
 pub mod Ranges
 pub mod Rounding
-pub mod StreamSink
-pub mod StreamSource
-pub mod Tables
 pub mod Totals

@@ -8,14 +8,14 @@ use Rattle.std.specs.Map.{lookup}
 use Rattle.std.specs.FinMap.{find}
 use Rattle.std.specs.FinMap.Entries.{find-put}
 use Rattle.std.proofs.lemmas.List.{drop_more, map-append, take-append-drop, take_more}
-use Rattle.hh_num.proofs.TableLaws.{insert_entry-put, lookup-find}
-use Rattle.hh_rules.specs.declared.account.Account.{Account}
-use Rattle.hh_rules.specs.declared.fault.Fault.{Fault}
-use Rattle.hh_rules.specs.declared.fault.Refusal.{Refusal}
-use Rattle.hh_rules.specs.declared.fault.Refusal.TheVariants.{ReferenceMoved, SameAccount}
-use Rattle.hh_rules.specs.Accounts.{account_cmp, bytes_cmp, is_same_account}
-use Rattle.hh_rules.specs.Faults.{row_fault, ByRefusal}
-use Rattle.hh_rules.proofs.AccountLaws.{account_total, bytes_total, exact_accounts}
+use Rattle.hh_tables.proofs.TableLaws.{insert_entry-put, lookup-find}
+use Rattle.hh_names.specs.declared.account.Account.{Account}
+use Rattle.hh_names.specs.declared.fault.Fault.{Fault}
+use Rattle.hh_names.specs.declared.fault.Refusal.{Refusal}
+use Rattle.hh_names.specs.declared.fault.Refusal.TheVariants.{ReferenceMoved, SameAccount}
+use Rattle.hh_names.specs.Accounts.{account_cmp, bytes_cmp, is_same_account}
+use Rattle.hh_names.specs.Faults.{row_fault, ByRefusal}
+use Rattle.hh_names.proofs.AccountLaws.{account_total, bytes_total, exact_accounts}
 use Rattle.std.proofs.lemmas.Cmp.{tied_itself}
 use Rattle.std.proofs.lemmas.Map.Lookups.{exact_bytes}
 use Rattle.hh_calc.specs.declared.data.Contract.{Contract}

@@ -10,11 +10,11 @@ use Rattle.std.specs.Ordering.{match_ordering}
 use Rattle.std.specs.declared.cmp.Ordering.TheVariants.{Less, Equal, Greater}
 use Rattle.std.proofs.lemmas.List.{append-nil, append_assoc, map-append, take_more}
 use Rattle.std.proofs.lemmas.List.Concat.{flat_map-append}
-use Rattle.hh_num.specs.Tables.{table_of_last}
-use Rattle.hh_num.proofs.TableLaws.{insert_entry-put, table_of_last-append}
-use Rattle.hh_rules.specs.declared.account.Account.{Account}
-use Rattle.hh_rules.specs.Accounts.{account_cmp}
-use Rattle.hh_rules.proofs.AccountLaws.{account_total, exact_accounts}
+use Rattle.hh_tables.specs.Tables.{table_of_last}
+use Rattle.hh_tables.proofs.TableLaws.{insert_entry-put, table_of_last-append}
+use Rattle.hh_names.specs.declared.account.Account.{Account}
+use Rattle.hh_names.specs.Accounts.{account_cmp}
+use Rattle.hh_names.proofs.AccountLaws.{account_total, exact_accounts}
 use Rattle.hh_period.specs.Rows.{in_account_order}
 
 module _ {K V : Type 0} (R : K → K → Ordering) (k : K) (v : V) where

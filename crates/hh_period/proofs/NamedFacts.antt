@@ -8,11 +8,11 @@ use Rattle.std.specs.FinMap.Entries.{by_order, is_some-find}
 use Rattle.std.specs.Ordering.{eq_by_cmp, is_eq}
 use Rattle.std.specs.declared.cmp.Ordering.TheVariants.{Less, Equal, Greater}
 use Rattle.std.proofs.lemmas.List.Elements.{All-cons, All-contains_itself, All-head, All-nil, All-tail, All-weaker, Contains-append_left, Contains-append_right}
-use Rattle.hh_num.specs.Tables.{in_key_order, latest, table_of_last}
-use Rattle.hh_num.proofs.TableLaws.{find-in_key_order, is_some-find-latest}
-use Rattle.hh_rules.specs.declared.account.Account.{Account}
-use Rattle.hh_rules.specs.Accounts.{account_cmp, bytes_cmp}
-use Rattle.hh_rules.proofs.AccountLaws.{account_total, exact_accounts}
+use Rattle.hh_tables.specs.Tables.{in_key_order, latest, table_of_last}
+use Rattle.hh_tables.proofs.TableLaws.{find-in_key_order, is_some-find-latest}
+use Rattle.hh_names.specs.declared.account.Account.{Account}
+use Rattle.hh_names.specs.Accounts.{account_cmp, bytes_cmp}
+use Rattle.hh_names.proofs.AccountLaws.{account_total, exact_accounts}
 use Rattle.hh_calc.specs.declared.data.Contract.{Contract}
 use Rattle.hh_calc.specs.Period.{UnitPeriod}
 use Rattle.hh_texts.specs.declared.period_contracts.PeriodContractRow.{PeriodContractRow}

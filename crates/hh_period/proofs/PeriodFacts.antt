@@ -1,7 +1,7 @@
 -- From rows to the text of the settled period.
 use Rattle.std.proofs.Common.{◌≡◌, true, List, [], ◌∷◌, ◌++◌, map, Ok, refl, sym, ap, ◌∙◌}
 use Rattle.std.specs.List.{flat_map}
-use Rattle.hh_rules.specs.declared.account.Account.{Account}
+use Rattle.hh_names.specs.declared.account.Account.{Account}
 use Rattle.hh_calc.specs.declared.result.AccountRow.{AccountRow}
 use Rattle.hh_calc.specs.Formulas.{figures, figures_of, is_within_limits, IsSettled}
 use Rattle.hh_calc.specs.Period.{Period, Settled}

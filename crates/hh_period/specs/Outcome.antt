@@ -1,9 +1,9 @@
 -- What the inputs of `settle period` give: the text of the settled period, or the first refusal.
 use Rattle.std.specs.Prelude.{◌≡◌, ℕ, ℤ, List, Option, Some, None, Result, Ok, Err, if◌then◌else◌}
-use Rattle.hh_rules.specs.declared.fault.Fault.{Fault}
-use Rattle.hh_rules.specs.declared.fault.Refusal.TheVariants.{BadField, TooLarge}
-use Rattle.hh_rules.specs.Faults.{memory_fault, plain_fault, ByRefusal}
-use Rattle.hh_rules.specs.Fields.{price_value}
+use Rattle.hh_names.specs.declared.fault.Fault.{Fault}
+use Rattle.hh_names.specs.declared.fault.Refusal.TheVariants.{BadField, TooLarge}
+use Rattle.hh_names.specs.Faults.{memory_fault, plain_fault, ByRefusal}
+use Rattle.hh_names.specs.Fields.{price_value}
 use Rattle.hh_calc.specs.Formulas.{is_within_limits}
 use Rattle.hh_calc.specs.Period.{Period}
 use Rattle.hh_texts.specs.PeriodFiles.{period_contract_rows, period_meter_rows}

@@ -2,9 +2,9 @@
 use Rattle.std.specs.Prelude.{ℕ, ℤ, List, [], ◌∷◌, ◌++◌, codes}
 use Rattle.std.specs.List.{flat_map}
 use Rattle.hh_num.specs.Fixed.{fixed_text}
-use Rattle.hh_rules.specs.declared.account.Account.{Account}
-use Rattle.hh_rules.specs.declared.account.Side.{Side}
-use Rattle.hh_rules.specs.declared.account.Side.TheVariants.{Consumption, Production}
+use Rattle.hh_names.specs.declared.account.Account.{Account}
+use Rattle.hh_names.specs.declared.account.Side.{Side}
+use Rattle.hh_names.specs.declared.account.Side.TheVariants.{Consumption, Production}
 use Rattle.hh_calc.specs.Formulas.{Figures, figures, residual}
 use Rattle.hh_calc.specs.Period.{Period}
 

@@ -2,13 +2,13 @@
 use Rattle.std.specs.Prelude.{ℕ, ◌+◌, ℤ, List, [], ◌∷◌, ◌++◌, map, Bool, false, not, ◌&&◌, Option, Some, None, if◌then◌else◌}
 use Rattle.std.specs.FinMap.{find}
 use Rattle.std.specs.List.{flat_map}
-use Rattle.hh_num.specs.Tables.{table_of_last}
-use Rattle.hh_rules.specs.declared.account.Account.{Account}
-use Rattle.hh_rules.specs.declared.fault.Fault.{Fault}
-use Rattle.hh_rules.specs.declared.fault.Refusal.{Refusal}
-use Rattle.hh_rules.specs.declared.fault.Refusal.TheVariants.{ReferenceMoved, SameAccount}
-use Rattle.hh_rules.specs.Accounts.{account_cmp, bytes_cmp, is_same_account}
-use Rattle.hh_rules.specs.Faults.{row_fault}
+use Rattle.hh_tables.specs.Tables.{table_of_last}
+use Rattle.hh_names.specs.declared.account.Account.{Account}
+use Rattle.hh_names.specs.declared.fault.Fault.{Fault}
+use Rattle.hh_names.specs.declared.fault.Refusal.{Refusal}
+use Rattle.hh_names.specs.declared.fault.Refusal.TheVariants.{ReferenceMoved, SameAccount}
+use Rattle.hh_names.specs.Accounts.{account_cmp, bytes_cmp, is_same_account}
+use Rattle.hh_names.specs.Faults.{row_fault}
 use Rattle.hh_calc.specs.declared.data.Contract.{Contract}
 use Rattle.hh_calc.specs.Period.{Period, UnitPeriod}
 use Rattle.hh_texts.specs.declared.period_contracts.PeriodContractRow.{PeriodContractRow}

@@ -3,14 +3,14 @@
 ghost use Rattle.std.specs.Prelude.{◌≡◌, ◌≤◌, ◌++◌, ◌∷◌, [], List, length, map, option_map, IfOk, IfErr, OnOk, Some, None};
 ghost use Rattle.std.specs.List.{flat_map};
 ghost use Rattle.std.specs.List.Sorted.{IsStrictlySortedBy};
-ghost use Rattle.hh_rules.specs.Accounts.{account_cmp};
-ghost use Rattle.hh_rules.specs.Faults.{memory_fault, ByRefusal};
-ghost use Rattle.hh_rules.specs.declared.account.Account.{Account};
+ghost use Rattle.hh_names.specs.Accounts.{account_cmp};
+ghost use Rattle.hh_names.specs.Faults.{memory_fault, ByRefusal};
+ghost use Rattle.hh_names.specs.declared.account.Account.{Account};
 ghost use Rattle.hh_texts.specs.Rows.{most_rows};
 ghost use Rattle.hh_period.specs.Rows.{contract_entry, first_refusal, in_account_order, in_force, named_accounts, refusal_beside, unit_entry, unit_of};
 
 use hh_calc::{Contract, UnitData, UnitVolumes};
-use hh_rules::{Account, Fault, Reference, Refusal};
+use hh_names::{Account, Fault, Reference, Refusal};
 use hh_texts::{PeriodContractRow, PeriodMeterRow};
 use std::alloc::{AllocError, Global};
 use std::collections::{BTreeMap, BTreeSet};

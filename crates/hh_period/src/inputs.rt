@@ -2,10 +2,10 @@
 
 ghost use Rattle.std.specs.Prelude.{◌≡◌, ◌≤◌, length, map, Option, IfOk, OnOk, IsErrOf};
 ghost use Rattle.std.specs.Io.KnownBytes.{Appends};
-ghost use Rattle.hh_num.specs.Devices.{AppendsFront, Failed};
+ghost use Rattle.hh_devices.specs.Devices.{AppendsFront, Failed};
 ghost use Rattle.hh_calc.specs.Formulas.{AreInOrder, AreNamed, AreSubsidiariesFew};
-ghost use Rattle.hh_rules.specs.Fields.{price_value};
-ghost use Rattle.hh_rules.specs.declared.fault.Fault.{Fault};
+ghost use Rattle.hh_names.specs.Fields.{price_value};
+ghost use Rattle.hh_names.specs.declared.fault.Fault.{Fault};
 ghost use Rattle.hh_period.specs.declared.rejection.Input.{Input};
 ghost use Rattle.hh_texts.specs.PeriodFiles.{period_contract_rows, period_meter_rows};
 ghost use Rattle.hh_texts.specs.Rows.{most_rows};
@@ -16,8 +16,9 @@ use crate::gather::{accounts_named, contracts_in_force, units_in_force};
 use crate::period_text::push_period;
 use crate::rejection::{Input, Rejection};
 use hh_calc::{CalcFault, Contract, PeriodData, settle_period};
-use hh_num::{DeviceFailed, Price, Sink, write_whole};
-use hh_rules::{Fault, Refusal};
+use hh_devices::{DeviceFailed, Sink, write_whole};
+use hh_num::Price;
+use hh_names::{Fault, Refusal};
 use hh_texts::{PeriodContractRow, PeriodMeterRow, read_period_contracts, read_period_meters};
 use std::alloc::Global;
 

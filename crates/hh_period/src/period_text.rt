@@ -7,7 +7,7 @@ ghost use Rattle.hh_period.specs.PeriodText.{account_line, account_text, figures
 
 use hh_calc::{AccountRow, PeriodResult};
 use hh_num::{Pence, Quantity, Scaled};
-use hh_rules::{Account, Side};
+use hh_names::{Account, Side};
 use std::alloc::AllocError;
 
 /// The letter by which a side is written.

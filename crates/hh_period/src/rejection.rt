@@ -1,6 +1,6 @@
 //! Why the inputs of a period are refused.
 
-use hh_rules::{Fault, Refusal};
+use hh_names::{Fault, Refusal};
 use std::alloc::{AllocError, AllocFailed};
 
 /// The inputs that a refusal may name.
@@ -23,7 +23,7 @@ pub struct Rejection {
 
 impl Rejection {
     ghost use Rattle.std.specs.Prelude.{◌≡◌, None, Some};
-    ghost use Rattle.hh_rules.specs.Faults.{plain_fault, ByRefusal};
+    ghost use Rattle.hh_names.specs.Faults.{plain_fault, ByRefusal};
     ghost use Rattle.hh_period.specs.Outcome.{memory_rejection};
 
     /// A refusal of the whole.

@@ -1,6 +1,6 @@
 -- The orders of Settlement Periods and of the keys are total.
 use Rattle.std.specs.Cmp.{IsTotalOrder, nat_cmp_total, on_total, then_total}
-use Rattle.hh_rules.proofs.AccountLaws.{account_total, bytes_total}
+use Rattle.hh_names.proofs.AccountLaws.{account_total, bytes_total}
 use Rattle.hh_rows.specs.Keys.{settlement_period_cmp, unit_period_cmp, contract_key_cmp, reallocation_key_cmp}
 
 pub settlement_period_total : IsTotalOrder settlement_period_cmp

@@ -5,7 +5,7 @@ use Rattle.hh_rows.specs.declared.settlement_period.SettlementPeriod.{Settlement
 use Rattle.hh_rows.specs.declared.keys.UnitPeriod.{UnitPeriod}
 use Rattle.hh_rows.specs.declared.keys.ContractKey.{ContractKey}
 use Rattle.hh_rows.specs.declared.keys.ReallocationKey.{ReallocationKey}
-use Rattle.hh_rules.specs.Accounts.{bytes_cmp, account_cmp}
+use Rattle.hh_names.specs.Accounts.{bytes_cmp, account_cmp}
 
 abbrev pub settlement_period_cmp : SettlementPeriod → SettlementPeriod → Ordering
 settlement_period_cmp = then_cmp (on (λ p. p.date) nat_cmp) (on (λ p. p.number) nat_cmp)

@@ -8,7 +8,7 @@ ghost use Rattle.hh_rows.specs.KeyOrders.{contract_key_total, reallocation_key_t
 ghost use Rattle.hh_rows.specs.Keys.{contract_key_cmp, reallocation_key_cmp, unit_period_cmp};
 
 use crate::settlement_period::SettlementPeriod;
-use hh_rules::{Account, Reference, UnitId};
+use hh_names::{Account, Reference, UnitId};
 use std::cmp::Ordering;
 
 /// A BM Unit in a Settlement Period, which a meter row stands under (profile). Ordered by the bytes of

@@ -4,7 +4,7 @@ use crate::date_range::DateRange;
 use crate::keys::{ContractKey, ReallocationKey, UnitPeriod};
 use crate::settlement_period::SettlementPeriod;
 use hh_num::{Kwh, Percent, Price, Tlm};
-use hh_rules::{AccessKey, Account, PartyId, UnitId};
+use hh_names::{AccessKey, Account, PartyId, UnitId};
 
 /// What is registered of a party: the dates on which it takes part, and the key that it shows
 /// (profile).

@@ -2,7 +2,7 @@
 
 ghost use Rattle.std.specs.Prelude.{◌≡◌, ◌≤◌, SomeIff};
 
-use hh_rules::OperatorKey;
+use hh_names::OperatorKey;
 use std::marker::Model;
 
 /// The whole minutes by which notifications close before the start of their Settlement Period, 0

@@ -7,7 +7,7 @@ ghost use Rattle.std.proofs.Common.{rules};
 ghost use Rattle.hh_rows.specs.KeyOrders.{settlement_period_total};
 ghost use Rattle.hh_rows.specs.Keys.{settlement_period_cmp};
 
-use hh_rules::Period;
+use hh_names::Period;
 use hh_time::SettlementDate;
 use std::cmp::Ordering;
 

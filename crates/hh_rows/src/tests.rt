@@ -1,7 +1,7 @@
 //! What no clause says: that the words of the clauses come to the market's texts and numbers.
 
 use super::*;
-use hh_rules::{OperatorKey, Period, UnitId};
+use hh_names::{OperatorKey, Period, UnitId};
 use hh_time::SettlementDate;
 use std::test::Fail;
 

@@ -1,3 +1,8 @@
-pub mod AccountLaws
-pub mod ByteFacts
-pub mod WordFacts
+mod Examples
+pub mod HistoryLaws
+mod JudgeFacts
+mod PercentFacts
+pub mod RowLaws
+pub mod ServingLaws
+pub mod StandingLaws
+mod SumFacts

@@ -1,4 +1,7 @@
-pub mod Accounts
-pub mod Faults
-pub mod Fields
-pub mod Words
+pub mod Entries
+pub mod History
+pub mod Judging
+pub mod Percents
+pub mod RegisterView
+pub mod RowEffects
+pub mod RowRule

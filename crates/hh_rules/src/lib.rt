@@ -1,23 +1,14 @@
-//! The names, accounts and refusals of the market, and the readers of their fields.
+//! The register of parties, units, references and rows in force, and the rule by which a row is
+//! accepted or refused.
 #![tactic(auto)]
 
-mod account;
-mod bytes;
-mod fault;
-mod operator_key;
-mod period;
-mod word;
-mod yes_no;
+mod judge;
+mod register;
+mod row_done;
+mod timing;
 
-pub use account::{Account, Side};
-pub use fault::{Fault, Refusal};
-pub use operator_key::OperatorKey;
-pub use period::Period;
-pub use word::{
-    AccessKey, AccessKeyAlphabet, Alphabet, FileName, FileNameAlphabet, PartyId, PartyIdAlphabet,
-    Reference, ReferenceAlphabet, UnitId, UnitIdAlphabet, Word,
-};
-pub use yes_no::read_yes_no;
+pub use register::Register;
+pub use row_done::RowDone;
 
 #[cfg(test)]
 mod tests;

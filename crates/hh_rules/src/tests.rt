@@ -1,298 +1,384 @@
-//! What no clause says: that the words of the clauses come to the market's texts and numbers.
+//! What no clause says: that with ample memory rows are accepted, and that the words of the clauses
+//! come to the market's dates and numbers.
 
 use super::*;
-use std::alloc::AllocError;
-use std::process::Abort;
+use hh_num::{Kwh, Percent, Price, Tlm};
+use hh_rows::{
+    ContractKey, ContractRow, Counterparties, DateRange, LeadMinutes, MeterRow, PartyRegistration,
+    PartyRow, PriceRow, Reading, Reallocation, ReallocationKey, ReallocationRow, Row,
+    SettlementPeriod, UnitPeriod, UnitRegistration, UnitRow,
+};
+use hh_names::{AccessKey, Account, Fault, PartyId, Period, Reference, UnitId};
+use hh_time::{SettlementDate, london};
+use jiff::tz::TimeZone;
+use std::alloc::Global;
 use std::test::Fail;
 
-#[test]
-fn reads_party_ids(rt: HostRuntime) -> Result<(), Fail> {
-    let party: [(&[u8], bool); 9] = [
-        (b"A", true),
-        (b"0", true),
-        (b"GENCO", true),
-        (b"ABCDEFGHI9", true),
-        (b"ABCDEFGHI90", false),
-        (b"", false),
-        (b"GENCo", false),
-        (b"GEN_CO", false),
-        (b"GEN-CO", false),
+/// The moment at which rows come where none is named: 2024-06-29T22:26:40Z.
+const MOMENT: i64 = 1_719_700_000;
+
+/// What `outcome` says of a row that is applied.
+const APPLIED: u8 = 0;
+
+/// What it says of a late one.
+const LATE: u8 = 1;
+
+fn range_from(from: &[u8]) -> Option<DateRange> {
+    DateRange::new(
+        SettlementDate::read(from)?,
+        SettlementDate::read(b"2099-12-31")?,
+    )
+}
+
+fn party_row(party: &[u8], from: &[u8]) -> Option<Row> {
+    Some(Row::Party(PartyRow {
+        party: PartyId::read(party)?,
+        registration: PartyRegistration {
+            range: range_from(from)?,
+            key: AccessKey::read(b"genco0001")?,
+        },
+    }))
+}
+
+fn unit_row(unit: &[u8], lead: &[u8], from: &[u8]) -> Option<Row> {
+    Some(Row::Unit(UnitRow {
+        unit: UnitId::read(unit)?,
+        registration: UnitRegistration {
+            lead: Account::read(lead)?,
+            interconnector: false,
+            range: range_from(from)?,
+        },
+    }))
+}
+
+fn settlement_period(date: &[u8], number: u8) -> Option<SettlementPeriod> {
+    Some(SettlementPeriod {
+        date: SettlementDate::read(date)?,
+        number: Period::new(number)?,
+    })
+}
+
+fn unit_period(unit: &[u8], date: &[u8], number: u8) -> Option<UnitPeriod> {
+    Some(UnitPeriod {
+        unit: UnitId::read(unit)?,
+        at: settlement_period(date, number)?,
+    })
+}
+
+fn meter_row(unit: &[u8], date: &[u8], number: u8) -> Option<Row> {
+    Some(Row::Meter(MeterRow {
+        key: unit_period(unit, date, number)?,
+        reading: Reading {
+            metered: Kwh::new(1000)?,
+            tlm: Tlm::new(10_000_000)?,
+            balancing: Kwh::new(0)?,
+        },
+    }))
+}
+
+fn price_row(date: &[u8], number: u8, units: i64) -> Option<Row> {
+    Some(Row::Price(PriceRow {
+        at: settlement_period(date, number)?,
+        price: Price::new(units)?,
+    }))
+}
+
+fn contract_key(reference: &[u8], date: &[u8], number: u8) -> Option<ContractKey> {
+    Some(ContractKey {
+        reference: Reference::read(reference)?,
+        at: settlement_period(date, number)?,
+    })
+}
+
+/// A contract on 2024-07-01 in period 1.
+fn contract_row(reference: &[u8], seller: &[u8], buyer: &[u8], kwh: i64) -> Option<Row> {
+    Some(Row::Contract(ContractRow {
+        key: contract_key(reference, b"2024-07-01", 1)?,
+        counterparties: Counterparties {
+            seller: Account::read(seller)?,
+            buyer: Account::read(buyer)?,
+        },
+        volume: Kwh::new(kwh)?,
+    }))
+}
+
+fn reallocation_key(account: &[u8]) -> Option<ReallocationKey> {
+    Some(ReallocationKey {
+        unit_period: unit_period(b"G1", b"2024-07-01", 1)?,
+        account: Account::read(account)?,
+    })
+}
+
+/// A reallocation of G1 on 2024-07-01 in period 1, in 10^-5 percent.
+fn reallocation_row(account: &[u8], percent: i64) -> Option<Row> {
+    Some(Row::Reallocation(ReallocationRow {
+        key: reallocation_key(account)?,
+        reallocation: Reallocation {
+            percent: Percent::new(percent)?,
+            fixed: Kwh::new(0)?,
+        },
+    }))
+}
+
+fn number_of(answer: Result<RowDone, Fault>) -> u8 {
+    match answer {
+        Ok(RowDone::Applied) => APPLIED,
+        Ok(RowDone::Late) => LATE,
+        Err(fault) => fault.refusal.number(),
+    }
+}
+
+/// What becomes of a row: 0 where it is applied, 1 where it is late, else the number of its refusal.
+/// None where there is no such row, or where `check_row` says something else.
+fn outcome(
+    register: &mut Register,
+    zone: &TimeZone<'_>,
+    moment: i64,
+    row: Option<Row>,
+) -> Option<u8> {
+    let row = row?;
+    let refused = match register.check_row(zone, moment, &row) {
+        Ok(()) => 0,
+        Err(fault) => fault.refusal.number(),
+    };
+    let done = number_of(register.apply_row(zone, moment, row));
+    if refused == done || (refused == 0 && done == 1) {
+        Some(done)
+    } else {
+        None
+    }
+}
+
+/// Two parties, a unit of each, and a contract between them.
+fn fixture(alloc: Global, zone: &TimeZone<'_>) -> Option<Register> {
+    let mut register = Register::new(alloc, LeadMinutes::default());
+    let rows = [
+        party_row(b"GENCO", b"2024-01-01"),
+        party_row(b"SUPCO", b"2024-01-01"),
+        unit_row(b"G1", b"GENCO-P", b"2024-01-01"),
+        unit_row(b"S1", b"SUPCO-C", b"2024-01-01"),
+        contract_row(b"C1", b"GENCO-P", b"SUPCO-C", 99_000),
     ];
-    for (text, good) in party {
-        let word = PartyId::read(text);
-        assert_eq!(rt; word.is_some(), good);
-        if let Some(word) = word {
-            assert_eq!(rt; word.as_bytes(), text);
+    for row in rows {
+        if outcome(&mut register, zone, MOMENT, row) != Some(APPLIED) {
+            return None;
         }
     }
-    Ok(())
+    Some(register)
 }
 
-#[test]
-fn reads_unit_ids(rt: HostRuntime) -> Result<(), Fail> {
-    let unit: [(&[u8], bool); 7] = [
-        (b"T_GEN-1", true),
-        (b"ABCDEFGH_-123456", true),
-        (b"ABCDEFGH_-1234567", false),
-        (b"", false),
-        (b"t_GEN-1", false),
-        (b"T GEN", false),
-        (b"T.GEN", false),
-    ];
-    for (text, good) in unit {
-        assert_eq!(rt; UnitId::read(text).is_some(), good);
-    }
-    Ok(())
-}
-
-#[test]
-fn reads_references(rt: HostRuntime) -> Result<(), Fail> {
-    let reference: [(&[u8], bool); 6] = [
-        (b"c-1_Z", true),
-        (b"abcdefghijABCDEFGH-_", true),
-        (b"abcdefghijABCDEFGH-_1", false),
-        (b"", false),
-        (b"c 1", false),
-        (b"c,1", false),
-    ];
-    for (text, good) in reference {
-        assert_eq!(rt; Reference::read(text).is_some(), good);
-    }
-    Ok(())
-}
-
-#[test]
-fn words_have_the_order_of_their_bytes(rt: HostRuntime) -> Result<(), Fail> {
-    let texts: [&[u8]; 14] = [
-        b"-",
-        b"A",
-        b"ABCDEFG",
-        b"ABCDEFGH",
-        b"ABCDEFGH-",
-        b"ABCDEFGH0",
-        b"ABCDEFGHI",
-        b"ABCDEFGHIJKLMNOP",
-        b"ABCDEFGHIJKLMNOPQ",
-        b"ABCDEFGHIJKLMNOPQRST",
-        b"ABCDEFGHIJKLMNOPQRSU",
-        b"ABCDEFGI",
-        b"B0000000000000000000",
-        b"a",
-    ];
-    for (at, text) in texts.iter().enumerate() {
-        assert!(rt; Reference::read(*text).is_some(), "at {at}");
-        for (beside, other) in texts.iter().enumerate() {
-            let (word, other) = (Reference::read(*text), Reference::read(*other));
-            assert_eq!(rt; word.cmp(&other), at.cmp(&beside), "at {at} and {beside}");
-            assert_eq!(rt; word == other, at == beside, "at {at} and {beside}");
+/// The register after the fixture and some rows, with the moments at which they come, if each becomes
+/// what stands beside it.
+fn after(alloc: Global, zone: &TimeZone<'_>, steps: &[(i64, Option<Row>, u8)]) -> Option<Register> {
+    let mut register = fixture(alloc, zone)?;
+    for (moment, row, becomes) in steps {
+        if outcome(&mut register, zone, *moment, *row) != Some(*becomes) {
+            return None;
         }
     }
-    let parties: [&[u8]; 5] = [
-        b"PARTY00",
-        b"PARTY009",
-        b"PARTY0091",
-        b"PARTY00910",
-        b"PARTY0092",
+    Some(register)
+}
+
+fn volume_of(register: &Register, reference: &[u8]) -> Option<i64> {
+    Some(
+        register
+            .contract(&contract_key(reference, b"2024-07-01", 1)?)?
+            .units(),
+    )
+}
+
+/// Whether each reader finds what the rows gave it.
+fn finds_all(register: &Register) -> Option<bool> {
+    let day: &[u8] = b"2024-07-01";
+    Some(
+        register.party(&PartyId::read(b"GENCO")?).is_some()
+            && register.party(&PartyId::read(b"NEWCO")?).is_none()
+            && register.unit(&UnitId::read(b"S1")?).is_some()
+            && register.reference(&Reference::read(b"C1")?).is_some()
+            && register.reading(&unit_period(b"G1", day, 1)?).is_some()
+            && register.price(&settlement_period(day, 1)?).is_some()
+            && register
+                .reallocation(&reallocation_key(b"SUPCO-P")?)
+                .is_some(),
+    )
+}
+
+#[test]
+fn holds_what_it_was_given(rt: HostRuntime) -> Result<(), Fail> {
+    let steps = [
+        (MOMENT, meter_row(b"G1", b"2024-07-01", 1), APPLIED),
+        (MOMENT, price_row(b"2024-07-01", 1, 5_000_000), APPLIED),
+        (MOMENT, reallocation_row(b"SUPCO-P", 1), APPLIED),
     ];
-    for (at, text) in parties.iter().enumerate() {
-        assert!(rt; PartyId::read(*text).is_some(), "at {at}");
-        for (beside, other) in parties.iter().enumerate() {
-            let order = PartyId::read(*text).cmp(&PartyId::read(*other));
-            assert_eq!(rt; order, at.cmp(&beside), "at {at} and {beside}");
+    let Some(register) = after(rt.alloc(), &london(), &steps) else {
+        panic!(&rt; "each row becomes what stands beside it");
+    };
+    assert_eq!(rt; register.lead().minutes(), 60);
+    assert_eq!(rt; register.party_count(), 2);
+    assert_eq!(rt; register.unit_count(), 2);
+    assert_eq!(rt; finds_all(&register), Some(true));
+    Ok(())
+}
+
+#[test]
+fn periods_of_clock_change_days(rt: HostRuntime) -> Result<(), Fail> {
+    let steps = [
+        (MOMENT, meter_row(b"G1", b"2024-03-31", 46), APPLIED),
+        (MOMENT, meter_row(b"G1", b"2024-03-31", 47), 34),
+        (MOMENT, meter_row(b"G1", b"2024-10-27", 50), APPLIED),
+        (MOMENT, meter_row(b"G1", b"2024-07-01", 49), 34),
+    ];
+    assert!(rt; after(rt.alloc(), &london(), &steps).is_some());
+    Ok(())
+}
+
+#[test]
+fn day_of_an_odd_zone(rt: HostRuntime) -> Result<(), Fail> {
+    let Ok(zone) = TimeZone::posix("AAA0BBB-2,M3.5.0/1,M10.5.0/3") else {
+        panic!(&rt; "the zone is read");
+    };
+    let steps = [
+        (MOMENT, meter_row(b"G1", b"2024-03-31", 1), 34),
+        (MOMENT, price_row(b"2024-03-31", 1, 0), 34),
+    ];
+    assert!(rt; after(rt.alloc(), &zone, &steps).is_some());
+    Ok(())
+}
+
+#[test]
+fn late_at_the_deadline(rt: HostRuntime) -> Result<(), Fail> {
+    let zone = london();
+    let steps = [
+        (
+            1_719_784_799,
+            contract_row(b"C1", b"GENCO-P", b"SUPCO-C", 98_000),
+            APPLIED,
+        ),
+        (
+            1_719_784_800,
+            contract_row(b"C1", b"GENCO-P", b"SUPCO-C", 97_000),
+            LATE,
+        ),
+        (
+            MOMENT,
+            contract_row(b"C1", b"GENCO-P", b"SUPCO-C", 96_000),
+            APPLIED,
+        ),
+    ];
+    let before = after(rt.alloc(), &zone, &steps[..2]);
+    assert_eq!(rt; before.and_then(|r| volume_of(&r, b"C1")), Some(98_000));
+    let last = after(rt.alloc(), &zone, &steps);
+    assert_eq!(rt; last.and_then(|r| volume_of(&r, b"C1")), Some(96_000));
+    Ok(())
+}
+
+#[test]
+fn late_row_fixes_its_reference(rt: HostRuntime) -> Result<(), Fail> {
+    let steps = [
+        (
+            1_719_784_800,
+            contract_row(b"C9", b"GENCO-P", b"SUPCO-C", 1000),
+            LATE,
+        ),
+        (
+            MOMENT,
+            contract_row(b"C9", b"SUPCO-C", b"GENCO-P", 1000),
+            36,
+        ),
+        (
+            MOMENT,
+            contract_row(b"C8", b"GENCO-P", b"GENCO-P", 1000),
+            35,
+        ),
+    ];
+    assert!(rt; after(rt.alloc(), &london(), &steps).is_some());
+    Ok(())
+}
+
+#[test]
+fn no_more_than_a_hundred_percent(rt: HostRuntime) -> Result<(), Fail> {
+    let steps = [
+        (MOMENT, reallocation_row(b"SUPCO-P", 6_000_000), APPLIED),
+        (MOMENT, reallocation_row(b"SUPCO-C", 4_000_000), APPLIED),
+        (MOMENT, reallocation_row(b"SUPCO-C", 4_000_001), 38),
+        (
+            1_719_784_800,
+            reallocation_row(b"SUPCO-C", 10_000_000),
+            LATE,
+        ),
+        (MOMENT, reallocation_row(b"GENCO-P", 0), 37),
+    ];
+    assert!(rt; after(rt.alloc(), &london(), &steps).is_some());
+    Ok(())
+}
+
+#[test]
+fn known_parties_and_units_change(rt: HostRuntime) -> Result<(), Fail> {
+    let steps = [
+        (MOMENT, party_row(b"GENCO", b"2024-01-02"), 39),
+        (MOMENT, party_row(b"GENCO", b"2023-01-01"), APPLIED),
+        (MOMENT, unit_row(b"G1", b"NEWCO-P", b"2024-01-01"), 30),
+        (MOMENT, unit_row(b"G1", b"GENCO-P", b"2022-01-01"), 33),
+        (MOMENT, unit_row(b"G1", b"GENCO-C", b"2024-01-02"), 39),
+        (MOMENT, unit_row(b"G1", b"GENCO-C", b"2023-01-01"), 40),
+        (MOMENT, unit_row(b"G1", b"GENCO-P", b"2023-01-01"), APPLIED),
+        (MOMENT, meter_row(b"G2", b"2024-07-01", 1), 31),
+        (MOMENT, meter_row(b"G1", b"2022-07-01", 1), 33),
+    ];
+    assert!(rt; after(rt.alloc(), &london(), &steps).is_some());
+    Ok(())
+}
+
+/// Four digits that no other number below 10,000 has.
+fn id_of(number: u32) -> [u8; 4] {
+    let digit = |n: u32| b'0'.saturating_add((n % 10) as u8);
+    [
+        digit(number / 1000),
+        digit(number / 100),
+        digit(number / 10),
+        digit(number),
+    ]
+}
+
+/// What becomes of the parties and units of these numbers, if of each the same.
+fn becomes(
+    register: &mut Register,
+    zone: &TimeZone<'_>,
+    numbers: (u32, u32),
+    units: bool,
+) -> Option<u8> {
+    let mut last = None;
+    for number in numbers.0..numbers.1 {
+        let id = id_of(number);
+        let row = if units {
+            unit_row(&id, b"GENCO-P", b"2024-01-01")
+        } else {
+            party_row(&id, b"2024-01-01")
+        };
+        let next = outcome(register, zone, MOMENT, row);
+        if last.is_some() && last != next {
+            return None;
         }
+        last = next;
     }
-    Ok(())
+    last
 }
 
 #[test]
-fn reads_sides_and_accounts(rt: HostRuntime) -> Result<(), Fail> {
-    assert_eq!(rt; Side::read(b"P"), Some(Side::Production));
-    assert_eq!(rt; Side::read(b"C"), Some(Side::Consumption));
-    assert_eq!(rt; Side::read(b"p"), None);
-    assert_eq!(rt; Side::read(b""), None);
-    assert_eq!(rt; Side::read(b"PC"), None);
-    let read: [(&[u8], &[u8], Side); 3] = [
-        (b"SUPCO-C", b"SUPCO", Side::Consumption),
-        (b"0-P", b"0", Side::Production),
-        (b"ABCDEFGHI9-P", b"ABCDEFGHI9", Side::Production),
-    ];
-    for (text, party, side) in read {
-        let account = Account::read(text);
-        assert!(rt; account.is_some());
-        if let Some(account) = account {
-            assert_eq!(rt; account.party.as_bytes(), party);
-            assert_eq!(rt; account.side, side);
-        }
-    }
-    Ok(())
-}
-
-#[test]
-fn refuses_accounts(rt: HostRuntime) -> Result<(), Fail> {
-    let refused: [&[u8]; 9] = [
-        b"",
-        b"P",
-        b"-P",
-        b"SUPCO",
-        b"SUPCOP",
-        b"SUPCO-",
-        b"SUPCO-X",
-        b"SUP-CO-P",
-        b"ABCDEFGHI90-P",
-    ];
-    for text in refused {
-        assert_eq!(rt; Account::read(text), None);
-    }
-    Ok(())
-}
-
-#[test]
-fn accounts_have_an_order(rt: HostRuntime) -> Result<(), Fail> {
-    let texts: [&[u8]; 6] = [b"0-C", b"A-P", b"A-C", b"A0-P", b"AA-C", b"B-P"];
-    for (at, text) in texts.iter().enumerate() {
-        for (beside, other) in texts.iter().enumerate() {
-            let order = Account::read(*text).cmp(&Account::read(*other));
-            assert_eq!(rt; order, at.cmp(&beside), "at {at} and {beside}");
-        }
-    }
-    Ok(())
-}
-
-#[test]
-fn refusals_have_numbers_and_names(rt: HostRuntime) -> Result<(), Fail> {
-    let known = [
-        (Refusal::FileTooLarge, 10, "FileTooLarge"),
-        (Refusal::BadField, 14, "BadField"),
-        (Refusal::NotEffective, 33, "NotEffective"),
-        (Refusal::SameAccount, 35, "SameAccount"),
-        (Refusal::ReferenceMoved, 36, "ReferenceMoved"),
-        (Refusal::TooLarge, 55, "TooLarge"),
-        (Refusal::Memory, 90, "Memory"),
-        (Refusal::Store, 91, "Store"),
-    ];
-    for (refusal, number, name) in known {
-        assert_eq!(rt; refusal.number(), number);
-        assert_eq!(rt; refusal.name(), name);
-    }
-    let fault = Fault::at_row(Refusal::SameAccount, 7);
+fn no_party_401_and_no_unit_2001(rt: HostRuntime) -> Result<(), Fail> {
+    let zone = london();
+    let Some(mut register) = fixture(rt.alloc(), &zone) else {
+        panic!(&rt; "the fixture is accepted");
+    };
     assert_eq!(rt;
-        (fault.refusal, fault.row, fault.column),
-        (Refusal::SameAccount, Some(7), None)
+        becomes(&mut register, &zone, (2, 400), false),
+        Some(APPLIED)
     );
-    let fault = Fault::at_field(3, 2);
+    assert_eq!(rt; becomes(&mut register, &zone, (400, 402), false), Some(42));
     assert_eq!(rt;
-        (fault.refusal, fault.row, fault.column),
-        (Refusal::BadField, Some(3), Some(2))
+        becomes(&mut register, &zone, (2, 2000), true),
+        Some(APPLIED)
     );
-    Ok(())
-}
-
-#[test]
-fn periods_are_1_to_50(rt: HostRuntime) -> Result<(), Fail> {
-    for (number, period) in [
-        (0, None),
-        (1, Some(1)),
-        (50, Some(50)),
-        (51, None),
-        (255, None),
-    ] {
-        assert_eq!(rt; Period::new(number).map(Period::number), period);
-    }
-    Ok(())
-}
-
-#[test]
-fn reads_periods(rt: HostRuntime) -> Result<(), Fail> {
-    let texts: [(&[u8], Option<u8>); 12] = [
-        (b"1", Some(1)),
-        (b"50", Some(50)),
-        (b"07", Some(7)),
-        (b"0", None),
-        (b"-0", None),
-        (b"51", None),
-        (b"-1", None),
-        (b"256", None),
-        (b"257", None),
-        (b"1.0", None),
-        (b"", None),
-        (b" 1", None),
-    ];
-    for (text, period) in texts {
-        assert_eq!(rt; Period::read(text).map(Period::number), period);
-    }
-    Ok(())
-}
-
-#[test]
-fn reads_yes_and_no(rt: HostRuntime) -> Result<(), Fail> {
-    assert_eq!(rt; read_yes_no(b"yes"), Some(true));
-    assert_eq!(rt; read_yes_no(b"no"), Some(false));
-    for text in ["", "y", "Yes", "no ", "yesno"] {
-        assert_eq!(rt; read_yes_no(text.as_bytes()), None, "{text}");
-    }
-    Ok(())
-}
-
-/// So many letters behind a front.
-fn letters(
-    rt: &(impl AllocGlobal + Abort),
-    front: &[u8],
-    count: usize,
-) -> Result<Vec<u8>, AllocError> {
-    let mut text = Vec::new(rt.alloc());
-    text.extend_from_slice(front)?;
-    for _ in 0..count {
-        text.push(b'k')?;
-    }
-    Ok(text)
-}
-
-#[test]
-fn reads_access_keys(rt: HostRuntime) -> Result<(), Fail> {
-    for (count, good) in [(7, false), (8, true), (64, true), (65, false)] {
-        let text = letters(&rt, b"", count)?;
-        assert_eq!(rt; AccessKey::read(&text).is_some(), good, "{count}");
-    }
-    let key = AccessKey::read(b"Genco0001");
-    assert_eq!(rt; key.map(|key| key.as_bytes().len()), Some(9));
-    assert_eq!(rt; AccessKey::read(b"genco_0001"), None);
-    assert_eq!(rt; AccessKey::read(b"op-settle001"), None);
-    Ok(())
-}
-
-#[test]
-fn reads_file_names(rt: HostRuntime) -> Result<(), Fail> {
-    for (count, good) in [(0, false), (1, true), (64, true), (65, false)] {
-        let text = letters(&rt, b"", count)?;
-        assert_eq!(rt; FileName::read(&text).is_some(), good, "{count}");
-    }
-    assert!(rt; FileName::read(b"p2_A-x.csv").is_some());
-    assert_eq!(rt; FileName::read(b"a/b.csv"), None);
-    assert_eq!(rt; FileName::read(b"a b"), None);
-    Ok(())
-}
-
-#[test]
-fn reads_operator_keys(rt: HostRuntime) -> Result<(), Fail> {
-    let key = OperatorKey::read(b"op-settle001");
-    assert!(rt; key.is_some());
-    if let Some(key) = key {
-        assert_eq!(rt; key.as_bytes(), b"op-settle001".as_slice());
-    }
-    for (count, good) in [(7, false), (8, true), (61, true), (62, false)] {
-        let text = letters(&rt, b"op-", count)?;
-        assert_eq!(rt; OperatorKey::read(&text).is_some(), good, "{count}");
-    }
-    for text in [
-        "",
-        "op",
-        "op-",
-        "settle0001",
-        "OP-settle001",
-        "op-settle_01",
-        "op--settle001",
-    ] {
-        assert_eq!(rt; OperatorKey::read(text.as_bytes()), None, "{text}");
-    }
+    assert_eq!(rt; becomes(&mut register, &zone, (2000, 2002), true), Some(42));
     Ok(())
 }

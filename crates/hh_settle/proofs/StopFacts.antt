@@ -1,8 +1,8 @@
 -- How a command's stops come of the faults of a period.
 use Rattle.std.proofs.Common.{◌≡◌, Result, Ok, Err, List, ℕ, Option, sym, refl, subst, IfErr}
 use Rattle.std.specs.Result.{IsErrAnd}
-use Rattle.hh_num.specs.Devices.{AppendsFront}
-use Rattle.hh_rules.specs.declared.fault.Fault.{Fault}
+use Rattle.hh_devices.specs.Devices.{AppendsFront}
+use Rattle.hh_names.specs.declared.fault.Fault.{Fault}
 use Rattle.hh_period.specs.declared.rejection.Input.{Input}
 use Rattle.hh_period.specs.declared.inputs.PeriodFault.{PeriodFault}
 use Rattle.hh_period.specs.declared.inputs.PeriodFault.TheVariants.{Refused, Write}

@@ -1,7 +1,7 @@
 -- The line of a refusal.
 use Rattle.std.specs.Prelude.{ℕ, List, [], ◌++◌, Option, Some, None, codes, decimal}
-use Rattle.hh_rules.specs.declared.fault.Fault.{Fault}
-use Rattle.hh_rules.specs.Faults.{refusal_number, refusal_name}
+use Rattle.hh_names.specs.declared.fault.Fault.{Fault}
+use Rattle.hh_names.specs.Faults.{refusal_number, refusal_name}
 use Rattle.hh_period.specs.declared.rejection.Input.{Input}
 use Rattle.hh_period.specs.declared.rejection.Input.TheVariants.{Meter, Contracts, Price}
 

@@ -3,8 +3,8 @@ use Rattle.std.specs.Prelude.{◌≡◌, ◌⊎◌, ℕ, List, Option, Some, Non
 use Rattle.std.specs.Io.KnownBytes.{Appends}
 use Rattle.std.specs.declared.io.ErrorKind.{ErrorKind}
 use Rattle.std.specs.declared.io.ErrorKind.TheVariants.{OutOfMemory}
-use Rattle.hh_num.specs.Devices.{AppendsFront}
-use Rattle.hh_rules.specs.Faults.{memory_fault}
+use Rattle.hh_devices.specs.Devices.{AppendsFront}
+use Rattle.hh_names.specs.Faults.{memory_fault}
 use Rattle.hh_settle.specs.declared.files.InputFault.{InputFault}
 use Rattle.hh_settle.specs.declared.files.InputFault.TheVariants.{Unreadable, Memory}
 use Rattle.hh_period.specs.declared.inputs.PeriodFault.{PeriodFault}

@@ -6,7 +6,7 @@ mod program;
 mod refusal;
 mod words;
 
-use hh_num::StreamSink;
+use hh_devices::StreamSink;
 use program::run;
 use std::process::ExitCode;
 

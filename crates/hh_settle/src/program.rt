@@ -2,8 +2,8 @@
 
 ghost use Rattle.std.specs.Prelude.{◌≡◌, ◌≤◌, ◌⊎◌, IfErr, OnErr, OnOk, Option, map, string_bytes, Some, None};
 ghost use Rattle.std.specs.Io.KnownBytes.{Appends};
-ghost use Rattle.hh_num.specs.Devices.{Failed};
-ghost use Rattle.hh_rules.specs.Faults.{memory_fault};
+ghost use Rattle.hh_devices.specs.Devices.{Failed};
+ghost use Rattle.hh_names.specs.Faults.{memory_fault};
 ghost use Rattle.hh_settle.specs.Lines.{Line, PeriodLine, line_of, line_value};
 ghost use Rattle.hh_settle.specs.Refusals.{refusal_line};
 ghost use Rattle.hh_settle.specs.declared.program.Stop.{Stop};
@@ -12,9 +12,9 @@ ghost use Rattle.hh_settle.specs.Stops.{Does, StopsLine, StopsWords, Tells};
 use crate::files::{InputFault, read_input};
 use crate::refusal::push_refusal;
 use crate::words::{self, USAGE, WordsFault, read_words};
-use hh_num::{DeviceFailed, Sink, write_whole};
+use hh_devices::{DeviceFailed, Sink, write_whole};
 use hh_period::{Input, PeriodFault, period};
-use hh_rules::{Fault, Refusal};
+use hh_names::{Fault, Refusal};
 use std::alloc::{AllocError, Global};
 use std::io::ErrorKind;
 use std::rt::{Env, Files};

@@ -5,7 +5,7 @@ ghost use Rattle.hh_num.specs.Fixed.{Extends};
 ghost use Rattle.hh_settle.specs.Refusals.{input_word, input_ending, number_place, place, refusal_head, refusal_places, refusal_line};
 
 use hh_period::Input;
-use hh_rules::{Fault, UnitId};
+use hh_names::{Fault, UnitId};
 use itoa::Buffer;
 use std::alloc::AllocError;
 

@@ -7,7 +7,7 @@ use Rattle.std.proofs.lemmas.List.Elements.{All-cons}
 use Rattle.std.proofs.lemmas.Bool.{le-ltb}
 use Rattle.std.proofs.Math.Nat.{mul_comm, add-mul, div-add-mod, mod-lt}
 use Rattle.std.proofs.Math.IntN.{neg_ℤ-+ℤ, negsuc-*ℤ-pos}
-use Rattle.hh_num.proofs.TableLaws.{false_is_not_true}
+use Rattle.hh_tables.proofs.TableLaws.{false_is_not_true}
 use Rattle.hh_share.specs.Shares.{lower_quota, remainder, leftover, comes_before, rank, share_size, effective, shares, share_of, IsQuotaRounded, AreQuotasRounded}
 use Rattle.hh_share.proofs.CountLaws.{count_by-map, sum_by-enumerate}
 use Rattle.hh_share.proofs.SumLaws.{length-effective, length-shares, effective_positive, some_over, leftover_few, gets_more}

@@ -10,8 +10,8 @@ use Rattle.std.specs.FinMap.{find, put, is_sorted}
 use Rattle.std.specs.FinMap.Entries.{by_order, below_all}
 use Rattle.std.proofs.lemmas.List.{length-map}
 use Rattle.std.proofs.lemmas.List.FromFn.{length-enumerate_from}
-use Rattle.hh_num.specs.Tables.{in_key_order}
-use Rattle.hh_num.proofs.TableLaws.{AreDistinct, find-in_key_order, is_sorted-in_key_order}
+use Rattle.hh_tables.specs.Tables.{in_key_order}
+use Rattle.hh_tables.proofs.TableLaws.{AreDistinct, find-in_key_order, is_sorted-in_key_order}
 use Rattle.hh_share.specs.Shares.{comes_before, rank}
 use Rattle.hh_share.proofs.CountLaws.{count, count_by-count, count-map, count-same}
 

@@ -2,9 +2,9 @@
 use Rattle.std.proofs.Common.{◌≡◌, ℕ, zero, suc, ◌+◌, ◌<◌, ◌≤◌, Bool, true, false, List, [], ◌∷◌, ◌++◌, length, Some, None, drop, Result, Ok, Err, ◌≢◌, refl, sym, ap, ◌∙◌, arith, append-nil, append_assoc, ltb, eqb, nat_eq, not, ◌&&◌, map, get_or, Bor, add-one}
 use Rattle.std.proofs.lemmas.Bool.Decides.{nat_tests}
 use Rattle.std.proofs.lemmas.List.{length-map}
-use Rattle.hh_rules.specs.declared.fault.Fault.{Fault}
-use Rattle.hh_rules.specs.declared.fault.Refusal.TheVariants.{BadHeader, TooManyRows, BadRecord}
-use Rattle.hh_rules.specs.Faults.{plain_fault, row_fault, field_fault}
+use Rattle.hh_names.specs.declared.fault.Fault.{Fault}
+use Rattle.hh_names.specs.declared.fault.Refusal.TheVariants.{BadHeader, TooManyRows, BadRecord}
+use Rattle.hh_names.specs.Faults.{plain_fault, row_fault, field_fault}
 use Rattle.csv.specs.Records.{field_at}
 use Rattle.std.specs.Cmp.Lexicographic.{pointwise}
 use Rattle.hh_texts.specs.Records.{records_of}

@@ -1,7 +1,7 @@
 -- What a reader gave, beside what reading gives: the same, but for want of memory.
 use Rattle.std.specs.Prelude.{◌≡◌, Result, Ok, Err}
-use Rattle.hh_rules.specs.declared.fault.Fault.{Fault}
-use Rattle.hh_rules.specs.Faults.{memory_fault, ByRefusal}
+use Rattle.hh_names.specs.declared.fault.Fault.{Fault}
+use Rattle.hh_names.specs.Faults.{memory_fault, ByRefusal}
 
 -- what was given is what reading gives; want of memory may stand in the place of any answer
 abbrev pub Gives : {X Y : Type 0} → (X → Y) → Result X Fault → Result Y Fault → Type 0

@@ -1,9 +1,9 @@
 -- The two files from which one Settlement Period is settled: their headers, rows and meaning.
 use Rattle.std.specs.Prelude.{ℕ, List, [], ◌∷◌, Result, Ok, codes}
-use Rattle.hh_rules.specs.declared.fault.Fault.{Fault}
-use Rattle.hh_rules.specs.Accounts.{account_value}
-use Rattle.hh_rules.specs.Fields.{volume_value, multiplier_value}
-use Rattle.hh_rules.specs.Words.{unit_value, reference_value}
+use Rattle.hh_names.specs.declared.fault.Fault.{Fault}
+use Rattle.hh_names.specs.Accounts.{account_value}
+use Rattle.hh_names.specs.Fields.{volume_value, multiplier_value}
+use Rattle.hh_names.specs.Words.{unit_value, reference_value}
 use Rattle.hh_texts.specs.declared.period_meters.PeriodMeterRow.{PeriodMeterRow}
 use Rattle.hh_texts.specs.declared.period_contracts.PeriodContractRow.{PeriodContractRow}
 use Rattle.hh_texts.specs.Fields.{column, ◌>>=◌}

@@ -1,9 +1,9 @@
 -- The rows of a file, or the first fault in it.
 use Rattle.std.specs.Prelude.{ℕ, ◌+◌, List, [], ◌∷◌, length, Result, Ok, Err, nat_lt, ◌==◌, if◌then◌else◌, nat_eq, Bool}
 use Rattle.std.specs.Cmp.Lexicographic.{pointwise}
-use Rattle.hh_rules.specs.declared.fault.Fault.{Fault}
-use Rattle.hh_rules.specs.declared.fault.Refusal.TheVariants.{FileTooLarge, TooManyRows, BadHeader, BadRecord}
-use Rattle.hh_rules.specs.Faults.{plain_fault, row_fault, field_fault}
+use Rattle.hh_names.specs.declared.fault.Fault.{Fault}
+use Rattle.hh_names.specs.declared.fault.Refusal.TheVariants.{FileTooLarge, TooManyRows, BadHeader, BadRecord}
+use Rattle.hh_names.specs.Faults.{plain_fault, row_fault, field_fault}
 use Rattle.hh_texts.specs.Records.{records_of}
 
 -- the most bytes of a file

@@ -15,7 +15,7 @@ use hh_rows::{
     PartyRow, PriceRow, Reading, Reallocation, ReallocationKey, ReallocationRow, Row,
     SettlementPeriod, UnitPeriod, UnitRegistration, UnitRow,
 };
-use hh_rules::{AccessKey, Account, Fault, PartyId, Period, Reference, Side, UnitId, read_yes_no};
+use hh_names::{AccessKey, Account, Fault, PartyId, Period, Reference, Side, UnitId, read_yes_no};
 use hh_time::SettlementDate;
 use std::alloc::Global;
 

@@ -8,7 +8,7 @@ ghost use Rattle.hh_texts.specs.Rows.{most_rows, rows_of, rows_from, same_fields
 
 use crate::records::{next_record, records_in};
 use csv::{ByteRecord, Reader};
-use hh_rules::{Fault, Refusal};
+use hh_names::{Fault, Refusal};
 use std::alloc::Global;
 
 /// The most bytes that a file may have.

@@ -9,7 +9,7 @@ use crate::fields::field_in;
 use crate::form::{Form, read_rows};
 use csv::ByteRecord;
 use hh_num::Kwh;
-use hh_rules::{Account, Fault, Reference};
+use hh_names::{Account, Fault, Reference};
 use std::alloc::Global;
 
 /// The volume of a contract in one Settlement Period.

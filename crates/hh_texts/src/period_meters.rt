@@ -9,7 +9,7 @@ use crate::fields::field_in;
 use crate::form::{Form, read_rows};
 use csv::ByteRecord;
 use hh_num::{Kwh, Tlm};
-use hh_rules::{Account, Fault, UnitId};
+use hh_names::{Account, Fault, UnitId};
 use std::alloc::Global;
 
 /// The volumes of a BM Unit in one Settlement Period.

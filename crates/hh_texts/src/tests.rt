@@ -5,7 +5,7 @@ use hh_rows::{
     PartyRow, PriceRow, Reading, Reallocation, ReallocationKey, ReallocationRow, Row,
     SettlementPeriod, UnitPeriod, UnitRegistration, UnitRow,
 };
-use hh_rules::{AccessKey, Account, Fault, PartyId, Period, Reference, Refusal, UnitId};
+use hh_names::{AccessKey, Account, Fault, PartyId, Period, Reference, Refusal, UnitId};
 use hh_time::SettlementDate;
 use std::alloc::AllocError;
 use std::process::Abort;

@@ -1,6 +1,6 @@
 use super::*;
 use crate::words::tests::line;
-use hh_num::MemorySink;
+use hh_devices::MemorySink;
 use std::alloc::Global;
 use std::fs;
 use std::process::Abort;

@@ -1,5 +1,5 @@
 use super::*;
-use hh_rules::{Period, Refusal};
+use hh_names::{Period, Refusal};
 use std::alloc::Global;
 use std::test::Fail;
 

@@ -1,7 +1,7 @@
 use Rattle.std.proofs.Common.{arith, ◌∙◌}
 use Rattle.std.proofs.lemmas.List.{get_or_default}
-use Rattle.hh_rules.proofs.AccountLaws.{account_total}
-use Rattle.hh_rules.specs.Accounts.{account_cmp}
+use Rattle.hh_names.proofs.AccountLaws.{account_total}
+use Rattle.hh_names.specs.Accounts.{account_cmp}
 use Rattle.hh_calc.proofs.OrderLaws.{rises}
 use Rattle.hh_calc.proofs.ReadyLaws.{failed, in_order, passed}
 use Rattle.hh_calc.proofs.ready.are_in_order.Goals as goal

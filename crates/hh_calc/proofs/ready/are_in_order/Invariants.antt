@@ -1,7 +1,7 @@
 use Rattle.std.proofs.Common.{◌≡◌, ℕ, ◌+◌, ◌<◌, get_or}
 use Rattle.std.specs.declared.cmp.Ordering.TheVariants.{Less}
-use Rattle.hh_rules.specs.declared.account.Account.{Account}
-use Rattle.hh_rules.specs.Accounts.{account_cmp}
+use Rattle.hh_names.specs.declared.account.Account.{Account}
+use Rattle.hh_names.specs.Accounts.{account_cmp}
 use Rattle.hh_calc.proofs.ready.are_in_order.Given as goal
 
 -- each account so far is below the next

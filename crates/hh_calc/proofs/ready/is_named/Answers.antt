@@ -1,5 +1,5 @@
 use Rattle.std.proofs.Common.{rules, ◌<◌, length}
-use Rattle.hh_rules.proofs.AccountLaws.{account_total, exact_accounts}
+use Rattle.hh_names.proofs.AccountLaws.{account_total, exact_accounts}
 use Rattle.hh_calc.proofs.OrderLaws.{found, searchable}
 use Rattle.hh_calc.proofs.ReadyLaws.{failed, passed}
 use Rattle.hh_calc.proofs.ready.is_named.Goals as goal

@@ -1,4 +1,4 @@
-use Rattle.hh_rules.proofs.AccountLaws.{account_total, exact_accounts}
+use Rattle.hh_names.proofs.AccountLaws.{account_total, exact_accounts}
 use Rattle.hh_calc.proofs.OrderLaws.{searchable, found}
 use Rattle.hh_calc.proofs.sums.place_of.Goals as goal
 

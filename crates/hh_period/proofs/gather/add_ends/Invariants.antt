@@ -1,6 +1,6 @@
 use Rattle.std.proofs.Common.{◌≡◌, ◌++◌, ◌∷◌, [], List, take}
 use Rattle.std.specs.List.{flat_map}
-use Rattle.hh_rules.specs.declared.account.Account.{Account}
+use Rattle.hh_names.specs.declared.account.Account.{Account}
 use Rattle.hh_period.specs.Rows.{in_account_order}
 use Rattle.hh_period.proofs.gather.add_ends.Given as goal
 

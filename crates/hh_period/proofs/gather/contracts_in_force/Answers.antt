@@ -1,5 +1,5 @@
 use Rattle.std.proofs.Common.{arith, sym, ◌∙◌}
-use Rattle.hh_rules.proofs.AccountLaws.{bytes_total}
+use Rattle.hh_names.proofs.AccountLaws.{bytes_total}
 use Rattle.std.proofs.lemmas.Map.Lookups.{exact_bytes}
 use Rattle.hh_period.specs.Rows.{contract_entry, refusal_among}
 use Rattle.hh_period.proofs.ContractFacts.{accepted_more, judged, kept_more, known_ends, not_memory, refused_here}

@@ -1,6 +1,6 @@
 use Rattle.std.proofs.Common.{◌≡◌, ◌+◌, drop, map, take}
-use Rattle.hh_num.specs.Tables.{table_of_last}
-use Rattle.hh_rules.specs.Accounts.{bytes_cmp}
+use Rattle.hh_tables.specs.Tables.{table_of_last}
+use Rattle.hh_names.specs.Accounts.{bytes_cmp}
 use Rattle.hh_period.specs.Rows.{contract_entry, first_refusal, first_refused, refusal_among}
 use Rattle.hh_period.proofs.ContractFacts.{KeepsEnds}
 use Rattle.hh_period.proofs.gather.contracts_in_force.Given as goal

@@ -1,4 +1,4 @@
-use Rattle.hh_rules.proofs.AccountLaws.{bytes_total}
+use Rattle.hh_names.proofs.AccountLaws.{bytes_total}
 use Rattle.std.proofs.lemmas.Map.Lookups.{exact_bytes}
 use Rattle.hh_period.specs.Rows.{unit_entry}
 use Rattle.hh_period.proofs.GatherFacts.{entries_more}

@@ -1,6 +1,6 @@
 use Rattle.std.proofs.Common.{◌≡◌, map, take}
-use Rattle.hh_num.specs.Tables.{table_of_last}
-use Rattle.hh_rules.specs.Accounts.{bytes_cmp}
+use Rattle.hh_tables.specs.Tables.{table_of_last}
+use Rattle.hh_names.specs.Accounts.{bytes_cmp}
 use Rattle.hh_period.specs.Rows.{unit_entry}
 use Rattle.hh_period.proofs.gather.units_in_force.Given as goal
 

@@ -1,6 +1,6 @@
 use Rattle.std.proofs.Common.{refl, subst, sym}
 use Rattle.std.specs.List.Sorted.{IsStrictlySortedBy}
-use Rattle.hh_rules.specs.Accounts.{account_cmp}
+use Rattle.hh_names.specs.Accounts.{account_cmp}
 use Rattle.hh_calc.proofs.ReadyLaws.{AreContractsNamed, AreFew, AreUnitsNamed, carried, failed}
 use Rattle.hh_calc.proofs.data.PeriodData.is_ready.Goals as goal
 

@@ -1,0 +1,20 @@
+-- A sink in memory.
+use Rattle.std.specs.Prelude.{ℕ, List}
+use Rattle.hh_devices.specs.declared.pace.Pace.{Pace}
+use Rattle.hh_devices.specs.declared.memory_sink.MemorySink.{MemorySink}
+
+-- the bytes that it took
+abbrev pub taken_by : MemorySink → List ℕ
+taken_by s = s.taken.items
+
+-- how many more it has room for
+abbrev pub room_of : MemorySink → ℕ
+room_of s = s.room
+
+-- how it takes them
+abbrev pub sink_pace : MemorySink → Pace
+sink_pace s = s.pace
+
+-- its count of failures
+abbrev pub sink_failures : MemorySink → ℕ
+sink_failures s = s.failures

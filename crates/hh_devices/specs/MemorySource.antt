@@ -1,0 +1,16 @@
+-- A source in memory.
+use Rattle.std.specs.Prelude.{ℕ, List}
+use Rattle.hh_devices.specs.declared.pace.Pace.{Pace}
+use Rattle.hh_devices.specs.declared.memory_source.MemorySource.{MemorySource}
+
+-- the bytes that it still gives
+abbrev pub left_in : MemorySource → List ℕ
+left_in s = s.bytes.now
+
+-- how it gives them
+abbrev pub source_pace : MemorySource → Pace
+source_pace s = s.pace
+
+-- its count of failures
+abbrev pub source_failures : MemorySource → ℕ
+source_failures s = s.failures

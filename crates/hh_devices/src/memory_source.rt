@@ -1,0 +1,108 @@
+//! A source in memory, for tests and for what is at hand.
+
+ghost use Rattle.std.specs.Prelude.{◌≡◌, ◌≤◌, ◌<◌, min, length, Some, None, IfOk};
+ghost use Rattle.std.specs.Io.KnownBytes.{ReadConsumes};
+ghost use Rattle.hh_devices.specs.Devices.{CountsErr};
+ghost use Rattle.hh_devices.specs.Pace.{moved, paced};
+
+use crate::device::DeviceFailed;
+use crate::pace::Pace;
+use crate::source::Source;
+
+/// A source of bytes in memory. It takes no memory of its own.
+#[derive(Drop)]
+pub struct MemorySource<'a> {
+    bytes: &'a [u8],
+    pace: Pace,
+    failures: u64,
+    ghost some: { 0 < pace.piece },
+}
+
+impl<'a> MemorySource<'a> {
+    ghost use Rattle.hh_devices.specs.MemorySource.{left_in, source_pace, source_failures};
+
+    /// A source of these bytes, which it gives in one call and with no failure.
+    pub fn new(bytes: &'a [u8]) -> MemorySource<'a>
+        ensures bytes { left_in result ≡ bytes.now }
+        ensures pace { source_pace result ≡ record { piece = usize.MAX; until_failure = None } }
+        ensures failures { source_failures result ≡ 0 }
+    {
+        MemorySource {
+            bytes,
+            pace: Pace {
+                piece: usize::MAX,
+                until_failure: None,
+            },
+            failures: 0,
+        }
+    }
+
+    /// The same, that gives at most so many bytes a call.
+    pub fn in_pieces(self, piece: usize) -> MemorySource<'a>
+        requires { 0 < piece }
+        ensures bytes { left_in result ≡ left_in self.entry }
+        ensures pace { source_pace result ≡ record { piece = piece; until_failure = (source_pace self.entry).until_failure } }
+        ensures failures { source_failures result ≡ source_failures self.entry }
+    {
+        MemorySource {
+            bytes: self.bytes,
+            pace: Pace {
+                piece,
+                until_failure: self.pace.until_failure,
+            },
+            failures: self.failures,
+        }
+    }
+
+    /// The same, with one call that fails, once so many more bytes were given. Then it goes on.
+    pub fn failing_after(self, count: usize) -> MemorySource<'a>
+        ensures bytes { left_in result ≡ left_in self.entry }
+        ensures pace { source_pace result ≡ record { piece = (source_pace self.entry).piece; until_failure = Some count } }
+        ensures failures { source_failures result ≡ source_failures self.entry }
+    {
+        MemorySource {
+            bytes: self.bytes,
+            pace: Pace {
+                piece: self.pace.piece,
+                until_failure: Some(count),
+            },
+            failures: self.failures,
+        }
+    }
+
+    /// How many calls failed, as far as a `u64` counts.
+    pub fn failures(&self) -> u64
+        ensures { result ≡ source_failures self.now }
+    {
+        self.failures
+    }
+}
+
+impl Source for MemorySource<'_> {
+    ghost use Rattle.hh_devices.specs.MemorySource.{left_in, source_pace, source_failures};
+
+    ghost remaining = { λ s. Some (left_in s) };
+
+    ghost failures = { source_failures };
+
+    fn read(&mut self, buffer: &mut [u8]) -> Result<usize, DeviceFailed>
+        ensures count { IfOk result (λ n. n ≤ length buffer.old) }
+        ensures bytes { ReadConsumes (Some (left_in self.old)) (Some (left_in self.new)) result buffer.new }
+        ensures failures { CountsErr result (source_failures self.old) (source_failures self.new) }
+
+        // The answer is determined.
+        ensures answer { result ≡ moved (source_pace self.old) (min (length buffer.old) (length (left_in self.old))) }
+        ensures pace { source_pace self.new ≡ paced (source_pace self.old) (min (length buffer.old) (length (left_in self.old))) }
+    {
+        let bytes = self.bytes;
+        let answer = self.pace.step(buffer.len().min(bytes.len()));
+        match answer {
+            Ok(count) => {
+                buffer[..count].copy_from_slice(&bytes[..count]);
+                self.bytes = &bytes[count..];
+            }
+            Err(_) => self.failures = self.failures.saturating_add(1),
+        }
+        answer
+    }
+}

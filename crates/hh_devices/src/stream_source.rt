@@ -1,0 +1,59 @@
+//! A source round any reader of std.
+
+ghost use Rattle.std.specs.Prelude.{◌≡◌};
+
+use crate::device::DeviceFailed;
+use crate::source::Source;
+use std::io::Read;
+
+/// A reader of std, and how often it failed.
+#[derive(Drop)]
+pub struct StreamSource<R> {
+    reader: R,
+    failures: u64,
+}
+
+impl<R> StreamSource<R> {
+    ghost use Rattle.hh_devices.specs.StreamSource.{reader_of, reader_failures};
+
+    /// The reader as a source, with no failure yet.
+    pub fn new(reader: R) -> StreamSource<R>
+        ensures reader { reader_of result ≡ reader }
+        ensures failures { reader_failures result ≡ 0 }
+    {
+        StreamSource {
+            reader,
+            failures: 0,
+        }
+    }
+
+    /// The reader again.
+    pub fn into_inner(self) -> R
+        ensures { result ≡ reader_of self }
+    {
+        self.reader
+    }
+
+    /// How many calls failed, as far as a `u64` counts.
+    pub fn failures(&self) -> u64
+        ensures { result ≡ reader_failures self.now }
+    {
+        self.failures
+    }
+}
+
+impl<R: Read> Source for StreamSource<R> {
+    ghost use Rattle.hh_devices.specs.StreamSource.{reader_of, reader_failures};
+
+    ghost remaining = { λ s. R.remaining (reader_of s) };
+
+    ghost failures = { reader_failures };
+
+    fn read(&mut self, buffer: &mut [u8]) -> Result<usize, DeviceFailed> {
+        let answer = self.reader.read(buffer).map_err(|_| DeviceFailed);
+        if answer.is_err() {
+            self.failures = self.failures.saturating_add(1);
+        }
+        answer
+    }
+}

@@ -1,0 +1,136 @@
+//! What no clause says: that each call succeeds, and what the words of the clauses come to.
+
+ghost use Rattle.std.specs.Prelude.{◌≤◌, IfOk};
+
+use super::*;
+use std::io::{self, Cursor, ErrorKind, Read, Write};
+use std::test::Fail;
+
+#[test]
+fn memory_sink_takes_up_to_its_room(rt: HostRuntime) -> Result<(), Fail> {
+    let mut sink = MemorySink::with_room(rt.alloc(), 10)?;
+    assert_eq!(rt; write_whole(&mut sink, b"abcdef"), Ok(()));
+    assert_eq!(rt; sink.failures(), 0);
+    assert_eq!(rt; write_whole(&mut sink, b"ghijklm"), Err(DeviceFailed));
+    assert_eq!(rt; sink.taken(), b"abcdefghij".as_slice());
+    assert_eq!(rt; sink.failures(), 1);
+    assert_eq!(rt; sink.write(b"k"), Ok(0));
+    assert_eq!(rt; sink.failures(), 2);
+    assert_eq!(rt; write_whole(&mut sink, b""), Ok(()));
+    assert_eq!(rt; sink.failures(), 2);
+    Ok(())
+}
+
+#[test]
+fn memory_sink_fails_once_in_mid_stream(rt: HostRuntime) -> Result<(), Fail> {
+    let mut sink = MemorySink::with_room(rt.alloc(), 100)?
+        .in_pieces(2)
+        .failing_after(3);
+    assert_eq!(rt; sink.write(b"abcdef"), Ok(2));
+    assert_eq!(rt; sink.write(b"cdef"), Ok(1));
+    assert_eq!(rt; sink.write(b"def"), Err(DeviceFailed));
+    assert_eq!(rt; sink.failures(), 1);
+    assert_eq!(rt; sink.write(b"def"), Ok(2));
+    assert_eq!(rt; sink.taken(), b"abcde".as_slice());
+    for count in 0..6 {
+        let mut sink = MemorySink::with_room(rt.alloc(), 100)?
+            .in_pieces(4)
+            .failing_after(count);
+        assert_eq!(rt; write_whole(&mut sink, b"abcdef"), Err(DeviceFailed));
+        assert_eq!(rt; sink.taken().len(), count);
+        assert_eq!(rt; write_whole(&mut sink, b"XY"), Ok(()));
+        assert_eq!(rt; sink.taken().len(), count + 2);
+        assert_eq!(rt; sink.failures(), 1);
+    }
+    Ok(())
+}
+
+#[test]
+fn memory_source_gives_pieces_and_fails_once(rt: HostRuntime) -> Result<(), Fail> {
+    let mut source = MemorySource::new(b"abcdef").in_pieces(4).failing_after(5);
+    let mut buffer = [0u8; 8];
+    assert_eq!(rt; source.read(&mut []), Ok(0));
+    assert_eq!(rt; source.read(&mut buffer), Ok(4));
+    assert_eq!(rt; &buffer[..4], b"abcd".as_slice());
+    assert_eq!(rt; source.read(&mut buffer), Ok(1));
+    assert_eq!(rt; &buffer[..1], b"e".as_slice());
+    assert_eq!(rt; source.read(&mut buffer), Err(DeviceFailed));
+    assert_eq!(rt; source.read(&mut buffer), Ok(1));
+    assert_eq!(rt; &buffer[..1], b"f".as_slice());
+    assert_eq!(rt; source.read(&mut buffer), Ok(0));
+    assert_eq!(rt; source.failures(), 1);
+    Ok(())
+}
+
+/// A stream of std that fails at its second call.
+#[derive(Drop)]
+struct Unsteady {
+    calls: u8,
+}
+
+impl Unsteady {
+    fn call(&mut self, length: usize) -> io::Result<usize>
+        ensures { IfOk result (λ n. n ≤ length) }
+    {
+        self.calls = self.calls.saturating_add(1);
+        if self.calls == 2 {
+            return Err(ErrorKind::BrokenPipe.into());
+        }
+        Ok(length.min(3))
+    }
+}
+
+impl Write for Unsteady {
+    fn write(&mut self, bytes: &[u8]) -> io::Result<usize> {
+        self.call(bytes.len())
+    }
+
+    fn flush(&mut self) -> io::Result<()> {
+        Ok(())
+    }
+}
+
+impl Read for Unsteady {
+    fn read(&mut self, buffer: &mut [u8]) -> io::Result<usize> {
+        self.call(buffer.len())
+    }
+}
+
+#[test]
+fn streams_of_std_are_devices(rt: HostRuntime) -> Result<(), Fail> {
+    let mut sink = StreamSink::new(Vec::new(rt.alloc()));
+    assert_eq!(rt; write_whole(&mut sink, b"one,two\n"), Ok(()));
+    assert_eq!(rt; sink.failures(), 0);
+    assert_eq!(rt; sink.into_inner().as_slice(), b"one,two\n".as_slice());
+
+    let mut full = StreamSink::new(Cursor::new([0u8; 4]));
+    assert_eq!(rt; write_whole(&mut full, b"abcdef"), Err(DeviceFailed));
+    assert_eq!(rt; full.failures(), 1);
+    assert_eq!(rt; full.into_inner().into_inner(), *b"abcd");
+
+    let mut buffer = [0u8; 8];
+    let mut source = StreamSource::new(Cursor::new(b"abc".as_slice()));
+    assert_eq!(rt; source.read(&mut buffer), Ok(3));
+    assert_eq!(rt; &buffer[..3], b"abc".as_slice());
+    assert_eq!(rt; source.read(&mut buffer), Ok(0));
+    assert_eq!(rt; source.failures(), 0);
+    Ok(())
+}
+
+#[test]
+fn failing_streams_are_counted(rt: HostRuntime) -> Result<(), Fail> {
+    let mut sink = StreamSink::new(Unsteady { calls: 0 });
+    assert_eq!(rt; sink.write(b"abcdef"), Ok(3));
+    assert_eq!(rt; sink.write(b"def"), Err(DeviceFailed));
+    assert_eq!(rt; sink.write(b"def"), Ok(3));
+    assert_eq!(rt; sink.failures(), 1);
+
+    let mut buffer = [0u8; 8];
+    let mut source = StreamSource::new(Unsteady { calls: 0 });
+    assert_eq!(rt; source.read(&mut buffer), Ok(3));
+    assert_eq!(rt; source.read(&mut buffer), Err(DeviceFailed));
+    assert_eq!(rt; source.read(&mut buffer), Ok(3));
+    assert_eq!(rt; source.failures(), 1);
+    assert_eq!(rt; source.into_inner().calls, 3);
+    Ok(())
+}

@@ -1,0 +1,3 @@
+pub mod AccountLaws
+pub mod ByteFacts
+pub mod WordFacts

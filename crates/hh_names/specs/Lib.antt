@@ -1,0 +1,4 @@
+pub mod Accounts
+pub mod Faults
+pub mod Fields
+pub mod Words

@@ -1,0 +1,23 @@
+//! The names, accounts and refusals of the market, and the readers of their fields.
+#![tactic(auto)]
+
+mod account;
+mod bytes;
+mod fault;
+mod operator_key;
+mod period;
+mod word;
+mod yes_no;
+
+pub use account::{Account, Side};
+pub use fault::{Fault, Refusal};
+pub use operator_key::OperatorKey;
+pub use period::Period;
+pub use word::{
+    AccessKey, AccessKeyAlphabet, Alphabet, FileName, FileNameAlphabet, PartyId, PartyIdAlphabet,
+    Reference, ReferenceAlphabet, UnitId, UnitIdAlphabet, Word,
+};
+pub use yes_no::read_yes_no;
+
+#[cfg(test)]
+mod tests;

@@ -1,9 +1,0 @@
-mod Examples
-pub mod HistoryLaws
-mod JudgeFacts
-mod PercentFacts
-pub mod RowLaws
-pub mod ServingLaws
-pub mod StandingLaws
-mod SumFacts
-mod TableFacts

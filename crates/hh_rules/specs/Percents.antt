@@ -1,0 +1,25 @@
+-- The percentages of reallocations in force, added up for each unit and Settlement Period.
+use Rattle.std.specs.Prelude.{◌≡◌, ℤ, pos, ◌≤ℤ◌, if◌then◌else◌, Option, Some, None, unwrap_or}
+use Rattle.std.specs.FinMap.{find}
+use Rattle.std.specs.List.{AllByRecursion}
+use Rattle.std.specs.Ordering.{eq_by_cmp}
+use Rattle.hh_tables.specs.Tables.{Table}
+use Rattle.hh_num.specs.Totals.{total}
+use Rattle.hh_rows.specs.Keys.{unit_period_cmp}
+use Rattle.hh_rows.specs.declared.keys.UnitPeriod.{UnitPeriod}
+use Rattle.hh_rows.specs.declared.keys.ReallocationKey.{ReallocationKey}
+use Rattle.hh_rows.specs.declared.rows.Reallocation.{Reallocation}
+
+-- the percentage of a unit that is in force in a Settlement Period
+abbrev pub percent_at : Table ReallocationKey Reallocation → UnitPeriod → ℤ
+percent_at reallocations at = total (λ e. if eq_by_cmp unit_period_cmp e.0.unit_period at then e.1.percent else pos 0) reallocations
+
+-- a table of percentages that has them all, none of the reallocations being negative
+pub record AddsUp (percents : Table UnitPeriod ℤ) (reallocations : Table ReallocationKey Reallocation) : Type 0 where
+  pub sums : (at : UnitPeriod) → unwrap_or (find unit_period_cmp at percents) (pos 0) ≡ percent_at reallocations at
+  pub none_negative : AllByRecursion (λ e. pos 0 ≤ℤ e.1.percent) reallocations
+
+-- the percentage of a reallocation, 0 where there is none
+abbrev pub percent_in : Option Reallocation → ℤ
+percent_in None = pos 0
+percent_in (Some r) = r.percent
