@@ -1,6 +1,6 @@
 //! Numbers that look random, and are the same in each run.
 
-ghost use Rattle.std.specs.Prelude.{◌≤◌, ◌<◌, nat_abs};
+ghost use Rattle.std.specs.Prelude.{◌≤◌, ◌<◌, unsigned_abs};
 
 /// A linear congruential generator of 64 bits.
 #[derive(Drop)]
@@ -28,7 +28,7 @@ impl Draw {
     /// The next number, of at most this size.
     pub(crate) fn signed(&mut self, most: u32) -> i64
         requires { most ≤ 1_000_000 }
-        ensures { nat_abs result ≤ most }
+        ensures { unsigned_abs result ≤ most }
     {
         i64::from(self.below(2 * most + 1)) - i64::from(most)
     }

@@ -1,9 +1,9 @@
 //! A period of the market's size.
 
 use crate::draw::Draw;
-use hh_calc::{Contract, PeriodData, Subsidiary, UnitData, UnitVolumes};
+use hh_calc::{PeriodData, Subsidiary, UnitData};
+use hh_names::{Account, Contract, Counterparties, Reading, Reallocation, UnitId};
 use hh_num::{Kwh, Percent, Price, Tlm};
-use hh_names::{Account, UnitId};
 use std::alloc::Global;
 
 /// Two to each of 400 parties.
@@ -54,7 +54,7 @@ fn unit(alloc: Global, accounts: &[Account], number: u32, draw: &mut Draw) -> Op
     let id = format!(in alloc; "T_UNIT-{number}").ok()?;
     let lead = draw.below(ACCOUNTS);
     let interconnector = draw.below(10) == 0;
-    let volumes = UnitVolumes {
+    let reading = Reading {
         metered: Kwh::new(draw.signed(500_000))?,
         tlm: Tlm::new(9_700_000 + i64::from(draw.below(600_000)))?,
         balancing: Kwh::new(draw.signed(5_000))?,
@@ -63,7 +63,7 @@ fn unit(alloc: Global, accounts: &[Account], number: u32, draw: &mut Draw) -> Op
         UnitId::read(id.as_bytes())?,
         account_at(accounts, lead)?,
         interconnector,
-        volumes,
+        reading,
         subsidiaries(alloc, accounts, lead, draw)?,
     ))
 }
@@ -79,8 +79,10 @@ fn subsidiaries(
     for number in 1..4 {
         let subsidiary = Subsidiary {
             account: account_at(accounts, lead.wrapping_add(number * STEP))?,
-            percent: Percent::new(i64::from(draw.below(3_000_000)))?,
-            fixed: Kwh::new(draw.signed(1_000))?,
+            reallocation: Reallocation {
+                percent: Percent::new(i64::from(draw.below(3_000_000)))?,
+                fixed: Kwh::new(draw.signed(1_000))?,
+            },
         };
         subsidiaries.push(subsidiary).ok()?;
     }
@@ -93,8 +95,10 @@ fn contracts(alloc: Global, accounts: &[Account], draw: &mut Draw) -> Option<Vec
         let seller = draw.below(ACCOUNTS);
         let buyer = seller.wrapping_add(1 + draw.below(ACCOUNTS - 1));
         let contract = Contract {
-            seller: account_at(accounts, seller)?,
-            buyer: account_at(accounts, buyer)?,
+            counterparties: Counterparties {
+                seller: account_at(accounts, seller)?,
+                buyer: account_at(accounts, buyer)?,
+            },
             volume: Kwh::new(draw.signed(90_000))?,
         };
         contracts.push(contract).ok()?;

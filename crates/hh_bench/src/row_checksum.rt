@@ -50,10 +50,10 @@ fn mixed_price(sum: u64, row: &PriceRow) -> u64 {
 
 fn mixed_contract(sum: u64, row: &ContractRow) -> u64 {
     let sum = mixed_bytes(sum, row.key.reference.as_bytes());
-    let sum = mixed_account(sum, row.counterparties.seller);
-    let sum = mixed_account(sum, row.counterparties.buyer);
+    let sum = mixed_account(sum, row.contract.counterparties.seller);
+    let sum = mixed_account(sum, row.contract.counterparties.buyer);
     let sum = mixed_period(sum, row.key.at);
-    mixed(sum, row.volume.units())
+    mixed(sum, row.contract.volume.units())
 }
 
 fn mixed_reallocation(sum: u64, row: &ReallocationRow) -> u64 {
@@ -70,7 +70,7 @@ fn mixed_unit_period(sum: u64, key: UnitPeriod) -> u64 {
 
 fn mixed_period(sum: u64, at: SettlementPeriod) -> u64 {
     let sum = mixed(sum, i64::from(at.date.number()));
-    mixed(sum, i64::from(at.number.number()))
+    mixed(sum, i64::from(at.period.number()))
 }
 
 fn mixed_range(sum: u64, range: DateRange) -> u64 {

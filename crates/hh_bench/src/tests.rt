@@ -4,7 +4,7 @@
 
 use hh_rules::{Register, RowDone};
 use hh_rows::{ContractKey, FileKind, LeadMinutes, Row, SettlementPeriod};
-use hh_names::{Fault, Period, Reference, Refusal};
+use hh_names::{Fault, PeriodNumber, Reference, Refusal};
 use hh_texts::read_file;
 use hh_time::{SettlementDate, london};
 use jiff::tz::TimeZone;
@@ -163,7 +163,7 @@ fn volume_of_c1(register: &Register) -> Option<i64> {
         reference: Reference::read(b"C1")?,
         at: SettlementPeriod {
             date: SettlementDate::read(b"2024-07-01")?,
-            number: Period::new(1)?,
+            period: PeriodNumber::new(1)?,
         },
     };
     Some(register.contract(&key)?.units())

@@ -1,6 +1,6 @@
 -- What credits come to, and the machine's words that hold it.
 use Rattle.std.proofs.Common.{◌≡◌, ℕ, ◌+◌, ◌*◌, ◌^◌, ◌<◌, ◌≤◌, Bool, true, false, cond, List, [], ◌∷◌, ◌++◌, length, get_or, take, map, refl, sym, ap, ◌∙◌, arith, FitsSigned, to_z, of_z, add-one}
-use Rattle.std.specs.Prelude.{ℤ, pos, negsuc, ◌+ℤ◌, ◌-ℤ◌, ◌*ℤ◌, nat_abs, filter, not}
+use Rattle.std.specs.Prelude.{ℤ, pos, negsuc, ◌+ℤ◌, ◌-ℤ◌, ◌*ℤ◌, unsigned_abs, filter, not}
 use Rattle.std.specs.Int.{w64, w128}
 use Rattle.std.specs.Int.Signed.{mag}
 use Rattle.std.specs.Cmp.{IsTotalOrder, on_total, then_total}
@@ -17,27 +17,27 @@ use Rattle.hh_names.proofs.AccountLaws.{account_total, bytes_total}
 use Rattle.hh_calc.specs.declared.data.Subsidiary.{Subsidiary}
 use Rattle.hh_calc.specs.declared.result.CreditRow.{CreditRow}
 use Rattle.hh_calc.specs.Formulas.{credit_cmp, credits_of, lead_credit, loss_adjusted, most_subsidiaries, subsidiary_credit, unit_credits}
-use Rattle.hh_calc.specs.Period.{UnitPeriod}
+use Rattle.hh_calc.specs.Terms.{BmUnit}
 use Rattle.hh_calc.proofs.SumLaws.{total-more}
 use Rattle.hh_calc.proofs.WordFacts.{long_word, word}
 
 -- a word holds an amount of at most this size
 pub record Holds (held amount : ℤ) (most : ℕ) : Type 0 where
   pub is : held ≡ amount
-  pub small : nat_abs amount ≤ most
+  pub small : unsigned_abs amount ≤ most
 
 pub held_fits : (held amount : ℤ) (most : ℕ) → Holds held amount most → most ≤ 10 ^ 36 → FitsSigned w128 held
 held_fits held amount most h le =
-    let small : nat_abs held ≤ most = rw h.is h.small in
+    let small : unsigned_abs held ≤ most = rw h.is h.small in
     omega (arith, ints)
 
 pub held_word : (held amount : ℤ) (most : ℕ) → Holds held amount most → most ≤ 10 ^ 36 → Holds (word held) amount most
 held_word held amount most h le =
-    let small : nat_abs amount ≤ most = h.small in
+    let small : unsigned_abs amount ≤ most = h.small in
     record { is = ap word h.is ∙ long_word amount (omega arith); small = small }
 
 -- a number of 64 bits, widened
-pub held_wide : (v units wide : ℤ) (most : ℕ) → units ≡ v → nat_abs v ≤ most → most ≤ 10 ^ 18 → wide ≡ to_z w64 (of_z w64 units) → Holds (word wide) v most
+pub held_wide : (v units wide : ℤ) (most : ℕ) → units ≡ v → unsigned_abs v ≤ most → most ≤ 10 ^ 18 → wide ≡ to_z w64 (of_z w64 units) → Holds (word wide) v most
 held_wide v units wide most same le few e =
     let fits : FitsSigned w64 v = omega (arith, ints) in
     held_word wide v most (record { is = e ∙ ap (λ z. to_z w64 (of_z w64 z)) same ∙ to_z-of_z w64 v fits; small = le }) (omega arith)
@@ -45,30 +45,30 @@ held_wide v units wide most same le few e =
 module _ (a x b y : ℤ) (m n : ℕ) (h : Holds a x m) (k : Holds b y n) where
   pub held_times : Holds (a *ℤ b) (x *ℤ y) (m * n)
   held_times =
-      let product : nat_abs x * nat_abs y ≤ m * n = mul-le-mul h.small k.small in
+      let product : unsigned_abs x * unsigned_abs y ≤ m * n = mul-le-mul h.small k.small in
       record { is = λ i. h.is i *ℤ k.is i; small = rw (unsigned_abs-mul x y) product }
 
   pub held_plus : Holds (a +ℤ b) (x +ℤ y) (m + n)
   held_plus =
-      let left : nat_abs x ≤ m = h.small in
-      let right : nat_abs y ≤ n = k.small in
+      let left : unsigned_abs x ≤ m = h.small in
+      let right : unsigned_abs y ≤ n = k.small in
       record { is = λ i. h.is i +ℤ k.is i; small = omega (arith, ints) }
 
   pub held_minus : Holds (a -ℤ b) (x -ℤ y) (m + n)
   held_minus =
-      let left : nat_abs x ≤ m = h.small in
-      let right : nat_abs y ≤ n = k.small in
+      let left : unsigned_abs x ≤ m = h.small in
+      let right : unsigned_abs y ≤ n = k.small in
       record { is = λ i. h.is i -ℤ k.is i; small = omega (arith, ints) }
 
 -- sizes of what a credit is reckoned from
-pub percent_most : (v : ℤ) → IsBetween (pos 0) (pos 10_000_000) v → nat_abs v ≤ 10 ^ 7
+pub percent_most : (v : ℤ) → IsBetween (pos 0) (pos 10_000_000) v → unsigned_abs v ≤ 10 ^ 7
 percent_most v (low, high) = omega (arith, ints)
 
-pub multiplier_most : (v : ℤ) → IsBetween (pos 0) (pos 20_000_000) v → nat_abs v ≤ 2 * 10 ^ 7
+pub multiplier_most : (v : ℤ) → IsBetween (pos 0) (pos 20_000_000) v → unsigned_abs v ≤ 2 * 10 ^ 7
 multiplier_most v (low, high) = omega (arith, ints)
 
 -- a credit is rounded from its size in 10^-7 ticks
-pub near_size : (x : ℤ) → nat_abs x ≤ 6 * 10 ^ 21 → nat_abs (near x (pos (10 ^ 7))) ≤ 10 ^ 15
+pub near_size : (x : ℤ) → unsigned_abs x ≤ 6 * 10 ^ 21 → unsigned_abs (near x (pos (10 ^ 7))) ≤ 10 ^ 15
 near_size (pos n) le = omega arith
 near_size (negsuc n) le = omega (arith, ints)
 
@@ -88,8 +88,8 @@ module _ (metered balancing percent : ℤ) (m b p : ℤ) (hm : Holds m metered (
       held_amount = held_times _ _ _ _ (3 * 10 ^ 14) (2 * 10 ^ 7) (held_word _ _ _ held_part (omega arith)) ht
 
 -- that amount is small enough to be rounded, and rounded it is the credit
-pub held_limit : (held amount : ℤ) → Holds held amount (6 * 10 ^ 21) → nat_abs held ≤ 10 ^ 30
-held_limit held amount h = let small : nat_abs amount ≤ 6 * 10 ^ 21 = h.small in rw h.is (omega arith)
+pub held_limit : (held amount : ℤ) → Holds held amount (6 * 10 ^ 21) → unsigned_abs held ≤ 10 ^ 30
+held_limit held amount h = let small : unsigned_abs amount ≤ 6 * 10 ^ 21 = h.small in rw h.is (omega arith)
 
 pub held_credit : (result held amount : ℤ) → mag result < 2 ^ 127 → result ≡ near held (pos (10 ^ 7)) → Holds held amount (6 * 10 ^ 21) → Holds (word result) (near amount (pos (10 ^ 7))) (10 ^ 15)
 held_credit result held amount fits e h = record {
@@ -98,10 +98,10 @@ held_credit result held amount fits e h = record {
 }
 
 -- Credit after credit: the subsidiaries of a unit so far.
-abbrev pub credit_of : UnitPeriod → Subsidiary → CreditRow
+abbrev pub credit_of : BmUnit → Subsidiary → CreditRow
 credit_of u s = record { unit = u.unit; account = s.account; credited = subsidiary_credit u s }
 
-module _ (u : UnitPeriod) (i : ℕ) (s : Subsidiary) (inside : i < length u.subsidiaries) (is : s ≡ get_or u.subsidiaries i s) where
+module _ (u : BmUnit) (i : ℕ) (s : Subsidiary) (inside : i < length u.subsidiaries) (is : s ≡ get_or u.subsidiaries i s) where
   pub credits_more : (start so_far : List CreditRow) → so_far ≡ start ++ map (credit_of u) (take i u.subsidiaries)
       → (row : CreditRow) → row ≡ credit_of u s → (new : List CreditRow) → new ≡ so_far ++ row ∷ []
       → new ≡ start ++ map (credit_of u) (take (i + 1) u.subsidiaries)
@@ -122,36 +122,36 @@ module _ (u : UnitPeriod) (i : ℕ) (s : Subsidiary) (inside : i < length u.subs
       less : (a b c : ℤ) → (a -ℤ b) -ℤ c ≡ a -ℤ (b +ℤ c)
       less a b c = omega (arith, ints)
 
-  pub small_more : All (λ x. nat_abs (subsidiary_credit u x) ≤ 10 ^ 18) (take i u.subsidiaries) → (credit : ℤ) → credit ≡ subsidiary_credit u s → nat_abs credit ≤ 10 ^ 15
-      → All (λ x. nat_abs (subsidiary_credit u x) ≤ 10 ^ 18) (take (i + 1) u.subsidiaries)
+  pub small_more : All (λ x. unsigned_abs (subsidiary_credit u x) ≤ 10 ^ 18) (take i u.subsidiaries) → (credit : ℤ) → credit ≡ subsidiary_credit u s → unsigned_abs credit ≤ 10 ^ 15
+      → All (λ x. unsigned_abs (subsidiary_credit u x) ≤ 10 ^ 18) (take (i + 1) u.subsidiaries)
   small_more before credit same le =
-      let here : nat_abs (subsidiary_credit u (get_or u.subsidiaries i s)) ≤ 10 ^ 15 = rw (sym (same ∙ ap (subsidiary_credit u) is)) le in
-      All-more (λ x. nat_abs (subsidiary_credit u x) ≤ 10 ^ 18) u.subsidiaries i s inside before (omega arith)
+      let here : unsigned_abs (subsidiary_credit u (get_or u.subsidiaries i s)) ≤ 10 ^ 15 = rw (sym (same ∙ ap (subsidiary_credit u) is)) le in
+      All-more (λ x. unsigned_abs (subsidiary_credit u x) ≤ 10 ^ 18) u.subsidiaries i s inside before (omega arith)
 
 -- what the machine's word holds of the rest
-pub rest_word : (i : ℕ) (rest credit : ℤ) → i ≤ most_subsidiaries → nat_abs rest ≤ 2 * 10 ^ 14 + i * 10 ^ 15 → nat_abs credit ≤ 10 ^ 15
+pub rest_word : (i : ℕ) (rest credit : ℤ) → i ≤ most_subsidiaries → unsigned_abs rest ≤ 2 * 10 ^ 14 + i * 10 ^ 15 → unsigned_abs credit ≤ 10 ^ 15
     → Holds (word (rest -ℤ word credit)) (rest -ℤ credit) (2 * 10 ^ 14 + (i + 1) * 10 ^ 15)
 rest_word i rest credit few le le' =
-    let both : nat_abs (rest -ℤ credit) ≤ 2 * 10 ^ 14 + (i + 1) * 10 ^ 15 = rw (add-one, suc-mul i (10 ^ 15)) (omega (arith, ints)) in
-    let low : nat_abs (rest -ℤ credit) ≤ 10 ^ 36 = omega (arith, ints) in
+    let both : unsigned_abs (rest -ℤ credit) ≤ 2 * 10 ^ 14 + (i + 1) * 10 ^ 15 = rw (add-one, suc-mul i (10 ^ 15)) (omega (arith, ints)) in
+    let low : unsigned_abs (rest -ℤ credit) ≤ 10 ^ 36 = omega (arith, ints) in
     record {
       is = ap (λ z. word (rest -ℤ z)) (long_word credit (omega arith)) ∙ long_word (rest -ℤ credit) (omega arith);
       small = both;
     }
 
 -- all the credits of a unit are small
-pub unit_credits_small : (u : UnitPeriod) (i : ℕ) (rest : ℤ) → length u.subsidiaries ≤ i → i ≤ most_subsidiaries
-    → All (λ x. nat_abs (subsidiary_credit u x) ≤ 10 ^ 18) (take i u.subsidiaries)
-    → rest ≡ loss_adjusted u -ℤ total (subsidiary_credit u) (take i u.subsidiaries) → nat_abs rest ≤ 2 * 10 ^ 14 + i * 10 ^ 15
-    → All (λ c. nat_abs c.credited ≤ 10 ^ 18) (unit_credits u)
+pub unit_credits_small : (u : BmUnit) (i : ℕ) (rest : ℤ) → length u.subsidiaries ≤ i → i ≤ most_subsidiaries
+    → All (λ x. unsigned_abs (subsidiary_credit u x) ≤ 10 ^ 18) (take i u.subsidiaries)
+    → rest ≡ loss_adjusted u -ℤ total (subsidiary_credit u) (take i u.subsidiaries) → unsigned_abs rest ≤ 2 * 10 ^ 14 + i * 10 ^ 15
+    → All (λ c. unsigned_abs c.credited ≤ 10 ^ 18) (unit_credits u)
 unit_credits_small u i rest all few each is le =
     let whole : take i u.subsidiaries ≡ u.subsidiaries = take_all i u.subsidiaries all in
-    let lead : nat_abs (lead_credit u) ≤ 10 ^ 18 = rw (sym (is ∙ ap (λ l. loss_adjusted u -ℤ total (subsidiary_credit u) l) whole)) (omega arith) in
-    All-push (λ c. nat_abs c.credited ≤ 10 ^ 18) (map (credit_of u) u.subsidiaries) _
-    (All-map (λ c. nat_abs c.credited ≤ 10 ^ 18) (credit_of u) u.subsidiaries (rw whole at each)) lead
+    let lead : unsigned_abs (lead_credit u) ≤ 10 ^ 18 = rw (sym (is ∙ ap (λ l. loss_adjusted u -ℤ total (subsidiary_credit u) l) whole)) (omega arith) in
+    All-push (λ c. unsigned_abs c.credited ≤ 10 ^ 18) (map (credit_of u) u.subsidiaries) _
+    (All-map (λ c. unsigned_abs c.credited ≤ 10 ^ 18) (credit_of u) u.subsidiaries (rw whole at each)) lead
 
 -- Unit after unit: the credits that weigh.
-module _ (units : List UnitPeriod) (i : ℕ) (u : UnitPeriod) (inside : i < length units) (is : u ≡ get_or units i u) where
+module _ (units : List BmUnit) (i : ℕ) (u : BmUnit) (inside : i < length units) (is : u ≡ get_or units i u) where
   weighing_next : (weighs : Bool) → not u.interconnector ≡ weighs
       → credits_of (filter (λ v. not v.interconnector) (take (i + 1) units)) ≡ credits_of (filter (λ v. not v.interconnector) (take i units)) ++ credits_of (cond weighs (u ∷ []) [])
   weighing_next weighs e =

@@ -4,15 +4,15 @@ use Rattle.std.specs.Prelude.{ℤ, pos, negsuc, false}
 use Rattle.hh_names.specs.declared.account.Account.{Account}
 use Rattle.hh_calc.specs.declared.data.Subsidiary.{Subsidiary}
 use Rattle.hh_calc.specs.Formulas.{lead_credit, subsidiary_credit}
-use Rattle.hh_calc.specs.Period.{UnitPeriod}
+use Rattle.hh_calc.specs.Terms.{BmUnit}
 
 module _ (lead account : Account) where
   abbrev reallocation : ℤ → ℤ → Subsidiary
-  reallocation percent fixed = record { account = account; percent = percent; fixed = fixed }
+  reallocation percent fixed = record { account = account; reallocation = record { percent = percent; fixed = fixed } }
 
-  abbrev unit : ℤ → ℤ → ℤ → Subsidiary → UnitPeriod
+  abbrev unit : ℤ → ℤ → ℤ → Subsidiary → BmUnit
   unit metered tlm balancing subsidiary =
-      record { unit = []; lead = lead; interconnector = false; metered = metered; tlm = tlm; balancing = balancing; subsidiaries = subsidiary ∷ [] }
+      record { unit = []; lead = lead; interconnector = false; reading = record { metered = metered; tlm = tlm; balancing = balancing }; subsidiaries = subsidiary ∷ [] }
 
   -- 33.33333 percent of 9 MWh, and 0.5 MWh
   abbrev third : Subsidiary

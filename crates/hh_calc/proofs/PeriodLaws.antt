@@ -13,16 +13,16 @@ use Rattle.hh_names.specs.declared.account.Account.{Account}
 use Rattle.hh_names.specs.Accounts.{account_cmp, is_same_account}
 use Rattle.hh_names.proofs.AccountLaws.{account_total}
 use Rattle.hh_share.specs.Shares.{SumsTo}
-use Rattle.hh_calc.specs.declared.data.Contract.{Contract}
+use Rattle.hh_names.specs.declared.values.Contract.{Contract}
 use Rattle.hh_calc.specs.declared.data.Subsidiary.{Subsidiary}
 use Rattle.hh_calc.specs.declared.result.AccountRow.{AccountRow}
 use Rattle.hh_calc.specs.declared.result.CreditRow.{CreditRow}
 use Rattle.hh_calc.specs.Formulas.{AddsUp, AreInOrder, AreNamed, AreUnitsDistinct, Figures, IsSettled, credits_of, figures, figures_of, lead_credit, loss_adjusted, net_of, of_account, residual, subsidiary_credit, unit_credits}
-use Rattle.hh_calc.specs.Period.{Period, Settled, UnitPeriod}
+use Rattle.hh_calc.specs.Terms.{PeriodTerms, Settled, BmUnit}
 use Rattle.hh_calc.proofs.OrderLaws.{rises}
 use Rattle.hh_calc.proofs.SpreadLaws.{counted, counts_once, total-IsPermutation, total-flat_map, total-ticks}
 
-module _ (p : Period) (up : AreInOrder p) where
+module _ (p : PeriodTerms) (up : AreInOrder p) where
   -- no other place of the accounts is the account's
   others_differ : (d : Account) (k j : ℕ) → k < length p.accounts → j < length p.accounts → j ≢ k
       → is_same_account (get_or p.accounts k d) (get_or p.accounts j d) ≡ false
@@ -41,15 +41,15 @@ module _ (p : Period) (up : AreInOrder p) where
       (λ j among ne. ap (λ c. is_same_account c (get_or p.accounts j b)) (sym is) ∙ others_differ b k j inside among ne)
 
   -- a contract is for its seller what it is against its buyer
-  one_contract : (c : Contract) → Contains p.accounts c.seller × Contains p.accounts c.buyer → total (λ a. net_of a c) p.accounts ≡ pos 0
+  one_contract : (c : Contract) → Contains p.accounts c.counterparties.seller × Contains p.accounts c.counterparties.buyer → total (λ a. net_of a c) p.accounts ≡ pos 0
   one_contract c (sells, buys) =
-      total-plus (λ a. of_account a c.seller c.volume) (λ a. neg_ℤ (of_account a c.buyer c.volume)) p.accounts
-      ∙ (λ i. spread c.seller sells c.volume i +ℤ total-neg (λ a. of_account a c.buyer c.volume) p.accounts i)
-      ∙ ap (λ z. c.volume +ℤ neg_ℤ z) (spread c.buyer buys c.volume)
+      total-plus (λ a. of_account a c.counterparties.seller c.volume) (λ a. neg_ℤ (of_account a c.counterparties.buyer c.volume)) p.accounts
+      ∙ (λ i. spread c.counterparties.seller sells c.volume i +ℤ total-neg (λ a. of_account a c.counterparties.buyer c.volume) p.accounts i)
+      ∙ ap (λ z. c.volume +ℤ neg_ℤ z) (spread c.counterparties.buyer buys c.volume)
       ∙ +ℤ_invr c.volume
 
   -- so all contracts together sum to zero over the accounts
-  all_contracts : (cs : List Contract) → All (λ c. Contains p.accounts c.seller × Contains p.accounts c.buyer) cs
+  all_contracts : (cs : List Contract) → All (λ c. Contains p.accounts c.counterparties.seller × Contains p.accounts c.counterparties.buyer) cs
       → total (λ c. total (λ a. net_of a c) p.accounts) cs ≡ pos 0
   all_contracts [] named = refl
   all_contracts (c ∷ cs) named = λ i. one_contract c (named 0 c (omega arith)) i +ℤ all_contracts cs (λ k d lt. named (suc k) d (omega arith)) i
@@ -61,7 +61,7 @@ module _ (p : Period) (up : AreInOrder p) where
       ∙ ap (λ z. z *ℤ pos 10_000_000) (total-swap net_of p.accounts p.contracts ∙ all_contracts p.contracts named.1)
 
 -- The credits from a unit sum to its loss-adjusted volume; where they do not count, to zero.
-unit_credits_sum : (u : UnitPeriod) (do_count : Bool)
+unit_credits_sum : (u : BmUnit) (do_count : Bool)
     → total (λ s. cond do_count (subsidiary_credit u s) (pos 0)) u.subsidiaries +ℤ cond do_count (lead_credit u) (pos 0) ≡ cond do_count (loss_adjusted u) (pos 0)
 unit_credits_sum u true =
     +ℤ_comm (total (subsidiary_credit u) u.subsidiaries) (lead_credit u)
@@ -73,7 +73,7 @@ abbrev credited_under : List ℕ → CreditRow → ℤ
 credited_under name = counted (λ c. bytes_eq c.unit name) (λ c. c.credited)
 
 -- under a unit's name count all its credits, and under any other none
-credits_under : (name : List ℕ) (u : UnitPeriod) → total (credited_under name) (unit_credits u) ≡ counted (λ v. bytes_eq v.unit name) loss_adjusted u
+credits_under : (name : List ℕ) (u : BmUnit) → total (credited_under name) (unit_credits u) ≡ counted (λ v. bytes_eq v.unit name) loss_adjusted u
 credits_under name u =
     let given : Subsidiary → CreditRow = λ s. record { unit = u.unit; account = s.account; credited = subsidiary_credit u s } in
     let kept : CreditRow = record { unit = u.unit; account = u.lead; credited = lead_credit u } in
@@ -82,10 +82,10 @@ credits_under name u =
     ∙ unit_credits_sum u (bytes_eq u.unit name)
 
 -- no other unit has a unit's name, so the credits under it sum to its loss-adjusted volume
-credits_sum : (p : Period) (s : Settled) → AreUnitsDistinct p → IsSettled p s
+credits_sum : (p : PeriodTerms) (s : Settled) → AreUnitsDistinct p → IsSettled p s
     → All (λ u. total (λ c. c.credited) (filter (λ c. bytes_eq c.unit u.unit) s.credits) ≡ loss_adjusted u) p.units
 credits_sum p s distinct settled k d inside =
-    let u : UnitPeriod = get_or p.units k d in
+    let u : BmUnit = get_or p.units k d in
     total-filter (λ c. c.credited) (λ c. bytes_eq c.unit u.unit) s.credits
     ∙ total-IsPermutation (credited_under u.unit) (credits_of p.units) s.credits settled.credits
     ∙ total-flat_map (credited_under u.unit) unit_credits p.units
@@ -100,7 +100,7 @@ credits_sum p s distinct settled k d inside =
           | inr le ↦ distinct j k d (omega arith) inside same
         ])
 
-module _ (p : Period) (s : Settled) (settled : IsSettled p s) where
+module _ (p : PeriodTerms) (s : Settled) (settled : IsSettled p s) where
   -- the rows sum to what the figures do
   rows_sum : (f : Figures → ℤ) → total (λ r. f (figures_of r)) s.accounts ≡ total (λ a. f (figures p a)) p.accounts
   rows_sum f = sym (total-map f figures_of s.accounts) ∙ ap (total f) settled.rows ∙ total-map f (figures p) p.accounts
@@ -113,7 +113,7 @@ module _ (p : Period) (s : Settled) (settled : IsSettled p s) where
       ∙ +ℤ_invr (total (λ a. (figures p a).charge) p.accounts)
 
 -- What a settled period adds up to: contracts to zero, the credits from each unit to its loss-adjusted volume, cash to zero.
-pub adds_up : (p : Period) (s : Settled) → AreInOrder p → AreNamed p → IsSettled p s
+pub adds_up : (p : PeriodTerms) (s : Settled) → AreInOrder p → AreNamed p → IsSettled p s
     → SumsTo (residual p) (map (λ r. r.share) s.accounts) → AddsUp p s
 adds_up p s up named settled shares = record {
   contracts = rows_sum p s settled (λ f. f.contracts) ∙ contracts_sum p up named;

@@ -9,9 +9,9 @@ use Rattle.std.proofs.lemmas.List.{take_all}
 use Rattle.std.proofs.lemmas.List.Elements.{All-more}
 use Rattle.std.proofs.lemmas.Map.Keys.{sorted_from_all_adjacent}
 use Rattle.hh_names.specs.declared.account.Account.{Account}
-use Rattle.hh_calc.specs.declared.data.Contract.{Contract}
+use Rattle.hh_names.specs.declared.values.Contract.{Contract}
 use Rattle.hh_calc.specs.Formulas.{most_subsidiaries}
-use Rattle.hh_calc.specs.Period.{UnitPeriod}
+use Rattle.hh_calc.specs.Terms.{BmUnit}
 use Rattle.hh_calc.proofs.CreditLaws.{IsUnitNamed}
 
 -- what a test found
@@ -36,15 +36,15 @@ pub all_of : {X : Type 0} (P : X → Type 0) (xs : List X) (i : ℕ) → length 
 all_of P xs i end before = subst (All P) (take_all i xs end) before
 
 -- each lead and subsidiary of these units is one of the accounts
-abbrev pub AreUnitsNamed : List Account → List UnitPeriod → Type 0
+abbrev pub AreUnitsNamed : List Account → List BmUnit → Type 0
 AreUnitsNamed accounts units = All (IsUnitNamed accounts) units
 
 -- each seller and buyer of these contracts is one of the accounts
 abbrev pub AreContractsNamed : List Account → List Contract → Type 0
-AreContractsNamed accounts contracts = All (λ c. Contains accounts c.seller × Contains accounts c.buyer) contracts
+AreContractsNamed accounts contracts = All (λ c. Contains accounts c.counterparties.seller × Contains accounts c.counterparties.buyer) contracts
 
 -- these units have no more subsidiaries than the most
-abbrev pub AreFew : List UnitPeriod → Type 0
+abbrev pub AreFew : List BmUnit → Type 0
 AreFew units = All (λ u. length u.subsidiaries ≤ most_subsidiaries) units
 
 -- what holds of two lists holds of the same under other names

@@ -1,6 +1,6 @@
 -- The figures of one account, and the limits.
 use Rattle.std.proofs.Common.{◌≡◌, ℕ, ◌*◌, ◌^◌, ◌<◌, ◌≤◌, Bool, true, false, cond, Option, Some, None, refl, sym, ap, ◌∙◌, arith, FitsSigned, to_z, of_z, IfNone}
-use Rattle.std.specs.Prelude.{ℤ, pos, neg_ℤ, ◌-ℤ◌, ◌*ℤ◌, nat_abs}
+use Rattle.std.specs.Prelude.{ℤ, pos, neg_ℤ, ◌-ℤ◌, ◌*ℤ◌, unsigned_abs}
 use Rattle.std.specs.Int.{w64, w128}
 use Rattle.std.specs.Int.Signed.{mag}
 use Rattle.std.proofs.Math.IntN.{+ℤ_idl}
@@ -33,17 +33,17 @@ if_none None P p = p
 if_none (Some x) P p = tt
 
 -- net contracts in ticks
-pub contracts_word : (net : ℤ) → nat_abs net ≤ 10 ^ 28
+pub contracts_word : (net : ℤ) → unsigned_abs net ≤ 10 ^ 28
     → to_z w128 (of_z w128 (to_z w128 (of_z w128 net) *ℤ pos (10 ^ 7))) ≡ net *ℤ pos (10 ^ 7)
 contracts_word net le =
-    let small : nat_abs (net *ℤ pos (10 ^ 7)) ≤ 10 ^ 38 = omega (arith, ints) in
+    let small : unsigned_abs (net *ℤ pos (10 ^ 7)) ≤ 10 ^ 38 = omega (arith, ints) in
     ap (λ z. to_z w128 (of_z w128 (z *ℤ pos (10 ^ 7)))) (long_word net (omega arith)) ∙ long_word (net *ℤ pos (10 ^ 7)) small
 
-pub imbalance_word : (credited balancing contracts word : ℤ) → nat_abs credited ≤ 2 * 10 ^ 37 → nat_abs balancing ≤ 10 ^ 34 → nat_abs contracts ≤ 10 ^ 35 → word ≡ contracts
+pub imbalance_word : (credited balancing contracts word : ℤ) → unsigned_abs credited ≤ 2 * 10 ^ 37 → unsigned_abs balancing ≤ 10 ^ 34 → unsigned_abs contracts ≤ 10 ^ 35 → word ≡ contracts
     → to_z w128 (of_z w128 (to_z w128 (of_z w128 (to_z w128 (of_z w128 credited) -ℤ to_z w128 (of_z w128 balancing))) -ℤ word)) ≡ (credited -ℤ balancing) -ℤ contracts
 imbalance_word credited balancing contracts word a b d same =
-    let first : nat_abs (credited -ℤ balancing) ≤ 10 ^ 38 = omega (arith, ints) in
-    let all : nat_abs ((credited -ℤ balancing) -ℤ contracts) ≤ 10 ^ 38 = omega (arith, ints) in
+    let first : unsigned_abs (credited -ℤ balancing) ≤ 10 ^ 38 = omega (arith, ints) in
+    let all : unsigned_abs ((credited -ℤ balancing) -ℤ contracts) ≤ 10 ^ 38 = omega (arith, ints) in
     ap (λ z. to_z w128 (of_z w128 (to_z w128 (of_z w128 (z -ℤ to_z w128 (of_z w128 balancing))) -ℤ word))) (long_word credited (omega arith))
     ∙ ap (λ z. to_z w128 (of_z w128 (to_z w128 (of_z w128 (credited -ℤ z)) -ℤ word))) (long_word balancing (omega arith))
     ∙ ap (λ z. to_z w128 (of_z w128 (z -ℤ word))) (long_word (credited -ℤ balancing) (omega arith))
@@ -51,14 +51,14 @@ imbalance_word credited balancing contracts word a b d same =
     ∙ long_word ((credited -ℤ balancing) -ℤ contracts) all
 
 -- the energy's price, turned round: it stays far below the limits of rounding
-pub charge_word : (imbalance price wide wide' : ℤ) → nat_abs imbalance ≤ 10 ^ 17 → nat_abs price ≤ 10 ^ 10 → wide ≡ imbalance → wide' ≡ price
+pub charge_word : (imbalance price wide wide' : ℤ) → unsigned_abs imbalance ≤ 10 ^ 17 → unsigned_abs price ≤ 10 ^ 10 → wide ≡ imbalance → wide' ≡ price
     → let amount : ℤ = to_z w128 (of_z w128 (pos 0 -ℤ to_z w128 (of_z w128 (to_z w128 (of_z w128 wide) *ℤ to_z w128 (of_z w128 wide'))))) in
-    (amount ≡ neg_ℤ (imbalance *ℤ price)) × (nat_abs amount ≤ 10 ^ 30)
+    (amount ≡ neg_ℤ (imbalance *ℤ price)) × (unsigned_abs amount ≤ 10 ^ 30)
 charge_word imbalance price wide wide' a b same same' =
     let product = unsigned_abs-mul imbalance price in
-    let low : nat_abs imbalance * nat_abs price ≤ 10 ^ 17 * 10 ^ 10 = mul-le-mul a b in
-    let small : nat_abs (imbalance *ℤ price) ≤ 10 ^ 27 = omega arith in
-    let turned : nat_abs (neg_ℤ (imbalance *ℤ price)) ≤ 10 ^ 27 = omega (arith, ints) in
+    let low : unsigned_abs imbalance * unsigned_abs price ≤ 10 ^ 17 * 10 ^ 10 = mul-le-mul a b in
+    let small : unsigned_abs (imbalance *ℤ price) ≤ 10 ^ 27 = omega arith in
+    let turned : unsigned_abs (neg_ℤ (imbalance *ℤ price)) ≤ 10 ^ 27 = omega (arith, ints) in
     let is =
     (λ i. to_z w128 (of_z w128 (pos 0 -ℤ to_z w128 (of_z w128 (to_z w128 (of_z w128 (same i)) *ℤ to_z w128 (of_z w128 (same' i)))))))
     ∙ (λ i. to_z w128 (of_z w128 (pos 0 -ℤ to_z w128 (of_z w128 (long_word imbalance (omega arith) i *ℤ long_word price (omega arith) i)))))
@@ -68,15 +68,15 @@ charge_word imbalance price wide wide' a b same same' =
     (is, rw is (omega arith))
 
 -- a number of 64 bits, widened
-pub widened : (v units wide : ℤ) → units ≡ v → nat_abs v ≤ 10 ^ 18 → wide ≡ to_z w64 (of_z w64 units) → wide ≡ v
+pub widened : (v units wide : ℤ) → units ≡ v → unsigned_abs v ≤ 10 ^ 18 → wide ≡ to_z w64 (of_z w64 units) → wide ≡ v
 widened v units wide same le e =
     let fits : FitsSigned w64 v = omega (arith, ints) in
     e ∙ ap (λ z. to_z w64 (of_z w64 z)) same ∙ to_z-of_z w64 v fits
 
-pub price_size : (p : ℤ) → IsBetween (neg_ℤ (pos 9_999_999_999)) (pos 9_999_999_999) p → nat_abs p ≤ 10 ^ 10
+pub price_size : (p : ℤ) → IsBetween (neg_ℤ (pos 9_999_999_999)) (pos 9_999_999_999) p → unsigned_abs p ≤ 10 ^ 10
 price_size p (low, high) = omega (arith, ints)
 
-pub at_most : (most : ℕ) (x : ℤ) → is_at_most most x ≡ true → nat_abs x ≤ most
+pub at_most : (most : ℕ) (x : ℤ) → is_at_most most x ≡ true → unsigned_abs x ≤ most
 at_most most x h = grind (arith, nat_tests)
 
 -- an account's figures, from its row's
@@ -88,7 +88,7 @@ pub same_figures : (account : Account) (credited balancing contracts imbalance c
 same_figures account credited balancing contracts imbalance charge credited' balancing' net price a b d e f =
     λ i. record { account = account; credited = a i; balancing = b i; contracts = d i; imbalance = e i; charge = f i }
 
-pub contracts_size : (net : ℤ) → nat_abs net ≤ 10 ^ 28 → nat_abs (net *ℤ pos (10 ^ 7)) ≤ 10 ^ 35
+pub contracts_size : (net : ℤ) → unsigned_abs net ≤ 10 ^ 28 → unsigned_abs (net *ℤ pos (10 ^ 7)) ≤ 10 ^ 35
 contracts_size net le = omega (arith, ints)
 
 -- a word of 128 bits is itself
@@ -96,5 +96,5 @@ pub cash_word : (x : ℤ) → mag x < 2 ^ 127 → to_z w128 (of_z w128 x) ≡ x
 cash_word x h = to_z-of_z w128 x (record { sfits = h })
 
 -- a number of 64 bits, widened twice
-pub wide_word : (v units wide : ℤ) → units ≡ v → nat_abs v ≤ 10 ^ 18 → wide ≡ to_z w64 (of_z w64 units) → to_z w128 (of_z w128 wide) ≡ v
+pub wide_word : (v units wide : ℤ) → units ≡ v → unsigned_abs v ≤ 10 ^ 18 → wide ≡ to_z w64 (of_z w64 units) → to_z w128 (of_z w128 wide) ≡ v
 wide_word v units wide same le e = ap (λ z. to_z w128 (of_z w128 z)) (widened v units wide same le e) ∙ long_word v (omega arith)

@@ -1,6 +1,6 @@
 -- Sums over accounts, one amount after another.
 use Rattle.std.proofs.Common.{◌≡◌, ℕ, zero, suc, ◌+◌, ◌*◌, ◌<◌, ◌≤◌, true, false, cond, List, [], ◌∷◌, length, get_or, set, take, replicate, map, refl, sym, ap, subst, ◌∙◌, arith, add-one, ◌^◌}
-use Rattle.std.specs.Prelude.{ℤ, pos, neg_ℤ, ◌+ℤ◌, ◌-ℤ◌, nat_abs}
+use Rattle.std.specs.Prelude.{ℤ, pos, neg_ℤ, ◌+ℤ◌, ◌-ℤ◌, unsigned_abs}
 use Rattle.std.specs.List.{AllByRecursion, HoldsAt, All}
 use Rattle.std.specs.List.Sorted.{IsStrictlySortedBy}
 use Rattle.std.specs.Ordering.{is_eq, ordering_reverse}
@@ -97,17 +97,17 @@ sums_moved f accounts up rows i row inside is place b among at place' b' among' 
 -- The sums of the accounts over the first i rows, of which each moves a sum by at most so much.
 pub record AreSums {X : Type 0} (f : Account → X → ℤ) (accounts : List Account) (rows : List X) (i most : ℕ) (sums : List ℤ) : Type 0 where
   pub summed : sums ≡ sums_of f accounts (take i rows)
-  pub small : All (λ s. nat_abs s ≤ i * most) sums
+  pub small : All (λ s. unsigned_abs s ≤ i * most) sums
 
-nat_abs-plus : (x y : ℤ) → nat_abs (x +ℤ y) ≤ nat_abs x + nat_abs y
-nat_abs-plus x y = omega (arith, ints)
+unsigned_abs-plus : (x y : ℤ) → unsigned_abs (x +ℤ y) ≤ unsigned_abs x + unsigned_abs y
+unsigned_abs-plus x y = omega (arith, ints)
 
 -- no rows
 pub sums_start : {X : Type 0} (f : Account → X → ℤ) (accounts : List Account) (rows : List X) (most : ℕ) (sums : List ℤ)
     → sums ≡ replicate (length accounts) (pos 0) → AreSums f accounts rows 0 most sums
 sums_start f accounts rows most sums e = record {
   summed = e ∙ zeros accounts;
-  small = rw e (All-replicate (λ s. nat_abs s ≤ 0 * most) (length accounts) (pos 0) (omega arith));
+  small = rw e (All-replicate (λ s. unsigned_abs s ≤ 0 * most) (length accounts) (pos 0) (omega arith));
 }
   where
     zeros : (accounts : List Account) → replicate (length accounts) (pos 0) ≡ map (λ a. pos 0) accounts
@@ -115,13 +115,13 @@ sums_start f accounts rows most sums e = record {
     zeros (a ∷ accounts) = λ i. pos 0 ∷ zeros accounts i
 
 -- an amount moves a sum by its size
-pub small_add : (sums : List ℤ) (most more place : ℕ) (x d : ℤ) → All (λ s. nat_abs s ≤ most) sums → nat_abs x ≤ more → place < length sums
-    → All (λ s. nat_abs s ≤ most + more) (set sums place (get_or sums place d +ℤ x))
+pub small_add : (sums : List ℤ) (most more place : ℕ) (x d : ℤ) → All (λ s. unsigned_abs s ≤ most) sums → unsigned_abs x ≤ more → place < length sums
+    → All (λ s. unsigned_abs s ≤ most + more) (set sums place (get_or sums place d +ℤ x))
 small_add sums most more place x d small le inside =
-    let here : nat_abs (get_or sums place d) ≤ most = small place d inside in
-    let there = nat_abs-plus (get_or sums place d) x in
-    All-set (λ s. nat_abs s ≤ most + more) sums place (get_or sums place d +ℤ x) (omega arith)
-    (All-weaker (λ s. nat_abs s ≤ most) (λ s. nat_abs s ≤ most + more) (λ s h. omega arith) sums small)
+    let here : unsigned_abs (get_or sums place d) ≤ most = small place d inside in
+    let there = unsigned_abs-plus (get_or sums place d) x in
+    All-set (λ s. unsigned_abs s ≤ most + more) sums place (get_or sums place d +ℤ x) (omega arith)
+    (All-weaker (λ s. unsigned_abs s ≤ most) (λ s. unsigned_abs s ≤ most + more) (λ s h. omega arith) sums small)
 
 -- there is a sum for each account
 pub length-sums : {X : Type 0} (f : Account → X → ℤ) (accounts : List Account) (rows : List X) (i most : ℕ) (sums : List ℤ)
@@ -131,7 +131,7 @@ length-sums f accounts rows i most sums h = ap length h.summed ∙ length-map ac
 pub sums_step : {X : Type 0} (f : Account → X → ℤ) (accounts : List Account) → IsStrictlySortedBy account_cmp accounts
     → (rows : List X) (i : ℕ) (row : X) → i < length rows → row ≡ get_or rows i row
     → (place : ℕ) (b : Account) → place < length accounts → HoldsAt (λ a. a ≡ b) accounts place
-    → (x : ℤ) (most : ℕ) → nat_abs x ≤ most → ((a : Account) → f a row ≡ of_account a b x)
+    → (x : ℤ) (most : ℕ) → unsigned_abs x ≤ most → ((a : Account) → f a row ≡ of_account a b x)
     → (sums : List ℤ) → AreSums f accounts rows i most sums → (d : ℤ)
     → (new : List ℤ) → new ≡ set sums place (get_or sums place d +ℤ x)
     → AreSums f accounts rows (i + 1) most new
@@ -144,7 +144,7 @@ pub moved_step : {X : Type 0} (f : Account → X → ℤ) (accounts : List Accou
     → (rows : List X) (i : ℕ) (row : X) → i < length rows → row ≡ get_or rows i row
     → (place : ℕ) (b : Account) → place < length accounts → HoldsAt (λ a. a ≡ b) accounts place
     → (place' : ℕ) (b' : Account) → place' < length accounts → HoldsAt (λ a. a ≡ b') accounts place'
-    → (x : ℤ) (half : ℕ) → nat_abs x ≤ half → ((a : Account) → f a row ≡ of_account a b x -ℤ of_account a b' x)
+    → (x : ℤ) (half : ℕ) → unsigned_abs x ≤ half → ((a : Account) → f a row ≡ of_account a b x -ℤ of_account a b' x)
     → (sums : List ℤ) → AreSums f accounts rows i (half + half) sums → (d d' : ℤ)
     → (once : List ℤ) → once ≡ set sums place (get_or sums place d +ℤ x)
     → (twice : List ℤ) → twice ≡ set once place' (get_or once place' d' +ℤ neg_ℤ x)
@@ -153,7 +153,7 @@ moved_step f accounts up rows i row inside is place b among at place' b' among' 
     let once : List ℤ = set sums place (get_or sums place d +ℤ x) in
     let long = length-sums f accounts rows i (half + half) sums so_far in
     let first = small_add sums (i * (half + half)) half place x d so_far.small le (rw long among) in
-    let back : nat_abs (neg_ℤ x) ≤ half = omega (arith, ints) in
+    let back : unsigned_abs (neg_ℤ x) ≤ half = omega (arith, ints) in
     let second = small_add once (i * (half + half) + half) half place' (neg_ℤ x) d' first back (rw (length-set sums place (get_or sums place d +ℤ x), long) among') in
     let grown : (i + 1) * (half + half) ≡ i * (half + half) + half + half = rw (add-one, suc-mul i (half + half)) (omega arith) in
     rw (e', e) record {
@@ -164,14 +164,14 @@ moved_step f accounts up rows i row inside is place b among at place' b' among' 
 -- between the two there is room as well
 pub room_between : {X : Type 0} (f : Account → X → ℤ) (accounts : List Account) (rows : List X) (i half : ℕ) (sums : List ℤ)
     → AreSums f accounts rows i (half + half) sums → i < 2 ^ 64 → half ≤ 2 ^ 60
-    → (place : ℕ) → place < length accounts → (x : ℤ) → nat_abs x ≤ half → (d : ℤ)
+    → (place : ℕ) → place < length accounts → (x : ℤ) → unsigned_abs x ≤ half → (d : ℤ)
     → (once : List ℤ) → once ≡ set sums place (get_or sums place d +ℤ x)
-    → (place' : ℕ) → place' < length accounts → (y : ℤ) → nat_abs y ≤ half
-    → nat_abs (get_or once place' (pos 0)) + nat_abs y < 2 ^ 127
+    → (place' : ℕ) → place' < length accounts → (y : ℤ) → unsigned_abs y ≤ half
+    → unsigned_abs (get_or once place' (pos 0)) + unsigned_abs y < 2 ^ 127
 room_between f accounts rows i half sums h low few place inside x le d once e place' inside' y le' =
     let long = length-sums f accounts rows i (half + half) sums h in
     let small = small_add sums (i * (half + half)) half place x d h.small le (rw long inside) in
-    let there : nat_abs (get_or once place' (pos 0)) ≤ i * (half + half) + half =
+    let there : unsigned_abs (get_or once place' (pos 0)) ≤ i * (half + half) + half =
     rw e (small place' (pos 0) (rw (length-set sums place (get_or sums place d +ℤ x), long) inside')) in
     let product : i * (half + half) ≤ 2 ^ 64 * 2 ^ 61 = mul-le-mul {n₁ = i} {n₂ = 2 ^ 64} {m₂ = 2 ^ 61} (omega arith) (omega arith) in
     omega arith
@@ -179,7 +179,7 @@ room_between f accounts rows i half sums h low few place inside x le d once e pl
 -- the sum of an account that is read at its place
 pub read_sum : {X : Type 0} (f : Account → X → ℤ) (accounts : List Account) (rows : List X) (most : ℕ) (sums : List ℤ) → AreSumsOver f accounts rows most sums
     → (place : ℕ) (account : Account) (d : ℤ) → place < length accounts → account ≡ get_or accounts place account
-    → (get_or sums place d ≡ total (f account) rows) × (nat_abs (get_or sums place d) ≤ most)
+    → (get_or sums place d ≡ total (f account) rows) × (unsigned_abs (get_or sums place d) ≤ most)
 read_sum f accounts rows most sums h place account d inside is =
     let there : place < length sums = rw (ap length h.summed ∙ length-map accounts (λ a. total (f a) rows)) inside in (
       ap (λ s. get_or s place d) h.summed ∙ get_or-map (λ a. total (f a) rows) accounts place account d inside ∙ ap (λ a. total (f a) rows) (sym is),

@@ -1,6 +1,6 @@
 -- Numbers that pass through the machine's words unchanged.
 use Rattle.std.proofs.Common.{◌≡◌, ◌^◌, ◌≤◌, ap, ◌∙◌, arith, FitsSigned, to_z, of_z}
-use Rattle.std.specs.Prelude.{ℤ, pos, neg_ℤ, ◌-ℤ◌, nat_abs}
+use Rattle.std.specs.Prelude.{ℤ, pos, neg_ℤ, ◌-ℤ◌, unsigned_abs}
 use Rattle.std.specs.Int.{w64, w128}
 use Rattle.std.proofs.Math.IntN.{+ℤ_idl}
 use Rattle.std.proofs.lemmas.Int.{ints, to_z-of_z}
@@ -10,7 +10,7 @@ use Rattle.hh_num.specs.Ranges.{IsBetween}
 abbrev pub word : ℤ → ℤ
 word x = to_z w128 (of_z w128 x)
 
-pub long_word : (x : ℤ) → nat_abs x ≤ 10 ^ 38 → to_z w128 (of_z w128 x) ≡ x
+pub long_word : (x : ℤ) → unsigned_abs x ≤ 10 ^ 38 → to_z w128 (of_z w128 x) ≡ x
 long_word x le = let fits : FitsSigned w128 x = omega (arith, ints) in to_z-of_z w128 x fits
 
 -- a volume in kWh, widened
@@ -21,15 +21,15 @@ volume_word v units wide same (low, high) e =
     let is : wide ≡ v = e ∙ ap (λ z. to_z w64 (of_z w64 z)) same ∙ to_z-of_z w64 v fits in
     ap (λ z. to_z w128 (of_z w128 z)) is ∙ long_word v (omega (arith, ints))
 
-pub volume_size : (v : ℤ) → IsBetween (neg_ℤ (pos (10 ^ 7))) (pos (10 ^ 7)) v → nat_abs v ≤ 10 ^ 7
+pub volume_size : (v : ℤ) → IsBetween (neg_ℤ (pos (10 ^ 7))) (pos (10 ^ 7)) v → unsigned_abs v ≤ 10 ^ 7
 volume_size v (low, high) = omega (arith, ints)
 
 -- turned round
-pub turned_word : (v wide : ℤ) → wide ≡ v → nat_abs v ≤ 10 ^ 7 → to_z w128 (of_z w128 (pos 0 -ℤ wide)) ≡ neg_ℤ v
+pub turned_word : (v wide : ℤ) → wide ≡ v → unsigned_abs v ≤ 10 ^ 7 → to_z w128 (of_z w128 (pos 0 -ℤ wide)) ≡ neg_ℤ v
 turned_word v wide same le =
     let turned : pos 0 -ℤ wide ≡ neg_ℤ v = +ℤ_idl (neg_ℤ wide) ∙ ap neg_ℤ same in
-    let small : nat_abs (neg_ℤ v) ≤ 10 ^ 38 = omega (arith, ints) in
+    let small : unsigned_abs (neg_ℤ v) ≤ 10 ^ 38 = omega (arith, ints) in
     ap (λ z. to_z w128 (of_z w128 z)) turned ∙ long_word (neg_ℤ v) small
 
-pub turned_size : (v : ℤ) → nat_abs v ≤ 10 ^ 7 → nat_abs (neg_ℤ v) ≤ 10 ^ 7
+pub turned_size : (v : ℤ) → unsigned_abs v ≤ 10 ^ 7 → unsigned_abs (neg_ℤ v) ≤ 10 ^ 7
 turned_size v le = omega (arith, ints)

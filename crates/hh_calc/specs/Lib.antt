@@ -1,3 +1,3 @@
 pub mod Formulas
-pub mod Period
+pub mod Terms
 pub mod Sums

@@ -1,5 +1,5 @@
 -- The sums of the accounts of a period over rows, as lists in account order.
-use Rattle.std.specs.Prelude.{◌≡◌, ℕ, ◌≤◌, ℤ, List, map, All, nat_abs}
+use Rattle.std.specs.Prelude.{◌≡◌, ℕ, ◌≤◌, ℤ, List, map, All, unsigned_abs}
 use Rattle.hh_num.specs.Totals.{total}
 use Rattle.hh_names.specs.declared.account.Account.{Account}
 
@@ -10,4 +10,4 @@ sums_of f accounts rows = map (λ a. total (f a) rows) accounts
 -- these are those sums, and none is greater in size than most
 pub record AreSumsOver {X : Type 0} (f : Account → X → ℤ) (accounts : List Account) (rows : List X) (most : ℕ) (sums : List ℤ) : Type 0 where
   pub summed : sums ≡ sums_of f accounts rows
-  pub small : All (λ s. nat_abs s ≤ most) sums
+  pub small : All (λ s. unsigned_abs s ≤ most) sums

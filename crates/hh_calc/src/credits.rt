@@ -1,6 +1,6 @@
 //! The credits from units: to their subsidiaries, and the rest to their lead accounts.
 
-ghost use Rattle.std.specs.Prelude.{◌≡◌, ◌≤◌, ◌^◌, ◌*◌, ◌++◌, nat_abs, length, filter, not, All, IfOk, OnOk, IsPermutation, IsSorted};
+ghost use Rattle.std.specs.Prelude.{◌≡◌, ◌≤◌, ◌^◌, ◌*◌, ◌++◌, unsigned_abs, length, filter, not, All, IfOk, OnOk, IsPermutation, IsSorted};
 ghost use Rattle.hh_calc.specs.Formulas.{credit_cmp, credits_of, loss_adjusted, most_subsidiaries, subsidiary_credit, unit_credits};
 
 use crate::data::{Subsidiary, UnitData};
@@ -14,29 +14,29 @@ pub(crate) const TICKS_PER_KWH: i128 = 10_000_000;
 /// The loss-adjusted volume of a unit, in ticks (Section T).
 fn loss_adjusted_volume(unit: &UnitData) -> i128
     ensures volume { result ≡ loss_adjusted unit.now }
-    ensures size { nat_abs result ≤ 2 * 10 ^ 14 }
+    ensures size { unsigned_abs result ≤ 2 * 10 ^ 14 }
 {
-    let volumes = unit.volumes();
-    i128::from(volumes.metered.units()) * i128::from(volumes.tlm.units())
+    let reading = unit.reading();
+    i128::from(reading.metered.units()) * i128::from(reading.tlm.units())
 }
 
 /// What a subsidiary is credited with from a unit, in ticks (Section T).
 fn credit_to(unit: &UnitData, subsidiary: &Subsidiary) -> i128
     ensures credit { result ≡ subsidiary_credit unit.now subsidiary.now }
-    ensures size { nat_abs result ≤ 10 ^ 15 }
+    ensures size { unsigned_abs result ≤ 10 ^ 15 }
 {
-    let volumes = unit.volumes();
-    let volume = i128::from(volumes.metered.units()) - i128::from(volumes.balancing.units());
-    let part = volume * i128::from(subsidiary.percent.units())
-        + i128::from(subsidiary.fixed.units()) * TICKS_PER_KWH;
-    round_div(part * i128::from(volumes.tlm.units()), TICKS_PER_KWH)
+    let reading = unit.reading();
+    let volume = i128::from(reading.metered.units()) - i128::from(reading.balancing.units());
+    let part = volume * i128::from(subsidiary.reallocation.percent.units())
+        + i128::from(subsidiary.reallocation.fixed.units()) * TICKS_PER_KWH;
+    round_div(part * i128::from(reading.tlm.units()), TICKS_PER_KWH)
 }
 
 /// Appends the credits from a unit: to each subsidiary, and the exact rest to the lead account.
 fn push_credits(credits: &mut Vec<CreditRow>, unit: &UnitData) -> Result<(), AllocError>
     requires few { length unit.now.subsidiaries ≤ most_subsidiaries }
     ensures credits { OnOk result (credits.new.items ≡ credits.old.items ++ unit_credits unit.now) }
-    ensures small { OnOk result (All (λ c. nat_abs c.credited ≤ 10 ^ 18) (unit_credits unit.now)) }
+    ensures small { OnOk result (All (λ c. unsigned_abs c.credited ≤ 10 ^ 18) (unit_credits unit.now)) }
 {
     let mut rest = loss_adjusted_volume(unit);
     for subsidiary in unit.subsidiaries() {
@@ -60,7 +60,7 @@ fn push_credits(credits: &mut Vec<CreditRow>, unit: &UnitData) -> Result<(), All
 pub(crate) fn all_credits(alloc: Global, units: &[UnitData]) -> Result<Vec<CreditRow>, AllocError>
     requires few { All (λ u. length u.subsidiaries ≤ most_subsidiaries) units.now }
     ensures credits { IfOk result (λ credits. credits.items ≡ credits_of units.now) }
-    ensures small { IfOk result (λ credits. All (λ c. nat_abs c.credited ≤ 10 ^ 18) credits.items) }
+    ensures small { IfOk result (λ credits. All (λ c. unsigned_abs c.credited ≤ 10 ^ 18) credits.items) }
 {
     let mut credits = Vec::new(alloc);
     for unit in units {
@@ -76,7 +76,7 @@ pub(crate) fn weighing_credits(
 ) -> Result<Vec<CreditRow>, AllocError>
     requires few { All (λ u. length u.subsidiaries ≤ most_subsidiaries) units.now }
     ensures credits { IfOk result (λ credits. credits.items ≡ credits_of (filter (λ u. not u.interconnector) units.now)) }
-    ensures small { IfOk result (λ credits. All (λ c. nat_abs c.credited ≤ 10 ^ 18) credits.items) }
+    ensures small { IfOk result (λ credits. All (λ c. unsigned_abs c.credited ≤ 10 ^ 18) credits.items) }
 {
     let mut credits = Vec::new(alloc);
     for unit in units {

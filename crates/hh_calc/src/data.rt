@@ -2,63 +2,52 @@
 
 ghost use Rattle.std.specs.Prelude.{◌≡◌};
 
-use hh_num::{Kwh, Percent, Price, Tlm};
-use hh_names::{Account, UnitId};
+use hh_names::{Account, Contract, Reading, Reallocation, UnitId};
+use hh_num::Price;
 use std::marker::Model;
 
-/// A reallocation in force: a subsidiary account gets a percentage of a unit's metered volume less
-/// its balancing volume, and a fixed volume (Section P).
+/// A reallocation in force: what moves from a unit's lead account to a subsidiary account (Section P).
 #[derive(Clone, Copy, Debug, PartialEq, Eq)]
 pub struct Subsidiary {
     pub account: Account,
-    pub percent: Percent,
-    pub fixed: Kwh,
+    pub reallocation: Reallocation,
 }
 
-/// What a BM Unit has in a period: its metered volume (positive for export), its loss multiplier
-/// and its balancing volume.
-#[derive(Clone, Copy, Debug, PartialEq, Eq)]
-pub struct UnitVolumes {
-    pub metered: Kwh,
-    pub tlm: Tlm,
-    pub balancing: Kwh,
-}
-
-/// A BM Unit in a period: its Lead Party's account, whether it is an interconnector's, its volumes
-/// and its subsidiaries.
+/// A BM Unit in a period: its lead account, whether it is an interconnector's, its reading and its
+/// subsidiaries.
 #[derive(Debug, Drop)]
 pub struct UnitData {
     unit: UnitId,
     lead: Account,
     interconnector: bool,
-    volumes: UnitVolumes,
+    reading: Reading,
     subsidiaries: Vec<Subsidiary>,
 }
 
 impl Model for UnitData {
-    ghost use Rattle.hh_calc.specs.Period.{UnitPeriod};
+    ghost use Rattle.hh_calc.specs.Terms.{BmUnit};
 
-    ghost Value = { UnitPeriod };
+    ghost Value = { BmUnit };
 
-    ghost view = { λ u. record { unit = u.unit; lead = u.lead; interconnector = u.interconnector; metered = u.volumes.metered; tlm = u.volumes.tlm; balancing = u.volumes.balancing; subsidiaries = u.subsidiaries.items } };
+    ghost view = { λ u. record { unit = u.unit; lead = u.lead; interconnector = u.interconnector; reading = u.reading; subsidiaries = u.subsidiaries.items } };
 }
 
 impl UnitData {
-    /// A unit with its lead account, its volumes and its subsidiaries.
+    /// A unit with its lead account, its reading and its subsidiaries.
     pub fn new(
         unit: UnitId,
         lead: Account,
         interconnector: bool,
-        volumes: UnitVolumes,
+        reading: Reading,
         subsidiaries: Vec<Subsidiary>,
     ) -> UnitData
-        ensures { result ≡ record { unit = unit; lead = lead; interconnector = interconnector; metered = volumes.metered; tlm = volumes.tlm; balancing = volumes.balancing; subsidiaries = subsidiaries.items } }
+        ensures { result ≡ record { unit = unit; lead = lead; interconnector = interconnector; reading = reading; subsidiaries = subsidiaries.items } }
     {
         UnitData {
             unit,
             lead,
             interconnector,
-            volumes,
+            reading,
             subsidiaries,
         }
     }
@@ -70,7 +59,7 @@ impl UnitData {
         self.unit
     }
 
-    /// The account of its Lead Party.
+    /// The account of its Lead Party that its side names.
     pub fn lead(&self) -> Account
         ensures { result ≡ self.now.lead }
     {
@@ -84,13 +73,11 @@ impl UnitData {
         self.interconnector
     }
 
-    /// Its volumes and its loss multiplier.
-    pub fn volumes(&self) -> UnitVolumes
-        ensures metered { result.metered ≡ self.now.metered }
-        ensures tlm { result.tlm ≡ self.now.tlm }
-        ensures balancing { result.balancing ≡ self.now.balancing }
+    /// Its metered volume, loss multiplier and balancing volume.
+    pub fn reading(&self) -> Reading
+        ensures { result ≡ self.now.reading }
     {
-        self.volumes
+        self.reading
     }
 
     /// The accounts to which a part of its energy is reallocated.
@@ -99,15 +86,6 @@ impl UnitData {
     {
         &self.subsidiaries
     }
-}
-
-/// A contract volume in force: it counts for the seller and against the buyer, and may be negative
-/// (Section P).
-#[derive(Clone, Copy, Debug, PartialEq, Eq)]
-pub struct Contract {
-    pub seller: Account,
-    pub buyer: Account,
-    pub volume: Kwh,
 }
 
 /// A period's accounts, units, contracts and price.
@@ -120,9 +98,9 @@ pub struct PeriodData {
 }
 
 impl Model for PeriodData {
-    ghost use Rattle.hh_calc.specs.Period.{Period};
+    ghost use Rattle.hh_calc.specs.Terms.{PeriodTerms};
 
-    ghost Value = { Period };
+    ghost Value = { PeriodTerms };
 
     ghost view = { λ p. record { accounts = p.accounts.items; units = p.units.items; contracts = p.contracts.items; price = p.price } };
 }

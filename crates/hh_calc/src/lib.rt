@@ -8,7 +8,7 @@ mod result;
 mod settle;
 mod sums;
 
-pub use data::{Contract, PeriodData, Subsidiary, UnitData, UnitVolumes};
+pub use data::{PeriodData, Subsidiary, UnitData};
 pub use result::{AccountRow, CalcFault, CreditRow, PeriodResult};
 pub use settle::settle_period;
 

@@ -6,8 +6,8 @@ ghost use Rattle.std.specs.declared.cmp.Ordering.TheVariants.{Less};
 ghost use Rattle.hh_names.specs.Accounts.{account_cmp};
 ghost use Rattle.hh_calc.specs.Formulas.{most_subsidiaries, AreInOrder, AreNamed, AreSubsidiariesFew};
 
-use crate::data::{Contract, PeriodData, Subsidiary, UnitData};
-use hh_names::Account;
+use crate::data::{PeriodData, Subsidiary, UnitData};
+use hh_names::{Account, Contract};
 use std::cmp::Ordering;
 
 /// The most subsidiaries that a unit may have.
@@ -92,15 +92,15 @@ fn are_subsidiaries_few(units: &[UnitData]) -> bool
 /// Whether the seller and the buyer of a contract are some of these accounts.
 fn is_contract_named(accounts: &[Account], contract: &Contract) -> bool
     requires { IsStrictlySortedBy account_cmp accounts.now }
-    ensures { IsTrue result ↔ (Contains accounts.now contract.now.seller × Contains accounts.now contract.now.buyer) }
+    ensures { IsTrue result ↔ (Contains accounts.now contract.now.counterparties.seller × Contains accounts.now contract.now.counterparties.buyer) }
 {
-    is_named(accounts, &contract.seller) && is_named(accounts, &contract.buyer)
+    is_named(accounts, &contract.counterparties.seller) && is_named(accounts, &contract.counterparties.buyer)
 }
 
 /// Whether this is so of each of these contracts.
 fn are_contracts_named(accounts: &[Account], contracts: &[Contract]) -> bool
     requires { IsStrictlySortedBy account_cmp accounts.now }
-    ensures { IsTrue result ↔ All (λ c. Contains accounts.now c.seller × Contains accounts.now c.buyer) contracts.now }
+    ensures { IsTrue result ↔ All (λ c. Contains accounts.now c.counterparties.seller × Contains accounts.now c.counterparties.buyer) contracts.now }
 {
     for contract in contracts {
         if !is_contract_named(accounts, contract) {

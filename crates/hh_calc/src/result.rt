@@ -38,7 +38,7 @@ pub struct PeriodResult {
 }
 
 impl Model for PeriodResult {
-    ghost use Rattle.hh_calc.specs.Period.{Settled};
+    ghost use Rattle.hh_calc.specs.Terms.{Settled};
 
     ghost Value = { Settled };
 

@@ -1,6 +1,6 @@
 //! The settlement of one period.
 
-ghost use Rattle.std.specs.Prelude.{◌≡◌, ◌≤◌, ◌^◌, ◌*◌, ◌*ℤ◌, pos, neg_ℤ, nat_abs, length, map, filter, not, All, IfOk, IfSome, IfNone, IsTrue, IsFalse, Err, Some, None, if◌then◌else◌};
+ghost use Rattle.std.specs.Prelude.{◌≡◌, ◌≤◌, ◌^◌, ◌*◌, ◌*ℤ◌, pos, neg_ℤ, unsigned_abs, length, map, filter, not, All, IfOk, IfSome, IfNone, IsTrue, IsFalse, Err, Some, None, if◌then◌else◌};
 ghost use Rattle.hh_num.specs.Rounding.{near};
 ghost use Rattle.hh_calc.specs.Formulas.{are_accounts_within, are_within, credits_of, figures, figures_from, figures_of, greatest_cash, greatest_energy, is_at_most, is_within_limits, residual, credited_of, balancing_of, net_of, weight, weight_of, AddsUp, AreInOrder, AreNamed, AreSubsidiariesFew, IsSettled};
 ghost use Rattle.hh_calc.specs.Sums.{AreSumsOver};
@@ -56,10 +56,10 @@ struct AccountSums {
 
 /// The row of an account and its weight, if none of its figures passes a limit.
 fn account_row(account: Account, sums: AccountSums, price: Price) -> Option<(AccountRow, Ticks)>
-    requires credited { nat_abs sums.credited ≤ 2 * 10 ^ 37 }
-    requires balancing { nat_abs sums.balancing ≤ 10 ^ 34 }
-    requires net { nat_abs sums.net ≤ 10 ^ 28 }
-    requires weight { nat_abs sums.weight ≤ 2 * 10 ^ 37 }
+    requires credited { unsigned_abs sums.credited ≤ 2 * 10 ^ 37 }
+    requires balancing { unsigned_abs sums.balancing ≤ 10 ^ 34 }
+    requires net { unsigned_abs sums.net ≤ 10 ^ 28 }
+    requires weight { unsigned_abs sums.weight ≤ 2 * 10 ^ 37 }
     ensures row { IfSome result (λ r. (figures_of r.0 ≡ figures_from account sums.credited sums.balancing sums.net price) × IsTrue (are_within (figures_from account sums.credited sums.balancing sums.net price) sums.weight)) }
     ensures weight { IfSome result (λ r. r.1 ≡ sums.weight) }
     ensures too_large { IfNone result (IsFalse (are_within (figures_from account sums.credited sums.balancing sums.net price) sums.weight)) }
@@ -86,7 +86,7 @@ fn account_row(account: Account, sums: AccountSums, price: Price) -> Option<(Acc
 
 /// The charge for an imbalance, in pence: what the account pays, negative where it is paid.
 fn charge_of(imbalance: Ticks, price: Price) -> i128
-    requires { nat_abs imbalance ≤ 10 ^ 17 }
+    requires { unsigned_abs imbalance ≤ 10 ^ 17 }
     ensures { result ≡ near (neg_ℤ (imbalance *ℤ price)) (pos (10 ^ 13)) }
 {
     round_div(
@@ -113,7 +113,7 @@ fn account_rows(
     ensures weights { IfOk result (λ r. r.1.items ≡ map (weight period.now) period.now.accounts) }
     ensures within { IfOk result (λ r. IsTrue (are_accounts_within period.now period.now.accounts)) }
     ensures residual { IfOk result (λ r. r.2 ≡ residual period.now) }
-    ensures small { IfOk result (λ r. nat_abs r.2 ≤ 10 ^ 32) }
+    ensures small { IfOk result (λ r. unsigned_abs r.2 ≤ 10 ^ 32) }
     ensures too_large { result ≡ Err CalcFault.TooLarge → IsFalse (are_accounts_within period.now period.now.accounts) }
 {
     let mut rows = Vec::with_capacity(alloc, period.accounts().len())?;
@@ -155,9 +155,9 @@ fn sums_of(
     requires ordered { AreInOrder period.now }
     requires named { AreNamed period.now }
     requires credits { credits.now ≡ credits_of period.now.units }
-    requires small { All (λ c. nat_abs c.credited ≤ 10 ^ 18) credits.now }
+    requires small { All (λ c. unsigned_abs c.credited ≤ 10 ^ 18) credits.now }
     requires weighing { weighing.now ≡ credits_of (filter (λ u. not u.interconnector) period.now.units) }
-    requires light { All (λ c. nat_abs c.credited ≤ 10 ^ 18) weighing.now }
+    requires light { All (λ c. unsigned_abs c.credited ≤ 10 ^ 18) weighing.now }
     ensures credited { IfOk result (λ s. AreSumsOver credited_of period.now.accounts (credits_of period.now.units) (2 * 10 ^ 37) s.credited.items) }
     ensures balancing { IfOk result (λ s. AreSumsOver balancing_of period.now.accounts period.now.units (10 ^ 34) s.balancing.items) }
     ensures net { IfOk result (λ s. AreSumsOver net_of period.now.accounts period.now.contracts (10 ^ 28) s.net.items) }
@@ -183,7 +183,7 @@ fn sums_of(
 /// Gives each row its share.
 fn put_shares(rows: &mut [AccountRow], shares: &[i64])
     requires length { length shares.now ≡ length rows.old }
-    requires small { All (λ s. nat_abs s ≤ 10 ^ 12) shares.now }
+    requires small { All (λ s. unsigned_abs s ≤ 10 ^ 12) shares.now }
     ensures figures { map figures_of rows.new ≡ map figures_of rows.old }
     ensures shares { map (λ r. r.share) rows.new ≡ shares.now }
 {
@@ -195,7 +195,7 @@ fn put_shares(rows: &mut [AccountRow], shares: &[i64])
 /// The rows with their shares.
 fn with_shares(mut rows: Vec<AccountRow>, shares: &[i64]) -> Vec<AccountRow>
     requires length { length shares.now ≡ length rows.items }
-    requires small { All (λ s. nat_abs s ≤ 10 ^ 12) shares.now }
+    requires small { All (λ s. unsigned_abs s ≤ 10 ^ 12) shares.now }
     ensures figures { map figures_of result.items ≡ map figures_of rows.items }
     ensures shares { map (λ r. r.share) result.items ≡ shares.now }
 {

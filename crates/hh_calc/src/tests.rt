@@ -2,7 +2,7 @@
 
 use super::*;
 use hh_num::{Kwh, Percent, Price, Ticks, Tlm};
-use hh_names::{Account, UnitId};
+use hh_names::{Account, Contract, Counterparties, Reading, Reallocation, UnitId};
 use std::alloc::Global;
 use std::test::Fail;
 
@@ -37,15 +37,17 @@ fn accounts_of(alloc: Global, names: &[&str]) -> Option<Vec<Account>> {
 type Volumes = (i64, i64, i64);
 
 /// A subsidiary account, its percentage and its fixed volume.
-type Reallocation<'a> = (&'a str, i64, i64);
+type Moved<'a> = (&'a str, i64, i64);
 
-fn subsidiaries_of(alloc: Global, reallocations: &[Reallocation]) -> Option<Vec<Subsidiary>> {
+fn subsidiaries_of(alloc: Global, reallocations: &[Moved]) -> Option<Vec<Subsidiary>> {
     let mut subsidiaries = Vec::new(alloc);
     for (account, percent, fixed) in reallocations {
         let subsidiary = Subsidiary {
             account: Account::read(account.as_bytes())?,
-            percent: Percent::new(*percent)?,
-            fixed: Kwh::new(*fixed)?,
+            reallocation: Reallocation {
+                percent: Percent::new(*percent)?,
+                fixed: Kwh::new(*fixed)?,
+            },
         };
         subsidiaries.push(subsidiary).ok()?;
     }
@@ -59,17 +61,17 @@ fn unit(
     names: (&str, &str),
     interconnector: bool,
     volumes: Volumes,
-    reallocations: &[Reallocation],
+    reallocations: &[Moved],
 ) -> Option<UnitData> {
     let id = UnitId::read(names.0.as_bytes())?;
     let lead = Account::read(names.1.as_bytes())?;
-    let volumes = UnitVolumes {
+    let reading = Reading {
         metered: Kwh::new(volumes.0)?,
         tlm: Tlm::new(volumes.1)?,
         balancing: Kwh::new(volumes.2)?,
     };
     let subsidiaries = subsidiaries_of(alloc, reallocations)?;
-    Some(UnitData::new(id, lead, interconnector, volumes, subsidiaries))
+    Some(UnitData::new(id, lead, interconnector, reading, subsidiaries))
 }
 
 /// Settles a period of one account, which leads these units and has no contracts.
@@ -94,8 +96,10 @@ fn settle_pair(
     let first = unit(alloc, ("U-1", "GENCO-P"), interconnectors.0, volumes.0, &[])?;
     let second = unit(alloc, ("U-2", "SUPCO-C"), interconnectors.1, volumes.1, &[])?;
     let contract = Contract {
-        seller: Account::read(b"GENCO-P")?,
-        buyer: Account::read(b"SUPCO-C")?,
+        counterparties: Counterparties {
+            seller: Account::read(b"GENCO-P")?,
+            buyer: Account::read(b"SUPCO-C")?,
+        },
         volume: Kwh::new(sold)?,
     };
     let units = vec![in alloc; first, second].ok()?;

@@ -1,5 +1,6 @@
 -- Refusals with the places that they have.
-use Rattle.std.specs.Prelude.{ℕ, List, Some, None, codes}
+use Rattle.std.specs.Prelude.{◌≡◌, ℕ, ◌≤◌, List, [], ◌∷◌, Bool, true, false, Option, Some, None, Result, Ok, Err, codes, if◌then◌else◌}
+use Rattle.std.specs.List.{AllByRecursion}
 use Rattle.hh_names.specs.declared.fault.Fault.{Fault}
 use Rattle.hh_names.specs.declared.fault.Refusal.{Refusal}
 use Rattle.hh_names.specs.declared.fault.Refusal.TheVariants as refusal
@@ -24,6 +25,30 @@ memory_fault = plain_fault refusal.Memory
 abbrev pub ByRefusal : Refusal → Type 0 → Type 0 → Type 0
 ByRefusal refusal.Memory memory other = memory
 ByRefusal refusal memory other = other
+
+-- a type of errors that are refusals: which refusal each is, and the one that is want of memory
+pub record Refusing (E : Type 0) : Type 0 where
+  pub refusal : E → Refusal
+  pub memory : E
+
+module _ {E : Type 0} (errors : Refusing E) where
+  -- an error that was answered is the outcome's; want of memory may stand in the place of any outcome
+  abbrev pub Refuses : {Y : Type 0} → E → Result Y E → Type 0
+  Refuses e outcome = ByRefusal (errors.refusal e) (e ≡ errors.memory) (outcome ≡ Err e)
+
+  -- what was answered is the outcome, or want of memory in its place
+  abbrev pub Gives : {X Y : Type 0} → (X → Y) → Result X E → Result Y E → Type 0
+  Gives view (Ok x) outcome = outcome ≡ Ok (view x)
+  Gives view (Err e) outcome = Refuses e outcome
+
+-- faults as such errors
+abbrev pub faults : Refusing Fault
+faults = record { refusal = λ fault. fault.refusal; memory = memory_fault }
+
+-- the first refusal of a list whose condition is met
+abbrev pub first_met : List (Refusal × Bool) → Option Refusal
+first_met [] = None
+first_met (r ∷ rs) = if r.1 then Some r.0 else first_met rs
 
 -- the number by which a refusal is known
 abbrev pub refusal_number : Refusal → ℕ
@@ -96,3 +121,7 @@ refusal_name refusal.BadRequest = codes "BadRequest"
 refusal_name refusal.BodyTooLarge = codes "BodyTooLarge"
 refusal_name refusal.Memory = codes "Memory"
 refusal_name refusal.Store = codes "Store"
+
+-- of the refusals of a list whose conditions are met, none has a lesser number
+abbrev pub IsLeast : Refusal → List (Refusal × Bool) → Type 0
+IsLeast least rs = AllByRecursion (λ r. r.1 ≡ true → refusal_number least ≤ refusal_number r.0) rs

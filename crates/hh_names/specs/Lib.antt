@@ -1,4 +1,5 @@
 pub mod Accounts
+pub mod CounterpartyRule
 pub mod Faults
 pub mod Fields
 pub mod Words

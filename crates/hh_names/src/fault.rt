@@ -3,7 +3,7 @@
 ghost use Rattle.std.specs.Prelude.{◌≡◌};
 ghost use Rattle.hh_names.specs.Faults.{field_fault, plain_fault, refusal_name, refusal_number, row_fault};
 
-use crate::period::Period;
+use crate::period_number::PeriodNumber;
 use crate::word::UnitId;
 use std::alloc::{AllocError, AllocFailed};
 
@@ -171,7 +171,7 @@ pub struct Fault {
     pub row: Option<u32>,
     pub column: Option<u32>,
     pub unit: Option<UnitId>,
-    pub period: Option<Period>,
+    pub period: Option<PeriodNumber>,
 }
 
 impl Fault {

@@ -5,14 +5,16 @@ mod account;
 mod bytes;
 mod fault;
 mod operator_key;
-mod period;
+mod period_number;
+mod values;
 mod word;
 mod yes_no;
 
 pub use account::{Account, Side};
 pub use fault::{Fault, Refusal};
 pub use operator_key::OperatorKey;
-pub use period::Period;
+pub use period_number::PeriodNumber;
+pub use values::{Contract, Counterparties, Reading, Reallocation};
 pub use word::{
     AccessKey, AccessKeyAlphabet, Alphabet, FileName, FileNameAlphabet, PartyId, PartyIdAlphabet,
     Reference, ReferenceAlphabet, UnitId, UnitIdAlphabet, Word,

@@ -196,7 +196,7 @@ fn periods_are_1_to_50(rt: HostRuntime) -> Result<(), Fail> {
         (51, None),
         (255, None),
     ] {
-        assert_eq!(rt; Period::new(number).map(Period::number), period);
+        assert_eq!(rt; PeriodNumber::new(number).map(PeriodNumber::number), period);
     }
     Ok(())
 }
@@ -218,7 +218,7 @@ fn reads_periods(rt: HostRuntime) -> Result<(), Fail> {
         (b" 1", None),
     ];
     for (text, period) in texts {
-        assert_eq!(rt; Period::read(text).map(Period::number), period);
+        assert_eq!(rt; PeriodNumber::read(text).map(PeriodNumber::number), period);
     }
     Ok(())
 }

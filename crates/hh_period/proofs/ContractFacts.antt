@@ -18,7 +18,7 @@ use Rattle.hh_names.specs.Faults.{row_fault, ByRefusal}
 use Rattle.hh_names.proofs.AccountLaws.{account_total, bytes_total, exact_accounts}
 use Rattle.std.proofs.lemmas.Cmp.{tied_itself}
 use Rattle.std.proofs.lemmas.Map.Lookups.{exact_bytes}
-use Rattle.hh_calc.specs.declared.data.Contract.{Contract}
+use Rattle.hh_names.specs.declared.values.Contract.{Contract}
 use Rattle.hh_texts.specs.declared.period_contracts.PeriodContractRow.{PeriodContractRow}
 use Rattle.hh_period.specs.Rows.{contract_entry, ends_entry, first_refused, is_moved, refusal_among, refusal_beside, refused_or}
 use Rattle.std.specs.BTreeMap.{insert_entry}

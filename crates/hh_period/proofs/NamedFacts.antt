@@ -13,8 +13,8 @@ use Rattle.hh_tables.proofs.TableLaws.{find-in_key_order, is_some-find-latest}
 use Rattle.hh_names.specs.declared.account.Account.{Account}
 use Rattle.hh_names.specs.Accounts.{account_cmp, bytes_cmp}
 use Rattle.hh_names.proofs.AccountLaws.{account_total, exact_accounts}
-use Rattle.hh_calc.specs.declared.data.Contract.{Contract}
-use Rattle.hh_calc.specs.Period.{UnitPeriod}
+use Rattle.hh_names.specs.declared.values.Contract.{Contract}
+use Rattle.hh_calc.specs.Terms.{BmUnit}
 use Rattle.hh_texts.specs.declared.period_contracts.PeriodContractRow.{PeriodContractRow}
 use Rattle.hh_texts.specs.declared.period_meters.PeriodMeterRow.{PeriodMeterRow}
 use Rattle.hh_period.specs.Rows.{contract_entry, in_account_order, in_force, named_accounts, unit_entry, unit_of}
@@ -107,7 +107,7 @@ pub leads_among : (meters : List PeriodMeterRow) (contracts : List PeriodContrac
     All (λ u. Contains accounts u.lead × All (λ s. Contains accounts s.account) u.subsidiaries) (in_force (map unit_entry meters))
 leads_among meters contracts =
     let names : List Account = named_accounts meters contracts in
-    let P : UnitPeriod → Type 0 = λ u. Contains (in_account_order names) u.lead × All (λ s. Contains (in_account_order names) s.account) u.subsidiaries in
+    let P : BmUnit → Type 0 = λ u. Contains (in_account_order names) u.lead × All (λ s. Contains (in_account_order names) s.account) u.subsidiaries in
     all-table bytes_cmp P (map unit_entry meters)
     (all-values P unit_entry meters
     (All-weaker (λ r. Contains (in_account_order names) r.account) (λ r. P (unit_of r)) (λ r h. (h, All-nil (λ s. Contains (in_account_order names) s.account))) meters
@@ -119,7 +119,7 @@ leads_among meters contracts =
 -- a unit in force has no subsidiaries
 pub subsidiaries_few : (meters : List PeriodMeterRow) → All (λ u. length u.subsidiaries ≤ 799) (in_force (map unit_entry meters))
 subsidiaries_few meters =
-    let P : UnitPeriod → Type 0 = λ u. length u.subsidiaries ≤ 799 in
+    let P : BmUnit → Type 0 = λ u. length u.subsidiaries ≤ 799 in
     all-table bytes_cmp P (map unit_entry meters) (all-values P unit_entry meters (λ k d inside. omega arith))
 
 -- and so are seller and buyer of each contract in force

@@ -4,12 +4,12 @@ use Rattle.std.specs.List.{flat_map}
 use Rattle.hh_names.specs.declared.account.Account.{Account}
 use Rattle.hh_calc.specs.declared.result.AccountRow.{AccountRow}
 use Rattle.hh_calc.specs.Formulas.{figures, figures_of, is_within_limits, IsSettled}
-use Rattle.hh_calc.specs.Period.{Period, Settled}
+use Rattle.hh_calc.specs.Terms.{PeriodTerms, Settled}
 use Rattle.hh_period.specs.Outcome.{settled_text}
 use Rattle.hh_period.specs.PeriodText.{account_line, residual_line}
 
 -- the text of the settled figures is the text of the period
-pub settled_is : (p : Period) (s : Settled) → IsSettled p s → is_within_limits p ≡ true
+pub settled_is : (p : PeriodTerms) (s : Settled) → IsSettled p s → is_within_limits p ≡ true
     → settled_text p ≡ Ok (flat_map (λ r. account_line (figures_of r)) s.accounts ++ residual_line s.residual)
 settled_is p s h within = rw within (ap Ok (λ i. lines i ++ residual_line (sym h.remainder i)))
   where

@@ -5,7 +5,7 @@ use Rattle.hh_names.specs.declared.fault.Refusal.TheVariants.{BadField, TooLarge
 use Rattle.hh_names.specs.Faults.{memory_fault, plain_fault, ByRefusal}
 use Rattle.hh_names.specs.Fields.{price_value}
 use Rattle.hh_calc.specs.Formulas.{is_within_limits}
-use Rattle.hh_calc.specs.Period.{Period}
+use Rattle.hh_calc.specs.Terms.{PeriodTerms}
 use Rattle.hh_texts.specs.PeriodFiles.{period_contract_rows, period_meter_rows}
 use Rattle.hh_texts.specs.declared.period_contracts.PeriodContractRow.{PeriodContractRow}
 use Rattle.hh_period.specs.declared.rejection.Input.{Input}
@@ -42,7 +42,7 @@ priced None = Err (record { fault = plain_fault BadField; input = Some Price })
 priced (Some price) = Ok price
 
 -- the period of the inputs: meter rows are judged first, then contract rows, then the price
-abbrev pub period_input : List ℕ → List ℕ → List ℕ → Outcome Period
+abbrev pub period_input : List ℕ → List ℕ → List ℕ → Outcome PeriodTerms
 period_input meter contracts price = do
   meter_rows ← read_from Meter (period_meter_rows meter)
   rows ← read_from Contracts (period_contract_rows contracts)
@@ -51,7 +51,7 @@ period_input meter contracts price = do
   Ok (period_of meter_rows contract_rows value)
 
 -- the text of a period, if no figure of it passes a limit of a run
-abbrev pub settled_text : Period → Outcome (List ℕ)
+abbrev pub settled_text : PeriodTerms → Outcome (List ℕ)
 settled_text p = if is_within_limits p then Ok (period_text p) else Err (record { fault = plain_fault TooLarge; input = None })
 
 -- the text for the inputs

@@ -6,7 +6,7 @@ use Rattle.hh_names.specs.declared.account.Account.{Account}
 use Rattle.hh_names.specs.declared.account.Side.{Side}
 use Rattle.hh_names.specs.declared.account.Side.TheVariants.{Consumption, Production}
 use Rattle.hh_calc.specs.Formulas.{Figures, figures, residual}
-use Rattle.hh_calc.specs.Period.{Period}
+use Rattle.hh_calc.specs.Terms.{PeriodTerms}
 
 abbrev pub side_letter : Side → ℕ
 side_letter Production = 80
@@ -33,5 +33,5 @@ abbrev pub residual_line : ℤ → List ℕ
 residual_line pence = named (codes "residual ") 0 pence ++ 10 ∷ []
 
 -- a line for each account in order, then the residual
-abbrev pub period_text : Period → List ℕ
+abbrev pub period_text : PeriodTerms → List ℕ
 period_text p = flat_map (λ a. account_line (figures p a)) p.accounts ++ residual_line (residual p)

@@ -9,13 +9,13 @@ use Rattle.hh_names.specs.declared.fault.Refusal.{Refusal}
 use Rattle.hh_names.specs.declared.fault.Refusal.TheVariants.{ReferenceMoved, SameAccount}
 use Rattle.hh_names.specs.Accounts.{account_cmp, bytes_cmp, is_same_account}
 use Rattle.hh_names.specs.Faults.{row_fault}
-use Rattle.hh_calc.specs.declared.data.Contract.{Contract}
-use Rattle.hh_calc.specs.Period.{Period, UnitPeriod}
+use Rattle.hh_names.specs.declared.values.Contract.{Contract}
+use Rattle.hh_calc.specs.Terms.{PeriodTerms, BmUnit}
 use Rattle.hh_texts.specs.declared.period_contracts.PeriodContractRow.{PeriodContractRow}
 use Rattle.hh_texts.specs.declared.period_meters.PeriodMeterRow.{PeriodMeterRow}
 
 -- the unit of a row: no interconnector's, and without subsidiaries
-abbrev pub unit_of : PeriodMeterRow → UnitPeriod
+abbrev pub unit_of : PeriodMeterRow → BmUnit
 unit_of r = record {
   unit = r.unit;
   lead = r.account;
@@ -27,7 +27,7 @@ unit_of r = record {
 }
 
 -- what a row puts under its unit
-abbrev pub unit_entry : PeriodMeterRow → List ℕ × UnitPeriod
+abbrev pub unit_entry : PeriodMeterRow → List ℕ × BmUnit
 unit_entry r = (r.unit, unit_of r)
 
 -- and under its reference
@@ -47,7 +47,7 @@ abbrev pub named_accounts : List PeriodMeterRow → List PeriodContractRow → L
 named_accounts meters contracts = map (λ r. r.account) meters ++ flat_map (λ r. r.seller ∷ r.buyer ∷ []) contracts
 
 -- the period of these rows and this price
-abbrev pub period_of : List PeriodMeterRow → List PeriodContractRow → ℤ → Period
+abbrev pub period_of : List PeriodMeterRow → List PeriodContractRow → ℤ → PeriodTerms
 period_of meters contracts price = record {
   accounts = in_account_order (named_accounts meters contracts);
   units = in_force (map unit_entry meters);

@@ -11,7 +11,7 @@ use Rattle.hh_rows.specs.Keys.{settlement_period_cmp, unit_period_cmp, contract_
 
 pub exact_settlement_periods : CmpEqualImpliesEq settlement_period_cmp
 exact_settlement_periods a b h =
-    ap (λ (p : ℕ × ℕ). record { date = p.0; number = p.1 }) (exact_pairs nat_cmp nat_cmp exact_unsigned exact_unsigned (a.date, a.number) (b.date, b.number) h)
+    ap (λ (p : ℕ × ℕ). record { date = p.0; period = p.1 }) (exact_pairs nat_cmp nat_cmp exact_unsigned exact_unsigned (a.date, a.period) (b.date, b.period) h)
 
 pub exact_unit_periods : CmpEqualImpliesEq unit_period_cmp
 exact_unit_periods a b h =

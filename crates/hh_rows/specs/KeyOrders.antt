@@ -4,7 +4,7 @@ use Rattle.hh_names.proofs.AccountLaws.{account_total, bytes_total}
 use Rattle.hh_rows.specs.Keys.{settlement_period_cmp, unit_period_cmp, contract_key_cmp, reallocation_key_cmp}
 
 pub settlement_period_total : IsTotalOrder settlement_period_cmp
-settlement_period_total = then_total (on_total (λ p. p.date) nat_cmp_total) (on_total (λ p. p.number) nat_cmp_total)
+settlement_period_total = then_total (on_total (λ p. p.date) nat_cmp_total) (on_total (λ p. p.period) nat_cmp_total)
 
 pub unit_period_total : IsTotalOrder unit_period_cmp
 unit_period_total = then_total (on_total (λ k. k.unit) bytes_total) (on_total (λ k. k.at) settlement_period_total)

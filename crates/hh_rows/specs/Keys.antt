@@ -8,7 +8,7 @@ use Rattle.hh_rows.specs.declared.keys.ReallocationKey.{ReallocationKey}
 use Rattle.hh_names.specs.Accounts.{bytes_cmp, account_cmp}
 
 abbrev pub settlement_period_cmp : SettlementPeriod → SettlementPeriod → Ordering
-settlement_period_cmp = then_cmp (on (λ p. p.date) nat_cmp) (on (λ p. p.number) nat_cmp)
+settlement_period_cmp = then_cmp (on (λ p. p.date) nat_cmp) (on (λ p. p.period) nat_cmp)
 
 abbrev pub unit_period_cmp : UnitPeriod → UnitPeriod → Ordering
 unit_period_cmp = then_cmp (on (λ k. k.unit) bytes_cmp) (on (λ k. k.at) settlement_period_cmp)

@@ -12,8 +12,8 @@ pub use date_range::DateRange;
 pub use file_kind::FileKind;
 pub use keys::{ContractKey, ReallocationKey, UnitPeriod};
 pub use rows::{
-    ContractRow, Counterparties, MeterRow, PartyRegistration, PartyRow, PriceRow, Reading,
-    Reallocation, ReallocationRow, Row, UnitRegistration, UnitRow,
+    ContractRow, MeterRow, PartyRegistration, PartyRow, PriceRow, ReallocationRow, Row,
+    UnitRegistration, UnitRow,
 };
 pub use settings::{LeadMinutes, Settings};
 pub use settlement_period::SettlementPeriod;

@@ -3,8 +3,8 @@
 use crate::date_range::DateRange;
 use crate::keys::{ContractKey, ReallocationKey, UnitPeriod};
 use crate::settlement_period::SettlementPeriod;
-use hh_num::{Kwh, Percent, Price, Tlm};
-use hh_names::{AccessKey, Account, PartyId, UnitId};
+use hh_names::{AccessKey, Account, Contract, PartyId, Reading, Reallocation, UnitId};
+use hh_num::Price;
 
 /// What is registered of a party: the dates on which it takes part, and the key that it shows
 /// (profile).
@@ -22,33 +22,6 @@ pub struct UnitRegistration {
     pub lead: Account,
     pub interconnector: bool,
     pub range: DateRange,
-}
-
-/// What was metered of a unit in a Settlement Period (Section T in shape).
-#[derive(Clone, Copy, Debug, PartialEq, Eq)]
-pub struct Reading {
-    /// The metered volume, in kWh: positive where the unit delivers.
-    pub metered: Kwh,
-    /// The transmission loss multiplier, in 10^-7.
-    pub tlm: Tlm,
-    /// The volume of its balancing services, in kWh.
-    pub balancing: Kwh,
-}
-
-/// The two accounts of a contract (Section P in shape).
-#[derive(Clone, Copy, Debug, PartialEq, Eq)]
-pub struct Counterparties {
-    pub seller: Account,
-    pub buyer: Account,
-}
-
-/// The part of a unit's energy that goes to another account than its lead (Section P in shape).
-#[derive(Clone, Copy, Debug, PartialEq, Eq)]
-pub struct Reallocation {
-    /// The part of the unit's volume, in 10^-5 percent.
-    pub percent: Percent,
-    /// A volume beside it, in kWh.
-    pub fixed: Kwh,
 }
 
 /// A row of a file of parties (profile).
@@ -84,9 +57,7 @@ pub struct PriceRow {
 #[derive(Clone, Copy, Debug, PartialEq, Eq)]
 pub struct ContractRow {
     pub key: ContractKey,
-    pub counterparties: Counterparties,
-    /// The volume, in kWh; a negative one goes the other way.
-    pub volume: Kwh,
+    pub contract: Contract,
 }
 
 /// A row of a file of reallocations (Section P in shape).

@@ -7,7 +7,7 @@ ghost use Rattle.std.proofs.Common.{rules};
 ghost use Rattle.hh_rows.specs.KeyOrders.{settlement_period_total};
 ghost use Rattle.hh_rows.specs.Keys.{settlement_period_cmp};
 
-use hh_names::Period;
+use hh_names::PeriodNumber;
 use hh_time::SettlementDate;
 use std::cmp::Ordering;
 
@@ -16,7 +16,7 @@ use std::cmp::Ordering;
 #[derive(Clone, Copy, Debug)]
 pub struct SettlementPeriod {
     pub date: SettlementDate,
-    pub number: Period,
+    pub period: PeriodNumber,
 }
 
 impl PartialEq for SettlementPeriod {
@@ -44,7 +44,7 @@ impl Ord for SettlementPeriod {
 
     fn cmp(&self, other: &SettlementPeriod) -> Ordering {
         match self.date.cmp(&other.date) {
-            Ordering::Equal => self.number.cmp(&other.number),
+            Ordering::Equal => self.period.cmp(&other.period),
             unequal => unequal,
         }
     }

@@ -1,7 +1,7 @@
 //! What no clause says: that the words of the clauses come to the market's texts and numbers.
 
 use super::*;
-use hh_names::{OperatorKey, Period, UnitId};
+use hh_names::{OperatorKey, PeriodNumber, UnitId};
 use hh_time::SettlementDate;
 use std::test::Fail;
 
@@ -99,7 +99,7 @@ fn ranges_hold_both_ends(rt: HostRuntime) -> Result<(), Fail> {
 fn period(day: u16, number: u8) -> Option<SettlementPeriod> {
     Some(SettlementPeriod {
         date: SettlementDate::new(day)?,
-        number: Period::new(number)?,
+        period: PeriodNumber::new(number)?,
     })
 }
 

@@ -30,7 +30,7 @@ abbrev loading : ℤ
 loading = pos 1_719_700_000
 
 abbrev first_period : SettlementPeriod
-first_period = record { date = 19_905; number = 1 }
+first_period = record { date = 19_905; period = 1 }
 
 -- from 2024-01-01 on
 abbrev from_new_year : Range
@@ -92,10 +92,10 @@ own_lead = refl
 moved : judged (registered ++ accepted_at (pos 1_719_784_800) (sale (codes "C9") genco_p supco_c (pos 1)) ∷ []) (accepted_at loading (sale (codes "C9") supco_c genco_p (pos 1))) ≡ Some refusal.ReferenceMoved
 moved = refl
 
-no_such_period : judged registered (accepted_at loading (row.Price (record { at = record { date = 19_905; number = 49 }; price = pos 0 }))) ≡ Some refusal.NoSuchPeriod
+no_such_period : judged registered (accepted_at loading (row.Price (record { at = record { date = 19_905; period = 49 }; price = pos 0 }))) ≡ Some refusal.NoSuchPeriod
 no_such_period = refl
 
-off_range : judged registered (accepted_at loading (row.Meter (record { key = record { unit = codes "G1"; at = record { date = 19_722; number = 1 } }; reading = record { metered = pos 0; tlm = pos 0; balancing = pos 0 } }))) ≡ Some refusal.NotEffective
+off_range : judged registered (accepted_at loading (row.Meter (record { key = record { unit = codes "G1"; at = record { date = 19_722; period = 1 } }; reading = record { metered = pos 0; tlm = pos 0; balancing = pos 0 } }))) ≡ Some refusal.NotEffective
 off_range = refl
 
 shrinks : judged registered (accepted_at loading (row.Party (record { party = codes "GENCO"; registration = record { range = record { from = 19_724; to = 47_481 }; key = codes "genco0001" } }))) ≡ Some refusal.ShrinksRange

@@ -132,5 +132,5 @@ with_percent cal standing in_time r =
     step _ _ _ _ (step _ _ _ _ (step _ _ _ _ (step _ _ _ _ (step _ _ _ _ (last in_time (int_lt hundred_percent (percent_of_others cal standing r.key +ℤ r.reallocation.percent)))))))
 
 pub has_reallocation_period : (cal : Calendar) (standing : Standing) (in_time : Bool) (r : ReallocationRow) → first_met (reallocation_refusals cal standing in_time r) ≡ None
-    → has_period cal.midnight r.key.unit_period.at.date r.key.unit_period.at.number ≡ true
+    → has_period cal.midnight r.key.unit_period.at.date r.key.unit_period.at.period ≡ true
 has_reallocation_period cal standing in_time r none = has_it _ (none_met (reallocation_refusals cal standing in_time r) none).1.1.1.0

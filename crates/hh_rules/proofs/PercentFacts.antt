@@ -17,7 +17,7 @@ use Rattle.hh_rows.specs.Keys.{unit_period_cmp, reallocation_key_cmp}
 use Rattle.hh_rows.specs.KeyOrders.{unit_period_total, reallocation_key_total}
 use Rattle.hh_rows.specs.declared.keys.UnitPeriod.{UnitPeriod}
 use Rattle.hh_rows.specs.declared.keys.ReallocationKey.{ReallocationKey}
-use Rattle.hh_rows.specs.declared.rows.Reallocation.{Reallocation}
+use Rattle.hh_names.specs.declared.values.Reallocation.{Reallocation}
 use Rattle.hh_rules.specs.History.{Calendar}
 use Rattle.hh_rules.specs.Percents.{AddsUp, percent_at, percent_in}
 use Rattle.hh_rules.proofs.SumFacts.{part_of, total-put-part, total-others, total-some, all-put}

@@ -50,10 +50,10 @@ replaces_price cal moment r tables other = find-put settlement_period_cmp settle
 
 -- a contract row in time replaces exactly the row of its key
 pub replaces_contract : (cal : Calendar) (moment : ℤ) (r : ContractRow) (tables : Registered) → is_in_time cal (accepted_at moment (row.Contract r)) ≡ true
-    → ReplacesRowOf contract_key_cmp r.key r.volume tables.contracts (with_row cal (accepted_at moment (row.Contract r)) tables).contracts
+    → ReplacesRowOf contract_key_cmp r.key r.contract.volume tables.contracts (with_row cal (accepted_at moment (row.Contract r)) tables).contracts
 replaces_contract cal moment r tables in_time other =
     ap (λ b. find contract_key_cmp other (cond b (put_row (row.Contract r) tables) tables).contracts) in_time
-    ∙ find-put contract_key_cmp contract_key_total other r.key r.volume tables.contracts
+    ∙ find-put contract_key_cmp contract_key_total other r.key r.contract.volume tables.contracts
 
 -- a reallocation row in time likewise
 pub replaces_reallocation : (cal : Calendar) (moment : ℤ) (r : ReallocationRow) (tables : Registered) → is_in_time cal (accepted_at moment (row.Reallocation r)) ≡ true
@@ -78,12 +78,12 @@ kept-put_new {R = R} o exact (Some e) table q there =
 
 -- the first row of a reference fixes its seller and buyer
 fixes_reference : (cal : Calendar) (moment : ℤ) (r : ContractRow) (tables : Registered) → find bytes_cmp r.key.reference tables.references ≡ None
-    → find bytes_cmp r.key.reference (with_row cal (accepted_at moment (row.Contract r)) tables).references ≡ Some r.counterparties
+    → find bytes_cmp r.key.reference (with_row cal (accepted_at moment (row.Contract r)) tables).references ≡ Some r.contract.counterparties
 fixes_reference cal moment r tables new =
     let key = r.key.reference in
-    ap (λ b. find bytes_cmp key (cond b tables.references (put bytes_cmp key r.counterparties tables.references))) (ap is_some new)
-    ∙ find-put bytes_cmp bytes_total key key r.counterparties tables.references
-    ∙ ap (λ b. cond b (Some r.counterparties) (find bytes_cmp key tables.references)) ((eq_by_cmp_equiv bytes_total).refl key)
+    ap (λ b. find bytes_cmp key (cond b tables.references (put bytes_cmp key r.contract.counterparties tables.references))) (ap is_some new)
+    ∙ find-put bytes_cmp bytes_total key key r.contract.counterparties tables.references
+    ∙ ap (λ b. cond b (Some r.contract.counterparties) (find bytes_cmp key tables.references)) ((eq_by_cmp_equiv bytes_total).refl key)
 
 -- no row moves the seller and buyer of a reference
 pub keeps_references : (cal : Calendar) (a : Accepted) (tables : Registered) → KeepsReferences tables (with_row cal a tables)
@@ -107,14 +107,14 @@ one_more_row cal a done old new changed became = record {
       (subst (λ (x : Row). ReplacesRowOf unit_period_cmp r.key r.reading old.tables.meters (with_row cal (record a { row = x }) old.tables).meters) (sym is) (replaces_meter cal a.moment r old.tables));
   price = λ r is. subst (λ s. ReplacesRowOf settlement_period_cmp r.at r.price old.tables.prices s.tables.prices) (sym changed)
       (subst (λ (x : Row). ReplacesRowOf settlement_period_cmp r.at r.price old.tables.prices (with_row cal (record a { row = x }) old.tables).prices) (sym is) (replaces_price cal a.moment r old.tables));
-  contract = λ r is applied. subst (λ s. ReplacesRowOf contract_key_cmp r.key r.volume old.tables.contracts s.tables.contracts) (sym changed)
-      (subst (λ (x : Row). is_in_time cal (record a { row = x }) ≡ true → ReplacesRowOf contract_key_cmp r.key r.volume old.tables.contracts (with_row cal (record a { row = x }) old.tables).contracts) (sym is) (replaces_contract cal a.moment r old.tables)
+  contract = λ r is applied. subst (λ s. ReplacesRowOf contract_key_cmp r.key r.contract.volume old.tables.contracts s.tables.contracts) (sym changed)
+      (subst (λ (x : Row). is_in_time cal (record a { row = x }) ≡ true → ReplacesRowOf contract_key_cmp r.key r.contract.volume old.tables.contracts (with_row cal (record a { row = x }) old.tables).contracts) (sym is) (replaces_contract cal a.moment r old.tables)
       (applied_is (is_in_time cal a) done became applied));
   reallocation = λ r is applied. subst (λ s. ReplacesRowOf reallocation_key_cmp r.key r.reallocation old.tables.reallocations s.tables.reallocations) (sym changed)
       (subst (λ (x : Row). is_in_time cal (record a { row = x }) ≡ true → ReplacesRowOf reallocation_key_cmp r.key r.reallocation old.tables.reallocations (with_row cal (record a { row = x }) old.tables).reallocations) (sym is) (replaces_reallocation cal a.moment r old.tables)
       (applied_is (is_in_time cal a) done became applied));
-  fixes = λ r is new. subst (λ s. find bytes_cmp r.key.reference s.tables.references ≡ Some r.counterparties) (sym changed)
-      (subst (λ (x : Row). find bytes_cmp r.key.reference (with_row cal (record a { row = x }) old.tables).references ≡ Some r.counterparties) (sym is) (fixes_reference cal a.moment r old.tables new));
+  fixes = λ r is new. subst (λ s. find bytes_cmp r.key.reference s.tables.references ≡ Some r.contract.counterparties) (sym changed)
+      (subst (λ (x : Row). find bytes_cmp r.key.reference (with_row cal (record a { row = x }) old.tables).references ≡ Some r.contract.counterparties) (sym is) (fixes_reference cal a.moment r old.tables new));
   references = subst (λ s. KeepsReferences old.tables s.tables) (sym changed) (keeps_references cal a old.tables);
   looks_back = λ history stands. changed ∙ ap (standing_with cal a) stands ∙ standing-append cal history a;
 }

@@ -10,7 +10,7 @@ use Rattle.hh_names.specs.Accounts.{is_same_account}
 use Rattle.hh_rows.specs.DateRanges.{holds, is_inside}
 use Rattle.hh_rows.specs.Keys.{unit_period_cmp}
 use Rattle.hh_rows.specs.declared.keys.ReallocationKey.{ReallocationKey}
-use Rattle.hh_rows.specs.declared.rows.Reallocation.{Reallocation}
+use Rattle.hh_names.specs.declared.values.Reallocation.{Reallocation}
 use Rattle.hh_rows.specs.declared.rows.Row.{Row}
 use Rattle.hh_rows.specs.declared.rows.Row.TheVariants as row
 use Rattle.hh_rules.specs.History.{Calendar, is_in_time, accepted_at}
@@ -51,8 +51,8 @@ module _ (cal : Calendar) (whole part : Standing) (parties : part.party_count �
       (refusal.UnknownParty, is_none (seller i) || is_none (buyer i))
       ∷ (refusal.NotEffective, is_some_that (λ p. not (holds p.range r.key.at.date)) (seller i) || is_some_that (λ p. not (holds p.range r.key.at.date)) (buyer i))
       ∷ (refusal.NoSuchPeriod, is_no_period cal whole r.key.at)
-      ∷ (refusal.SameAccount, is_same_account r.counterparties.seller r.counterparties.buyer)
-      ∷ (refusal.ReferenceMoved, is_some_that (λ first. not (are_same_counterparties first r.counterparties)) (reference i)) ∷ [])
+      ∷ (refusal.SameAccount, is_same_account r.contract.counterparties.seller r.contract.counterparties.buyer)
+      ∷ (refusal.ReferenceMoved, is_some_that (λ first. not (are_same_counterparties first r.contract.counterparties)) (reference i)) ∷ [])
   judged_alike (row.Reallocation r) (party, unit, rows) =
       let others : percent_of_others cal part r.key ≡ percent_of_others cal whole r.key =
       others_at cal part r.key

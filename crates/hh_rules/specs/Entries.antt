@@ -8,9 +8,9 @@ use Rattle.hh_rows.specs.declared.rows.Row.{Row}
 use Rattle.hh_rows.specs.declared.rows.Row.TheVariants as row
 use Rattle.hh_rows.specs.declared.rows.PartyRegistration.{PartyRegistration}
 use Rattle.hh_rows.specs.declared.rows.UnitRegistration.{UnitRegistration}
-use Rattle.hh_rows.specs.declared.rows.Reading.{Reading}
-use Rattle.hh_rows.specs.declared.rows.Counterparties.{Counterparties}
-use Rattle.hh_rows.specs.declared.rows.Reallocation.{Reallocation}
+use Rattle.hh_names.specs.declared.values.Reading.{Reading}
+use Rattle.hh_names.specs.declared.values.Counterparties.{Counterparties}
+use Rattle.hh_names.specs.declared.values.Reallocation.{Reallocation}
 
 abbrev pub party_entry : Row → Option (List ℕ × PartyRegistration)
 party_entry (row.Party r) = Some (r.party, r.registration)
@@ -21,7 +21,7 @@ unit_entry (row.Unit r) = Some (r.unit, r.registration)
 unit_entry _ = None
 
 abbrev pub reference_entry : Row → Option (List ℕ × Counterparties)
-reference_entry (row.Contract r) = Some (r.key.reference, r.counterparties)
+reference_entry (row.Contract r) = Some (r.key.reference, r.contract.counterparties)
 reference_entry _ = None
 
 abbrev pub meter_entry : Row → Option (UnitPeriod × Reading)
@@ -33,7 +33,7 @@ price_entry (row.Price r) = Some (r.at, r.price)
 price_entry _ = None
 
 abbrev pub contract_entry : Row → Option (ContractKey × ℤ)
-contract_entry (row.Contract r) = Some (r.key, r.volume)
+contract_entry (row.Contract r) = Some (r.key, r.contract.volume)
 contract_entry _ = None
 
 abbrev pub reallocation_entry : Row → Option (ReallocationKey × Reallocation)

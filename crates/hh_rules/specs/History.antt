@@ -16,9 +16,9 @@ use Rattle.hh_rows.specs.declared.rows.Row.{Row}
 use Rattle.hh_rows.specs.declared.rows.Row.TheVariants as row
 use Rattle.hh_rows.specs.declared.rows.PartyRegistration.{PartyRegistration}
 use Rattle.hh_rows.specs.declared.rows.UnitRegistration.{UnitRegistration}
-use Rattle.hh_rows.specs.declared.rows.Reading.{Reading}
-use Rattle.hh_rows.specs.declared.rows.Counterparties.{Counterparties}
-use Rattle.hh_rows.specs.declared.rows.Reallocation.{Reallocation}
+use Rattle.hh_names.specs.declared.values.Reading.{Reading}
+use Rattle.hh_names.specs.declared.values.Counterparties.{Counterparties}
+use Rattle.hh_names.specs.declared.values.Reallocation.{Reallocation}
 use Rattle.hh_rules.specs.Entries.{party_entry, unit_entry, reference_entry, meter_entry, price_entry, contract_entry, reallocation_entry}
 
 -- when local midnights fall, and how many minutes before a period its notifications close
@@ -41,7 +41,7 @@ History = List Accepted
 
 -- whether a moment lies before the deadline of a Settlement Period
 abbrev pub is_before_deadline : Calendar → ℤ → SettlementPeriod → Bool
-is_before_deadline cal moment at = int_lt moment (deadline cal.midnight cal.lead_minutes at.date at.number)
+is_before_deadline cal moment at = int_lt moment (deadline cal.midnight cal.lead_minutes at.date at.period)
 
 -- a contract or reallocation row is in time if its moment lies before its period's deadline; other rows are never late
 abbrev pub is_in_time : Calendar → Accepted → Bool

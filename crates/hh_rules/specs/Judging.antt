@@ -12,10 +12,10 @@ use Rattle.hh_rules.specs.RowRule.{Standing, hundred_percent, most_parties, most
 abbrev pub has_its_period : Midnights → Row → Bool
 has_its_period midnight (row.Party r) = true
 has_its_period midnight (row.Unit r) = true
-has_its_period midnight (row.Meter r) = has_period midnight r.key.at.date r.key.at.number
-has_its_period midnight (row.Price r) = has_period midnight r.at.date r.at.number
-has_its_period midnight (row.Contract r) = has_period midnight r.key.at.date r.key.at.number
-has_its_period midnight (row.Reallocation r) = has_period midnight r.key.unit_period.at.date r.key.unit_period.at.number
+has_its_period midnight (row.Meter r) = has_period midnight r.key.at.date r.key.at.period
+has_its_period midnight (row.Price r) = has_period midnight r.at.date r.at.period
+has_its_period midnight (row.Contract r) = has_period midnight r.key.at.date r.key.at.period
+has_its_period midnight (row.Reallocation r) = has_period midnight r.key.unit_period.at.date r.key.unit_period.at.period
 
 -- with the row no limit is passed
 abbrev pub HasRoomFor : Bool → Standing → Row → Type 0

@@ -8,7 +8,7 @@ use Rattle.hh_num.specs.Totals.{total}
 use Rattle.hh_rows.specs.Keys.{unit_period_cmp}
 use Rattle.hh_rows.specs.declared.keys.UnitPeriod.{UnitPeriod}
 use Rattle.hh_rows.specs.declared.keys.ReallocationKey.{ReallocationKey}
-use Rattle.hh_rows.specs.declared.rows.Reallocation.{Reallocation}
+use Rattle.hh_names.specs.declared.values.Reallocation.{Reallocation}
 
 -- the percentage of a unit that is in force in a Settlement Period
 abbrev pub percent_at : Table ReallocationKey Reallocation → UnitPeriod → ℤ

@@ -12,7 +12,7 @@ use Rattle.hh_names.specs.declared.fault.Refusal.{Refusal}
 use Rattle.hh_rows.specs.Keys.{unit_period_cmp}
 use Rattle.hh_rows.specs.declared.keys.UnitPeriod.{UnitPeriod}
 use Rattle.hh_rows.specs.declared.keys.ReallocationKey.{ReallocationKey}
-use Rattle.hh_rows.specs.declared.rows.Reallocation.{Reallocation}
+use Rattle.hh_names.specs.declared.values.Reallocation.{Reallocation}
 use Rattle.hh_rows.specs.declared.rows.Row.{Row}
 use Rattle.hh_rows.specs.declared.rows.Row.TheVariants as row
 use Rattle.hh_rules.specs.History.{Calendar, Registered}
@@ -62,7 +62,7 @@ AgreesOn whole part (row.Unit r) = AgreesOnParty whole part r.registration.lead.
 AgreesOn whole part (row.Meter r) = AgreesOnUnit whole part r.key.unit
 AgreesOn whole part (row.Price r) = Unit {0}
 AgreesOn whole part (row.Contract r) =
-    AgreesOnParty whole part r.counterparties.seller.party × AgreesOnParty whole part r.counterparties.buyer.party
+    AgreesOnParty whole part r.contract.counterparties.seller.party × AgreesOnParty whole part r.contract.counterparties.buyer.party
     × (find bytes_cmp r.key.reference part.references ≡ find bytes_cmp r.key.reference whole.references)
 AgreesOn whole part (row.Reallocation r) =
     AgreesOnParty whole part r.key.account.party × AgreesOnUnit whole part r.key.unit_period.unit

@@ -41,11 +41,11 @@ pub record IsOneMoreRow (cal : Calendar) (a : Accepted) (done : RowDone) (old ne
   -- a row in time replaces exactly the row of its key; readings and prices are never late
   pub meter : (r : MeterRow) → a.row ≡ row.Meter r → ReplacesRowOf unit_period_cmp r.key r.reading old.tables.meters new.tables.meters
   pub price : (r : PriceRow) → a.row ≡ row.Price r → ReplacesRowOf settlement_period_cmp r.at r.price old.tables.prices new.tables.prices
-  pub contract : (r : ContractRow) → a.row ≡ row.Contract r → done ≡ Applied → ReplacesRowOf contract_key_cmp r.key r.volume old.tables.contracts new.tables.contracts
+  pub contract : (r : ContractRow) → a.row ≡ row.Contract r → done ≡ Applied → ReplacesRowOf contract_key_cmp r.key r.contract.volume old.tables.contracts new.tables.contracts
   pub reallocation : (r : ReallocationRow) → a.row ≡ row.Reallocation r → done ≡ Applied → ReplacesRowOf reallocation_key_cmp r.key r.reallocation old.tables.reallocations new.tables.reallocations
   -- the first row of a reference fixes its seller and buyer, also where it is late, and no row moves them
   pub fixes : (r : ContractRow) → a.row ≡ row.Contract r → find bytes_cmp r.key.reference old.tables.references ≡ None
-      → find bytes_cmp r.key.reference new.tables.references ≡ Some r.counterparties
+      → find bytes_cmp r.key.reference new.tables.references ≡ Some r.contract.counterparties
   pub references : KeepsReferences old.tables new.tables
   -- what a history stands for becomes what the history with this row stands for
   pub looks_back : (history : History) → old ≡ whole_standing (registered_in cal history) → new ≡ whole_standing (registered_in cal (history ++ a ∷ []))

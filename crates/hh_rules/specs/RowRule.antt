@@ -25,7 +25,7 @@ use Rattle.hh_rows.specs.declared.rows.ContractRow.{ContractRow}
 use Rattle.hh_rows.specs.declared.rows.ReallocationRow.{ReallocationRow}
 use Rattle.hh_rows.specs.declared.rows.PartyRegistration.{PartyRegistration}
 use Rattle.hh_rows.specs.declared.rows.UnitRegistration.{UnitRegistration}
-use Rattle.hh_rows.specs.declared.rows.Counterparties.{Counterparties}
+use Rattle.hh_names.specs.declared.values.Counterparties.{Counterparties}
 use Rattle.hh_rules.specs.Entries.{party_entry, unit_entry, reference_entry, meter_entry, price_entry, contract_entry, reallocation_entry}
 use Rattle.hh_rules.specs.History.{Calendar, Accepted, History, Registered, is_in_time, registered_in}
 
@@ -89,7 +89,7 @@ module _ (cal : Calendar) (standing : Standing) where
 
   -- the date has no period of the number
   abbrev pub is_no_period : SettlementPeriod → Bool
-  is_no_period at = not (has_period cal.midnight at.date at.number)
+  is_no_period at = not (has_period cal.midnight at.date at.period)
 
   -- the percentage of the unit that is in force in the period for other accounts than the key's
   abbrev pub percent_of_others : ReallocationKey → ℤ
@@ -124,13 +124,13 @@ module _ (cal : Calendar) (standing : Standing) where
 
   abbrev pub contract_refusals : ContractRow → List (Refusal × Bool)
   contract_refusals r =
-      let seller = r.counterparties.seller in
-      let buyer = r.counterparties.buyer in
+      let seller = r.contract.counterparties.seller in
+      let buyer = r.contract.counterparties.buyer in
       (refusal.UnknownParty, is_none (party_of seller.party) || is_none (party_of buyer.party))
       ∷ (refusal.NotEffective, is_party_off seller.party r.key.at.date || is_party_off buyer.party r.key.at.date)
       ∷ (refusal.NoSuchPeriod, is_no_period r.key.at)
       ∷ (refusal.SameAccount, is_same_account seller buyer)
-      ∷ (refusal.ReferenceMoved, is_some_that (λ first. not (are_same_counterparties first r.counterparties)) (find bytes_cmp r.key.reference standing.tables.references))
+      ∷ (refusal.ReferenceMoved, is_some_that (λ first. not (are_same_counterparties first r.contract.counterparties)) (find bytes_cmp r.key.reference standing.tables.references))
       ∷ []
 
   -- a late row is never in force, so that with it no more than 100 percent can be

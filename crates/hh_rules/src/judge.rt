@@ -90,7 +90,7 @@ impl Register {
 
     /// Why a row of meter volumes is refused, if it is.
     pub(crate) fn refusal_of_meter(&self, has_period: bool, row: &MeterRow) -> Option<Refusal>
-        ensures { (cal : Calendar) → has_period ≡ days.has_period cal.midnight row.now.key.at.date row.now.key.at.number
+        ensures { (cal : Calendar) → has_period ≡ days.has_period cal.midnight row.now.key.at.date row.now.key.at.period
             → result ≡ first_met (meter_refusals cal self.now.standing row.now) }
     {
         let Some(unit) = self.unit(&row.key.unit) else {
@@ -104,7 +104,7 @@ impl Register {
 
     /// Why a row of prices is refused, if it is.
     pub(crate) fn refusal_of_price(&self, has_period: bool, row: &PriceRow) -> Option<Refusal>
-        ensures { (cal : Calendar) → has_period ≡ days.has_period cal.midnight row.now.at.date row.now.at.number
+        ensures { (cal : Calendar) → has_period ≡ days.has_period cal.midnight row.now.at.date row.now.at.period
             → result ≡ first_met (price_refusals cal self.now.standing row.now) }
     {
         refusal_of_period(has_period)
@@ -112,10 +112,10 @@ impl Register {
 
     /// Why a row of contracts is refused, if it is.
     pub(crate) fn refusal_of_contract(&self, has_period: bool, row: &ContractRow) -> Option<Refusal>
-        ensures { (cal : Calendar) → has_period ≡ days.has_period cal.midnight row.now.key.at.date row.now.key.at.number
+        ensures { (cal : Calendar) → has_period ≡ days.has_period cal.midnight row.now.key.at.date row.now.key.at.period
             → result ≡ first_met (contract_refusals cal self.now.standing row.now) }
     {
-        let ends = row.counterparties;
+        let ends = row.contract.counterparties;
         let seller = self.party(&ends.seller.party);
         let buyer = self.party(&ends.buyer.party);
         let (Some(seller), Some(buyer)) = (seller, buyer) else {
@@ -143,7 +143,7 @@ impl Register {
         row: &ReallocationRow,
     ) -> Option<Refusal>
         ensures { (cal : Calendar) (in_time : Bool)
-            → timing.has_period ≡ days.has_period cal.midnight row.now.key.unit_period.at.date row.now.key.unit_period.at.number
+            → timing.has_period ≡ days.has_period cal.midnight row.now.key.unit_period.at.date row.now.key.unit_period.at.period
             → (timing.has_period ≡ true → timing.in_time ≡ in_time)
             → result ≡ first_met (reallocation_refusals cal self.now.standing in_time row.now) }
     {
@@ -156,7 +156,7 @@ impl Register {
     /// Why a row of reallocations is refused whatever its percentage, as a late one is, if it is.
     fn refusal_before_percent(&self, has_period: bool, row: &ReallocationRow) -> Option<Refusal>
         ensures { (cal : Calendar)
-            → has_period ≡ days.has_period cal.midnight row.now.key.unit_period.at.date row.now.key.unit_period.at.number
+            → has_period ≡ days.has_period cal.midnight row.now.key.unit_period.at.date row.now.key.unit_period.at.period
             → result ≡ first_met (reallocation_refusals cal self.now.standing false row.now) }
     {
         let Some(party) = self.party(&row.key.account.party) else {

@@ -193,7 +193,7 @@ impl Register {
     }
 
     /// The percentage of the key's unit, in 10^-5 percent, that is in force in the key's Settlement
-    /// Period for other accounts than the key's.
+    /// PeriodNumber for other accounts than the key's.
     pub(crate) fn percent_of_others(&self, key: &ReallocationKey) -> i64
         ensures value { (cal : Calendar) → result ≡ percent_of_others cal self.now.standing key.now }
         ensures range { IsBetween (pos 0) (pos 10_000_000) result }

@@ -8,7 +8,7 @@ use hh_rows::{
     PartyRow, PriceRow, Reading, Reallocation, ReallocationKey, ReallocationRow, Row,
     SettlementPeriod, UnitPeriod, UnitRegistration, UnitRow,
 };
-use hh_names::{AccessKey, Account, Fault, PartyId, Period, Reference, UnitId};
+use hh_names::{AccessKey, Account, Fault, PartyId, PeriodNumber, Reference, UnitId};
 use hh_time::{SettlementDate, london};
 use jiff::tz::TimeZone;
 use std::alloc::Global;
@@ -54,7 +54,7 @@ fn unit_row(unit: &[u8], lead: &[u8], from: &[u8]) -> Option<Row> {
 fn settlement_period(date: &[u8], number: u8) -> Option<SettlementPeriod> {
     Some(SettlementPeriod {
         date: SettlementDate::read(date)?,
-        number: Period::new(number)?,
+        period: PeriodNumber::new(number)?,
     })
 }
 

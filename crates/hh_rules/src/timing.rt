@@ -64,11 +64,11 @@ pub(crate) fn timing_of(
     lead: LeadMinutes,
     moment: i64,
 ) -> Timing
-    ensures period { result.has_period ≡ days.has_period (midnight_in (plain_zone zone.now)) at.date at.number }
+    ensures period { result.has_period ≡ days.has_period (midnight_in (plain_zone zone.now)) at.date at.period }
     ensures in_time { result.has_period ≡ true
         → result.in_time ≡ is_before_deadline (record { midnight = midnight_in (plain_zone zone.now); lead_minutes = lead }) moment at }
 {
-    let number = at.number.number();
+    let number = at.period.number();
     match Day::of(at.date, zone) {
         Some(day) if day.has_period(number) => Timing {
             has_period: true,

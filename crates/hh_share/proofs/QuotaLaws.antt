@@ -1,6 +1,6 @@
 -- Each share is its quota rounded.
 use Rattle.std.proofs.Common.{◌≡◌, ℕ, zero, suc, ◌+◌, ◌-◌, ◌*◌, ◌<◌, ◌≤◌, List, [], ◌∷◌, map, refl, sym, ap, ◌∙◌, subst, Bool, true, false, cond, arith}
-use Rattle.std.specs.Prelude.{nat_lt, ◌==◌, ◌&&◌, ◌||◌, sum, count_by, All, ℤ, pos, negsuc, neg_ℤ, nat_abs, ◌-ℤ◌, ◌*ℤ◌}
+use Rattle.std.specs.Prelude.{nat_lt, ◌==◌, ◌&&◌, ◌||◌, sum, count_by, All, ℤ, pos, negsuc, neg_ℤ, unsigned_abs, ◌-ℤ◌, ◌*ℤ◌}
 use Rattle.std.specs.List.{enumerate_from, zip}
 use Rattle.std.proofs.lemmas.List.Sums.{sum_by-le-sum_by}
 use Rattle.std.proofs.lemmas.List.Elements.{All-cons}
@@ -65,29 +65,29 @@ module _ (size : ℕ) (ws : List ℕ) (positive : 0 < sum ws) where
       ] refl
 
 -- distances of products, and that turning both signs leaves them
-nat_abs-neg : (z : ℤ) → nat_abs (neg_ℤ z) ≡ nat_abs z
-nat_abs-neg (pos zero) = refl
-nat_abs-neg (pos (suc n)) = refl
-nat_abs-neg (negsuc n) = refl
+unsigned_abs-neg : (z : ℤ) → unsigned_abs (neg_ℤ z) ≡ unsigned_abs z
+unsigned_abs-neg (pos zero) = refl
+unsigned_abs-neg (pos (suc n)) = refl
+unsigned_abs-neg (negsuc n) = refl
 
-nat_abs-sub : (a b : ℕ) → nat_abs (pos a -ℤ pos b) ≡ (a - b) + (b - a)
-nat_abs-sub a zero = omega arith
-nat_abs-sub a (suc b) = grind arith
+unsigned_abs-sub : (a b : ℕ) → unsigned_abs (pos a -ℤ pos b) ≡ (a - b) + (b - a)
+unsigned_abs-sub a zero = omega arith
+unsigned_abs-sub a (suc b) = grind arith
 
 neg-mul : (n b : ℕ) → neg_ℤ (pos n) *ℤ pos b ≡ neg_ℤ (pos n *ℤ pos b)
 neg-mul zero b = let e : 0 * b ≡ 0 = omega arith in rw e refl
 neg-mul (suc n) b = refl
 
-distance : (a w n m : ℕ) → a * w < n * m + m → n * m < a * w + m → nat_abs ((pos a *ℤ pos w) -ℤ (pos n *ℤ pos m)) < m
-distance a w n m below above = rw (nat_abs-sub (a * w) (n * m)) (omega arith)
+distance : (a w n m : ℕ) → a * w < n * m + m → n * m < a * w + m → unsigned_abs ((pos a *ℤ pos w) -ℤ (pos n *ℤ pos m)) < m
+distance a w n m below above = rw (unsigned_abs-sub (a * w) (n * m)) (omega arith)
 
 -- both signs turned, the distance is the same
-distance-neg : (a w n m : ℕ) → nat_abs ((negsuc a *ℤ pos w) -ℤ (neg_ℤ (pos n) *ℤ pos m)) ≡ nat_abs ((pos (suc a) *ℤ pos w) -ℤ (pos n *ℤ pos m))
+distance-neg : (a w n m : ℕ) → unsigned_abs ((negsuc a *ℤ pos w) -ℤ (neg_ℤ (pos n) *ℤ pos m)) ≡ unsigned_abs ((pos (suc a) *ℤ pos w) -ℤ (pos n *ℤ pos m))
 distance-neg a w n m =
-    ap (λ z. nat_abs (z -ℤ (neg_ℤ (pos n) *ℤ pos m))) (negsuc-*ℤ-pos a w)
-    ∙ ap (λ z. nat_abs (neg_ℤ (pos (suc a * w)) -ℤ z)) (neg-mul n m)
-    ∙ ap nat_abs (sym (neg_ℤ-+ℤ (pos (suc a * w)) (neg_ℤ (pos n *ℤ pos m))))
-    ∙ nat_abs-neg ((pos (suc a) *ℤ pos w) -ℤ (pos n *ℤ pos m))
+    ap (λ z. unsigned_abs (z -ℤ (neg_ℤ (pos n) *ℤ pos m))) (negsuc-*ℤ-pos a w)
+    ∙ ap (λ z. unsigned_abs (neg_ℤ (pos (suc a * w)) -ℤ z)) (neg-mul n m)
+    ∙ ap unsigned_abs (sym (neg_ℤ-+ℤ (pos (suc a * w)) (neg_ℤ (pos n *ℤ pos m))))
+    ∙ unsigned_abs-neg ((pos (suc a) *ℤ pos w) -ℤ (pos n *ℤ pos m))
 
 module _ (ws : List ℕ) (positive : 0 < sum ws) where
   -- one share is its quota rounded
@@ -95,7 +95,7 @@ module _ (ws : List ℕ) (positive : 0 < sum ws) where
   share_rounded (pos a) place w =
       let near = share_near a ws positive place w in
       let d = distance a w (share_size a ws (place, w)) (sum ws) near.0 near.1 in
-      subst (λ b. nat_abs ((pos a *ℤ pos w) -ℤ (cond b (neg_ℤ (pos (share_size a ws (place, w)))) (pos (share_size a ws (place, w))) *ℤ pos (sum ws))) < sum ws) (sym (le-ltb a 0 (omega arith))) d
+      subst (λ b. unsigned_abs ((pos a *ℤ pos w) -ℤ (cond b (neg_ℤ (pos (share_size a ws (place, w)))) (pos (share_size a ws (place, w))) *ℤ pos (sum ws))) < sum ws) (sym (le-ltb a 0 (omega arith))) d
   share_rounded (negsuc a) place w =
       let near = share_near (suc a) ws positive place w in
       let d = distance (suc a) w (share_size (suc a) ws (place, w)) (sum ws) near.0 near.1 in

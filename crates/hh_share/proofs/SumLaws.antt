@@ -1,6 +1,6 @@
 -- The shares: their sizes sum to the size of the total.
 use Rattle.std.proofs.Common.{get_or, ◌≡◌, ℕ, zero, suc, ◌+◌, ◌*◌, ◌<◌, ◌≤◌, List, [], ◌∷◌, map, length, refl, sym, ap, ◌∙◌, subst, Bool, true, false, cond, arith}
-use Rattle.std.specs.Prelude.{nat_lt, ◌==◌, sum, sum_by, count_by, All, ℤ, pos, negsuc, neg_ℤ, nat_abs, ◌+ℤ◌, int_lt, ◌≢◌}
+use Rattle.std.specs.Prelude.{nat_lt, ◌==◌, sum, sum_by, count_by, All, ℤ, pos, negsuc, neg_ℤ, unsigned_abs, ◌+ℤ◌, int_lt, ◌≢◌}
 use Rattle.std.specs.List.{enumerate_from, list_all}
 use Rattle.std.proofs.lemmas.List.Sums.{sum_by-cons, count_by-le-length, get_or-le-sum_by}
 use Rattle.std.proofs.lemmas.List.{get_or-map, length-map}
@@ -118,7 +118,7 @@ total-signed z f xs = elim (int_lt z (pos 0)) as (λ b. total (λ x. cond b (neg
 ]
 
 -- a size with its number's sign is the number
-own_sign : (z : ℤ) → with_sign_of z (nat_abs z) ≡ z
+own_sign : (z : ℤ) → with_sign_of z (unsigned_abs z) ≡ z
 own_sign (pos n) = ap (λ b. cond b (neg_ℤ (pos n)) (pos n)) (le-ltb n 0 (omega arith))
 own_sign (negsuc n) = refl
 
@@ -147,8 +147,8 @@ shares_sum (pos (suc n)) [] some = absurd (let h : 0 < 0 = some (λ e. cc) in om
 shares_sum (negsuc n) [] some = absurd (let h : 0 < 0 = some (λ e. cc) in omega arith)
 shares_sum amount (w ∷ ws) some =
     total-map (λ s. s) (share_of amount (effective (w ∷ ws))) (enumerate_from 0 (effective (w ∷ ws)))
-    ∙ total-signed amount (share_size (nat_abs amount) (effective (w ∷ ws))) (enumerate_from 0 (effective (w ∷ ws)))
-    ∙ ap (with_sign_of amount) (share_sizes_sum (nat_abs amount) (effective (w ∷ ws)) (effective_positive (w ∷ ws) (omega arith)))
+    ∙ total-signed amount (share_size (unsigned_abs amount) (effective (w ∷ ws))) (enumerate_from 0 (effective (w ∷ ws)))
+    ∙ ap (with_sign_of amount) (share_sizes_sum (unsigned_abs amount) (effective (w ∷ ws)) (effective_positive (w ∷ ws) (omega arith)))
     ∙ own_sign amount
 
 -- there are as many shares as weights
@@ -159,16 +159,16 @@ length-shares amount ws =
     ∙ length-effective ws
 
 -- a sign changes no size
-size-signed : (z : ℤ) (n : ℕ) → nat_abs (with_sign_of z n) ≡ n
-size-signed z zero = elim (int_lt z (pos 0)) as (λ b. nat_abs (cond b (neg_ℤ (pos zero)) (pos zero)) ≡ zero) [ true ↦ refl | false ↦ refl ]
-size-signed z (suc n) = elim (int_lt z (pos 0)) as (λ b. nat_abs (cond b (neg_ℤ (pos (suc n))) (pos (suc n))) ≡ suc n) [ true ↦ refl | false ↦ refl ]
+size-signed : (z : ℤ) (n : ℕ) → unsigned_abs (with_sign_of z n) ≡ n
+size-signed z zero = elim (int_lt z (pos 0)) as (λ b. unsigned_abs (cond b (neg_ℤ (pos zero)) (pos zero)) ≡ zero) [ true ↦ refl | false ↦ refl ]
+size-signed z (suc n) = elim (int_lt z (pos 0)) as (λ b. unsigned_abs (cond b (neg_ℤ (pos (suc n))) (pos (suc n))) ≡ suc n) [ true ↦ refl | false ↦ refl ]
 
 -- no share is larger in size than the amount
-pub shares_within : (amount : ℤ) (ws : List ℕ) → All (λ s. nat_abs s ≤ nat_abs amount) (shares amount ws)
+pub shares_within : (amount : ℤ) (ws : List ℕ) → All (λ s. unsigned_abs s ≤ unsigned_abs amount) (shares amount ws)
 shares_within amount ws = λ place d lt.
     let vs : List ℕ = effective ws in
     let listed : place < length (enumerate_from 0 vs) = subst (λ n. place < n) (length-map (enumerate_from 0 vs) (share_of amount vs)) lt in
     let inside : place < length vs = subst (λ n. place < n) (length-enumerate_from 0 vs) listed in
     let share_is = get_or-map (share_of amount vs) (enumerate_from 0 vs) place (0, 0) d listed ∙ ap (share_of amount vs) (claimant_is vs place inside) in
-    let size_is = ap nat_abs share_is ∙ size-signed amount (share_size (nat_abs amount) vs (place, get_or vs place 0)) in
-    subst (λ n. n ≤ nat_abs amount) (sym size_is) (share_size_within (nat_abs amount) vs (effective_some ws (omega arith)) place inside)
+    let size_is = ap unsigned_abs share_is ∙ size-signed amount (share_size (unsigned_abs amount) vs (place, get_or vs place 0)) in
+    subst (λ n. n ≤ unsigned_abs amount) (sym size_is) (share_size_within (unsigned_abs amount) vs (effective_some ws (omega arith)) place inside)

@@ -1,5 +1,5 @@
 -- Apportionment by largest remainders, Hamilton's method.
-use Rattle.std.specs.Prelude.{◌≡◌, ℕ, ◌+◌, ◌-◌, ◌*◌, ◌/◌, ◌%◌, ◌<◌, nat_lt, ◌==◌, ℤ, pos, neg_ℤ, nat_abs, ◌-ℤ◌, ◌*ℤ◌, int_lt, List, length, map, sum, sum_by, count_by, All, Bool, ◌&&◌, ◌||◌, if◌then◌else◌}
+use Rattle.std.specs.Prelude.{◌≡◌, ℕ, ◌+◌, ◌-◌, ◌*◌, ◌/◌, ◌%◌, ◌<◌, nat_lt, ◌==◌, ℤ, pos, neg_ℤ, unsigned_abs, ◌-ℤ◌, ◌*ℤ◌, int_lt, List, length, map, sum, sum_by, count_by, All, Bool, ◌&&◌, ◌||◌, if◌then◌else◌}
 use Rattle.std.specs.List.{enumerate_from, list_all, zip}
 use Rattle.hh_num.specs.Totals.{total}
 
@@ -40,7 +40,7 @@ with_sign_of z n = if int_lt z (pos 0) then neg_ℤ (pos n) else pos n
 
 -- the share that an account has of an amount
 abbrev pub share_of : ℤ → List ℕ → ℕ × ℕ → ℤ
-share_of amount weights a = with_sign_of amount (share_size (nat_abs amount) weights a)
+share_of amount weights a = with_sign_of amount (share_size (unsigned_abs amount) weights a)
 
 -- the shares of an amount of pence, in the order of the weights
 abbrev pub shares : ℤ → List ℕ → List ℤ
@@ -52,7 +52,7 @@ SumsTo amount split = total (λ share. share) split ≡ amount
 
 -- A share is its quota, amount * weight / sum, rounded down or up in size: it lies less than a penny from it.
 abbrev pub IsQuotaRounded : ℤ → List ℕ → ℕ → ℤ → Type 0
-IsQuotaRounded amount weights weight share = nat_abs ((amount *ℤ pos weight) -ℤ (share *ℤ pos (sum weights))) < sum weights
+IsQuotaRounded amount weights weight share = unsigned_abs ((amount *ℤ pos weight) -ℤ (share *ℤ pos (sum weights))) < sum weights
 
 -- there is a share for each weight, and each is the quota of its own rounded so
 abbrev pub AreQuotasRounded : ℤ → List ℕ → List ℤ → Type 0

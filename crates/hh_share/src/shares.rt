@@ -1,6 +1,6 @@
 //! Shares by largest remainders: Hamilton's method.
 
-ghost use Rattle.std.specs.Prelude.{◌≡◌, ◌==◌, ℕ, ◌<◌, ◌≤◌, ◌^◌, ◌-◌, ◌*◌, ◌/◌, ◌%◌, ◌≢◌, ◌≤ℤ◌, pos, nat_abs, nat_lt, if◌then◌else◌, ◌+◌, length, map, replicate, sum, sum_by, All, IfOk};
+ghost use Rattle.std.specs.Prelude.{◌≡◌, ◌==◌, ℕ, ◌<◌, ◌≤◌, ◌^◌, ◌-◌, ◌*◌, ◌/◌, ◌%◌, ◌≢◌, ◌≤ℤ◌, pos, unsigned_abs, nat_lt, if◌then◌else◌, ◌+◌, length, map, replicate, sum, sum_by, All, IfOk};
 ghost use Rattle.std.specs.List.{enumerate_from, list_all};
 ghost use Rattle.hh_share.specs.Shares.{effective, rank, share_of, shares, with_sign_of, AreQuotasRounded, SumsTo};
 ghost use Rattle.hh_share.specs.Quotas.{quota_for, remainders_of};
@@ -18,7 +18,7 @@ struct Quota {
 
 /// Whether all weights are 0.
 fn are_all_zero(weights: &[i64]) -> bool
-    ensures { result ≡ list_all (λ w. w == 0) (map nat_abs weights.now) }
+    ensures { result ≡ list_all (λ w. w == 0) (map unsigned_abs weights.now) }
 {
     weights
         .iter()
@@ -28,7 +28,7 @@ fn are_all_zero(weights: &[i64]) -> bool
 
 /// The weights that count: each of them 1 where all are 0.
 fn effective_weights(alloc: Global, weights: &[i64]) -> Result<Vec<u64>, AllocError>
-    ensures { IfOk result (λ v. v.items ≡ effective (map nat_abs weights.now)) }
+    ensures { IfOk result (λ v. v.items ≡ effective (map unsigned_abs weights.now)) }
 {
     if are_all_zero(weights) {
         ones(alloc, weights.len())
@@ -46,7 +46,7 @@ fn ones(alloc: Global, count: usize) -> Result<Vec<u64>, AllocError>
 
 /// The weights without their signs.
 fn unsigned_weights(alloc: Global, weights: &[i64]) -> Result<Vec<u64>, AllocError>
-    ensures { IfOk result (λ v. v.items ≡ map nat_abs weights.now) }
+    ensures { IfOk result (λ v. v.items ≡ map unsigned_abs weights.now) }
 {
     weights
         .iter()
@@ -126,7 +126,7 @@ fn size_of_share(quota: Quota, before: usize, left: u64) -> u64
 
 /// A size with the sign of a total.
 fn signed(total: i64, size: u64) -> i64
-    requires { size ≤ nat_abs total }
+    requires { size ≤ unsigned_abs total }
     ensures { result ≡ with_sign_of total size }
 {
     let size = i128::from(size);
@@ -141,7 +141,7 @@ fn shares_of(
     quotas: &[Quota],
 ) -> Result<Vec<i64>, AllocError>
     requires positive { 0 < length weights.now → 0 < sum weights.now }
-    requires quotas { quotas.now ≡ map (quota_for (nat_abs total) weights.now) weights.now }
+    requires quotas { quotas.now ≡ map (quota_for (unsigned_abs total) weights.now) weights.now }
     ensures { IfOk result (λ v. v.items ≡ map (share_of total weights.now) (enumerate_from 0 weights.now)) }
 {
     let left = pence_left(total.unsigned_abs(), quotas);
@@ -160,11 +160,11 @@ fn shares_of(
 pub fn apportion(alloc: Global, total: i64, weights: &[i64]) -> Result<Vec<i64>, AllocError>
     requires weights { All (λ w. pos 0 ≤ℤ w) weights.now }
     requires some { total ≢ pos 0 → 0 < length weights.now }
-    ensures shares { IfOk result (λ v. v.items ≡ shares total (map nat_abs weights.now)) }
+    ensures shares { IfOk result (λ v. v.items ≡ shares total (map unsigned_abs weights.now)) }
     ensures length { IfOk result (λ v. length v.items ≡ length weights.now) }
     ensures sum { IfOk result (λ v. SumsTo total v.items) }
-    ensures within { IfOk result (λ v. All (λ s. nat_abs s ≤ nat_abs total) v.items) }
-    ensures quota { IfOk result (λ v. AreQuotasRounded total (effective (map nat_abs weights.now)) v.items) }
+    ensures within { IfOk result (λ v. All (λ s. unsigned_abs s ≤ unsigned_abs total) v.items) }
+    ensures quota { IfOk result (λ v. AreQuotasRounded total (effective (map unsigned_abs weights.now)) v.items) }
 {
     let weights = effective_weights(alloc, weights)?;
     let quotas = quotas_of(alloc, total.unsigned_abs(), &weights)?;

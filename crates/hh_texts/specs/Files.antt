@@ -51,7 +51,7 @@ meter_row fields = do
   metered ← column fields 4 volume_value
   tlm ← column fields 5 multiplier_value
   balancing ← column fields 6 volume_value
-  Ok (row.Meter (record { key = record { unit = unit; at = record { date = date; number = period } }; reading = record { metered = metered; tlm = tlm; balancing = balancing } }))
+  Ok (row.Meter (record { key = record { unit = unit; at = record { date = date; period = period } }; reading = record { metered = metered; tlm = tlm; balancing = balancing } }))
 
 -- of prices
 unfoldable pub price_row : List (List ℕ) → Result Row ℕ
@@ -59,7 +59,7 @@ price_row fields = do
   date ← column fields 1 date_value
   period ← column fields 2 period_value
   price ← column fields 3 price_value
-  Ok (row.Price (record { at = record { date = date; number = period }; price = price }))
+  Ok (row.Price (record { at = record { date = date; period = period }; price = price }))
 
 -- of contracts
 unfoldable pub contract_row : List (List ℕ) → Result Row ℕ
@@ -70,7 +70,7 @@ contract_row fields = do
   date ← column fields 4 date_value
   period ← column fields 5 period_value
   volume ← column fields 6 volume_value
-  Ok (row.Contract (record { key = record { reference = reference; at = record { date = date; number = period } }; counterparties = record { seller = seller; buyer = buyer }; volume = volume }))
+  Ok (row.Contract (record { key = record { reference = reference; at = record { date = date; period = period } }; contract = record { counterparties = record { seller = seller; buyer = buyer }; volume = volume } }))
 
 -- of reallocations
 unfoldable pub reallocation_row : List (List ℕ) → Result Row ℕ
@@ -81,7 +81,7 @@ reallocation_row fields = do
   period ← column fields 4 period_value
   percent ← column fields 5 percent_value
   fixed ← column fields 6 volume_value
-  Ok (row.Reallocation (record { key = record { unit_period = record { unit = unit; at = record { date = date; number = period } }; account = account }; reallocation = record { percent = percent; fixed = fixed } }))
+  Ok (row.Reallocation (record { key = record { unit_period = record { unit = unit; at = record { date = date; period = period } }; account = account }; reallocation = record { percent = percent; fixed = fixed } }))
 
 -- the row that a record of a kind reads as, or the first column that doesn't read
 abbrev pub kind_row : FileKind → List (List ℕ) → Result Row ℕ

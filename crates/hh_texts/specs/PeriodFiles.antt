@@ -21,7 +21,7 @@ period_meter_row fields = do
   metered ← column fields 3 volume_value
   tlm ← column fields 4 multiplier_value
   balancing ← column fields 5 volume_value
-  Ok (record { unit = unit; account = account; metered = metered; tlm = tlm; balancing = balancing })
+  Ok (record { unit = unit; lead = account; reading = record { metered = metered; tlm = tlm; balancing = balancing } })
 
 -- the rows of a file of meter volumes, or the first fault in it
 abbrev pub period_meter_rows : List ℕ → Result (List PeriodMeterRow) Fault
@@ -38,7 +38,7 @@ period_contract_row fields = do
   seller ← column fields 2 account_value
   buyer ← column fields 3 account_value
   volume ← column fields 4 volume_value
-  Ok (record { reference = reference; seller = seller; buyer = buyer; volume = volume })
+  Ok (record { reference = reference; contract = record { counterparties = record { seller = seller; buyer = buyer }; volume = volume } })
 
 -- the rows of a file of contract volumes, or the first fault in it
 abbrev pub period_contract_rows : List ℕ → Result (List PeriodContractRow) Fault

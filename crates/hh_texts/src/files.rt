@@ -3,7 +3,7 @@
 ghost use Rattle.std.specs.Prelude.{◌≡◌, ◌≤◌, length, IfOk};
 ghost use Rattle.csv.specs.Records.{fields_of};
 ghost use Rattle.hh_texts.specs.Files.{contract_row, file_rows, kind_header, kind_row, meter_row, party_row, price_row, reallocation_row, unit_row};
-ghost use Rattle.hh_texts.specs.Gives.{Gives};
+ghost use Rattle.hh_names.specs.Faults.{faults, Gives};
 ghost use Rattle.hh_texts.specs.Rows.{most_rows};
 
 use crate::fields::field_in;
@@ -11,11 +11,13 @@ use crate::form::{Form, read_rows};
 use csv::ByteRecord;
 use hh_num::{Kwh, Percent, Price, Tlm};
 use hh_rows::{
-    ContractKey, ContractRow, Counterparties, DateRange, FileKind, MeterRow, PartyRegistration,
-    PartyRow, PriceRow, Reading, Reallocation, ReallocationKey, ReallocationRow, Row,
-    SettlementPeriod, UnitPeriod, UnitRegistration, UnitRow,
+    ContractKey, ContractRow, DateRange, FileKind, MeterRow, PartyRegistration, PartyRow, PriceRow,
+    ReallocationKey, ReallocationRow, Row, SettlementPeriod, UnitPeriod, UnitRegistration, UnitRow,
 };
-use hh_names::{AccessKey, Account, Fault, PartyId, Period, Reference, Side, UnitId, read_yes_no};
+use hh_names::{
+    AccessKey, Account, Contract, Counterparties, Fault, PartyId, PeriodNumber, Reading,
+    Reallocation, Reference, Side, UnitId, read_yes_no,
+};
 use hh_time::SettlementDate;
 use std::alloc::Global;
 
@@ -105,8 +107,8 @@ fn read_meter(fields: &ByteRecord) -> Result<Row, u32>
 {
     let unit = UnitId::read(field_in(fields, 0)).ok_or(1u32)?;
     let date = SettlementDate::read(field_in(fields, 1)).ok_or(2u32)?;
-    let number = Period::read(field_in(fields, 2)).ok_or(3u32)?;
-    let at = SettlementPeriod { date, number };
+    let period = PeriodNumber::read(field_in(fields, 2)).ok_or(3u32)?;
+    let at = SettlementPeriod { date, period };
     Ok(Row::Meter(MeterRow {
         key: UnitPeriod { unit, at },
         reading: Reading {
@@ -123,8 +125,8 @@ fn read_price(fields: &ByteRecord) -> Result<Row, u32>
     ensures { result ≡ price_row (fields_of fields.now) }
 {
     let date = SettlementDate::read(field_in(fields, 0)).ok_or(1u32)?;
-    let number = Period::read(field_in(fields, 1)).ok_or(2u32)?;
-    let at = SettlementPeriod { date, number };
+    let period = PeriodNumber::read(field_in(fields, 1)).ok_or(2u32)?;
+    let at = SettlementPeriod { date, period };
     let price = Price::read(field_in(fields, 2)).ok_or(3u32)?;
     Ok(Row::Price(PriceRow { at, price }))
 }
@@ -138,12 +140,14 @@ fn read_contract(fields: &ByteRecord) -> Result<Row, u32>
     let seller = Account::read(field_in(fields, 1)).ok_or(2u32)?;
     let buyer = Account::read(field_in(fields, 2)).ok_or(3u32)?;
     let date = SettlementDate::read(field_in(fields, 3)).ok_or(4u32)?;
-    let number = Period::read(field_in(fields, 4)).ok_or(5u32)?;
-    let at = SettlementPeriod { date, number };
+    let period = PeriodNumber::read(field_in(fields, 4)).ok_or(5u32)?;
+    let at = SettlementPeriod { date, period };
     Ok(Row::Contract(ContractRow {
         key: ContractKey { reference, at },
-        counterparties: Counterparties { seller, buyer },
-        volume: Kwh::read(field_in(fields, 5)).ok_or(6u32)?,
+        contract: Contract {
+            counterparties: Counterparties { seller, buyer },
+            volume: Kwh::read(field_in(fields, 5)).ok_or(6u32)?,
+        },
     }))
 }
 
@@ -155,8 +159,8 @@ fn read_reallocation(fields: &ByteRecord) -> Result<Row, u32>
     let unit = UnitId::read(field_in(fields, 0)).ok_or(1u32)?;
     let account = Account::read(field_in(fields, 1)).ok_or(2u32)?;
     let date = SettlementDate::read(field_in(fields, 2)).ok_or(3u32)?;
-    let number = Period::read(field_in(fields, 3)).ok_or(4u32)?;
-    let at = SettlementPeriod { date, number };
+    let period = PeriodNumber::read(field_in(fields, 3)).ok_or(4u32)?;
+    let at = SettlementPeriod { date, period };
     let unit_period = UnitPeriod { unit, at };
     Ok(Row::Reallocation(ReallocationRow {
         key: ReallocationKey {
@@ -176,7 +180,7 @@ fn read_reallocation(fields: &ByteRecord) -> Result<Row, u32>
 /// `to` before `from` is a fault of the column `to`. Of each row only its own fields are judged,
 /// not what is registered or in force.
 pub fn read_file(alloc: Global, kind: FileKind, bytes: &[u8]) -> Result<Vec<Row>, Fault>
-    ensures rows { Gives (λ rows. rows.items) result (file_rows kind bytes.now) }
+    ensures rows { Gives faults (λ rows. rows.items) result (file_rows kind bytes.now) }
     ensures few { IfOk result (λ rows. length rows.items ≤ most_rows) }
 {
     read_rows(alloc, &kind, bytes)

@@ -2,7 +2,7 @@
 
 ghost use Rattle.std.specs.Prelude.{◌≡◌, ◌≤◌, ℕ, List, length, Result, map, IfOk};
 ghost use Rattle.csv.specs.Records.{fields_of};
-ghost use Rattle.hh_texts.specs.Gives.{Gives};
+ghost use Rattle.hh_names.specs.Faults.{faults, Gives};
 ghost use Rattle.hh_texts.specs.Records.{IsReading, left_of};
 ghost use Rattle.hh_texts.specs.Rows.{most_rows, rows_of, rows_from, same_fields};
 
@@ -40,7 +40,7 @@ pub trait Form {
 /// then by row, from 1 without the header, `TooManyRows`, `BadRecord` and `BadField`. `Memory`
 /// may come in the place of any answer.
 pub fn read_rows<F: Form>(alloc: Global, form: &F, bytes: &[u8]) -> Result<Vec<F::Row>, Fault>
-    ensures rows { Gives (λ rows. rows.items) result (rows_of (F.header form.now) (F.row_of form.now) bytes.now) }
+    ensures rows { Gives faults (λ rows. rows.items) result (rows_of (F.header form.now) (F.row_of form.now) bytes.now) }
     ensures few { IfOk result (λ rows. length rows.items ≤ most_rows) }
 {
     if bytes.len() > MOST_BYTES {
@@ -79,7 +79,7 @@ fn rows_under<F: Form>(
     reader: &mut Reader<&[u8]>,
 ) -> Result<Vec<F::Row>, Fault>
     requires { IsReading reader.old }
-    ensures rows { Gives (λ rows. rows.items) result (rows_from (length (F.header form.now)) (F.row_of form.now) 1 (left_of reader.old)) }
+    ensures rows { Gives faults (λ rows. rows.items) result (rows_from (length (F.header form.now)) (F.row_of form.now) 1 (left_of reader.old)) }
     ensures few { IfOk result (λ rows. length rows.items ≤ most_rows) }
 {
     let columns = form.header().len();

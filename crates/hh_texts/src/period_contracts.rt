@@ -1,15 +1,15 @@
 //! The file of contract volumes from which one Settlement Period is settled.
 
 ghost use Rattle.std.specs.Prelude.{◌≤◌, length, IfOk};
-ghost use Rattle.hh_texts.specs.Gives.{Gives};
+ghost use Rattle.hh_names.specs.Faults.{faults, Gives};
 ghost use Rattle.hh_texts.specs.PeriodFiles.{period_contract_header, period_contract_row, period_contract_rows};
 ghost use Rattle.hh_texts.specs.Rows.{most_rows};
 
 use crate::fields::field_in;
 use crate::form::{Form, read_rows};
 use csv::ByteRecord;
+use hh_names::{Account, Contract, Counterparties, Fault, Reference};
 use hh_num::Kwh;
-use hh_names::{Account, Fault, Reference};
 use std::alloc::Global;
 
 /// The volume of a contract in one Settlement Period.
@@ -17,12 +17,8 @@ use std::alloc::Global;
 pub struct PeriodContractRow {
     /// The contract's reference.
     pub reference: Reference,
-    /// The energy account that sells.
-    pub seller: Account,
-    /// The energy account that buys.
-    pub buyer: Account,
-    /// The volume from the seller to the buyer, in kWh.
-    pub volume: Kwh,
+    /// Its counterparties, and the volume from the seller to the buyer, in kWh.
+    pub contract: Contract,
 }
 
 /// The form `reference,seller,buyer,mwh`.
@@ -44,9 +40,13 @@ impl Form for PeriodContracts {
     fn read_row(&self, fields: &ByteRecord) -> Result<PeriodContractRow, u32> {
         Ok(PeriodContractRow {
             reference: Reference::read(field_in(fields, 0)).ok_or(1u32)?,
-            seller: Account::read(field_in(fields, 1)).ok_or(2u32)?,
-            buyer: Account::read(field_in(fields, 2)).ok_or(3u32)?,
-            volume: Kwh::read(field_in(fields, 3)).ok_or(4u32)?,
+            contract: Contract {
+                counterparties: Counterparties {
+                    seller: Account::read(field_in(fields, 1)).ok_or(2u32)?,
+                    buyer: Account::read(field_in(fields, 2)).ok_or(3u32)?,
+                },
+                volume: Kwh::read(field_in(fields, 3)).ok_or(4u32)?,
+            },
         })
     }
 }
@@ -54,7 +54,7 @@ impl Form for PeriodContracts {
 /// The rows of a file of contract volumes, or the first fault in it, in the order of
 /// `read_rows`.
 pub fn read_period_contracts(alloc: Global, bytes: &[u8]) -> Result<Vec<PeriodContractRow>, Fault>
-    ensures rows { Gives (λ rows. rows.items) result (period_contract_rows bytes.now) }
+    ensures rows { Gives faults (λ rows. rows.items) result (period_contract_rows bytes.now) }
     ensures few { IfOk result (λ rows. length rows.items ≤ most_rows) }
 {
     read_rows(alloc, &PeriodContracts, bytes)

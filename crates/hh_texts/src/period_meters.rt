@@ -1,15 +1,15 @@
 //! The file of meter volumes from which one Settlement Period is settled.
 
 ghost use Rattle.std.specs.Prelude.{◌≤◌, length, IfOk};
-ghost use Rattle.hh_texts.specs.Gives.{Gives};
+ghost use Rattle.hh_names.specs.Faults.{faults, Gives};
 ghost use Rattle.hh_texts.specs.PeriodFiles.{period_meter_header, period_meter_row, period_meter_rows};
 ghost use Rattle.hh_texts.specs.Rows.{most_rows};
 
 use crate::fields::field_in;
 use crate::form::{Form, read_rows};
 use csv::ByteRecord;
+use hh_names::{Account, Fault, Reading, UnitId};
 use hh_num::{Kwh, Tlm};
-use hh_names::{Account, Fault, UnitId};
 use std::alloc::Global;
 
 /// The volumes of a BM Unit in one Settlement Period.
@@ -17,14 +17,10 @@ use std::alloc::Global;
 pub struct PeriodMeterRow {
     /// The BM Unit.
     pub unit: UnitId,
-    /// The energy account of its Lead Party.
-    pub account: Account,
-    /// The metered volume, in kWh: positive where the unit delivers.
-    pub metered: Kwh,
-    /// The transmission loss multiplier, in 10^-7.
-    pub tlm: Tlm,
-    /// The volume of its balancing services, in kWh.
-    pub balancing: Kwh,
+    /// The account of its Lead Party that the unit's energy is credited to.
+    pub lead: Account,
+    /// What it metered, its loss multiplier and its balancing volume.
+    pub reading: Reading,
 }
 
 /// The form `unit,account,metered_mwh,tlm,balancing_mwh`.
@@ -46,17 +42,19 @@ impl Form for PeriodMeters {
     fn read_row(&self, fields: &ByteRecord) -> Result<PeriodMeterRow, u32> {
         Ok(PeriodMeterRow {
             unit: UnitId::read(field_in(fields, 0)).ok_or(1u32)?,
-            account: Account::read(field_in(fields, 1)).ok_or(2u32)?,
-            metered: Kwh::read(field_in(fields, 2)).ok_or(3u32)?,
-            tlm: Tlm::read(field_in(fields, 3)).ok_or(4u32)?,
-            balancing: Kwh::read(field_in(fields, 4)).ok_or(5u32)?,
+            lead: Account::read(field_in(fields, 1)).ok_or(2u32)?,
+            reading: Reading {
+                metered: Kwh::read(field_in(fields, 2)).ok_or(3u32)?,
+                tlm: Tlm::read(field_in(fields, 3)).ok_or(4u32)?,
+                balancing: Kwh::read(field_in(fields, 4)).ok_or(5u32)?,
+            },
         })
     }
 }
 
 /// The rows of a file of meter volumes, or the first fault in it, in the order of `read_rows`.
 pub fn read_period_meters(alloc: Global, bytes: &[u8]) -> Result<Vec<PeriodMeterRow>, Fault>
-    ensures rows { Gives (λ rows. rows.items) result (period_meter_rows bytes.now) }
+    ensures rows { Gives faults (λ rows. rows.items) result (period_meter_rows bytes.now) }
     ensures few { IfOk result (λ rows. length rows.items ≤ most_rows) }
 {
     read_rows(alloc, &PeriodMeters, bytes)

@@ -5,7 +5,7 @@ use hh_rows::{
     PartyRow, PriceRow, Reading, Reallocation, ReallocationKey, ReallocationRow, Row,
     SettlementPeriod, UnitPeriod, UnitRegistration, UnitRow,
 };
-use hh_names::{AccessKey, Account, Fault, PartyId, Period, Reference, Refusal, UnitId};
+use hh_names::{AccessKey, Account, Fault, PartyId, PeriodNumber, Reference, Refusal, UnitId};
 use hh_time::SettlementDate;
 use std::alloc::AllocError;
 use std::process::Abort;
@@ -393,7 +393,7 @@ fn reads_units(rt: HostRuntime) -> Result<(), Fail> {
 fn july(number: u8) -> Option<SettlementPeriod> {
     Some(SettlementPeriod {
         date: SettlementDate::new(FIRST_OF_JULY)?,
-        number: Period::new(number)?,
+        period: PeriodNumber::new(number)?,
     })
 }
 

@@ -1,5 +1,5 @@
 use super::*;
-use hh_names::{Period, Refusal};
+use hh_names::{PeriodNumber, Refusal};
 use std::alloc::Global;
 use std::test::Fail;
 
@@ -13,7 +13,7 @@ fn line_of(alloc: Global, fault: &Fault, input: Option<Input>) -> Result<Vec<u8>
 fn lines(rt: HostRuntime) -> Result<(), Fail> {
     let missing = Fault {
         unit: UnitId::read(b"G1"),
-        period: Period::new(1),
+        period: PeriodNumber::new(1),
         ..Fault::of(Refusal::MissingMeter)
     };
     let lines: [(Fault, Option<Input>, &str); 7] = [

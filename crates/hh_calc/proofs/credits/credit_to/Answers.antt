@@ -48,7 +48,7 @@ returns-clause-credit c =
     let tlm = held_wide _ _ _ (2 * 10 ^ 7) c.units-5.ensures.value (multiplier_most _ c.units-5.ensures.range) (omega arith) c.from-5.ensures in
     let amount = held_word _ _ (6 * 10 ^ 21) (held_amount _ _ _ _ _ _ metered balancing percent _ _ fixed _ _ tlm) (omega arith) in
     (held_credit _ _ _ c.round_div.type_inv c.round_div.ensures.exact amount).is
-    ∙ λ i. near ((((c.volumes-volumes.ensures.metered i -ℤ c.volumes-volumes.ensures.balancing i) *ℤ c.args.subsidiary.now.percent) +ℤ (c.args.subsidiary.now.fixed *ℤ pos (10 ^ 7))) *ℤ c.volumes-volumes.ensures.tlm i) (pos (10 ^ 7))
+    ∙ λ i. near (((((c.reading-reading.ensures i).metered -ℤ (c.reading-reading.ensures i).balancing) *ℤ c.args.subsidiary.now.reallocation.percent) +ℤ (c.args.subsidiary.now.reallocation.fixed *ℤ pos (10 ^ 7))) *ℤ (c.reading-reading.ensures i).tlm) (pos (10 ^ 7))
 
 pub returns-clause-size : goal.returns-clause-size
 returns-clause-size c =

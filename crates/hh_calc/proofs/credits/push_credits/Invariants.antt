@@ -1,5 +1,5 @@
 use Rattle.std.proofs.Common.{◌≡◌, ◌+◌, ◌*◌, ◌^◌, ◌≤◌, ◌++◌, map, take}
-use Rattle.std.specs.Prelude.{◌-ℤ◌, nat_abs, All}
+use Rattle.std.specs.Prelude.{◌-ℤ◌, unsigned_abs, All}
 use Rattle.hh_num.specs.Totals.{total}
 use Rattle.hh_calc.specs.Formulas.{loss_adjusted, subsidiary_credit}
 use Rattle.hh_calc.proofs.CreditFacts.{credit_of}
@@ -10,6 +10,6 @@ abbrev pub invariant-loop-subsidiary : goal.invariant-loop-subsidiary
 invariant-loop-subsidiary l = record {
   credits : l.credits.items ≡ l.initial.credits.items ++ map (credit_of l.unit) (take l.subsidiary-index l.unit.subsidiaries);
   rest : l.rest ≡ loss_adjusted l.unit -ℤ total (subsidiary_credit l.unit) (take l.subsidiary-index l.unit.subsidiaries);
-  small : All (λ s. nat_abs (subsidiary_credit l.unit s) ≤ 10 ^ 18) (take l.subsidiary-index l.unit.subsidiaries);
-  size : nat_abs l.rest ≤ 2 * 10 ^ 14 + l.subsidiary-index * 10 ^ 15;
+  small : All (λ s. unsigned_abs (subsidiary_credit l.unit s) ≤ 10 ^ 18) (take l.subsidiary-index l.unit.subsidiaries);
+  size : unsigned_abs l.rest ≤ 2 * 10 ^ 14 + l.subsidiary-index * 10 ^ 15;
 }

@@ -3,4 +3,4 @@ use Rattle.std.specs.Prelude.{All, Contains}
 use Rattle.hh_calc.proofs.ready.are_contracts_named.Given as goal
 
 abbrev pub invariant-loop-contract : goal.invariant-loop-contract
-invariant-loop-contract l = All (λ c. Contains l.accounts c.seller × Contains l.accounts c.buyer) (take l.contract-index l.contracts)
+invariant-loop-contract l = All (λ c. Contains l.accounts c.counterparties.seller × Contains l.accounts c.counterparties.buyer) (take l.contract-index l.contracts)

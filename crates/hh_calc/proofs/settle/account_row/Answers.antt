@@ -1,5 +1,5 @@
 use Rattle.std.proofs.Common.{arith, ◌∙◌, ◌≤◌, ◌*◌, ◌^◌}
-use Rattle.std.specs.Prelude.{nat_abs, pos, ◌-ℤ◌, ◌*ℤ◌}
+use Rattle.std.specs.Prelude.{unsigned_abs, pos, ◌-ℤ◌, ◌*ℤ◌}
 use Rattle.std.proofs.lemmas.Bool.{and_from, and_left, and_right}
 use Rattle.hh_calc.specs.Formulas.{greatest_energy, greatest_cash}
 use Rattle.hh_calc.proofs.RowFacts.{at_most, cash_word, contracts_size, contracts_word, if_none, imbalance_word, in_limit, past_limit, same_figures}
@@ -9,7 +9,7 @@ use Rattle.hh_calc.proofs.settle.account_row.Goals as goal
 pub returns-in_err-balancing-clause-too_large : goal.returns-in_err-balancing-clause-too_large
 returns-in_err-balancing-clause-too_large c =
     let balancing = c.args.sums.balancing in
-    let le : nat_abs balancing ≤ 10 ^ 34 = c.requires.balancing in
+    let le : unsigned_abs balancing ≤ 10 ^ 34 = c.requires.balancing in
     let past = past_limit greatest_energy balancing _ _ c.energy_within-2.ensures (long_word balancing (omega arith)) c.in_err-balancing.was in
     if_none _ _ (and_left _ _ (and_left _ _ (and_left _ _ (and_left _ _ (and_right _ _ past)))))
 
@@ -23,7 +23,7 @@ returns-in_err-contracts-clause-too_large c =
 pub returns-in_err-imbalance-clause-too_large : goal.returns-in_err-imbalance-clause-too_large
 returns-in_err-imbalance-clause-too_large c =
     let net = c.args.sums.net in
-    let small : nat_abs net ≤ 10 ^ 28 = c.requires.net in
+    let small : unsigned_abs net ≤ 10 ^ 28 = c.requires.net in
     let contracts = contracts_word net small in
     let word = imbalance_word c.args.sums.credited c.args.sums.balancing (net *ℤ pos (10 ^ 7)) _ c.requires.credited c.requires.balancing (contracts_size net small) contracts in
     let past = past_limit greatest_energy _ _ _ c.energy_within-4.ensures word c.in_err-imbalance.was in
@@ -32,14 +32,14 @@ returns-in_err-imbalance-clause-too_large c =
 pub returns-in_err-weight-clause-too_large : goal.returns-in_err-weight-clause-too_large
 returns-in_err-weight-clause-too_large c =
     let weight = c.args.sums.weight in
-    let le : nat_abs weight ≤ 2 * 10 ^ 37 = c.requires.weight in
+    let le : unsigned_abs weight ≤ 2 * 10 ^ 37 = c.requires.weight in
     let past = past_limit greatest_energy weight _ _ c.energy_within-5.ensures (long_word weight (omega arith)) c.in_err-weight.was in
     if_none _ _ (and_left _ _ (and_right _ _ past))
 
 pub charge_of-requires : goal.charge_of-requires
 charge_of-requires c =
     let net = c.args.sums.net in
-    let small : nat_abs net ≤ 10 ^ 28 = c.requires.net in
+    let small : unsigned_abs net ≤ 10 ^ 28 = c.requires.net in
     let contracts = contracts_word net small in
     let word = imbalance_word c.args.sums.credited c.args.sums.balancing (net *ℤ pos (10 ^ 7)) _ c.requires.credited c.requires.balancing (contracts_size net small) contracts in
     let (is, within) = in_limit greatest_energy _ _ _ _ c.energy_within-4.ensures word c.in_ok-imbalance.was in
@@ -48,7 +48,7 @@ charge_of-requires c =
 pub returns-in_err-charge-clause-too_large : goal.returns-in_err-charge-clause-too_large
 returns-in_err-charge-clause-too_large c =
     let net = c.args.sums.net in
-    let small : nat_abs net ≤ 10 ^ 28 = c.requires.net in
+    let small : unsigned_abs net ≤ 10 ^ 28 = c.requires.net in
     let contracts = contracts_word net small in
     let word = imbalance_word c.args.sums.credited c.args.sums.balancing (net *ℤ pos (10 ^ 7)) _ c.requires.credited c.requires.balancing (contracts_size net small) contracts in
     let (is, within) = in_limit greatest_energy _ _ _ _ c.energy_within-4.ensures word c.in_ok-imbalance.was in
@@ -59,10 +59,10 @@ returns-in_err-charge-clause-too_large c =
 pub returns-clause-row : goal.returns-clause-row
 returns-clause-row c =
     let sums = c.args.sums in
-    let credited_le : nat_abs sums.credited ≤ 2 * 10 ^ 37 = c.requires.credited in
-    let balancing_le : nat_abs sums.balancing ≤ 10 ^ 34 = c.requires.balancing in
-    let net_le : nat_abs sums.net ≤ 10 ^ 28 = c.requires.net in
-    let weight_le : nat_abs sums.weight ≤ 2 * 10 ^ 37 = c.requires.weight in
+    let credited_le : unsigned_abs sums.credited ≤ 2 * 10 ^ 37 = c.requires.credited in
+    let balancing_le : unsigned_abs sums.balancing ≤ 10 ^ 34 = c.requires.balancing in
+    let net_le : unsigned_abs sums.net ≤ 10 ^ 28 = c.requires.net in
+    let weight_le : unsigned_abs sums.weight ≤ 2 * 10 ^ 37 = c.requires.weight in
     let contracts = contracts_word sums.net net_le in
     let word = imbalance_word sums.credited sums.balancing (sums.net *ℤ pos (10 ^ 7)) _ credited_le balancing_le (contracts_size sums.net net_le) contracts in
     let (credited_is, credited_in) = in_limit greatest_energy sums.credited _ _ _ c.energy_within.ensures (long_word sums.credited (omega arith)) c.in_ok-credited.was in
@@ -79,5 +79,5 @@ returns-clause-row c =
 pub returns-clause-weight : goal.returns-clause-weight
 returns-clause-weight c =
     let weight = c.args.sums.weight in
-    let le : nat_abs weight ≤ 2 * 10 ^ 37 = c.requires.weight in
+    let le : unsigned_abs weight ≤ 2 * 10 ^ 37 = c.requires.weight in
     (in_limit greatest_energy weight _ _ _ c.energy_within-5.ensures (long_word weight (omega arith)) c.in_ok-weight.was).0

@@ -1,5 +1,5 @@
 use Rattle.std.proofs.Common.{arith, ap, sym, ◌∙◌, ◌≡◌, ◌<◌, ◌≤◌, ◌*◌, ◌^◌, length}
-use Rattle.std.specs.Prelude.{nat_abs}
+use Rattle.std.specs.Prelude.{unsigned_abs}
 use Rattle.hh_calc.specs.Formulas.{are_within, figures, figures_of, weight}
 use Rattle.hh_calc.proofs.RowFacts.{widened}
 use Rattle.hh_calc.proofs.RowsFacts.{charge_size, figures_read, past_account, residual_more, residual_size, residual_word, rows_more, short_weight, weights_more, within_more}
@@ -23,9 +23,9 @@ loop-place-preserved c =
     let limits = sym (λ i. are_within (same i) (weighs i)) ∙ c.in-Some.ensures.row.1 in
     let charge : c.in-Some.row.charge ≡ (figures period c.account-item.result).charge = ap (λ f. f.charge) shown in
     let paid = c.in-Some.row.charge in
-    let paid_size : nat_abs paid ≤ 10 ^ 12 = rw charge (charge_size (figures period c.account-item.result) (weight period c.account-item.result) limits) in
+    let paid_size : unsigned_abs paid ≤ 10 ^ 12 = rw charge (charge_size (figures period c.account-item.result) (weight period c.account-item.result) limits) in
     let wide = widened paid _ _ c.units.ensures.value (omega arith) c.from-residual.ensures in
-    let so_far : nat_abs c.loop-place.residual ≤ c.loop-place.place * 10 ^ 12 = rw c.loop-place.residual-is at c.loop-place.invariant.small in
+    let so_far : unsigned_abs c.loop-place.residual ≤ c.loop-place.place * 10 ^ 12 = rw c.loop-place.residual-is at c.loop-place.invariant.small in
     let low : c.loop-place.place < 2 ^ 64 = omega arith in
     let held = residual_word _ _ c.loop-place.residual paid c.loop-place.residual-is wide (omega arith) paid_size in
     record {

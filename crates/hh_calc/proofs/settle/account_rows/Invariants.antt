@@ -1,5 +1,5 @@
 use Rattle.std.proofs.Common.{◌≡◌, ◌*◌, ◌^◌, ◌≤◌, true, map, take}
-use Rattle.std.specs.Prelude.{neg_ℤ, nat_abs}
+use Rattle.std.specs.Prelude.{neg_ℤ, unsigned_abs}
 use Rattle.hh_num.specs.Totals.{total}
 use Rattle.hh_calc.specs.Formulas.{are_accounts_within, figures, figures_of, weight}
 use Rattle.hh_calc.proofs.settle.account_rows.Given as goal
@@ -11,5 +11,5 @@ invariant-loop-place l = record {
   weights : l.weighed.items ≡ map (weight l.period) (take l.place l.period.accounts);
   within : are_accounts_within l.period (take l.place l.period.accounts) ≡ true;
   residual : l.residual ≡ neg_ℤ (total (λ a. (figures l.period a).charge) (take l.place l.period.accounts));
-  small : nat_abs l.residual ≤ l.place * 10 ^ 12;
+  small : unsigned_abs l.residual ≤ l.place * 10 ^ 12;
 }

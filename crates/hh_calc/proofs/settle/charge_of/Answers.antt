@@ -1,5 +1,5 @@
 use Rattle.std.proofs.Common.{arith, ◌∙◌, ◌≤◌, ◌^◌}
-use Rattle.std.specs.Prelude.{nat_abs}
+use Rattle.std.specs.Prelude.{unsigned_abs}
 use Rattle.std.specs.Int.{w128}
 use Rattle.std.proofs.lemmas.Int.{to_z-of_z}
 use Rattle.hh_calc.proofs.RowFacts.{charge_word, price_size, widened}
@@ -7,7 +7,7 @@ use Rattle.hh_calc.proofs.settle.charge_of.Goals as goal
 
 pub round_div-requires-clause-limit : goal.round_div-requires-clause-limit
 round_div-requires-clause-limit c =
-    let size : nat_abs c.args.imbalance ≤ 10 ^ 17 = c.requires in
+    let size : unsigned_abs c.args.imbalance ≤ 10 ^ 17 = c.requires in
     let price = price_size c.args.price c.units-2.ensures.range in
     (charge_word c.args.imbalance c.args.price _ _ size price
     (widened c.args.imbalance _ _ c.units.ensures.value (omega arith) c.from.ensures)
@@ -15,7 +15,7 @@ round_div-requires-clause-limit c =
 
 pub returns : goal.returns
 returns c =
-    let size : nat_abs c.args.imbalance ≤ 10 ^ 17 = c.requires in
+    let size : unsigned_abs c.args.imbalance ≤ 10 ^ 17 = c.requires in
     let price = price_size c.args.price c.units-2.ensures.range in
     let word = charge_word c.args.imbalance c.args.price _ _ size price
     (widened c.args.imbalance _ _ c.units.ensures.value (omega arith) c.from.ensures)

@@ -1,5 +1,5 @@
 use Rattle.std.proofs.Common.{◌≡◌, ◌≤◌, ◌^◌, arith, refl, sym, ◌∙◌, length, get_or, map, set}
-use Rattle.std.specs.Prelude.{nat_abs, pos}
+use Rattle.std.specs.Prelude.{unsigned_abs, pos}
 use Rattle.std.proofs.Math.Seq.{map-set_same}
 use Rattle.std.proofs.lemmas.List.{length-map, map-set}
 use Rattle.hh_calc.specs.Formulas.{figures_of}
@@ -12,7 +12,7 @@ loop-place-preserved c =
     let rows = c.loop-place.rows in
     let place = c.loop-place.place in
     let share = get_or c.args.shares.now place (pos 0) in
-    let small : nat_abs share ≤ 10 ^ 12 = c.requires.small place (pos 0) c.loop-place-test.true in
+    let small : unsigned_abs share ≤ 10 ^ 12 = c.requires.small place (pos 0) c.loop-place-test.true in
     let is = widened share share c.of.result refl (omega arith) c.of.ensures in
     let long : length (map (λ r. r.share) c.args.rows.now) ≡ length c.args.shares.now = length-map c.args.rows.now (λ r. r.share) ∙ sym c.requires.length in
     record {

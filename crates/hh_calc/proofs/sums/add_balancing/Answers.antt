@@ -1,5 +1,5 @@
 use Rattle.std.proofs.Common.{arith, ap, sym, ◌≤◌, ◌*◌, ◌^◌}
-use Rattle.std.specs.Prelude.{nat_abs, Contains}
+use Rattle.std.specs.Prelude.{unsigned_abs, Contains}
 use Rattle.hh_calc.specs.Formulas.{balancing_of, of_account}
 use Rattle.hh_calc.proofs.SumLaws.{all_read, sums_start, sums_step}
 use Rattle.hh_calc.proofs.WordFacts.{long_word}
@@ -16,6 +16,6 @@ pub loop-unit-preserved : goal.loop-unit-preserved
 loop-unit-preserved c =
     let lead = c.unit-item.result.lead in
     let held = c.balancing_volume.result in
-    let held_size : nat_abs held ≤ 2 * 10 ^ 14 = c.balancing_volume.ensures.size in
+    let held_size : unsigned_abs held ≤ 2 * 10 ^ 14 = c.balancing_volume.ensures.size in
     sums_step balancing_of _ c.requires.ordered _ _ c.unit-item.result (omega arith) c.unit-item.is _ lead c.place_of-place.ensures.inside (rw c.lead.ensures at c.place_of-place.ensures.place)
     _ _ held_size (λ a. ap (of_account a lead) (sym c.balancing_volume.ensures.volume)) _ c.loop-unit.invariant _ _ (rw (long_word held (omega arith)) at c.add_at.ensures)

@@ -10,11 +10,11 @@ loop-contract-init c = sums_start _ _ _ _ _ c.requires.net
 
 pub place_of-requires-clause-named : goal.place_of-requires-clause-named
 place_of-requires-clause-named c =
-    (all_read (λ k. Contains c.args.accounts.now k.seller × Contains c.args.accounts.now k.buyer) c.args.contracts.now c.loop-contract.contract-index _ c.requires.named (omega arith) c.contract-item.is).0
+    (all_read (λ k. Contains c.args.accounts.now k.counterparties.seller × Contains c.args.accounts.now k.counterparties.buyer) c.args.contracts.now c.loop-contract.contract-index _ c.requires.named (omega arith) c.contract-item.is).0
 
 pub place_of-requires-in-loop-contract-clause-named : goal.place_of-requires-in-loop-contract-clause-named
 place_of-requires-in-loop-contract-clause-named c =
-    (all_read (λ k. Contains c.args.accounts.now k.seller × Contains c.args.accounts.now k.buyer) c.args.contracts.now c.loop-contract.contract-index _ c.requires.named (omega arith) c.contract-item.is).1
+    (all_read (λ k. Contains c.args.accounts.now k.counterparties.seller × Contains c.args.accounts.now k.counterparties.buyer) c.args.contracts.now c.loop-contract.contract-index _ c.requires.named (omega arith) c.contract-item.is).1
 
 pub add_at-requires-in-loop-contract-clause-room : goal.add_at-requires-in-loop-contract-clause-room
 add_at-requires-in-loop-contract-clause-room c =

@@ -1,5 +1,5 @@
 use Rattle.std.proofs.Common.{arith, refl, ◌≤◌, ◌^◌}
-use Rattle.std.specs.Prelude.{nat_abs, Contains}
+use Rattle.std.specs.Prelude.{unsigned_abs, Contains}
 use Rattle.hh_calc.specs.Formulas.{credited_of}
 use Rattle.hh_calc.proofs.RowFacts.{wide_word}
 use Rattle.hh_calc.proofs.SumLaws.{all_read, sums_start, sums_step}
@@ -14,6 +14,6 @@ place_of-place-requires-clause-named c = all_read (λ k. Contains c.args.account
 pub loop-credit-preserved : goal.loop-credit-preserved
 loop-credit-preserved c =
     let credited = c.credit-item.result.credited in
-    let size : nat_abs credited ≤ 10 ^ 18 = all_read (λ k. nat_abs k.credited ≤ 10 ^ 18) c.args.credits.now c.loop-credit.credit-index _ c.requires.small (omega arith) c.credit-item.is in
+    let size : unsigned_abs credited ≤ 10 ^ 18 = all_read (λ k. unsigned_abs k.credited ≤ 10 ^ 18) c.args.credits.now c.loop-credit.credit-index _ c.requires.small (omega arith) c.credit-item.is in
     sums_step credited_of _ c.requires.ordered _ _ c.credit-item.result (omega arith) c.credit-item.is _ c.credit-item.result.account c.place_of-place.ensures.inside c.place_of-place.ensures.place
     credited _ size (λ a. refl) _ c.loop-credit.invariant _ _ (rw (wide_word credited _ _ c.units.ensures.value size c.from.ensures) at c.add_at.ensures)

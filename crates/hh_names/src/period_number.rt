@@ -8,11 +8,11 @@ use std::marker::Model;
 
 /// The number of a Settlement Period within its Settlement Day, 1 to 50 (profile).
 #[derive(Clone, Copy, Debug, PartialEq, Eq, PartialOrd, Ord)]
-pub struct Period {
+pub struct PeriodNumber {
     number: u8,
 }
 
-impl Model for Period {
+impl Model for PeriodNumber {
     ghost use Rattle.std.specs.Prelude.{ℕ, ◌≤◌};
 
     ghost Value = { ℕ };
@@ -24,13 +24,13 @@ impl Model for Period {
     ghost inverse = { λ n. record { number = n } };
 }
 
-impl Period {
+impl PeriodNumber {
     /// The period of that number, if it is 1 to 50.
-    pub fn new(number: u8) -> Option<Period>
+    pub fn new(number: u8) -> Option<PeriodNumber>
         ensures { SomeIff result ((1 ≤ number) × (number ≤ 50)) number }
     {
         if 1 <= number && number <= 50 {
-            Some(Period { number })
+            Some(PeriodNumber { number })
         } else {
             None
         }
@@ -38,11 +38,11 @@ impl Period {
 
     /// The period that a text numbers: 1 to 50, in the grammar of `read_fixed` without decimals.
     #[tactic(auto, unfolding(crate::specs::Fields::period_value))]
-    pub fn read(text: &[u8]) -> Option<Period>
+    pub fn read(text: &[u8]) -> Option<PeriodNumber>
         ensures { result ≡ period_value text.now }
     {
         let number = read_fixed(text, 0)?;
-        Period::new(u8::try_from(number).ok()?)
+        PeriodNumber::new(u8::try_from(number).ok()?)
     }
 
     /// The number.
