@@ -3,6 +3,18 @@ use Rattle.std.specs.Prelude.{ℕ, ◌-◌, min, ◌==◌, if◌then◌else◌, 
 use Rattle.hh_devices.specs.declared.device.DeviceFailed.{DeviceFailed}
 use Rattle.hh_devices.specs.declared.pace.Pace.{Pace}
 
+-- so many a call, and none that fails
+abbrev pub any_pace : ℕ → Pace
+any_pace piece = record { piece = piece; until_failure = None }
+
+-- the same with other pieces
+abbrev pub in_pieces : ℕ → Pace → Pace
+in_pieces piece p = record { piece = piece; until_failure = p.until_failure }
+
+-- the same with one call that fails, once so many more have gone
+abbrev pub failing_after : ℕ → Pace → Pace
+failing_after count p = record { piece = p.piece; until_failure = Some count }
+
 -- the answer of a call that may move so many bytes, where one is to fail after so many
 abbrev pub moved_before : Option ℕ → ℕ → Result ℕ DeviceFailed
 moved_before None most = Ok most

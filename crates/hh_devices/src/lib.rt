@@ -7,6 +7,7 @@ mod memory_source;
 mod pace;
 mod sink;
 mod source;
+mod stream;
 mod stream_sink;
 mod stream_source;
 
@@ -15,6 +16,7 @@ pub use memory_sink::MemorySink;
 pub use memory_source::MemorySource;
 pub use sink::{Sink, write_whole};
 pub use source::Source;
+pub use stream::{Reader, Writer};
 pub use stream_sink::StreamSink;
 pub use stream_source::StreamSource;
 

@@ -3,7 +3,7 @@
 ghost use Rattle.std.specs.Prelude.{◌≡◌, ◌≤◌, ◌+◌, ◌-◌, min, [], length, Some, None, IfOk, vec_capacity, vec_len};
 ghost use Rattle.std.specs.Io.KnownBytes.{WriteAppends};
 ghost use Rattle.hh_devices.specs.Devices.{Assures, Counts};
-ghost use Rattle.hh_devices.specs.Pace.{assured_within, moved, moved_count, paced};
+ghost use Rattle.hh_devices.specs.Pace.{any_pace, failing_after, in_pieces, moved, moved_count, paced};
 
 use crate::device::DeviceFailed;
 use crate::pace::Pace;
@@ -28,7 +28,7 @@ impl MemorySink {
     pub fn with_room(alloc: Global, room: usize) -> Result<MemorySink, AllocError>
         ensures taken { IfOk result (λ sink. taken_by sink ≡ []) }
         ensures room { IfOk result (λ sink. room_of sink ≡ room) }
-        ensures pace { IfOk result (λ sink. sink_pace sink ≡ record { piece = usize.MAX; until_failure = None }) }
+        ensures pace { IfOk result (λ sink. sink_pace sink ≡ any_pace usize.MAX) }
         ensures failures { IfOk result (λ sink. sink_failures sink ≡ 0) }
     {
         Ok(MemorySink {
@@ -46,7 +46,7 @@ impl MemorySink {
     pub fn in_pieces(mut self, piece: usize) -> MemorySink
         ensures taken { taken_by result ≡ taken_by self }
         ensures room { room_of result ≡ room_of self }
-        ensures pace { sink_pace result ≡ record { piece = piece; until_failure = (sink_pace self).until_failure } }
+        ensures pace { sink_pace result ≡ in_pieces piece (sink_pace self) }
         ensures failures { sink_failures result ≡ sink_failures self }
     {
         self.pace.piece = piece;
@@ -57,7 +57,7 @@ impl MemorySink {
     pub fn failing_after(mut self, count: usize) -> MemorySink
         ensures taken { taken_by result ≡ taken_by self }
         ensures room { room_of result ≡ room_of self }
-        ensures pace { sink_pace result ≡ record { piece = (sink_pace self).piece; until_failure = Some count } }
+        ensures pace { sink_pace result ≡ failing_after count (sink_pace self) }
         ensures failures { sink_failures result ≡ sink_failures self }
     {
         self.pace.until_failure = Some(count);
@@ -80,23 +80,26 @@ impl MemorySink {
 }
 
 impl Sink for MemorySink {
-    ghost use Rattle.hh_devices.specs.MemorySink.{taken_by, room_of, sink_pace, sink_failures};
+    ghost use Rattle.hh_devices.specs.MemorySink.{assured_of, offered_to, taken_by, room_of, sink_pace, sink_failures};
 
     ghost taken = { λ s. Some (taken_by s) };
 
     ghost failures = { sink_failures };
 
-    ghost assured = { λ s. assured_within (sink_pace s) (room_of s) };
+    ghost assured = { assured_of };
 
     fn write(&mut self, bytes: &[u8]) -> Result<usize, DeviceFailed>
         ensures count { IfOk result (λ n. n ≤ length bytes.now) }
-        ensures bytes { WriteAppends (Some (taken_by self.old)) (Some (taken_by self.new)) result bytes.now }
+        ensures bytes { WriteAppends (Some (taken_by self.old)) (Some (taken_by self.new))
+            result bytes.now }
         ensures failures { Counts result (sink_failures self.old) (sink_failures self.new) }
-        ensures assured { Assures result (assured_within (sink_pace self.old) (room_of self.old)) (assured_within (sink_pace self.new) (room_of self.new)) (length bytes.now) }
+        ensures assured { Assures result (assured_of self.old) (assured_of self.new)
+            (length bytes.now) }
 
         // The answer is determined: memory has no part in it.
-        ensures answer { result ≡ moved (sink_pace self.old) (min (length bytes.now) (room_of self.old)) }
-        ensures pace { sink_pace self.new ≡ paced (sink_pace self.old) (min (length bytes.now) (room_of self.old)) }
+        ensures answer { result ≡ moved (sink_pace self.old) (offered_to self.old bytes.now) }
+        ensures pace { sink_pace self.new
+            ≡ paced (sink_pace self.old) (offered_to self.old bytes.now) }
         ensures room { room_of self.new ≡ room_of self.old - moved_count result }
     {
         let answer = self.pace.step(bytes.len().min(self.room));

@@ -3,7 +3,7 @@
 ghost use Rattle.std.specs.Prelude.{◌≡◌, ◌≤◌, ◌<◌, min, length, Some, None, IfOk};
 ghost use Rattle.std.specs.Io.KnownBytes.{ReadConsumes};
 ghost use Rattle.hh_devices.specs.Devices.{CountsErr};
-ghost use Rattle.hh_devices.specs.Pace.{moved, paced};
+ghost use Rattle.hh_devices.specs.Pace.{any_pace, failing_after, in_pieces, moved, paced};
 
 use crate::device::DeviceFailed;
 use crate::pace::Pace;
@@ -24,7 +24,7 @@ impl<'a> MemorySource<'a> {
     /// A source of these bytes, which it gives in one call and with no failure.
     pub fn new(bytes: &'a [u8]) -> MemorySource<'a>
         ensures bytes { left_in result ≡ bytes.now }
-        ensures pace { source_pace result ≡ record { piece = usize.MAX; until_failure = None } }
+        ensures pace { source_pace result ≡ any_pace usize.MAX }
         ensures failures { source_failures result ≡ 0 }
     {
         MemorySource {
@@ -41,7 +41,7 @@ impl<'a> MemorySource<'a> {
     pub fn in_pieces(self, piece: usize) -> MemorySource<'a>
         requires { 0 < piece }
         ensures bytes { left_in result ≡ left_in self.entry }
-        ensures pace { source_pace result ≡ record { piece = piece; until_failure = (source_pace self.entry).until_failure } }
+        ensures pace { source_pace result ≡ in_pieces piece (source_pace self.entry) }
         ensures failures { source_failures result ≡ source_failures self.entry }
     {
         MemorySource {
@@ -57,7 +57,7 @@ impl<'a> MemorySource<'a> {
     /// The same, with one call that fails, once so many more bytes were given. Then it goes on.
     pub fn failing_after(self, count: usize) -> MemorySource<'a>
         ensures bytes { left_in result ≡ left_in self.entry }
-        ensures pace { source_pace result ≡ record { piece = (source_pace self.entry).piece; until_failure = Some count } }
+        ensures pace { source_pace result ≡ failing_after count (source_pace self.entry) }
         ensures failures { source_failures result ≡ source_failures self.entry }
     {
         MemorySource {
@@ -79,7 +79,7 @@ impl<'a> MemorySource<'a> {
 }
 
 impl Source for MemorySource<'_> {
-    ghost use Rattle.hh_devices.specs.MemorySource.{left_in, source_pace, source_failures};
+    ghost use Rattle.hh_devices.specs.MemorySource.{wanted_of, left_in, source_pace, source_failures};
 
     ghost remaining = { λ s. Some (left_in s) };
 
@@ -87,12 +87,14 @@ impl Source for MemorySource<'_> {
 
     fn read(&mut self, buffer: &mut [u8]) -> Result<usize, DeviceFailed>
         ensures count { IfOk result (λ n. n ≤ length buffer.old) }
-        ensures bytes { ReadConsumes (Some (left_in self.old)) (Some (left_in self.new)) result buffer.new }
+        ensures bytes { ReadConsumes (Some (left_in self.old)) (Some (left_in self.new))
+            result buffer.new }
         ensures failures { CountsErr result (source_failures self.old) (source_failures self.new) }
 
         // The answer is determined.
-        ensures answer { result ≡ moved (source_pace self.old) (min (length buffer.old) (length (left_in self.old))) }
-        ensures pace { source_pace self.new ≡ paced (source_pace self.old) (min (length buffer.old) (length (left_in self.old))) }
+        ensures answer { result ≡ moved (source_pace self.old) (wanted_of self.old buffer.old) }
+        ensures pace { source_pace self.new
+            ≡ paced (source_pace self.old) (wanted_of self.old buffer.old) }
     {
         let bytes = self.bytes;
         let answer = self.pace.step(buffer.len().min(bytes.len()));

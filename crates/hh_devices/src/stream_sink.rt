@@ -1,13 +1,15 @@
-//! A sink round any writer of std.
+//! A sink round any writer.
 
-ghost use Rattle.std.specs.Prelude.{◌≡◌};
+ghost use Rattle.std.specs.Prelude.{◌≡◌, ◌≤◌, length, IfOk};
+ghost use Rattle.std.specs.Io.KnownBytes.{WriteAppends};
+ghost use Rattle.hh_devices.specs.Devices.{Assures, Counts};
 
 use crate::device::DeviceFailed;
 use crate::sink::Sink;
-use std::io::Write;
+use crate::stream::Writer;
 
-/// A writer of std, and how often it failed or took nothing. What it holds back in a buffer of its
-/// own is not flushed.
+/// A writer, and how often it failed or took nothing. What it holds back in a buffer of its own is
+/// not flushed.
 #[derive(Drop)]
 pub struct StreamSink<W> {
     writer: W,
@@ -43,15 +45,24 @@ impl<W> StreamSink<W> {
     }
 }
 
-impl<W: Write> Sink for StreamSink<W> {
+impl<W: Writer> Sink for StreamSink<W> {
     ghost use Rattle.hh_devices.specs.StreamSink.{writer_of, writer_failures};
 
     ghost taken = { λ s. W.contents (writer_of s) };
 
     ghost failures = { writer_failures };
 
-    fn write(&mut self, bytes: &[u8]) -> Result<usize, DeviceFailed> {
-        let answer = self.writer.write(bytes).map_err(|_| DeviceFailed);
+    fn write(&mut self, bytes: &[u8]) -> Result<usize, DeviceFailed>
+        ensures count { IfOk result (λ n. n ≤ length bytes.now) }
+        ensures bytes { WriteAppends (W.contents (writer_of self.old))
+            (W.contents (writer_of self.new)) result bytes.now }
+        ensures failures { Counts result (writer_failures self.old) (writer_failures self.new) }
+        ensures assured { Assures result 0 0 (length bytes.now) }
+
+        // The answer is the writer's own, of one write of these bytes.
+        ensures answer { W.writes (writer_of self.old) bytes.now result (writer_of self.new) }
+    {
+        let answer = self.writer.write_some(bytes);
         if answer.unwrap_or(0) == 0 {
             self.failures = self.failures.saturating_add(1);
         }

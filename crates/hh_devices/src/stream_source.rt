@@ -1,12 +1,14 @@
-//! A source round any reader of std.
+//! A source round any reader.
 
-ghost use Rattle.std.specs.Prelude.{◌≡◌};
+ghost use Rattle.std.specs.Prelude.{◌≡◌, ◌≤◌, length, IfOk};
+ghost use Rattle.std.specs.Io.KnownBytes.{ReadConsumes};
+ghost use Rattle.hh_devices.specs.Devices.{CountsErr};
 
 use crate::device::DeviceFailed;
 use crate::source::Source;
-use std::io::Read;
+use crate::stream::Reader;
 
-/// A reader of std, and how often it failed.
+/// A reader, and how often it failed.
 #[derive(Drop)]
 pub struct StreamSource<R> {
     reader: R,
@@ -42,15 +44,24 @@ impl<R> StreamSource<R> {
     }
 }
 
-impl<R: Read> Source for StreamSource<R> {
+impl<R: Reader> Source for StreamSource<R> {
     ghost use Rattle.hh_devices.specs.StreamSource.{reader_of, reader_failures};
 
     ghost remaining = { λ s. R.remaining (reader_of s) };
 
     ghost failures = { reader_failures };
 
-    fn read(&mut self, buffer: &mut [u8]) -> Result<usize, DeviceFailed> {
-        let answer = self.reader.read(buffer).map_err(|_| DeviceFailed);
+    fn read(&mut self, buffer: &mut [u8]) -> Result<usize, DeviceFailed>
+        ensures count { IfOk result (λ n. n ≤ length buffer.old) }
+        ensures bytes { ReadConsumes (R.remaining (reader_of self.old))
+            (R.remaining (reader_of self.new)) result buffer.new }
+        ensures failures { CountsErr result (reader_failures self.old) (reader_failures self.new) }
+
+        // The answer is the reader's own, of one read into the buffer.
+        ensures answer { R.reads (reader_of self.old) (length buffer.old) result buffer.new
+            (reader_of self.new) }
+    {
+        let answer = self.reader.read_some(buffer);
         if answer.is_err() {
             self.failures = self.failures.saturating_add(1);
         }

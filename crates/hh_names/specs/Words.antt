@@ -45,9 +45,6 @@ reference_value = word_value is_reference_byte 1 20
 abbrev pub access_key_value : List ℕ → Option (List ℕ)
 access_key_value = word_value is_letter_or_digit 8 64
 
-abbrev pub file_name_value : List ℕ → Option (List ℕ)
-file_name_value = word_value is_file_name_byte 1 64
-
 -- the operator's key: op- and 8 to 61 letters or digits
 unfoldable pub is_operator_key : List ℕ → Bool
 is_operator_key text = bytes_eq (take 3 text) (codes "op-") && is_word is_letter_or_digit 8 61 (drop 3 text)

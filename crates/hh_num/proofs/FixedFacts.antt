@@ -71,8 +71,3 @@ pub ruleset kept_signed = (kept_signed_none, kept_signed_some)
 
 pub ten_pow_pos : (k : ℕ) → 0 < 10 ^ k
 ten_pow_pos k = one-le-pow k 10 (lit< tt)
-
--- one digit more
-pub last_digits_down : (p n : ℕ) → 0 < p → last_digits p n ≡ (48 + n / 10 ^ (p - 1) % 10) ∷ last_digits (p - 1) n
-last_digits_down zero n h = absurd (omega arith)
-last_digits_down (suc k) n h = simp sub-one refl

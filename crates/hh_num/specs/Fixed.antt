@@ -57,16 +57,17 @@ fits_i64 (negsuc n) = nat_lt n (2 ^ 63)
 abbrev pub digits_behind : ℕ → List ℕ → Option ℕ
 digits_behind front text = if all_digits text then Some (digits_value_after 10 front text) else None
 
--- the grammar -?digits(.digits)?: a point stands only before digits
+-- a minus sign, or none
 abbrev pub minus_of : Bool → List ℕ
 minus_of true = 45 ∷ []
 minus_of false = []
 
+-- a point stands only before digits
 abbrev pub point_and : List ℕ → List ℕ
 point_and [] = []
 point_and (b ∷ bytes) = 46 ∷ b ∷ bytes
 
--- The text is in the grammar, with at most so many digits behind the point, and value is its value in units.
+-- The text is in the grammar -?digits(.digits)?, with at most so many digits behind the point, and value is its value in units.
 pub record IsFixed (decimals : ℕ) (text : List ℕ) (value : ℤ) : Type 0 where
   pub negative : Bool
   pub whole : List ℕ
@@ -82,6 +83,10 @@ abbrev pub last_digits : ℕ → ℕ → List ℕ
 last_digits zero n = []
 last_digits (suc k) n = (48 + n / 10 ^ k % 10) ∷ last_digits k n
 
+-- the point and so many last digits behind it, where there are any
+abbrev pub fraction_text : ℕ → ℕ → List ℕ
+fraction_text decimals n = point_and (last_digits decimals n)
+
 abbrev pub is_negative : ℤ → Bool
 is_negative (pos n) = false
 is_negative (negsuc n) = true
@@ -89,7 +94,7 @@ is_negative (negsuc n) = true
 -- the one spelling of units: no needless zero in front, and just so many digits behind the point
 abbrev pub fixed_text : ℕ → ℤ → List ℕ
 fixed_text decimals v =
-    minus_of (is_negative v) ++ decimal (unsigned_abs v / 10 ^ decimals) ++ point_and (last_digits decimals (unsigned_abs v))
+    minus_of (is_negative v) ++ decimal (unsigned_abs v / 10 ^ decimals) ++ fraction_text decimals (unsigned_abs v)
 
 -- the bytes of a vector, and more
 abbrev pub Extends : List ℕ → List ℕ → Type 0

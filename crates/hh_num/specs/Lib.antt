@@ -1,4 +1,5 @@
 pub mod Fixed
+pub mod Quantities
 pub mod Ranges
 pub mod Rounding
 pub mod Totals

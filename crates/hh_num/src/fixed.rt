@@ -2,7 +2,7 @@
 
 ghost use Rattle.std.specs.Prelude.{◌≡◌, ◌≤◌, ◌<◌, ◌^◌, ◌++◌, ℤ, ℕ, List, position, Some, IfSome, IfNone, OnOk, OnErr, FitsSigned};
 ghost use Rattle.std.specs.Int.{w64};
-ghost use Rattle.hh_num.specs.Fixed.{fixed_value, unsigned_units, digits_behind, kept_if, fits_u64, fits_i64, units_of, is_point, signed, IsFixed, fixed_text, last_digits, minus_of, point_and, Extends};
+ghost use Rattle.hh_num.specs.Fixed.{fixed_value, unsigned_units, digits_behind, kept_if, fits_u64, fits_i64, units_of, is_point, signed, IsFixed, fixed_text, fraction_text, last_digits, minus_of, Extends};
 
 use itoa::Buffer;
 use std::alloc::AllocError;
@@ -132,7 +132,7 @@ fn push_sign(out: &mut Vec<u8>, negative: bool) -> Result<(), AllocError>
 /// The point and the digits behind it, where there are some.
 fn push_fraction(out: &mut Vec<u8>, size: u64, decimals: u32) -> Result<(), AllocError>
     requires { decimals ≤ 10 }
-    ensures ok { OnOk result (out.new.items ≡ out.old.items ++ point_and (last_digits decimals size)) }
+    ensures ok { OnOk result (out.new.items ≡ out.old.items ++ fraction_text decimals size) }
     ensures kept { Extends out.old.items out.new.items }
 {
     if decimals > 0 {
@@ -177,6 +177,8 @@ pub fn write_fixed(units: i64, decimals: u32, out: &mut Vec<u8>) -> Result<(), A
 /// What `write_fixed` writes is in the grammar of `read_fixed`, with the value that was written, and
 /// a text has at most one value: so it reads back.
 pub fn reads_back()
-    ensures spelled { (decimals : ℕ) (v : ℤ) → decimals ≤ 10 → FitsSigned w64 v → IsFixed decimals (fixed_text decimals v) v }
-    ensures one_value { (decimals : ℕ) (text : List ℕ) (v w : ℤ) → IsFixed decimals text v → IsFixed decimals text w → v ≡ w }
+    ensures spelled { (decimals : ℕ) (v : ℤ) → decimals ≤ 10 → FitsSigned w64 v
+        → IsFixed decimals (fixed_text decimals v) v }
+    ensures one_value { (decimals : ℕ) (text : List ℕ) (v w : ℤ) → IsFixed decimals text v
+        → IsFixed decimals text w → v ≡ w }
 {}

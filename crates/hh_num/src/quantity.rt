@@ -1,9 +1,10 @@
 //! Quantities of the market as scaled whole numbers, each kind a type of its own.
 
-ghost use Rattle.std.specs.Prelude.{◌≡◌, ◌≤◌, ◌++◌, ℤ, ℕ, pos, neg_ℤ, SomeIff, OnOk, OnErr, FitsSigned};
+ghost use Rattle.std.specs.Prelude.{◌≡◌, ◌≤◌, ◌++◌, ℤ, ℕ, SomeIff, OnOk, OnErr, FitsSigned};
 ghost use Rattle.std.specs.Int.{w64};
 ghost use Rattle.std.proofs.Common.{rules};
 ghost use Rattle.hh_num.specs.Fixed.{fixed_text};
+ghost use Rattle.hh_num.specs.Quantities.{amounts_of_cash, energies, multipliers, percentages, prices, volumes};
 ghost use Rattle.hh_num.specs.Ranges.{IsBetween, fixed_between};
 
 use crate::fixed::{read_fixed, write_fixed};
@@ -106,11 +107,11 @@ impl<Q: Quantity> Scaled<Q> {
 pub struct Volume;
 
 impl Quantity for Volume {
-    ghost decimals = { 3 };
+    ghost decimals = { volumes.decimals };
 
-    ghost least = { neg_ℤ (pos 10_000_000) };
+    ghost least = { volumes.least };
 
-    ghost most = { pos 10_000_000 };
+    ghost most = { volumes.most };
 
     ghost few_decimals = { Prim.search rules };
 
@@ -137,11 +138,11 @@ pub type Kwh = Scaled<Volume>;
 pub struct Energy;
 
 impl Quantity for Energy {
-    ghost decimals = { 10 };
+    ghost decimals = { energies.decimals };
 
-    ghost least = { neg_ℤ (pos 9_223_372_036_854_775_808) };
+    ghost least = { energies.least };
 
-    ghost most = { pos 9_223_372_036_854_775_807 };
+    ghost most = { energies.most };
 
     ghost few_decimals = { Prim.search rules };
 
@@ -168,11 +169,11 @@ pub type Ticks = Scaled<Energy>;
 pub struct Cash;
 
 impl Quantity for Cash {
-    ghost decimals = { 0 };
+    ghost decimals = { amounts_of_cash.decimals };
 
-    ghost least = { neg_ℤ (pos 9_223_372_036_854_775_808) };
+    ghost least = { amounts_of_cash.least };
 
-    ghost most = { pos 9_223_372_036_854_775_807 };
+    ghost most = { amounts_of_cash.most };
 
     ghost few_decimals = { Prim.search rules };
 
@@ -199,11 +200,11 @@ pub type Pence = Scaled<Cash>;
 pub struct EnergyPrice;
 
 impl Quantity for EnergyPrice {
-    ghost decimals = { 5 };
+    ghost decimals = { prices.decimals };
 
-    ghost least = { neg_ℤ (pos 9_999_999_999) };
+    ghost least = { prices.least };
 
-    ghost most = { pos 9_999_999_999 };
+    ghost most = { prices.most };
 
     ghost few_decimals = { Prim.search rules };
 
@@ -230,11 +231,11 @@ pub type Price = Scaled<EnergyPrice>;
 pub struct LossMultiplier;
 
 impl Quantity for LossMultiplier {
-    ghost decimals = { 7 };
+    ghost decimals = { multipliers.decimals };
 
-    ghost least = { pos 0 };
+    ghost least = { multipliers.least };
 
-    ghost most = { pos 20_000_000 };
+    ghost most = { multipliers.most };
 
     ghost few_decimals = { Prim.search rules };
 
@@ -261,11 +262,11 @@ pub type Tlm = Scaled<LossMultiplier>;
 pub struct Percentage;
 
 impl Quantity for Percentage {
-    ghost decimals = { 5 };
+    ghost decimals = { percentages.decimals };
 
-    ghost least = { pos 0 };
+    ghost least = { percentages.least };
 
-    ghost most = { pos 10_000_000 };
+    ghost most = { percentages.most };
 
     ghost few_decimals = { Prim.search rules };
 

@@ -3,7 +3,7 @@ use Rattle.std.specs.Prelude.{◌≡◌, ℕ, ℤ, List, Option, Some, None, Res
 use Rattle.hh_names.specs.declared.fault.Fault.{Fault}
 use Rattle.hh_names.specs.declared.fault.Refusal.TheVariants.{BadField, TooLarge}
 use Rattle.hh_names.specs.Faults.{memory_fault, plain_fault, ByRefusal}
-use Rattle.hh_names.specs.Fields.{price_value}
+use Rattle.hh_num.specs.Quantities.{price_value}
 use Rattle.hh_calc.specs.Formulas.{is_within_limits}
 use Rattle.hh_calc.specs.Terms.{PeriodTerms}
 use Rattle.hh_texts.specs.PeriodFiles.{period_contract_rows, period_meter_rows}

@@ -4,7 +4,7 @@ ghost use Rattle.std.specs.Prelude.{◌≡◌, ◌≤◌, length, map, Option, I
 ghost use Rattle.std.specs.Io.KnownBytes.{Appends};
 ghost use Rattle.hh_devices.specs.Devices.{AppendsFront, Failed};
 ghost use Rattle.hh_calc.specs.Formulas.{AreInOrder, AreNamed, AreSubsidiariesFew};
-ghost use Rattle.hh_names.specs.Fields.{price_value};
+ghost use Rattle.hh_num.specs.Quantities.{price_value};
 ghost use Rattle.hh_names.specs.declared.fault.Fault.{Fault};
 ghost use Rattle.hh_period.specs.declared.rejection.Input.{Input};
 ghost use Rattle.hh_texts.specs.PeriodFiles.{period_contract_rows, period_meter_rows};

@@ -3,7 +3,8 @@ use Rattle.std.specs.Prelude.{ℕ, List, [], ◌∷◌, Result, Ok, codes}
 use Rattle.hh_time.specs.DateText.{date_value}
 use Rattle.hh_names.specs.declared.fault.Fault.{Fault}
 use Rattle.hh_names.specs.Accounts.{account_value, side_value}
-use Rattle.hh_names.specs.Fields.{multiplier_value, percent_value, period_value, price_value, volume_value, yes_no_value}
+use Rattle.hh_num.specs.Quantities.{multiplier_value, percent_value, price_value, volume_value}
+use Rattle.hh_names.specs.Fields.{period_value, yes_no_value}
 use Rattle.hh_names.specs.Words.{access_key_value, party_value, reference_value, unit_value}
 use Rattle.hh_rows.specs.DateRanges.{range_to_value}
 use Rattle.hh_rows.specs.declared.file_kind.FileKind.{FileKind}

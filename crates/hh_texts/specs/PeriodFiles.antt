@@ -2,7 +2,7 @@
 use Rattle.std.specs.Prelude.{ℕ, List, [], ◌∷◌, Result, Ok, codes}
 use Rattle.hh_names.specs.declared.fault.Fault.{Fault}
 use Rattle.hh_names.specs.Accounts.{account_value}
-use Rattle.hh_names.specs.Fields.{volume_value, multiplier_value}
+use Rattle.hh_num.specs.Quantities.{multiplier_value, volume_value}
 use Rattle.hh_names.specs.Words.{unit_value, reference_value}
 use Rattle.hh_texts.specs.declared.period_meters.PeriodMeterRow.{PeriodMeterRow}
 use Rattle.hh_texts.specs.declared.period_contracts.PeriodContractRow.{PeriodContractRow}

@@ -40,7 +40,8 @@ pub trait Form {
 /// then by row, from 1 without the header, `TooManyRows`, `BadRecord` and `BadField`. `Memory`
 /// may come in the place of any answer.
 pub fn read_rows<F: Form>(alloc: Global, form: &F, bytes: &[u8]) -> Result<Vec<F::Row>, Fault>
-    ensures rows { Gives faults (λ rows. rows.items) result (rows_of (F.header form.now) (F.row_of form.now) bytes.now) }
+    ensures rows { Gives faults (λ rows. rows.items) result
+        (rows_of (F.header form.now) (F.row_of form.now) bytes.now) }
     ensures few { IfOk result (λ rows. length rows.items ≤ most_rows) }
 {
     if bytes.len() > MOST_BYTES {
@@ -79,7 +80,8 @@ fn rows_under<F: Form>(
     reader: &mut Reader<&[u8]>,
 ) -> Result<Vec<F::Row>, Fault>
     requires { IsReading reader.old }
-    ensures rows { Gives faults (λ rows. rows.items) result (rows_from (length (F.header form.now)) (F.row_of form.now) 1 (left_of reader.old)) }
+    ensures rows { Gives faults (λ rows. rows.items) result
+        (rows_from (length (F.header form.now)) (F.row_of form.now) 1 (left_of reader.old)) }
     ensures few { IfOk result (λ rows. length rows.items ≤ most_rows) }
 {
     let columns = form.header().len();

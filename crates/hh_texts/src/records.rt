@@ -22,7 +22,9 @@ pub fn records_in(alloc: Global, bytes: &[u8]) -> Reader<&[u8]>
 pub fn next_record(reader: &mut Reader<&[u8]>, fields: &mut ByteRecord) -> Result<bool, AllocError>
     requires { IsReading reader.old }
     ensures reading { IfOk result (λ found. IsReading reader.new) }
-    ensures record { IfOk result (λ found. MatchBool found (left_of reader.old ≡ fields_of fields.new ∷ left_of reader.new) (left_of reader.old ≡ [])) }
+    ensures record { IfOk result (λ found. MatchBool found
+        (left_of reader.old ≡ fields_of fields.new ∷ left_of reader.new)
+        (left_of reader.old ≡ [])) }
 {
     let Ok(found) = reader.read_byte_record(fields) else {
         return Err(AllocError);

@@ -1,11 +1,13 @@
 use super::*;
+use hh_names::{
+    AccessKey, Account, Contract, Counterparties, Fault, PartyId, PeriodNumber, Reading,
+    Reallocation, Reference, Refusal, UnitId,
+};
 use hh_num::{Kwh, Percent, Price, Tlm};
 use hh_rows::{
-    ContractKey, ContractRow, Counterparties, DateRange, FileKind, MeterRow, PartyRegistration,
-    PartyRow, PriceRow, Reading, Reallocation, ReallocationKey, ReallocationRow, Row,
-    SettlementPeriod, UnitPeriod, UnitRegistration, UnitRow,
+    ContractKey, ContractRow, DateRange, FileKind, MeterRow, PartyRegistration, PartyRow, PriceRow,
+    ReallocationKey, ReallocationRow, Row, SettlementPeriod, UnitPeriod, UnitRegistration, UnitRow,
 };
-use hh_names::{AccessKey, Account, Fault, PartyId, PeriodNumber, Reference, Refusal, UnitId};
 use hh_time::SettlementDate;
 use std::alloc::AllocError;
 use std::process::Abort;
@@ -61,13 +63,15 @@ fn contracts_give(
     Ok(())
 }
 
-fn meter_row(unit: &[u8], account: &[u8], metered: i64, tlm: i64) -> Option<PeriodMeterRow> {
+fn meter_row(unit: &[u8], lead: &[u8], metered: i64, tlm: i64) -> Option<PeriodMeterRow> {
     Some(PeriodMeterRow {
         unit: UnitId::read(unit)?,
-        account: Account::read(account)?,
-        metered: Kwh::new(metered)?,
-        tlm: Tlm::new(tlm)?,
-        balancing: Kwh::new(0)?,
+        lead: Account::read(lead)?,
+        reading: Reading {
+            metered: Kwh::new(metered)?,
+            tlm: Tlm::new(tlm)?,
+            balancing: Kwh::new(0)?,
+        },
     })
 }
 
@@ -92,9 +96,13 @@ fn contract_row(
 ) -> Option<PeriodContractRow> {
     Some(PeriodContractRow {
         reference: Reference::read(reference)?,
-        seller: Account::read(seller)?,
-        buyer: Account::read(buyer)?,
-        volume: Kwh::new(volume)?,
+        contract: Contract {
+            counterparties: Counterparties {
+                seller: Account::read(seller)?,
+                buyer: Account::read(buyer)?,
+            },
+            volume: Kwh::new(volume)?,
+        },
     })
 }
 
@@ -443,11 +451,13 @@ fn contract(reference: &[u8], seller: &[u8], buyer: &[u8], volume: i64) -> Optio
             reference: Reference::read(reference)?,
             at: july(1)?,
         },
-        counterparties: Counterparties {
-            seller: Account::read(seller)?,
-            buyer: Account::read(buyer)?,
+        contract: Contract {
+            counterparties: Counterparties {
+                seller: Account::read(seller)?,
+                buyer: Account::read(buyer)?,
+            },
+            volume: Kwh::new(volume)?,
         },
-        volume: Kwh::new(volume)?,
     }))
 }
 

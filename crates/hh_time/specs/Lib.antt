@@ -1,4 +1,5 @@
 pub mod Calendar
 pub mod DateText
 pub mod Days
+pub mod TimeFaults
 pub mod Zone

@@ -4,7 +4,7 @@ ghost use Rattle.std.specs.Prelude.{◌≡◌, ◌≢◌, ◌↔◌, ◌+◌, �
 ghost use Rattle.jiff.specs.Words.{epoch_day, plain_zone, IsBetween};
 ghost use Rattle.hh_time.specs.Days.{Midnights, begins, count_of, has_period, half_hours, is_count, is_over};
 ghost use Rattle.hh_time.specs.Days as words;
-ghost use Rattle.hh_time.specs.Zone.{IsAccepted, midnight_in};
+ghost use Rattle.hh_time.specs.Zone.{IsAccepted, count_in, midnight_in};
 
 use crate::date::SettlementDate;
 use crate::fault::TimeFault;
@@ -29,8 +29,9 @@ impl Day {
     pub fn of(date: SettlementDate, zone: &TimeZone<'_>) -> Option<Day>
         ensures date { IfSome result (λ day. day.date ≡ date) }
         ensures start { IfSome result (λ day. day.start ≡ midnight_in (plain_zone zone.now) date) }
-        ensures count { IfSome result (λ day. count_of (midnight_in (plain_zone zone.now)) date ≡ Some day.count) }
-        ensures odd { IfNone result (count_of (midnight_in (plain_zone zone.now)) date ≡ None) }
+        ensures count { IfSome result (λ day.
+            count_in (plain_zone zone.now) date ≡ Some day.count) }
+        ensures odd { IfNone result (count_in (plain_zone zone.now) date ≡ None) }
     {
         let start = midnight(date, zone);
         let end = midnight_on(date.number() + 1, zone);
@@ -72,10 +73,10 @@ impl Day {
 pub fn day_of(date: Date, zone: &TimeZone<'_>) -> Result<Day, TimeFault>
     ensures date { IfOk result (λ day. pos day.date ≡ epoch_day date) }
     ensures start { IfOk result (λ day. day.start ≡ midnight_in (plain_zone zone.now) day.date) }
-    ensures count { IfOk result (λ day. count_of (midnight_in (plain_zone zone.now)) day.date ≡ Some day.count) }
+    ensures count { IfOk result (λ day. count_in (plain_zone zone.now) day.date ≡ Some day.count) }
     ensures out_of_range { IsErrOf result TimeFault.OutOfRange ↔ ¬ (IsAccepted date) }
     ensures odd { IsErrOf result TimeFault.OddDay
-        ↔ (IsAccepted date × (count_of (midnight_in (plain_zone zone.now)) (unsigned_abs (epoch_day date)) ≡ None)) }
+        ↔ (IsAccepted date × (count_in (plain_zone zone.now) (unsigned_abs (epoch_day date)) ≡ None)) }
     ensures no_memory { result ≢ Err TimeFault.Memory }
 {
     let Some(date) = SettlementDate::of_date(date) else {
@@ -90,7 +91,8 @@ pub fn period_start(day: &Day, period: u8) -> i64
     requires from { 1 ≤ period }
     requires to { period ≤ day.now.count }
     ensures value { result ≡ day.now.start +ℤ pos (1800 * (period - 1)) }
-    ensures begins { (midnight : Midnights) → midnight day.now.date ≡ day.now.start → result ≡ begins midnight day.now.date period }
+    ensures begins { (midnight : Midnights) → midnight day.now.date ≡ day.now.start
+        → result ≡ begins midnight day.now.date period }
 {
     day.start + 1800 * (i64::from(period) - 1)
 }

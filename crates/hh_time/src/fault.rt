@@ -1,12 +1,29 @@
 //! Why a date has no Settlement Day.
 
-/// Why a date has no Settlement Day, with the number by which the fault is known.
+ghost use Rattle.std.specs.Prelude.{◌≡◌};
+
+/// Why a date has no Settlement Day.
 #[derive(Clone, Copy, Debug, PartialEq, Eq)]
 pub enum TimeFault {
     /// The date lies before 2001-01-01 or after 2099-12-31.
-    OutOfRange = 1,
+    OutOfRange,
     /// The day from one local midnight to the next has not 46, 48 or 50 half hours.
-    OddDay = 2,
+    OddDay,
     /// Memory was refused. No call answers it so far, since none takes memory.
-    Memory = 3,
+    Memory,
+}
+
+impl TimeFault {
+    ghost use Rattle.hh_time.specs.TimeFaults.{fault_number};
+
+    /// The number by which the fault is known, 1 to 3 (profile).
+    pub fn number(self) -> u8
+        ensures { result ≡ fault_number self }
+    {
+        match self {
+            TimeFault::OutOfRange => 1,
+            TimeFault::OddDay => 2,
+            TimeFault::Memory => 3,
+        }
+    }
 }

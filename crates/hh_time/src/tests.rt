@@ -104,9 +104,9 @@ fn odd_day(rt: HostRuntime) -> Result<(), Fail> {
 
 #[test]
 fn numbers_of_faults(rt: HostRuntime) -> Result<(), Fail> {
-    assert!(rt; TimeFault::OutOfRange as u8 == 1);
-    assert!(rt; TimeFault::OddDay as u8 == 2);
-    assert!(rt; TimeFault::Memory as u8 == 3);
+    assert!(rt; TimeFault::OutOfRange.number() == 1);
+    assert!(rt; TimeFault::OddDay.number() == 2);
+    assert!(rt; TimeFault::Memory.number() == 3);
     Ok(())
 }
 

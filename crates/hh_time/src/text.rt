@@ -2,7 +2,7 @@
 
 ghost use Rattle.std.specs.Prelude.{◌≡◌, ℕ, ◌+◌, ◌<◌, ◌/◌, ◌%◌, List, [], Some, IfSome, IfNone, IsTrue};
 ghost use Rattle.jiff.specs.Types.{Date as PlainDate};
-ghost use Rattle.hh_time.specs.DateText.{dashed, date_text, date_value, text_of, two_digits};
+ghost use Rattle.hh_time.specs.DateText.{date_text, date_value, text_of, two_digits, IsDashed};
 ghost use Rattle.hh_time.specs.Days.{is_accepted};
 ghost use Rattle.hh_time.specs.Zone.{IsAccepted};
 
@@ -13,9 +13,15 @@ use jiff::civil::Date;
 /// names none (profile).
 pub fn read_date(text: &[u8]) -> Option<Date>
     ensures date { IfSome result (λ date. IsAccepted date × (text.now ≡ text_of date)) }
-    ensures none { IfNone result ((date : PlainDate) → IsAccepted date → ¬ (text.now ≡ text_of date)) }
+    ensures none { IfNone result ((date : PlainDate) → IsAccepted date
+        → ¬ (text.now ≡ text_of date)) }
 {
-    let (century, year, month, day) = pairs(text)?;
+    let Parts {
+        century,
+        year,
+        month,
+        day,
+    } = parts_of(text)?;
     let year = i16::from(century) * 100 + i16::from(year);
     if year < 2001 || year > 2099 {
         return None;
@@ -28,7 +34,8 @@ impl SettlementDate {
     /// (profile).
     pub fn read(text: &[u8]) -> Option<SettlementDate>
         ensures some { IfSome result (λ d. text.now ≡ date_text d) }
-        ensures none { IfNone result ((d : ℕ) → IsTrue (is_accepted d) → ¬ (text.now ≡ date_text d)) }
+        ensures none { IfNone result ((d : ℕ) → IsTrue (is_accepted d)
+            → ¬ (text.now ≡ date_text d)) }
         ensures exact { result ≡ date_value text.now }
     {
         SettlementDate::of_date(read_date(text)?)
@@ -56,9 +63,18 @@ pub fn dates_read_back()
 {}
 
 /// The four numbers of two digits in a text of the form `NNNN-NN-NN`.
-fn pairs(text: &[u8]) -> Option<(u8, u8, u8, u8)>
-    ensures some { IfSome result (λ p. (p.0 < 100) × (p.1 < 100) × (p.2 < 100) × (p.3 < 100) × (text.now ≡ dashed p.0 p.1 p.2 p.3)) }
-    ensures none { IfNone result ((a b c d : ℕ) → a < 100 → b < 100 → c < 100 → d < 100 → ¬ (text.now ≡ dashed a b c d)) }
+#[derive(Clone, Copy)]
+struct Parts {
+    century: u8,
+    year: u8,
+    month: u8,
+    day: u8,
+}
+
+/// The parts of a text of the form `NNNN-NN-NN`; none where it has another form.
+fn parts_of(text: &[u8]) -> Option<Parts>
+    ensures some { IfSome result (λ p. IsDashed text.now p.century p.year p.month p.day) }
+    ensures none { IfNone result ((a b c d : ℕ) → ¬ (IsDashed text.now a b c d)) }
 {
     if text.len() != 10 || text[4] != b'-' || text[7] != b'-' {
         return None;
@@ -67,7 +83,12 @@ fn pairs(text: &[u8]) -> Option<(u8, u8, u8, u8)>
     let b = two_digits(text[2], text[3])?;
     let c = two_digits(text[5], text[6])?;
     let d = two_digits(text[8], text[9])?;
-    Some((a, b, c, d))
+    Some(Parts {
+        century: a,
+        year: b,
+        month: c,
+        day: d,
+    })
 }
 
 /// The two digits of a number below 100.

@@ -32,7 +32,8 @@ pub fn midnight(date: SettlementDate, zone: &TimeZone<'_>) -> i64
 /// The instant of local midnight so many days after 1970-01-01. It is less than 26 hours from midnight in UTC.
 pub(crate) fn midnight_on(days: u16, zone: &TimeZone<'_>) -> i64
     ensures value { result ≡ midnight_in (plain_zone zone.now) days }
-    ensures near { IsBetween (pos (86_400 * days) -ℤ pos 93_600) (pos (86_400 * days) +ℤ pos 93_600) result }
+    ensures near { IsBetween (pos (86_400 * days) -ℤ pos 93_600)
+        (pos (86_400 * days) +ℤ pos 93_600) result }
 {
     match calendar_date(days).to_zoned(*zone) {
         Ok(zoned) => zoned.timestamp().as_second(),
