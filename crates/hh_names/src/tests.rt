@@ -321,3 +321,30 @@ fn reads_operator_keys(rt: HostRuntime) -> Result<(), Fail> {
     }
     Ok(())
 }
+
+/// The counterparties of a contract, by the names of their accounts.
+fn counterparties(seller: &[u8], buyer: &[u8]) -> Option<Counterparties> {
+    Some(Counterparties {
+        seller: Account::read(seller)?,
+        buyer: Account::read(buyer)?,
+    })
+}
+
+#[test]
+fn refuses_counterparties(rt: HostRuntime) -> Result<(), Fail> {
+    let known = counterparties(b"GENCO-P", b"SUPCO-C");
+    let cases: [(&[u8], &[u8], Option<Counterparties>, Option<Refusal>); 6] = [
+        (b"GENCO-P", b"SUPCO-C", None, None),
+        (b"GENCO-P", b"SUPCO-C", known, None),
+        (b"GENCO-P", b"GENCO-P", None, Some(Refusal::SameAccount)),
+        (b"GENCO-P", b"GENCO-P", known, Some(Refusal::SameAccount)),
+        (b"GENCO-P", b"SUPCO-P", known, Some(Refusal::ReferenceMoved)),
+        (b"SUPCO-C", b"GENCO-P", known, Some(Refusal::ReferenceMoved)),
+    ];
+    for (seller, buyer, known, refusal) in cases {
+        let row = counterparties(seller, buyer);
+        assert!(rt; row.is_some());
+        assert_eq!(rt; row.and_then(|row| row.refusal_beside(known)), refusal);
+    }
+    Ok(())
+}
