@@ -7,11 +7,11 @@ use Rattle.hh_devices.specs.declared.pace.Pace.{Pace}
 abbrev pub any_pace : ℕ → Pace
 any_pace piece = record { piece = piece; until_failure = None }
 
--- the same with other pieces
+-- a pace with other pieces
 abbrev pub in_pieces : ℕ → Pace → Pace
 in_pieces piece p = record { piece = piece; until_failure = p.until_failure }
 
--- the same with one call that fails, once so many more have gone
+-- a pace with one call that fails, once so many more bytes have gone
 abbrev pub failing_after : ℕ → Pace → Pace
 failing_after count p = record { piece = p.piece; until_failure = Some count }
 

@@ -42,7 +42,7 @@ impl MemorySink {
         })
     }
 
-    /// The same, that takes at most so many bytes a call.
+    /// This sink, taking at most so many bytes a call from now on.
     pub fn in_pieces(mut self, piece: usize) -> MemorySink
         ensures taken { taken_by result ≡ taken_by self }
         ensures room { room_of result ≡ room_of self }
@@ -53,7 +53,7 @@ impl MemorySink {
         self
     }
 
-    /// The same, with one call that fails, once so many more bytes were taken. Then it goes on.
+    /// This sink, with one call that fails, once so many more bytes were taken. Then it goes on.
     pub fn failing_after(mut self, count: usize) -> MemorySink
         ensures taken { taken_by result ≡ taken_by self }
         ensures room { room_of result ≡ room_of self }

@@ -37,7 +37,7 @@ impl<'a> MemorySource<'a> {
         }
     }
 
-    /// The same, that gives at most so many bytes a call.
+    /// This source, giving at most so many bytes a call from now on.
     pub fn in_pieces(self, piece: usize) -> MemorySource<'a>
         requires { 0 < piece }
         ensures bytes { left_in result ≡ left_in self.entry }
@@ -54,7 +54,7 @@ impl<'a> MemorySource<'a> {
         }
     }
 
-    /// The same, with one call that fails, once so many more bytes were given. Then it goes on.
+    /// This source, with one call that fails, once so many more bytes were given. Then it goes on.
     pub fn failing_after(self, count: usize) -> MemorySource<'a>
         ensures bytes { left_in result ≡ left_in self.entry }
         ensures pace { source_pace result ≡ failing_after count (source_pace self.entry) }

@@ -17,26 +17,26 @@ row_fault r row = record (plain_fault r) { row = Some row }
 abbrev pub field_fault : ℕ → ℕ → Fault
 field_fault row column = record (plain_fault refusal.BadField) { row = Some row; column = Some column }
 
--- want of memory
+-- memory was refused
 abbrev pub memory_fault : Fault
 memory_fault = plain_fault refusal.Memory
 
--- one fact for want of memory, another for any other refusal
+-- one fact for the refusal of memory, another for any other refusal
 abbrev pub ByRefusal : Refusal → Type 0 → Type 0 → Type 0
 ByRefusal refusal.Memory memory other = memory
 ByRefusal refusal memory other = other
 
--- a type of errors that are refusals: which refusal each is, and the one that is want of memory
+-- a type of errors that are refusals: which refusal each is, and the one by which memory is refused
 pub record Refusing (E : Type 0) : Type 0 where
   pub refusal : E → Refusal
   pub memory : E
 
 module _ {E : Type 0} (errors : Refusing E) where
-  -- an error that was answered is the outcome's; want of memory may stand in the place of any outcome
+  -- an error that was answered is the outcome's; the refusal of memory may stand in the place of any outcome
   abbrev pub Refuses : {Y : Type 0} → E → Result Y E → Type 0
   Refuses e outcome = ByRefusal (errors.refusal e) (e ≡ errors.memory) (outcome ≡ Err e)
 
-  -- what was answered is the outcome, or want of memory in its place
+  -- what was answered is the outcome, or the refusal of memory in its place
   abbrev pub Gives : {X Y : Type 0} → (X → Y) → Result X E → Result Y E → Type 0
   Gives view (Ok x) outcome = outcome ≡ Ok (view x)
   Gives view (Err e) outcome = Refuses e outcome
@@ -86,7 +86,7 @@ refusal_number refusal.BodyTooLarge = 66
 refusal_number refusal.Memory = 90
 refusal_number refusal.Store = 91
 
--- and the name
+-- the name by which a refusal is known
 abbrev pub refusal_name : Refusal → List ℕ
 refusal_name refusal.FileTooLarge = codes "FileTooLarge"
 refusal_name refusal.TooManyRows = codes "TooManyRows"

@@ -21,7 +21,7 @@ units_of decimals whole fraction =
     if are_digits whole && all_digits fraction && nat_le (length fraction) decimals
     then Some (digits_value 10 (whole ++ fraction) * 10 ^ (decimals - length fraction)) else None
 
--- the same of a text that is cut at this place, where it has one
+-- the units of a text with no sign that is cut at this place, where it has one
 abbrev pub units_at : ℕ → List ℕ → Option ℕ → Option ℕ
 units_at decimals text None = units_of decimals text []
 units_at decimals text (Some point) =

@@ -32,7 +32,7 @@ party_row fields = do
   key ← column fields 4 access_key_value
   Ok (row.Party (record { party = party; registration = record { range = range; key = key } }))
 
--- of units
+-- the row that a record of units reads as
 unfoldable pub unit_row : List (List ℕ) → Result Row ℕ
 unit_row fields = do
   unit ← column fields 1 unit_value
@@ -43,7 +43,7 @@ unit_row fields = do
   range ← column fields 6 (range_to_value from)
   Ok (row.Unit (record { unit = unit; registration = record { lead = record { party = party; side = side }; interconnector = interconnector; range = range } }))
 
--- of meter volumes
+-- the row that a record of meter volumes reads as
 unfoldable pub meter_row : List (List ℕ) → Result Row ℕ
 meter_row fields = do
   unit ← column fields 1 unit_value
@@ -54,7 +54,7 @@ meter_row fields = do
   balancing ← column fields 6 volume_value
   Ok (row.Meter (record { key = record { unit = unit; at = record { date = date; period = period } }; reading = record { metered = metered; tlm = tlm; balancing = balancing } }))
 
--- of prices
+-- the row that a record of prices reads as
 unfoldable pub price_row : List (List ℕ) → Result Row ℕ
 price_row fields = do
   date ← column fields 1 date_value
@@ -62,7 +62,7 @@ price_row fields = do
   price ← column fields 3 price_value
   Ok (row.Price (record { at = record { date = date; period = period }; price = price }))
 
--- of contracts
+-- the row that a record of contracts reads as
 unfoldable pub contract_row : List (List ℕ) → Result Row ℕ
 contract_row fields = do
   reference ← column fields 1 reference_value
@@ -73,7 +73,7 @@ contract_row fields = do
   volume ← column fields 6 volume_value
   Ok (row.Contract (record { key = record { reference = reference; at = record { date = date; period = period } }; contract = record { counterparties = record { seller = seller; buyer = buyer }; volume = volume } }))
 
--- of reallocations
+-- the row that a record of reallocations reads as
 unfoldable pub reallocation_row : List (List ℕ) → Result Row ℕ
 reallocation_row fields = do
   unit ← column fields 1 unit_value

@@ -9,14 +9,14 @@ ghost use Rattle.hh_texts.specs.Rows.{most_rows};
 use crate::fields::field_in;
 use crate::form::{Form, read_rows};
 use csv::ByteRecord;
+use hh_names::{
+    AccessKey, Account, Contract, Counterparties, Fault, PartyId, PeriodNumber, Reading,
+    Reallocation, Reference, Side, UnitId, read_yes_no,
+};
 use hh_num::{Kwh, Percent, Price, Tlm};
 use hh_rows::{
     ContractKey, ContractRow, DateRange, FileKind, MeterRow, PartyRegistration, PartyRow, PriceRow,
     ReallocationKey, ReallocationRow, Row, SettlementPeriod, UnitPeriod, UnitRegistration, UnitRow,
-};
-use hh_names::{
-    AccessKey, Account, Contract, Counterparties, Fault, PartyId, PeriodNumber, Reading,
-    Reallocation, Reference, Side, UnitId, read_yes_no,
 };
 use hh_time::SettlementDate;
 use std::alloc::Global;

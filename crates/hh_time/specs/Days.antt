@@ -35,7 +35,7 @@ half_hours seconds =
 abbrev pub count_of : Midnights → ℕ → Option ℕ
 count_of midnight d = if is_accepted d then half_hours (midnight (d + 1) -ℤ midnight d) else None
 
--- the same as a number, 0 where there is none
+-- how many periods a date has, 0 where it has none
 abbrev pub period_count : Midnights → ℕ → ℕ
 period_count midnight d = unwrap_or (count_of midnight d) 0
 
