@@ -1,7 +1,9 @@
 """Where the tests find the programs that the gate built, and how they call them."""
 import os
 import pathlib
+import shutil
 import subprocess
+import sys
 
 HOME = pathlib.Path(__file__).resolve().parent.parent
 METER = str(HOME / "examples" / "meter.csv")
@@ -42,8 +44,22 @@ def as_nobody():
     None where that can't be done."""
     if os.geteuid():
         return []
-    words = ["setpriv", "--reuid=65534", "--regid=65534", "--clear-groups"]
+    words = [shutil.which("setpriv") or "setpriv", "--reuid=65534", "--regid=65534", "--clear-groups"]
     try:
         return words if subprocess.run([*words, "true"], capture_output=True).returncode == 0 else None
     except OSError:
         return None
+
+
+# What the scripts and the stand-ins call.
+COMMANDS = "bash cat chmod dirname mkdir mktemp readlink rm sh tail tee".split()
+PYTHONS = "/usr/bin/python3", "/usr/local/bin/python3", sys.executable
+
+
+def link_tools(folder):
+    """Makes a folder of links to the commands that the scripts call, so that as the path it has all
+    but `rt`. (Python is the system's, since nobody may run one that lies in root's folder.)"""
+    folder.mkdir()
+    for name in COMMANDS:
+        (folder / name).symlink_to(shutil.which(name))
+    (folder / "python3").symlink_to(next(path for path in PYTHONS if os.access(path, os.X_OK)))

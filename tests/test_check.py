@@ -5,7 +5,7 @@ import subprocess
 import tempfile
 import unittest
 
-from programs import HOME
+from programs import HOME, link_tools
 
 # Builds the program, as `rt ci` does, and ends as it is told.
 RT = """\
@@ -23,7 +23,8 @@ class Check(unittest.TestCase):
         room = tempfile.TemporaryDirectory()
         self.addCleanup(room.cleanup)
         self.room = pathlib.Path(room.name)
-        self.home = self.room / "clone"
+        self.home, self.tools = self.room / "clone", self.room / "tools"
+        link_tools(self.tools)
         for folder in ("crates/hh_settle/src", "tests", ".ci"):
             (self.home / folder).mkdir(parents=True)
         for name in ("check", "settle", ".ci/run"):
@@ -41,7 +42,8 @@ class Check(unittest.TestCase):
         """The status of the gate, its last line, and what it called."""
         self.program(self.room / "bin" / "rt", RT, of_rt)
         self.program(self.home / "tests" / "run", TESTS, of_tests)
-        made = subprocess.run([self.home / script], env={"PATH": f"{self.room}/bin:/usr/bin:/bin"}, cwd="/", capture_output=True, text=True)
+        how = {"cwd": "/", "capture_output": True, "text": True}
+        made = subprocess.run([self.home / script], env={"PATH": f"{self.room}/bin:{self.tools}"}, **how)
         called = (self.home / "calls").read_text().splitlines()
         (self.home / "calls").unlink()
         return made.returncode, made.stdout.splitlines()[-1], called
@@ -70,7 +72,7 @@ class Check(unittest.TestCase):
 
     def run_settle(self):
         """What `./settle` does without `rt`, by which it can't build."""
-        made = subprocess.run([self.home / "settle", "word"], env={"PATH": "/usr/bin:/bin"}, capture_output=True, text=True)
+        made = subprocess.run([self.home / "settle", "word"], env={"PATH": str(self.tools)}, capture_output=True, text=True)
         return made.returncode, made.stdout
 
     def test_the_script_takes_the_program_that_the_gate_built(self):
@@ -82,7 +84,7 @@ class Check(unittest.TestCase):
         self.assertEqual(self.run_settle(), (71, ""))
 
     def test_without_rt_it_says_so(self):
-        made = subprocess.run([self.home / "check"], env={"PATH": "/usr/bin:/bin"}, capture_output=True, text=True)
+        made = subprocess.run([self.home / "check"], env={"PATH": str(self.tools)}, capture_output=True, text=True)
         self.assertEqual((made.returncode, made.stdout), (1, "0 passed, 1 failed\n"))
         self.assertIn("isn't on the path", made.stderr)
 

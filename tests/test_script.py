@@ -11,7 +11,7 @@ import tempfile
 import time
 import unittest
 
-from programs import CONTRACTS, EXAMPLE, HOME, METER, as_nobody
+from programs import CONTRACTS, EXAMPLE, HOME, METER, as_nobody, link_tools
 
 # hh_settle stands on three crates of the repository, and on one that isn't its; `other` is beside it.
 CRATES = """\
@@ -38,6 +38,8 @@ class OfTheScript(unittest.TestCase):
         self.home, self.control, self.bin = self.room / "a clone", self.room / "control", self.room / "bin"
         for folder in (self.home, self.control, self.bin):
             folder.mkdir()
+        self.tools = self.room / "tools"
+        link_tools(self.tools)
         self.write_repository()
         self.write_rt()
 
@@ -61,9 +63,8 @@ class OfTheScript(unittest.TestCase):
         rt.chmod(0o755)
 
     def environment(self, has_rt=True, **more):
-        """The environment of a call. Without `rt` the path has only the system's own folders."""
-        path = f"{self.bin}:" * has_rt + "/usr/bin:/bin"
-        self.assertIsNone(shutil.which("rt", path="/usr/bin:/bin"), "a test needs a path without rt")
+        """The environment of a call, whose path has `rt` or not."""
+        path = f"{self.bin}:" * has_rt + str(self.tools)
         return dict(os.environ, PATH=path, RT_STAND_IN=str(self.control), **more)
 
     def call(self, *words, script=None, cwd=None, has_rt=True, **more):
@@ -368,10 +369,14 @@ class OfThisClone(unittest.TestCase):
         """The script itself, where it need not build anything."""
         if not runpy.run_path(str(HOME / "settle"))["is_built"]():
             self.skipTest("neither ./check nor ./settle has built the program of this clone from its sources as they are")
+        room = tempfile.TemporaryDirectory()
+        self.addCleanup(room.cleanup)
+        tools = pathlib.Path(room.name) / "tools"
+        link_tools(tools)
         refused = 1, b"", b"refused 14 BadField in price\n"
         for price, ended in (("50.00000", (0, EXAMPLE, b"")), ("x", refused)):
             call = [HOME / "settle", "period", METER, CONTRACTS, price]
-            made = subprocess.run(call, cwd="/", env={"PATH": "/usr/bin:/bin"}, capture_output=True)
+            made = subprocess.run(call, cwd="/", env={"PATH": str(tools)}, capture_output=True)
             self.assertEqual((made.returncode, made.stdout, made.stderr), ended)
 
 
