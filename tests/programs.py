@@ -1,0 +1,65 @@
+"""Where the tests find the programs that the gate built, and how they call them."""
+import os
+import pathlib
+import shutil
+import subprocess
+import sys
+
+HOME = pathlib.Path(__file__).resolve().parent.parent
+METER = str(HOME / "examples" / "meter.csv")
+CONTRACTS = str(HOME / "examples" / "contracts.csv")
+# What both settle to. 100 MWh at 0.995 are 99.5, and 99 are sold: 0.5 too much, for which 2,500 pence
+# are paid at 50 pounds. -98 MWh at 1.005 are -98.49, and 99 are bought: 0.51 too much, 2,550 pence.
+EXAMPLE = b"""\
+account GENCO-P credited 99.5000000000 imbalance 0.5000000000 charge -2500
+account SUPCO-C credited -98.4900000000 imbalance 0.5100000000 charge -2550
+residual 5050
+"""
+
+
+def built(crate, variable):
+    """The path of a crate's program: the variable's, or the one that the gate left in `out/`."""
+    path = os.environ.get(variable) or HOME / "crates" / crate / "out" / crate
+    return str(pathlib.Path(path).resolve())
+
+
+SETTLE = built("hh_settle", "SETTLE_PROGRAM")
+BENCH = built("hh_bench", "BENCH_PROGRAM")
+
+
+def need(program):
+    """Fails where a program isn't there, in place of an error for each call of it."""
+    if not os.access(program, os.X_OK):
+        raise AssertionError(f"no program at {program}: ./check builds it, and so does ./settle for hh_settle")
+
+
+def settle(*words, **how):
+    """The status of `settle` with these words, and what it wrote on standard output and error."""
+    made = subprocess.run([SETTLE, *words], stdin=subprocess.DEVNULL, capture_output=True, **how)
+    return made.returncode, made.stdout, made.stderr
+
+
+def as_nobody():
+    """The words before a call that give up root's rights, none where there are none to give up, and
+    None where that can't be done."""
+    if os.geteuid():
+        return []
+    words = [shutil.which("setpriv") or "setpriv", "--reuid=65534", "--regid=65534", "--clear-groups"]
+    try:
+        return words if subprocess.run([*words, "true"], capture_output=True).returncode == 0 else None
+    except OSError:
+        return None
+
+
+# What the scripts and the stand-ins call.
+COMMANDS = "bash cat chmod dirname mkdir mktemp readlink rm sh tail tee".split()
+PYTHONS = "/usr/bin/python3", "/usr/local/bin/python3", sys.executable
+
+
+def link_tools(folder):
+    """Makes a folder of links to the commands that the scripts call, so that as the path it has all
+    but `rt`. (Python is the system's, since nobody may run one that lies in root's folder.)"""
+    folder.mkdir()
+    for name in COMMANDS:
+        (folder / name).symlink_to(shutil.which(name))
+    (folder / "python3").symlink_to(next(path for path in PYTHONS if os.access(path, os.X_OK)))

@@ -1,0 +1,47 @@
+"""Runs the commands of the README and of `examples/`, and compares what they print, word for word."""
+import re
+import shlex
+import subprocess
+import unittest
+
+from programs import HOME, SETTLE, need
+
+DOCUMENTS = "README.md", "examples/README.md"
+BLOCK = re.compile(r"^```[^\n`]*\n(.*?)^```[ \t]*$", re.MULTILINE | re.DOTALL)
+COMMAND = re.compile(r"\A(?:\./)?settle ([^\n]*)\n\Z")
+
+
+def commands_of(text):
+    """Each command of a document with what it has to print: a block that is one line beginning with
+    `settle` or `./settle`, and the block that comes next, None where there is none. The form of the
+    command, whose words are METER and CONTRACTS, is no call."""
+    blocks = BLOCK.findall(text)
+    for block, after in zip(blocks, [*blocks[1:], None]):
+        words = COMMAND.match(block)
+        if words and "METER" not in words[1]:
+            yield words[1], after
+
+
+class Documents(unittest.TestCase):
+    def test_the_commands_print_what_stands_behind_them(self):
+        need(SETTLE)
+        for name in DOCUMENTS:
+            found = list(commands_of((HOME / name).read_text(encoding="utf-8")))
+            self.assertTrue(found, f"{name} has no command of settle")
+            for words, printed in found:
+                with self.subTest(f"{name}: settle {words}"):
+                    self.compare(words, printed)
+
+    def compare(self, words, printed):
+        """Runs a command at the top of the repository. Standard error comes behind standard output."""
+        made = subprocess.run([SETTLE, *shlex.split(words)], cwd=HOME, capture_output=True, text=True)
+        self.assertEqual(made.stdout + made.stderr, printed)
+
+    def test_how_commands_are_found(self):
+        text = "a\n```\nsettle period a 'b c' 1\n```\nb\n```sh\nx\ny\n```\n```\n./settle period METER\n```\n```\nrt ci\n```\n"
+        self.assertEqual(list(commands_of(text)), [("period a 'b c' 1", "x\ny\n")])
+        self.assertEqual(list(commands_of("```\n./settle --help\n```\n")), [("--help", None)])
+
+
+if __name__ == "__main__":
+    unittest.main()

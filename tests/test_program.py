@@ -1,0 +1,253 @@
+"""What only the built program can show: its exit statuses, its streams and the system's files."""
+import os
+import pathlib
+import shutil
+import subprocess
+import tempfile
+import unittest
+
+from programs import CONTRACTS, EXAMPLE, METER, SETTLE, as_nobody, need, settle
+
+METER_HEADER = "unit,account,metered_mwh,tlm,balancing_mwh\n"
+CONTRACTS_HEADER = "reference,seller,buyer,mwh\n"
+
+
+def period_of(count):
+    """The meter rows of so many accounts, and the text of their period at 50 pounds per MWh.
+
+    Account number k exports k kWh with no loss, and sells nothing: it is k kWh long, and is paid 5
+    pence for each. The residual is what all are paid."""
+    rows = [f"U{k:05},A{k:05}-P,{k // 1000}.{k % 1000:03},1,0\n" for k in range(1, count + 1)]
+    energies = [f"{k // 1000}.{k % 1000:03}0000000" for k in range(1, count + 1)]
+    lines = [
+        f"account A{k:05}-P credited {energy} imbalance {energy} charge -{5 * k}\n" for k, energy in enumerate(energies, 1)
+    ]
+    residual = 5 * count * (count + 1) // 2
+    return "".join(rows), "".join(lines) + f"residual {residual}\n"
+
+
+class OfTheProgram(unittest.TestCase):
+    """A test with a folder of its own for the program's files."""
+
+    def setUp(self):
+        need(SETTLE)
+        room = tempfile.TemporaryDirectory()
+        self.addCleanup(room.cleanup)
+        self.room = pathlib.Path(room.name)
+
+    def file(self, name, text):
+        path = self.room / name
+        path.write_bytes(text if isinstance(text, bytes) else text.encode())
+        return str(path)
+
+    def period(self, meter, contracts, *price):
+        """Settles a period of these rows."""
+        meter = self.file("meter.csv", METER_HEADER + meter)
+        contracts = self.file("contracts.csv", CONTRACTS_HEADER + contracts)
+        return settle("period", meter, contracts, *price)
+
+    def is_settled(self, made, text):
+        """Compares line by line, since a long text isn't searched for its differences in good time."""
+        status, written, told = made
+        self.assertEqual((status, told), (0, b""))
+        for number, (line, wanted) in enumerate(zip(written.splitlines(), text.encode().splitlines()), 1):
+            self.assertEqual(line, wanted, f"line {number}")
+        self.assertEqual(len(written), len(text))
+
+
+class Settled(OfTheProgram):
+    """Status 0: the whole text, and nothing on standard error."""
+
+    def test_the_example(self):
+        self.assertEqual(settle("period", METER, CONTRACTS, "50.00000"), (0, EXAMPLE, b""))
+
+    def test_no_rows(self):
+        self.assertEqual(self.period("", "", "1"), (0, b"residual 0\n", b""))
+
+    def test_a_negative_price(self):
+        # 2 MWh long at -5 pounds: 1,000 pence to pay
+        text = b"account A-P credited 2.0000000000 imbalance 2.0000000000 charge 1000\nresidual -1000\n"
+        self.assertEqual(self.period("U,A-P,2,1,0\n", "", "--", "-5"), (0, text, b""))
+
+    def test_a_write_of_more_than_4096_bytes(self):
+        rows, text = period_of(100)
+        self.assertGreaterEqual(len(text), 5000)
+        self.is_settled(self.period(rows, "", "50"), text)
+
+    def test_a_text_that_no_pipe_holds(self):
+        rows, text = period_of(3000)
+        self.assertGreater(len(text), 2 * 65536)
+        self.is_settled(self.period(rows, "", "50"), text)
+
+    def test_a_file_as_standard_output(self):
+        rows, text = period_of(100)
+        meter, contracts = self.file("m", METER_HEADER + rows), self.file("c", CONTRACTS_HEADER)
+        with open(self.room / "out", "wb") as out:
+            made = subprocess.run([SETTLE, "period", meter, contracts, "50"], stdout=out, stderr=subprocess.PIPE)
+        self.is_settled((made.returncode, (self.room / "out").read_bytes(), made.stderr), text)
+
+
+class Refused(OfTheProgram):
+    """Status 1: a line that tells why on standard error, and nothing on standard output."""
+
+    def refused(self, made, line):
+        self.assertEqual(made, (1, b"", line.encode() + b"\n"))
+
+    def test_a_price(self):
+        self.refused(self.period("", "", "x"), "refused 14 BadField in price")
+
+    def test_a_field(self):
+        self.refused(self.period("U,A-P,1,1,0\nV,A-P,1.,1,0\n", "", "1"), "refused 14 BadField row 2 column 3 in meter")
+
+    def test_a_record(self):
+        self.refused(self.period("", "C,A-P,B-P\n", "1"), "refused 13 BadRecord row 1 in contracts")
+
+    def test_a_header(self):
+        self.refused(settle("period", CONTRACTS, METER, "1"), "refused 12 BadHeader in meter")
+
+    def test_a_contract_with_itself(self):
+        self.refused(self.period("", "C,A-P,A-P,1\n", "1"), "refused 35 SameAccount row 1 in contracts")
+
+    def test_a_reference_that_moved(self):
+        rows = "C,A-P,B-P,1\nC,A-P,B-C,1\n"
+        self.refused(self.period("", rows, "1"), "refused 36 ReferenceMoved row 2 in contracts")
+
+    def test_a_charge_past_its_limit(self):
+        # 200,000 MWh at 99,999.99999 pounds are about 2 * 10^12 pence, of which 10^12 may be
+        rows = "".join(f"U{unit},A-P,10000,2,0\n" for unit in range(10))
+        self.refused(self.period(rows, "", "99999.99999"), "refused 55 TooLarge")
+
+    def test_the_greatest_file(self):
+        """1,048,576 bytes are read, and one more is refused."""
+        header = METER_HEADER.encode()
+        whole = header + b"\n" * (1_048_576 - len(header))
+        contracts = self.file("c", CONTRACTS_HEADER)
+        self.assertEqual(settle("period", self.file("m", whole), contracts, "1"), (0, b"residual 0\n", b""))
+        self.refused(settle("period", self.file("m", whole + b"\n"), contracts, "1"), "refused 10 FileTooLarge in meter")
+
+    def test_the_most_rows(self):
+        """20,000 rows are read, and one more is refused."""
+        row = "C,A-P,B-P,0\n"
+        text = b"".join(
+            b"account %s-P credited 0.0000000000 imbalance 0.0000000000 charge 0\n" % party for party in (b"A", b"B")
+        )
+        self.assertEqual(self.period("", row * 20_000, "1"), (0, text + b"residual 0\n", b""))
+        self.refused(self.period("", row * 20_001, "1"), "refused 11 TooManyRows in contracts")
+
+    def test_a_file_without_end(self):
+        self.refused(settle("period", "/dev/zero", CONTRACTS, "1"), "refused 10 FileTooLarge in meter")
+
+
+class Unreadable(OfTheProgram):
+    """Status 1 with `fault file`, before anything in the other file is judged."""
+
+    def unreadable(self, path):
+        for meter, contracts in ((path, CONTRACTS), (path, METER), (METER, path), (CONTRACTS, path)):
+            self.assertEqual(settle("period", meter, contracts, "x"), (1, b"", b"fault file\n"))
+
+    def test_no_file(self):
+        self.unreadable(str(self.room / "missing.csv"))
+
+    def test_a_folder(self):
+        self.unreadable(str(self.room))
+
+    def test_a_link_to_nowhere(self):
+        os.symlink("missing.csv", self.room / "link.csv")
+        self.unreadable(str(self.room / "link.csv"))
+
+    def test_a_file_of_others(self):
+        """Root may read every file, so it calls a copy of the program as nobody."""
+        nobody = as_nobody()
+        if nobody is None:
+            self.skipTest("root may read every file, and setpriv doesn't give up its rights here")
+        os.chmod(self.room, 0o755)
+        program = shutil.copy(SETTLE, self.room / "settle")
+        os.chmod(program, 0o755)
+        contracts, closed = self.file("contracts.csv", CONTRACTS_HEADER), self.file("closed.csv", METER_HEADER)
+        for mode, ended in ((0o644, (0, b"residual 0\n", b"")), (0, (1, b"", b"fault file\n"))):
+            os.chmod(closed, mode)
+            made = subprocess.run([*nobody, program, "period", closed, contracts, "1"], capture_output=True)
+            self.assertEqual((made.returncode, made.stdout, made.stderr), ended)
+
+
+class WrongWords(OfTheProgram):
+    """Status 2: a text on standard error, and nothing on standard output."""
+
+    def wrong(self, *words):
+        status, written, told = settle(*words)
+        self.assertEqual((status, written), (2, b""), words)
+        self.assertTrue(told.endswith(b"\n"), words)
+
+    def test_words_that_are_no_command(self):
+        self.wrong()
+        self.wrong("")
+        self.wrong("perod", METER, CONTRACTS, "50")
+        self.wrong("period", METER, CONTRACTS)
+        self.wrong("period", METER, CONTRACTS, "50", "50")
+        self.wrong("period", METER, CONTRACTS, "-5")
+
+    def test_calls_for_help(self):
+        self.wrong("--help")
+        self.wrong("period", "--help")
+        self.wrong("period", METER, CONTRACTS, "--help")
+
+    def test_words_that_are_not_utf8(self):
+        self.wrong(b"period", b"\xff.csv", CONTRACTS, "50")
+        self.wrong(b"\xff")
+
+
+class Streams(OfTheProgram):
+    """What the program does where a stream takes nothing, or isn't there."""
+
+    SETTLED = "period", METER, CONTRACTS, "50"
+    WRONG = "period", METER, CONTRACTS, "x"
+
+    def by_shell(self, streams, *words):
+        """Calls `settle` from a shell that sets its streams so."""
+        made = subprocess.run(["sh", "-c", f'"$@" {streams}', "sh", SETTLE, *words], capture_output=True)
+        return made.returncode, made.stdout, made.stderr
+
+    def test_a_full_device(self):
+        self.assertEqual(self.by_shell(">/dev/full", *self.SETTLED), (1, b"", b"fault output\n"))
+
+    def test_a_full_device_that_is_not_written_to(self):
+        self.assertEqual(self.by_shell(">/dev/full", *self.WRONG), (1, b"", b"refused 14 BadField in price\n"))
+
+    def test_a_full_device_for_errors(self):
+        self.assertEqual(self.by_shell("2>/dev/full", *self.SETTLED), (0, EXAMPLE, b""))
+        self.assertEqual(self.by_shell("2>/dev/full", *self.WRONG), (1, b"", b""))
+        self.assertEqual(self.by_shell("2>/dev/full", "period"), (2, b"", b""))
+
+    def test_a_pipe_that_nobody_reads(self):
+        reads, writes = os.pipe()
+        os.close(reads)
+        made = subprocess.run([SETTLE, *self.SETTLED], stdout=writes, stderr=subprocess.PIPE)
+        os.close(writes)
+        self.assertEqual((made.returncode, made.stderr), (1, b"fault output\n"))
+
+    def test_no_standard_output(self):
+        self.assertEqual(self.by_shell(">&-", *self.SETTLED), (1, b"", b"fault output\n"))
+        self.assertEqual(self.by_shell(">&-", *self.WRONG), (1, b"", b"refused 14 BadField in price\n"))
+
+    def test_no_standard_error(self):
+        self.assertEqual(self.by_shell("2>&-", *self.SETTLED), (0, EXAMPLE, b""))
+        self.assertEqual(self.by_shell("2>&-", *self.WRONG), (1, b"", b""))
+        self.assertEqual(self.by_shell("2>&-", "period"), (2, b"", b""))
+
+    def test_no_standard_input(self):
+        self.assertEqual(self.by_shell("<&-", *self.SETTLED), (0, EXAMPLE, b""))
+
+    def test_no_stream_at_all(self):
+        self.assertEqual(self.by_shell("<&- >&- 2>&-", *self.SETTLED), (1, b"", b""))
+        self.assertEqual(self.by_shell("<&- >&- 2>&-", "period"), (2, b"", b""))
+
+    def test_files_are_left_as_they_were(self):
+        """Without standard streams the files get their descriptors, and nothing is written to them."""
+        meter, contracts = self.file("m", METER_HEADER), self.file("c", CONTRACTS_HEADER + "x\n")
+        self.by_shell("<&- >&- 2>&-", "period", meter, contracts, "1")
+        self.assertEqual(pathlib.Path(meter).read_text(), METER_HEADER)
+        self.assertEqual(pathlib.Path(contracts).read_text(), CONTRACTS_HEADER + "x\n")
+
+
+if __name__ == "__main__":
+    unittest.main()
