@@ -6,10 +6,8 @@ use Rattle.std.specs.Cmp.{IsTotalOrder}
 use Rattle.std.specs.List.{cons_option}
 use Rattle.std.proofs.lemmas.List.{append-nil}
 use Rattle.hh_rows.specs.declared.rows.Row.{Row}
-use Rattle.hh_names.specs.Accounts.{bytes_cmp}
 use Rattle.hh_rules.specs.History.{History, entries_of, registered_in}
 use Rattle.hh_rules.specs.Lateness.{Timetable, Accepted, is_in_time}
-use Rattle.hh_rows.specs.Keys.{settlement_period_cmp, unit_period_cmp, contract_key_cmp, reallocation_key_cmp}
 use Rattle.hh_rules.specs.Entries.{party_entry, unit_entry, reference_entry, meter_entry, price_entry, contract_entry, reallocation_entry}
 use Rattle.hh_rules.specs.Effects.{put_entry, put_in_time, put_new, with_row}
 use Rattle.hh_tables.specs.Tables.{table_of_last, table_of_first}

@@ -1,6 +1,6 @@
 -- What an accepted row has, and that a refusal has the least number.
 use Rattle.std.proofs.Common.{◌≡◌, ◌∙◌, ◌<◌, ◌≤◌, List, [], ◌∷◌, refl, sym, ap, subst, Bool, true, false, le_refl, arith}
-use Rattle.std.specs.Prelude.{ℕ, nat_le, ℤ, ◌+ℤ◌, ◌≤ℤ◌, int_lt, ◌&&◌, Option, Some, None, Result, Ok, Err, is_none, if◌then◌else◌}
+use Rattle.std.specs.Prelude.{ℕ, nat_le, ℤ, ◌+ℤ◌, ◌≤ℤ◌, int_lt, ◌&&◌, Option, Some, None, Result, Ok, Err, IfErr, is_none, if◌then◌else◌}
 use Rattle.std.proofs.lemmas.Bool.{and_parts}
 use Rattle.std.proofs.lemmas.Bool.Decides.{nat_tests}
 use Rattle.std.proofs.lemmas.Int.{ints}
@@ -9,18 +9,17 @@ use Rattle.std.specs.List.{list_all}
 use Rattle.std.proofs.lemmas.Option.{same_Some}
 use Rattle.hh_tables.proofs.TableLaws.{false_is_not_true}
 use Rattle.hh_names.specs.Accounts.{bytes_cmp}
-use Rattle.hh_names.specs.Faults.{faults, first_met, memory_fault, plain_fault, refusal_number, ByRefusal, IsLeast, Refuses}
+use Rattle.hh_names.specs.Faults.{first_met, refusal_number, IsLeast}
 use Rattle.hh_names.specs.declared.fault.Fault.{Fault}
 use Rattle.hh_names.specs.declared.fault.Refusal.{Refusal}
-use Rattle.hh_names.specs.declared.fault.Refusal.TheVariants as refusal
 use Rattle.hh_rows.specs.declared.rows.Row.{Row}
 use Rattle.hh_rows.specs.declared.rows.Row.TheVariants as row
 use Rattle.hh_rules.specs.declared.timing.Timing.{Timing}
 use Rattle.hh_rules.specs.Effects.{HasRoomFor}
-use Rattle.hh_rules.specs.Lateness.{Timetable, accepted_at, comes_in_time, has_its_period, is_in_time, is_there, lacks_period, timing_by, timing_of}
+use Rattle.hh_rules.specs.Lateness.{Timetable, accepted_at, comes_in_time, has_its_period, is_in_time, lacks_period, timing_by, timing_of}
 use Rattle.hh_rules.specs.Percents.{percent_of_others}
 use Rattle.hh_rules.specs.Refusals.{Standing, contract_refusals, hundred_percent, meter_refusals, most_parties, most_units, party_refusals, price_refusals, reallocation_refusals, refusals_of, unit_refusals}
-use Rattle.hh_rules.specs.RegisterView.{judged}
+use Rattle.hh_rules.specs.RegisterView.{HasLeast}
 
 -- none of the conditions of a list is met
 abbrev NoneMet : List (Refusal × Bool) → Type 0
@@ -128,16 +127,6 @@ none_is_least : (rs : List (Refusal × Bool)) (least : Refusal) → NoneMet rs �
 none_is_least [] least none = tt
 none_is_least (r ∷ rs) least none = (λ met. absurd (false_is_not_true (sym none.0 ∙ met)), none_is_least rs least none.1)
 
-pub least_of_none : (rs : List (Refusal × Bool)) (least : Refusal) → first_met rs ≡ None → IsLeast least rs
-least_of_none rs least none = none_is_least rs least (none_met rs none)
-
--- a refusal is told as it is, also where it says that memory is wanted
-plainly_told : (r : Refusal) → Refuses faults (plain_fault r) (judged (Some r))
-plainly_told refusal.Memory = refl
-plainly_told _ = refl
-
-pub refuses_by : (o : Option Refusal) (fault : Fault) → judged o ≡ Err fault → Refuses faults fault (judged o)
-refuses_by None fault is = cc
-refuses_by (Some r) fault is =
-    let same : plain_fault r ≡ fault = cc in
-    subst (λ f. Refuses faults f (judged (Some r))) same (plainly_told r)
+pub least_of_none : {X : Type 0} (rs : List (Refusal × Bool)) → first_met rs ≡ None → (r : Result X Fault) → IfErr r (HasLeast rs)
+least_of_none rs none (Ok x) = tt
+least_of_none rs none (Err fault) = none_is_least rs fault.refusal (none_met rs none)

@@ -9,7 +9,6 @@ use Rattle.std.specs.declared.cmp.Ordering.{Ordering}
 use Rattle.std.specs.declared.cmp.Ordering.TheVariants.{Less, Equal, Greater}
 use Rattle.std.proofs.lemmas.Int.{ints}
 use Rattle.hh_tables.specs.Tables.{Table, IsTable}
-use Rattle.hh_num.specs.Totals.{total}
 use Rattle.hh_num.proofs.TotalLaws.{total-same}
 use Rattle.hh_names.specs.Accounts.{account_cmp, is_same_account}
 use Rattle.hh_names.proofs.AccountLaws.{account_total}

@@ -10,9 +10,8 @@ use Rattle.std.proofs.lemmas.Map.Lookups.{exact_bytes}
 use Rattle.hh_tables.proofs.TableLaws.{false_is_not_true}
 use Rattle.hh_tables.specs.Tables.{Table}
 use Rattle.hh_names.specs.Accounts.{bytes_cmp}
-use Rattle.hh_names.specs.declared.values.Counterparties.{Counterparties}
 use Rattle.hh_names.proofs.AccountLaws.{bytes_total}
-use Rattle.hh_rows.specs.Keys.{contract_key_cmp, reallocation_key_cmp, settlement_period_cmp, unit_period_cmp}
+use Rattle.hh_rows.specs.Keys.{contract_key_cmp, reallocation_key_cmp}
 use Rattle.hh_rows.specs.KeyOrders.{contract_key_total, reallocation_key_total, settlement_period_total, unit_period_total}
 use Rattle.hh_rows.specs.declared.rows.Row.{Row}
 use Rattle.hh_rows.specs.declared.rows.Row.TheVariants as row
@@ -37,12 +36,19 @@ module _ (timetable : Timetable) (moment : ℤ) (tables : Registered) where
   keeps_rows_in_force (row.Meter r) late = late_alone late
   keeps_rows_in_force (row.Price r) late = late_alone late
   keeps_rows_in_force (row.Contract r) late = record {
-    parties = refl; units = refl; meters = refl; prices = refl;
+    parties = refl;
+    units = refl;
+    meters = refl;
+    prices = refl;
     contracts = ap (λ t. put_in_time contract_key_cmp t (contract_entry (row.Contract r)) tables.contracts) late;
     reallocations = refl;
   }
   keeps_rows_in_force (row.Reallocation r) late = record {
-    parties = refl; units = refl; meters = refl; prices = refl; contracts = refl;
+    parties = refl;
+    units = refl;
+    meters = refl;
+    prices = refl;
+    contracts = refl;
     reallocations = ap (λ t. put_in_time reallocation_key_cmp t (reallocation_entry (row.Reallocation r)) tables.reallocations) late;
   }
 

@@ -16,7 +16,7 @@ use Rattle.hh_rules.specs.declared.row_done.RowDone.{RowDone}
 use Rattle.hh_rules.specs.declared.row_done.RowDone.TheVariants.{Applied, Late}
 use Rattle.hh_rules.specs.Entries.{party_entry, unit_entry, reference_entry, meter_entry, price_entry, contract_entry, reallocation_entry}
 use Rattle.hh_rules.specs.History.{History, Registered, registered_in}
-use Rattle.hh_rules.specs.Lateness.{Timetable, Accepted, is_in_time}
+use Rattle.hh_rules.specs.Lateness.{Timetable, Accepted}
 use Rattle.hh_rules.specs.Percents.{percent_of_others}
 use Rattle.hh_rules.specs.Refusals.{Standing, hundred_percent, most_parties, most_units, whole_standing}
 

@@ -197,5 +197,4 @@ fn refusal_of_price(timing: Timing) -> Option<Refusal>
 #[tactic(auto, using(crate::proofs::ServingLaws::parts_judge_alike))]
 pub fn parts_judge_alike()
     ensures { PartsJudgeAlike }
-{
-}
+{}

@@ -275,11 +275,7 @@ impl Register {
     }
 
     /// Takes a reallocation in the place of its key's, if it is in time.
-    fn put_reallocation(
-        &mut self,
-        in_time: bool,
-        row: ReallocationRow,
-    ) -> Result<(), AllocError>
+    fn put_reallocation(&mut self, in_time: bool, row: ReallocationRow) -> Result<(), AllocError>
         requires { HasRoomFor in_time (rows.Reallocation row) self.old.standing }
         ensures ok { OnOk result (self.new ≡ with_one_more in_time (rows.Reallocation row) self.old) }
         ensures err { OnErr result (self.new ≡ self.old) }

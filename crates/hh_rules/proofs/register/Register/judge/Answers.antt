@@ -1,6 +1,5 @@
-use Rattle.std.proofs.Common.{◌∙◌, sym, ap, subst}
+use Rattle.std.proofs.Common.{◌∙◌, sym, subst, w64}
 use Rattle.std.proofs.lemmas.Int.{to_z-of_z}
-use Rattle.std.specs.Prelude.{w64}
 use Rattle.hh_rules.specs.Effects.{HasRoomFor}
 use Rattle.hh_rules.specs.RegisterView.{timetable_of}
 use Rattle.hh_rules.proofs.JudgeFacts.{accepted_has_room, in_time_told, least_told}
