@@ -13,7 +13,7 @@ use Rattle.hh_num.proofs.TotalLaws.{total-same}
 use Rattle.hh_names.specs.Accounts.{account_cmp, is_same_account}
 use Rattle.hh_names.proofs.AccountLaws.{account_total}
 use Rattle.hh_rows.specs.Keys.{unit_period_cmp, reallocation_key_cmp}
-use Rattle.hh_rows.specs.KeyOrders.{unit_period_total, reallocation_key_total}
+use Rattle.hh_rows.proofs.KeyLaws.{unit_period_total, reallocation_key_total}
 use Rattle.hh_rows.specs.declared.keys.UnitPeriod.{UnitPeriod}
 use Rattle.hh_rows.specs.declared.keys.ReallocationKey.{ReallocationKey}
 use Rattle.hh_names.specs.declared.values.Reallocation.{Reallocation}

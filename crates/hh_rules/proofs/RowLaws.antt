@@ -12,7 +12,7 @@ use Rattle.hh_tables.specs.Tables.{Table}
 use Rattle.hh_names.specs.Accounts.{bytes_cmp}
 use Rattle.hh_names.proofs.AccountLaws.{bytes_total}
 use Rattle.hh_rows.specs.Keys.{contract_key_cmp, reallocation_key_cmp}
-use Rattle.hh_rows.specs.KeyOrders.{contract_key_total, reallocation_key_total, settlement_period_total, unit_period_total}
+use Rattle.hh_rows.proofs.KeyLaws.{contract_key_total, reallocation_key_total, settlement_period_total, unit_period_total}
 use Rattle.hh_rows.specs.declared.rows.Row.{Row}
 use Rattle.hh_rows.specs.declared.rows.Row.TheVariants as row
 use Rattle.hh_rules.specs.Entries.{contract_entry, reallocation_entry, reference_entry}
