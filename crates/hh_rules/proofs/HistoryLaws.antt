@@ -12,8 +12,7 @@ use Rattle.hh_rules.specs.Entries.{party_entry, unit_entry, reference_entry, met
 use Rattle.hh_rules.specs.Effects.{put_entry, put_in_time, put_new, with_row}
 use Rattle.hh_tables.specs.Tables.{table_of_last, table_of_first}
 use Rattle.hh_names.proofs.AccountLaws.{bytes_total}
-use Rattle.hh_rows.proofs.KeyLaws.{settlement_period_total, unit_period_total, contract_key_total, reallocation_key_total}
-use Rattle.hh_rows.proofs.KeyLaws.{exact_settlement_periods, exact_unit_periods, exact_contract_keys, exact_reallocation_keys}
+use Rattle.hh_rows.proofs.KeyLaws.{settlement_period_total, unit_period_total, contract_key_total, reallocation_key_total, exact_settlement_periods, exact_unit_periods, exact_contract_keys, exact_reallocation_keys}
 use Rattle.hh_tables.proofs.TableLaws.{table_of_last-append, table_of_first-append}
 use Rattle.std.proofs.lemmas.Map.Lookups.{exact_bytes}
 

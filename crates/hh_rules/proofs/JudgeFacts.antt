@@ -19,7 +19,6 @@ use Rattle.hh_rules.specs.Effects.{HasRoomFor}
 use Rattle.hh_rules.specs.Lateness.{Timetable, accepted_at, comes_in_time, has_its_period, is_in_time, lacks_period, timing_by, timing_of}
 use Rattle.hh_rules.specs.Percents.{percent_of_others}
 use Rattle.hh_rules.specs.Refusals.{Standing, contract_refusals, hundred_percent, meter_refusals, most_parties, most_units, party_refusals, price_refusals, reallocation_refusals, refusals_of, unit_refusals}
-use Rattle.hh_rules.specs.RegisterView.{HasLeast}
 
 -- none of the conditions of a list is met
 abbrev NoneMet : List (Refusal × Bool) → Type 0
@@ -127,6 +126,6 @@ none_is_least : (rs : List (Refusal × Bool)) (least : Refusal) → NoneMet rs �
 none_is_least [] least none = tt
 none_is_least (r ∷ rs) least none = (λ met. absurd (false_is_not_true (sym none.0 ∙ met)), none_is_least rs least none.1)
 
-pub least_of_none : {X : Type 0} (rs : List (Refusal × Bool)) → first_met rs ≡ None → (r : Result X Fault) → IfErr r (HasLeast rs)
+pub least_of_none : {X : Type 0} (rs : List (Refusal × Bool)) → first_met rs ≡ None → (r : Result X Fault) → IfErr r (λ fault. IsLeast fault.refusal rs)
 least_of_none rs none (Ok x) = tt
 least_of_none rs none (Err fault) = none_is_least rs fault.refusal (none_met rs none)

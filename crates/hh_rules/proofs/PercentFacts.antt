@@ -67,11 +67,21 @@ module _ (key : ReallocationKey) where
   sorted es h = subst T (sym h) tt
 
   -- what others have, and what the key's account has, make up the unit's percentage
-  pub others_and_own : (es : Table ReallocationKey Reallocation) → IsTable reallocation_key_cmp es
+  others_and_own : (es : Table ReallocationKey Reallocation) → IsTable reallocation_key_cmp es
       → percent_of_others key es +ℤ percent_in (find reallocation_key_cmp key es) ≡ percent_at es key.unit_period
   others_and_own es h =
       ap (λ z. percent_of_others key es +ℤ z) (sym (own_part (find reallocation_key_cmp key es)))
       ∙ total-others reallocation_key_total key (percent_if key.unit_period) (λ e. cond (is_of_other key e.0) e.1.percent (pos 0)) none_of_tied same_of_apart (alike key.unit_period) es (sorted es h)
+
+  -- so what others have is the whole, as the table of percentages has it, less the account's own
+  pub others_from : (ps : Table UnitPeriod ℤ) (es : Table ReallocationKey Reallocation) → IsTable reallocation_key_cmp es → SumsPercents ps es
+      → (percent : Option ℤ) (own : Option Reallocation) (all part : ℤ)
+      → percent ≡ find unit_period_cmp key.unit_period ps → own ≡ find reallocation_key_cmp key es
+      → all ≡ unwrap_or percent (pos 0) → part ≡ percent_in own → percent_of_others key es +ℤ part ≡ all
+  others_from ps es h sums percent own all part percent_is own_is all_is part_is =
+      ap (λ z. percent_of_others key es +ℤ z) (part_is ∙ ap percent_in own_is)
+      ∙ others_and_own es h
+      ∙ sym (all_is ∙ ap (λ o. unwrap_or o (pos 0)) percent_is ∙ sums.sums key.unit_period)
 
   module _ (v : Reallocation) (sum : ℤ) (ps : Table UnitPeriod ℤ) (es : Table ReallocationKey Reallocation) (h : IsTable reallocation_key_cmp es) where
     percent_here : percent_at (put reallocation_key_cmp key v es) key.unit_period ≡ percent_of_others key es +ℤ v.percent

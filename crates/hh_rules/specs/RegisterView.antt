@@ -38,22 +38,26 @@ empty_register lead_minutes = record {
   };
 }
 
--- when local midnights fall in a zone, and how many minutes before a period the register's notifications close
+-- what is registered and in force in a register
+abbrev pub tables_in : RegisterView → Registered
+tables_in register = register.standing.tables
+
+-- when local midnights fall in a zone, and so many minutes before a period
+abbrev pub timetable_in : TimeZone → ℕ → Timetable
+timetable_in zone lead_minutes = record { midnight = midnight_in (plain_zone zone); lead_minutes = lead_minutes }
+
+-- the timetable by which a register judges rows
 abbrev pub timetable_of : TimeZone → RegisterView → Timetable
-timetable_of zone register = record { midnight = midnight_in (plain_zone zone); lead_minutes = register.lead_minutes }
+timetable_of zone register = timetable_in zone register.lead_minutes
 
 -- the answer to a row that is refused for a reason, or for none
 abbrev pub judged : Option Refusal → Result (Unit {0}) Fault
 judged None = Ok tt
 judged (Some r) = Err (plain_fault r)
 
--- of the refusals of a list whose conditions are met, none has a lesser number than the fault's
-abbrev pub HasLeast : List (Refusal × Bool) → Fault → Type 0
-HasLeast refusals fault = IsLeast fault.refusal refusals
-
 -- the register after one more row that is in time or not
-abbrev pub with_one_more : Bool → Row → RegisterView → RegisterView
-with_one_more in_time r register = record register { standing = standing_with in_time r register.standing }
+abbrev pub after_row : Bool → Row → RegisterView → RegisterView
+after_row in_time r register = record register { standing = standing_with in_time r register.standing }
 
 -- of a row that comes to a register at a moment
 module _ (zone : TimeZone) (register : RegisterView) (moment : ℤ) (r : Row) where
@@ -69,14 +73,26 @@ module _ (zone : TimeZone) (register : RegisterView) (moment : ℤ) (r : Row) wh
   abbrev pub refusal_at : Option Refusal
   refusal_at = first_met refusals_at
 
+  -- the answer to it
+  abbrev pub judged_at : Result (Unit {0}) Fault
+  judged_at = judged refusal_at
+
+  -- of its refusals whose conditions are met, none has a lesser number
+  abbrev pub IsLeastRefusal : Refusal → Type 0
+  IsLeastRefusal why = IsLeast why refusals_at
+
+  abbrev pub IsLeastFault : Fault → Type 0
+  IsLeastFault fault = IsLeastRefusal fault.refusal
+
   -- what becomes of it, if it is accepted
   abbrev pub done_at : RowDone
   done_at = row_done in_time_at
 
   -- and the register after it
   abbrev pub register_after : RegisterView
-  register_after = with_one_more in_time_at r register
+  register_after = after_row in_time_at r register
 
+  -- what follows of it for the register, and of what becomes of it
   abbrev pub AddsOneRow : RegisterView → RowDone → Type 0
   AddsOneRow new done =
       IsOneMoreRow (timetable_of zone register) (accepted_at moment r) register.standing new.standing done

@@ -2,10 +2,10 @@
 
 ghost use Rattle.std.specs.Prelude.{◌≡◌, ◌∷◌, [], not, Some, None, IfOk, IfErr, OnOk};
 ghost use Rattle.hh_names.specs.declared.fault.Refusal.TheVariants.{ShrinksRange, UnitMoved};
-ghost use Rattle.hh_names.specs.Faults.{first_met, IsLeast};
+ghost use Rattle.hh_names.specs.Faults.{first_met};
 ghost use Rattle.hh_rows.specs.DateRanges.{is_inside};
 ghost use Rattle.hh_rules.specs.Effects.{HasRoomFor};
-ghost use Rattle.hh_rules.specs.RegisterView.{in_time_at, judged, refusal_at, refusals_at, HasLeast, PartsJudgeAlike};
+ghost use Rattle.hh_rules.specs.RegisterView.{in_time_at, judged_at, refusal_at, IsLeastFault, IsLeastRefusal, PartsJudgeAlike};
 ghost use Rattle.hh_rules.specs.Refusals.{contract_refusals, is_unit_moved, meter_refusals, party_refusals, passes_hundred, price_refusals, reallocation_refusals, refusals_of, unit_refusals};
 
 use crate::register::Register;
@@ -27,8 +27,8 @@ impl Register {
     /// Whether a row that comes at a moment, in seconds since 1970-01-01T00:00:00Z, would be accepted,
     /// and why not: refusals 30 to 42, of which the least number wins (profile). Takes no memory.
     pub fn check_row(&self, zone: &TimeZone<'_>, moment: i64, row: &Row) -> Result<(), Fault>
-        ensures answer { result ≡ judged (refusal_at zone.now self.now moment row.now) }
-        ensures least { IfErr result (HasLeast (refusals_at zone.now self.now moment row.now)) }
+        ensures answer { result ≡ judged_at zone.now self.now moment row.now }
+        ensures least { IfErr result (IsLeastFault zone.now self.now moment row.now) }
     {
         match self.judge(zone, moment, row) {
             Ok(_) => Ok(()),
@@ -39,10 +39,10 @@ impl Register {
     /// Whether a row that comes at a moment is in time, where it would be accepted; or why it would not.
     pub(crate) fn judge(&self, zone: &TimeZone<'_>, moment: i64, row: &Row) -> Result<bool, Refusal>
         ensures accepted { OnOk result (refusal_at zone.now self.now moment row.now ≡ None) }
-        ensures in_time { IfOk result (λ in_time. in_time ≡ in_time_at zone.now self.now moment row.now) }
-        ensures room { IfOk result (λ in_time. HasRoomFor in_time row.now self.now.standing) }
-        ensures refused { IfErr result (λ why. refusal_at zone.now self.now moment row.now ≡ Some why) }
-        ensures least { IfErr result (λ why. IsLeast why (refusals_at zone.now self.now moment row.now)) }
+        ensures in_time { IfOk result (λ timely. timely ≡ in_time_at zone.now self.now moment row.now) }
+        ensures room { IfOk result (λ timely. HasRoomFor timely row.now self.now.standing) }
+        ensures refused { IfErr result (λ by. refusal_at zone.now self.now moment row.now ≡ Some by) }
+        ensures least { IfErr result (IsLeastRefusal zone.now self.now moment row.now) }
     {
         let timing = self.timing_of(zone, moment, row);
         match self.refusal_of(timing, row) {

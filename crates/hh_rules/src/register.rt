@@ -10,7 +10,7 @@ ghost use Rattle.hh_names.specs.Accounts.{bytes_cmp};
 ghost use Rattle.hh_names.specs.Faults.{faults, Gives};
 ghost use Rattle.hh_rules.specs.Effects.{HasRoomFor};
 ghost use Rattle.hh_rules.specs.Percents.{percent_in, percent_of_others};
-ghost use Rattle.hh_rules.specs.RegisterView.{done_at, empty_register, judged, refusal_at, refusals_at, register_after, with_one_more, AddsOneRow, HasLeast};
+ghost use Rattle.hh_rules.specs.RegisterView.{after_row, done_at, empty_register, judged_at, register_after, tables_in, AddsOneRow, IsLeastFault};
 
 use crate::row_done::RowDone;
 use hh_names::{Counterparties, Fault, PartyId, Reading, Reallocation, Reference, UnitId};
@@ -111,14 +111,14 @@ impl Register {
 
     /// What is registered of a party, if it is registered (profile).
     pub fn party(&self, party: &PartyId) -> Option<PartyRegistration>
-        ensures { result ≡ find bytes_cmp party.now self.now.standing.tables.parties }
+        ensures { result ≡ find bytes_cmp party.now (tables_in self.now).parties }
     {
         self.parties.get(party)
     }
 
     /// What is registered of a unit, if it is registered (profile).
     pub fn unit(&self, unit: &UnitId) -> Option<UnitRegistration>
-        ensures { result ≡ find bytes_cmp unit.now self.now.standing.tables.units }
+        ensures { result ≡ find bytes_cmp unit.now (tables_in self.now).units }
     {
         self.units.get(unit)
     }
@@ -126,21 +126,21 @@ impl Register {
     /// The seller and the buyer of a reference, which its first row fixed, if there was one (Section P in
     /// shape).
     pub fn reference(&self, reference: &Reference) -> Option<Counterparties>
-        ensures { result ≡ find bytes_cmp reference.now self.now.standing.tables.references }
+        ensures { result ≡ find bytes_cmp reference.now (tables_in self.now).references }
     {
         self.references.get(reference)
     }
 
     /// The reading that counts for a unit in a Settlement Period, if there is one (profile).
     pub fn reading(&self, key: &UnitPeriod) -> Option<Reading>
-        ensures { result ≡ find unit_period_cmp key.now self.now.standing.tables.meters }
+        ensures { result ≡ find unit_period_cmp key.now (tables_in self.now).meters }
     {
         self.meters.get(key)
     }
 
     /// The price that counts for a Settlement Period, in 10^-5 pound per MWh, if there is one (profile).
     pub fn price(&self, at: &SettlementPeriod) -> Option<Price>
-        ensures { result ≡ find settlement_period_cmp at.now self.now.standing.tables.prices }
+        ensures { result ≡ find settlement_period_cmp at.now (tables_in self.now).prices }
     {
         self.prices.get(at)
     }
@@ -148,7 +148,7 @@ impl Register {
     /// The volume in force of a reference in a Settlement Period, in kWh, if a row is in force (Section P
     /// in shape).
     pub fn contract(&self, key: &ContractKey) -> Option<Kwh>
-        ensures { result ≡ find contract_key_cmp key.now self.now.standing.tables.contracts }
+        ensures { result ≡ find contract_key_cmp key.now (tables_in self.now).contracts }
     {
         self.contracts.get(key)
     }
@@ -156,7 +156,7 @@ impl Register {
     /// The reallocation in force of a unit to an account in a Settlement Period, if a row is in force
     /// (Section P in shape).
     pub fn reallocation(&self, key: &ReallocationKey) -> Option<Reallocation>
-        ensures { result ≡ find reallocation_key_cmp key.now self.now.standing.tables.reallocations }
+        ensures { result ≡ find reallocation_key_cmp key.now (tables_in self.now).reallocations }
     {
         self.reallocations.get(key)
     }
@@ -170,8 +170,8 @@ impl Register {
         moment: i64,
         row: Row,
     ) -> Result<RowDone, Fault>
-        ensures judged { Gives faults (λ _. tt) result (judged (refusal_at zone.now self.old moment row)) }
-        ensures least { IfErr result (HasLeast (refusals_at zone.now self.old moment row)) }
+        ensures judged { Gives faults (λ _. tt) result (judged_at zone.now self.old moment row) }
+        ensures least { IfErr result (IsLeastFault zone.now self.old moment row) }
         ensures applied { OnOk result (self.new ≡ register_after zone.now self.old moment row) }
         ensures done { IfOk result (λ done. done ≡ done_at zone.now self.old moment row) }
         ensures one_more_row { IfOk result (AddsOneRow zone.now self.old moment row self.new) }
@@ -188,9 +188,9 @@ impl Register {
     /// The percentage of the key's unit, in 10^-5 percent, that is in force in the key's Settlement
     /// Period for other accounts than the key's.
     pub(crate) fn percent_of_others(&self, key: &ReallocationKey) -> i64
-        ensures value { result ≡ percent_of_others key.now self.now.standing.tables.reallocations }
+        ensures value { result ≡ percent_of_others key.now (tables_in self.now).reallocations }
         ensures range { IsBetween (pos 0) (pos 10_000_000) result }
-        ensures rising { IsTable reallocation_key_cmp self.now.standing.tables.reallocations }
+        ensures rising { IsTable reallocation_key_cmp (tables_in self.now).reallocations }
     {
         let all = units_of(self.percents.get(&key.unit_period));
         let own = percent_in(self.reallocations.get(key));
@@ -200,7 +200,7 @@ impl Register {
     /// Changes what an accepted row changes.
     fn put_row(&mut self, in_time: bool, row: Row) -> Result<(), AllocError>
         requires { HasRoomFor in_time row self.old.standing }
-        ensures ok { OnOk result (self.new ≡ with_one_more in_time row self.old) }
+        ensures ok { OnOk result (self.new ≡ after_row in_time row self.old) }
         ensures err { OnErr result (self.new ≡ self.old) }
     {
         match row {
@@ -216,7 +216,7 @@ impl Register {
     /// Registers a party anew, or gives it a new registration.
     fn put_party(&mut self, row: PartyRow) -> Result<(), AllocError>
         requires { HasRoomFor true (rows.Party row) self.old.standing }
-        ensures ok { OnOk result (self.new ≡ with_one_more true (rows.Party row) self.old) }
+        ensures ok { OnOk result (self.new ≡ after_row true (rows.Party row) self.old) }
         ensures err { OnErr result (self.new ≡ self.old) }
     {
         let is_new = self.parties.get(&row.party).is_none();
@@ -230,7 +230,7 @@ impl Register {
     /// Registers a unit anew, or gives it a new registration.
     fn put_unit(&mut self, row: UnitRow) -> Result<(), AllocError>
         requires { HasRoomFor true (rows.Unit row) self.old.standing }
-        ensures ok { OnOk result (self.new ≡ with_one_more true (rows.Unit row) self.old) }
+        ensures ok { OnOk result (self.new ≡ after_row true (rows.Unit row) self.old) }
         ensures err { OnErr result (self.new ≡ self.old) }
     {
         let is_new = self.units.get(&row.unit).is_none();
@@ -243,7 +243,7 @@ impl Register {
 
     /// Takes a reading in the place of its key's.
     fn put_meter(&mut self, row: MeterRow) -> Result<(), AllocError>
-        ensures ok { OnOk result (self.new ≡ with_one_more true (rows.Meter row) self.old) }
+        ensures ok { OnOk result (self.new ≡ after_row true (rows.Meter row) self.old) }
         ensures err { OnErr result (self.new ≡ self.old) }
     {
         self.meters.put(row.key, row.reading)
@@ -251,7 +251,7 @@ impl Register {
 
     /// Takes a price in the place of its Settlement Period's.
     fn put_price(&mut self, row: PriceRow) -> Result<(), AllocError>
-        ensures ok { OnOk result (self.new ≡ with_one_more true (rows.Price row) self.old) }
+        ensures ok { OnOk result (self.new ≡ after_row true (rows.Price row) self.old) }
         ensures err { OnErr result (self.new ≡ self.old) }
     {
         self.prices.put(row.at, row.price)
@@ -259,7 +259,7 @@ impl Register {
 
     /// Fixes a new reference, and takes a contract that is in time in the place of its key's.
     fn put_contract(&mut self, in_time: bool, row: ContractRow) -> Result<(), AllocError>
-        ensures ok { OnOk result (self.new ≡ with_one_more in_time (rows.Contract row) self.old) }
+        ensures ok { OnOk result (self.new ≡ after_row in_time (rows.Contract row) self.old) }
         ensures err { OnErr result (self.new ≡ self.old) }
     {
         let ContractRow { key, contract } = row;
@@ -277,7 +277,7 @@ impl Register {
     /// Takes a reallocation in the place of its key's, if it is in time.
     fn put_reallocation(&mut self, in_time: bool, row: ReallocationRow) -> Result<(), AllocError>
         requires { HasRoomFor in_time (rows.Reallocation row) self.old.standing }
-        ensures ok { OnOk result (self.new ≡ with_one_more in_time (rows.Reallocation row) self.old) }
+        ensures ok { OnOk result (self.new ≡ after_row in_time (rows.Reallocation row) self.old) }
         ensures err { OnErr result (self.new ≡ self.old) }
     {
         if !in_time {

@@ -309,6 +309,18 @@ fn no_more_than_a_hundred_percent(rt: HostRuntime) -> Result<(), Fail> {
 }
 
 #[test]
+fn a_hundred_percent_in_time_is_accepted(rt: HostRuntime) -> Result<(), Fail> {
+    let one_row = [(MOMENT, reallocation_row(b"SUPCO-P", 10_000_000), APPLIED)];
+    assert!(rt; after(rt.alloc(), &london(), &one_row).is_some());
+    let two_rows = [
+        (MOMENT, reallocation_row(b"SUPCO-P", 6_000_000), APPLIED),
+        (MOMENT, reallocation_row(b"SUPCO-C", 4_000_000), APPLIED),
+    ];
+    assert!(rt; after(rt.alloc(), &london(), &two_rows).is_some());
+    Ok(())
+}
+
+#[test]
 fn known_parties_and_units_change(rt: HostRuntime) -> Result<(), Fail> {
     let steps = [
         (MOMENT, party_row(b"GENCO", b"2024-01-02"), 39),

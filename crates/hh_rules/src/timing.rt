@@ -1,10 +1,8 @@
 //! Whether a row's Settlement Period is there, and whether the row comes in time for it.
 
 ghost use Rattle.std.specs.Prelude.{◌≡◌, true, not};
-ghost use Rattle.jiff.specs.Words.{plain_zone};
-ghost use Rattle.hh_time.specs.Zone.{midnight_in};
-ghost use Rattle.hh_rules.specs.Lateness.{accepted_at, comes_in_time, is_before_deadline, is_there, lacks_period, timing_by, timing_of};
-ghost use Rattle.hh_rules.specs.RegisterView.{timetable_of};
+ghost use Rattle.hh_rules.specs.Lateness.{accepted_at, comes_in_time, lacks_period, notification_timing, timing_by, timing_of};
+ghost use Rattle.hh_rules.specs.RegisterView.{timetable_in, timetable_of};
 
 use crate::register::Register;
 use hh_rows::{LeadMinutes, Row, SettlementPeriod};
@@ -57,11 +55,16 @@ impl Register {
         let lead_minutes = self.lead_minutes();
         match row {
             Row::Party(_) | Row::Unit(_) => Timing::InTime,
-            Row::Meter(row) => timing_in(row.key.at, zone, lead_minutes, moment).never_late(),
-            Row::Price(row) => timing_in(row.at, zone, lead_minutes, moment).never_late(),
-            Row::Contract(row) => timing_in(row.key.at, zone, lead_minutes, moment),
+            Row::Meter(row) => notification_timing(
+                row.key.at,
+                zone,
+                lead_minutes,
+                moment,
+            ).never_late(),
+            Row::Price(row) => notification_timing(row.at, zone, lead_minutes, moment).never_late(),
+            Row::Contract(row) => notification_timing(row.key.at, zone, lead_minutes, moment),
             Row::Reallocation(row) => {
-                timing_in(row.key.unit_period.at, zone, lead_minutes, moment)
+                notification_timing(row.key.unit_period.at, zone, lead_minutes, moment)
             }
         }
     }
@@ -69,14 +72,13 @@ impl Register {
 
 /// The timing of a row of contracts or reallocations for a Settlement Period, where it comes at a
 /// moment, in seconds since 1970-01-01T00:00:00Z (Section P in shape; the deadline is profile).
-fn timing_in(
+fn notification_timing(
     at: SettlementPeriod,
     zone: &TimeZone<'_>,
     lead_minutes: LeadMinutes,
     moment: i64,
 ) -> Timing
-    ensures { result ≡ timing_by (is_there (midnight_in (plain_zone zone.now)) at)
-        (is_before_deadline (record { midnight = midnight_in (plain_zone zone.now); lead_minutes = lead_minutes }) moment at) }
+    ensures { result ≡ notification_timing (timetable_in zone.now lead_minutes) moment at }
 {
     let number = at.period.number();
     match Day::of(at.date, zone) {
