@@ -65,6 +65,9 @@ module _ (zone : TimeZone) (register : RegisterView) (moment : ℤ) (r : Row) wh
   abbrev pub in_time_at : Bool
   in_time_at = is_in_time (timetable_of zone register) (accepted_at moment r)
 
+  abbrev pub TellsInTime : Bool → Type 0
+  TellsInTime in_time = in_time ≡ in_time_at
+
   -- its refusals with their conditions
   abbrev pub refusals_at : List (Refusal × Bool)
   refusals_at = refusals_of register.standing (timing_of (timetable_of zone register) (accepted_at moment r)) r
@@ -72,6 +75,9 @@ module _ (zone : TimeZone) (register : RegisterView) (moment : ℤ) (r : Row) wh
   -- why it is refused, if it is
   abbrev pub refusal_at : Option Refusal
   refusal_at = first_met refusals_at
+
+  abbrev pub IsRefusedFor : Refusal → Type 0
+  IsRefusedFor why = refusal_at ≡ Some why
 
   -- the answer to it
   abbrev pub judged_at : Result (Unit {0}) Fault

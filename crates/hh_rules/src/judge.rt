@@ -1,11 +1,11 @@
 //! Why a row is refused: the rules of each kind, in the order of their numbers.
 
-ghost use Rattle.std.specs.Prelude.{◌≡◌, ◌∷◌, [], not, Some, None, IfOk, IfErr, OnOk};
+ghost use Rattle.std.specs.Prelude.{◌≡◌, ◌∷◌, [], not, None, IfOk, IfErr, OnOk};
 ghost use Rattle.hh_names.specs.declared.fault.Refusal.TheVariants.{ShrinksRange, UnitMoved};
 ghost use Rattle.hh_names.specs.Faults.{first_met};
 ghost use Rattle.hh_rows.specs.DateRanges.{is_inside};
 ghost use Rattle.hh_rules.specs.Effects.{HasRoomFor};
-ghost use Rattle.hh_rules.specs.RegisterView.{in_time_at, judged_at, refusal_at, IsLeastFault, IsLeastRefusal, PartsJudgeAlike};
+ghost use Rattle.hh_rules.specs.RegisterView.{judged_at, refusal_at, IsLeastFault, IsLeastRefusal, IsRefusedFor, PartsJudgeAlike, TellsInTime};
 ghost use Rattle.hh_rules.specs.Refusals.{contract_refusals, is_unit_moved, meter_refusals, party_refusals, passes_hundred, price_refusals, reallocation_refusals, refusals_of, unit_refusals};
 
 use crate::register::Register;
@@ -39,9 +39,9 @@ impl Register {
     /// Whether a row that comes at a moment is in time, where it would be accepted; or why it would not.
     pub(crate) fn judge(&self, zone: &TimeZone<'_>, moment: i64, row: &Row) -> Result<bool, Refusal>
         ensures accepted { OnOk result (refusal_at zone.now self.now moment row.now ≡ None) }
-        ensures in_time { IfOk result (λ timely. timely ≡ in_time_at zone.now self.now moment row.now) }
-        ensures room { IfOk result (λ timely. HasRoomFor timely row.now self.now.standing) }
-        ensures refused { IfErr result (λ by. refusal_at zone.now self.now moment row.now ≡ Some by) }
+        ensures in_time { IfOk result (TellsInTime zone.now self.now moment row.now) }
+        ensures room { IfOk result (λ in_time. HasRoomFor in_time row.now self.now.standing) }
+        ensures refused { IfErr result (IsRefusedFor zone.now self.now moment row.now) }
         ensures least { IfErr result (IsLeastRefusal zone.now self.now moment row.now) }
     {
         let timing = self.timing_of(zone, moment, row);
