@@ -1,13 +1,26 @@
--- The orders of Settlement Periods and of the keys tell each two apart.
+-- The orders of Settlement Periods and of the keys are total, and tell each two apart.
 use Rattle.std.proofs.Common.{ℕ, List, ap}
+use Rattle.std.specs.Cmp.{IsTotalOrder, nat_cmp_total, on_total, then_total}
 use Rattle.std.specs.Ordering.{nat_cmp}
 use Rattle.std.proofs.lemmas.Map.Lookups.{CmpEqualImpliesEq, exact_bytes, exact_pairs, exact_unsigned}
 use Rattle.hh_names.specs.declared.account.Account.{Account}
 use Rattle.hh_names.specs.Accounts.{bytes_cmp, account_cmp}
-use Rattle.hh_names.proofs.AccountLaws.{exact_accounts}
+use Rattle.hh_names.proofs.AccountLaws.{account_total, bytes_total, exact_accounts}
 use Rattle.hh_rows.specs.declared.keys.UnitPeriod.{UnitPeriod}
 use Rattle.hh_rows.specs.declared.settlement_period.SettlementPeriod.{SettlementPeriod}
 use Rattle.hh_rows.specs.Keys.{settlement_period_cmp, unit_period_cmp, contract_key_cmp, reallocation_key_cmp}
+
+pub settlement_period_total : IsTotalOrder settlement_period_cmp
+settlement_period_total = then_total (on_total (λ p. p.date) nat_cmp_total) (on_total (λ p. p.period) nat_cmp_total)
+
+pub unit_period_total : IsTotalOrder unit_period_cmp
+unit_period_total = then_total (on_total (λ k. k.unit) bytes_total) (on_total (λ k. k.at) settlement_period_total)
+
+pub contract_key_total : IsTotalOrder contract_key_cmp
+contract_key_total = then_total (on_total (λ k. k.reference) bytes_total) (on_total (λ k. k.at) settlement_period_total)
+
+pub reallocation_key_total : IsTotalOrder reallocation_key_cmp
+reallocation_key_total = then_total (on_total (λ k. k.unit_period) unit_period_total) (on_total (λ k. k.account) account_total)
 
 pub exact_settlement_periods : CmpEqualImpliesEq settlement_period_cmp
 exact_settlement_periods a b h =

@@ -1,4 +1,3 @@
 pub mod DateRanges
-pub mod KeyOrders
 pub mod Keys
 pub mod Kinds

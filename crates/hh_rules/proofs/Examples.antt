@@ -9,11 +9,13 @@ use Rattle.hh_rows.specs.DateRanges.{Range}
 use Rattle.hh_rows.specs.declared.rows.Row.{Row}
 use Rattle.hh_rows.specs.declared.rows.Row.TheVariants as row
 use Rattle.hh_rows.specs.declared.settlement_period.SettlementPeriod.{SettlementPeriod}
-use Rattle.hh_rules.specs.History.{Calendar, Accepted, History, accepted_at, registered_in}
-use Rattle.hh_rules.specs.RowRule.{refusal_of, whole_standing}
+use Rattle.hh_names.specs.Faults.{first_met}
+use Rattle.hh_rules.specs.History.{History, registered_in}
+use Rattle.hh_rules.specs.Lateness.{Timetable, Accepted, accepted_at, timing_of}
+use Rattle.hh_rules.specs.Refusals.{refusals_of, whole_standing}
 
 -- 2024-07-01 is day 19905 and begins at 1719788400; each day here has 48 periods
-abbrev summer : Calendar
+abbrev summer : Timetable
 summer = record { midnight = λ d. pos (1_719_788_400 + 86_400 * d - 86_400 * 19_905); lead_minutes = 60 }
 
 abbrev genco_p : Account
@@ -38,7 +40,7 @@ from_new_year = record { from = 19_723; to = 47_481 }
 
 abbrev sale : List ℕ → Account → Account → ℤ → Row
 sale reference seller buyer volume =
-    row.Contract (record { key = record { reference = reference; at = first_period }; counterparties = record { seller = seller; buyer = buyer }; volume = volume })
+    row.Contract (record { key = record { reference = reference; at = first_period }; contract = record { counterparties = record { seller = seller; buyer = buyer }; volume = volume } })
 
 abbrev sold : ℤ → ℤ → Accepted
 sold moment volume = accepted_at moment (sale (codes "C1") genco_p supco_c volume)
@@ -66,7 +68,7 @@ accepted_last : volumes (registered ++ sold loading (pos 99_000) ∷ sold (pos 1
 accepted_last = refl
 
 abbrev judged : History → Accepted → Option Refusal
-judged history a = refusal_of summer (whole_standing (registered_in summer history)) a
+judged history a = first_met (refusals_of (whole_standing (registered_in summer history)) (timing_of summer a) a.row)
 
 same_account : judged registered (accepted_at loading (sale (codes "C2") genco_p genco_p (pos 1_000))) ≡ Some refusal.SameAccount
 same_account = refl

@@ -1,22 +1,18 @@
 -- To accept a row and look back over the history is to change the tables by the row.
-use Rattle.std.proofs.Common.{◌≡◌, List, [], ◌∷◌, ◌++◌, Bool, true, false, cond, refl, sym, ap, ◌∙◌, Option, Some, None, Ordering}
-use Rattle.std.specs.Prelude.{filter, option_to_list, ℤ}
+use Rattle.std.proofs.Common.{◌≡◌, List, [], ◌∷◌, ◌++◌, Bool, true, false, cond, refl, ap, ◌∙◌, Option, Some, None, Ordering}
+use Rattle.std.specs.Prelude.{filter, option_to_list}
 use Rattle.std.specs.declared.cmp.Ordering.TheVariants.{Equal}
 use Rattle.std.specs.Cmp.{IsTotalOrder}
 use Rattle.std.specs.List.{cons_option}
-use Rattle.hh_rows.specs.declared.rows.Row.TheVariants as row
-use Rattle.hh_tables.proofs.TableLaws.{false_is_not_true}
 use Rattle.std.proofs.lemmas.List.{append-nil}
 use Rattle.hh_rows.specs.declared.rows.Row.{Row}
-use Rattle.hh_names.specs.Accounts.{bytes_cmp}
-use Rattle.hh_rules.specs.History.{Calendar, Accepted, History, Registered, is_in_time, entries_of, registered_in, accepted_at}
-use Rattle.hh_rows.specs.Keys.{settlement_period_cmp, unit_period_cmp, contract_key_cmp, reallocation_key_cmp}
+use Rattle.hh_rules.specs.History.{History, entries_of, registered_in}
+use Rattle.hh_rules.specs.Lateness.{Timetable, Accepted, is_in_time}
 use Rattle.hh_rules.specs.Entries.{party_entry, unit_entry, reference_entry, meter_entry, price_entry, contract_entry, reallocation_entry}
-use Rattle.hh_rules.specs.RowRule.{put_entry, put_new, put_row, LooksBack}
-use Rattle.hh_tables.specs.Tables.{Table, table_of_last, table_of_first}
+use Rattle.hh_rules.specs.Effects.{put_entry, put_in_time, put_new, with_row}
+use Rattle.hh_tables.specs.Tables.{table_of_last, table_of_first}
 use Rattle.hh_names.proofs.AccountLaws.{bytes_total}
-use Rattle.hh_rows.specs.KeyOrders.{settlement_period_total, unit_period_total, contract_key_total, reallocation_key_total}
-use Rattle.hh_rows.proofs.KeyLaws.{exact_settlement_periods, exact_unit_periods, exact_contract_keys, exact_reallocation_keys}
+use Rattle.hh_rows.proofs.KeyLaws.{settlement_period_total, unit_period_total, contract_key_total, reallocation_key_total, exact_settlement_periods, exact_unit_periods, exact_contract_keys, exact_reallocation_keys}
 use Rattle.hh_tables.proofs.TableLaws.{table_of_last-append, table_of_first-append}
 use Rattle.std.proofs.lemmas.Map.Lookups.{exact_bytes}
 
@@ -59,88 +55,35 @@ module _ {K V : Type 0} {R : K → K → Ordering} (o : IsTotalOrder R) (exact :
   pub first-append : (history : History) (a : Accepted) → table_of_first R (entries_of entry (history ++ a ∷ [])) ≡ put_new R (entry a.row) (table_of_first R (entries_of entry history))
   first-append history a = ap (table_of_first R) (entries_of-append entry history a) ∙ with_first (entries_of entry history) (entry a.row)
 
-  -- the same of the rows in time: a late row changes nothing
-  pub timely-append : (cal : Calendar) (history : History) (a : Accepted) →
-      table_of_last R (entries_of entry (filter (is_in_time cal) (history ++ a ∷ []))) ≡ cond (is_in_time cal a) (put_entry R (entry a.row) (table_of_last R (entries_of entry (filter (is_in_time cal) history)))) (table_of_last R (entries_of entry (filter (is_in_time cal) history)))
-  timely-append cal history a =
-      ap (λ h. table_of_last R (entries_of entry h)) (filter-append (is_in_time cal) history a)
-      ∙ elim (is_in_time cal a) as (λ b. table_of_last R (entries_of entry (cond b (filter (is_in_time cal) history ++ a ∷ []) (filter (is_in_time cal) history))) ≡ cond b (put_entry R (entry a.row) (table_of_last R (entries_of entry (filter (is_in_time cal) history)))) (table_of_last R (entries_of entry (filter (is_in_time cal) history)))) [
-        | true ↦ last-append (filter (is_in_time cal) history) a
-        | false ↦ refl
-      ]
+  with_entries_if : (in_time : Bool) (es : List (K × V)) (e : Option (K × V))
+      → table_of_last R (cond in_time (es ++ option_to_list e) es) ≡ put_in_time R in_time e (table_of_last R es)
+  with_entries_if true es None = with_entries es None
+  with_entries_if false es None = refl
+  with_entries_if true es (Some e) = with_entries es (Some e)
+  with_entries_if false es (Some e) = refl
 
--- only contracts and reallocations are late
-none_late : {X : Type 0} (t : Bool) → t ≡ false → true ≡ t → X
-none_late true e h = absurd (false_is_not_true (sym e))
-none_late false e h = absurd (false_is_not_true (sym h))
+  entries_if : (in_time : Bool) (history : History) (a : Accepted)
+      → entries_of entry (cond in_time (history ++ a ∷ []) history) ≡ cond in_time (entries_of entry history ++ option_to_list (entry a.row)) (entries_of entry history)
+  entries_if true history a = entries_of-append entry history a
+  entries_if false history a = refl
 
-module _ (cal : Calendar) (moment : ℤ) where
-  late_party : (r : Row) → is_in_time cal (accepted_at moment r) ≡ false → party_entry r ≡ None
-  late_party (row.Party r) e = absurd (false_is_not_true (sym e))
-  late_party (row.Unit r) e = refl
-  late_party (row.Meter r) e = refl
-  late_party (row.Price r) e = refl
-  late_party (row.Contract r) e = refl
-  late_party (row.Reallocation r) e = refl
+  -- of the rows in time: a late row changes nothing
+  pub timely-append : (timetable : Timetable) (history : History) (a : Accepted) →
+      table_of_last R (entries_of entry (filter (is_in_time timetable) (history ++ a ∷ []))) ≡ put_in_time R (is_in_time timetable a) (entry a.row) (table_of_last R (entries_of entry (filter (is_in_time timetable) history)))
+  timely-append timetable history a =
+      let in_time : History = filter (is_in_time timetable) history in
+      ap (λ h. table_of_last R (entries_of entry h)) (filter-append (is_in_time timetable) history a)
+      ∙ ap (table_of_last R) (entries_if (is_in_time timetable a) in_time a)
+      ∙ with_entries_if (is_in_time timetable a) (entries_of entry in_time) (entry a.row)
 
-  late_unit : (r : Row) → is_in_time cal (accepted_at moment r) ≡ false → unit_entry r ≡ None
-  late_unit (row.Party r) e = refl
-  late_unit (row.Unit r) e = absurd (false_is_not_true (sym e))
-  late_unit (row.Meter r) e = refl
-  late_unit (row.Price r) e = refl
-  late_unit (row.Contract r) e = refl
-  late_unit (row.Reallocation r) e = refl
-
-  late_meter : (r : Row) → is_in_time cal (accepted_at moment r) ≡ false → meter_entry r ≡ None
-  late_meter (row.Party r) e = refl
-  late_meter (row.Unit r) e = refl
-  late_meter (row.Meter r) e = absurd (false_is_not_true (sym e))
-  late_meter (row.Price r) e = refl
-  late_meter (row.Contract r) e = refl
-  late_meter (row.Reallocation r) e = refl
-
-  late_price : (r : Row) → is_in_time cal (accepted_at moment r) ≡ false → price_entry r ≡ None
-  late_price (row.Party r) e = refl
-  late_price (row.Unit r) e = refl
-  late_price (row.Meter r) e = refl
-  late_price (row.Price r) e = absurd (false_is_not_true (sym e))
-  late_price (row.Contract r) e = refl
-  late_price (row.Reallocation r) e = refl
-
--- an entry that no late row has is put in either case
-in_either : {K V : Type 0} (R : K → K → Ordering) (t : Bool) (e : Option (K × V)) (table : Table K V) → (t ≡ false → e ≡ None) → put_entry R e table ≡ cond t (put_entry R e table) table
-in_either R true e table none = refl
-in_either R false e table none = ap (λ x. put_entry R x table) (none refl)
-
--- the register with one more row, field by field
-fields_with : Bool → Row → Registered → Registered
-fields_with t r reg = record {
-  parties = cond t (put_entry bytes_cmp (party_entry r) reg.parties) reg.parties;
-  units = cond t (put_entry bytes_cmp (unit_entry r) reg.units) reg.units;
-  references = put_new bytes_cmp (reference_entry r) reg.references;
-  meters = cond t (put_entry unit_period_cmp (meter_entry r) reg.meters) reg.meters;
-  prices = cond t (put_entry settlement_period_cmp (price_entry r) reg.prices) reg.prices;
-  contracts = cond t (put_entry contract_key_cmp (contract_entry r) reg.contracts) reg.contracts;
-  reallocations = cond t (put_entry reallocation_key_cmp (reallocation_entry r) reg.reallocations) reg.reallocations;
+pub looks_back : (timetable : Timetable) (history : History) (a : Accepted)
+    → registered_in timetable (history ++ a ∷ []) ≡ with_row (is_in_time timetable a) a.row (registered_in timetable history)
+looks_back timetable history a = λ i. record {
+  parties = last-append bytes_total exact_bytes party_entry history a i;
+  units = last-append bytes_total exact_bytes unit_entry history a i;
+  references = first-append bytes_total exact_bytes reference_entry history a i;
+  meters = last-append unit_period_total exact_unit_periods meter_entry history a i;
+  prices = last-append settlement_period_total exact_settlement_periods price_entry history a i;
+  contracts = timely-append contract_key_total exact_contract_keys contract_entry timetable history a i;
+  reallocations = timely-append reallocation_key_total exact_reallocation_keys reallocation_entry timetable history a i;
 }
-
-fields_are : (t : Bool) (r : Row) (reg : Registered) → fields_with t r reg ≡ record (cond t (put_row r reg) reg) { references = put_new bytes_cmp (reference_entry r) reg.references }
-unfolding fields_with
-fields_are true r reg = refl
-fields_are false r reg = refl
-
-pub looks_back : LooksBack
-unfolding fields_with
-looks_back cal history a =
-    let t : Bool = is_in_time cal a in
-    let reg : Registered = registered_in cal history in
-    let p = last-append bytes_total exact_bytes party_entry history a ∙ in_either bytes_cmp t (party_entry a.row) reg.parties (late_party cal a.moment a.row) in
-    let u = last-append bytes_total exact_bytes unit_entry history a ∙ in_either bytes_cmp t (unit_entry a.row) reg.units (late_unit cal a.moment a.row) in
-    let f = first-append bytes_total exact_bytes reference_entry history a in
-    let m = last-append unit_period_total exact_unit_periods meter_entry history a ∙ in_either unit_period_cmp t (meter_entry a.row) reg.meters (late_meter cal a.moment a.row) in
-    let q = last-append settlement_period_total exact_settlement_periods price_entry history a ∙ in_either settlement_period_cmp t (price_entry a.row) reg.prices (late_price cal a.moment a.row) in
-    let c = timely-append contract_key_total exact_contract_keys contract_entry cal history a in
-    let w = timely-append reallocation_key_total exact_reallocation_keys reallocation_entry cal history a in
-    let all : registered_in cal (history ++ a ∷ []) ≡ fields_with t a.row reg =
-    λ i. record { parties = p i; units = u i; references = f i; meters = m i; prices = q i; contracts = c i; reallocations = w i } in
-    all ∙ fields_are t a.row reg

@@ -1,6 +1,6 @@
--- What an accepted row has.
-use Rattle.std.proofs.Common.{◌≡◌, ◌∙◌, ◌<◌, ◌≤◌, List, [], ◌∷◌, refl, sym, subst, Bool, true, false, le_refl, arith}
-use Rattle.std.specs.Prelude.{ℕ, nat_le, ℤ, ◌+ℤ◌, ◌≤ℤ◌, int_lt, ◌&&◌, not, Option, Some, None, is_none, if◌then◌else◌}
+-- What an accepted row has, and that a refusal has the least number.
+use Rattle.std.proofs.Common.{◌≡◌, ◌∙◌, ◌<◌, ◌≤◌, List, [], ◌∷◌, refl, sym, ap, subst, Bool, true, false, le_refl, arith}
+use Rattle.std.specs.Prelude.{ℕ, nat_le, ℤ, ◌+ℤ◌, ◌≤ℤ◌, int_lt, ◌&&◌, Option, Some, None, Result, Ok, Err, IfErr, is_none, if◌then◌else◌}
 use Rattle.std.proofs.lemmas.Bool.{and_parts}
 use Rattle.std.proofs.lemmas.Bool.Decides.{nat_tests}
 use Rattle.std.proofs.lemmas.Int.{ints}
@@ -9,16 +9,16 @@ use Rattle.std.specs.List.{list_all}
 use Rattle.std.proofs.lemmas.Option.{same_Some}
 use Rattle.hh_tables.proofs.TableLaws.{false_is_not_true}
 use Rattle.hh_names.specs.Accounts.{bytes_cmp}
-use Rattle.hh_names.specs.Faults.{ByRefusal, memory_fault, plain_fault, refusal_number}
+use Rattle.hh_names.specs.Faults.{first_met, refusal_number, IsLeast}
+use Rattle.hh_names.specs.declared.fault.Fault.{Fault}
 use Rattle.hh_names.specs.declared.fault.Refusal.{Refusal}
-use Rattle.hh_names.specs.declared.fault.Refusal.TheVariants as refusal
-use Rattle.hh_time.specs.Days.{has_period}
-use Rattle.hh_rows.specs.declared.rows.ReallocationRow.{ReallocationRow}
 use Rattle.hh_rows.specs.declared.rows.Row.{Row}
 use Rattle.hh_rows.specs.declared.rows.Row.TheVariants as row
-use Rattle.hh_rules.specs.History.{Calendar, is_in_time, accepted_at}
-use Rattle.hh_rules.specs.Judging.{HasRoomFor, has_its_period}
-use Rattle.hh_rules.specs.RowRule.{Standing, contract_refusals, first_met, hundred_percent, meter_refusals, most_parties, most_units, party_refusals, percent_of_others, price_refusals, reallocation_refusals, refusal_of, refusals_of, unit_refusals, IsLeast}
+use Rattle.hh_rules.specs.declared.timing.Timing.{Timing}
+use Rattle.hh_rules.specs.Effects.{HasRoomFor}
+use Rattle.hh_rules.specs.Lateness.{Timetable, accepted_at, comes_in_time, has_its_period, is_in_time, lacks_period, timing_by, timing_of}
+use Rattle.hh_rules.specs.Percents.{percent_of_others}
+use Rattle.hh_rules.specs.Refusals.{Standing, contract_refusals, hundred_percent, meter_refusals, most_parties, most_units, party_refusals, price_refusals, reallocation_refusals, refusals_of, unit_refusals}
 
 -- none of the conditions of a list is met
 abbrev NoneMet : List (Refusal × Bool) → Type 0
@@ -32,10 +32,6 @@ none_met (r ∷ rs) none = elim r.1 as (λ b. (if b then Some r.0 else first_met
   | false ↦ λ e. (refl, none_met rs e)
 ] none
 
-has_it : (b : Bool) → not b ≡ false → b ≡ true
-has_it true e = refl
-has_it false e = cc
-
 below : {X : Type 0} (o : Option X) (most count : ℕ) → (is_none o && nat_le most count) ≡ false → o ≡ None → count < most
 below None most count e none = grind (arith, nat_tests)
 below (Some x) most count e none = cc
@@ -44,27 +40,33 @@ within : (in_time : Bool) (most sum : ℤ) → (in_time && int_lt most sum) ≡ 
 within true most sum e t = grind (arith, ints)
 within false most sum e t = cc
 
-pub accepted_has_period : (cal : Calendar) (standing : Standing) (moment : ℤ) (r : Row) → refusal_of cal standing (accepted_at moment r) ≡ None → has_its_period cal.midnight r ≡ true
-accepted_has_period cal standing moment (row.Party r) none = refl
-accepted_has_period cal standing moment (row.Unit r) none = refl
-accepted_has_period cal standing moment (row.Meter r) none = has_it _ (none_met (meter_refusals cal standing r) none).1.1.0
-accepted_has_period cal standing moment (row.Price r) none = has_it _ (none_met (price_refusals cal standing r) none).0
-accepted_has_period cal standing moment (row.Contract r) none = has_it _ (none_met (contract_refusals cal standing r) none).1.1.0
-accepted_has_period cal standing moment (row.Reallocation r) none =
-    has_it _ (none_met (reallocation_refusals cal standing (is_in_time cal (accepted_at moment (row.Reallocation r))) r) none).1.1.1.0
+-- the timing of an accepted row, unless it has no period to lack
+lacks_none : (timetable : Timetable) (standing : Standing) (moment : ℤ) (r : Row)
+    → first_met (refusals_of standing (timing_of timetable (accepted_at moment r)) r) ≡ None
+    → lacks_period (timing_of timetable (accepted_at moment r)) ≡ false
+lacks_none timetable standing moment (row.Party r) none = refl
+lacks_none timetable standing moment (row.Unit r) none = refl
+lacks_none timetable standing moment (row.Meter r) none = (none_met (meter_refusals standing (timing_of timetable (accepted_at moment (row.Meter r))) r) none).1.1.0
+lacks_none timetable standing moment (row.Price r) none = (none_met (price_refusals (timing_of timetable (accepted_at moment (row.Price r)))) none).0
+lacks_none timetable standing moment (row.Contract r) none = (none_met (contract_refusals standing (timing_of timetable (accepted_at moment (row.Contract r))) r) none).1.1.0
+lacks_none timetable standing moment (row.Reallocation r) none = (none_met (reallocation_refusals standing (timing_of timetable (accepted_at moment (row.Reallocation r))) r) none).1.1.1.0
 
-pub accepted_has_room : (cal : Calendar) (standing : Standing) (moment : ℤ) (r : Row) → refusal_of cal standing (accepted_at moment r) ≡ None
-    → HasRoomFor (is_in_time cal (accepted_at moment r)) standing r
-accepted_has_room cal standing moment (row.Party r) none =
-    below (find bytes_cmp r.party standing.tables.parties) most_parties standing.party_count (none_met (party_refusals cal standing r) none).1.0
-accepted_has_room cal standing moment (row.Unit r) none =
-    below (find bytes_cmp r.unit standing.tables.units) most_units standing.unit_count (none_met (unit_refusals cal standing r) none).1.1.1.1.0
-accepted_has_room cal standing moment (row.Meter r) none = tt
-accepted_has_room cal standing moment (row.Price r) none = tt
-accepted_has_room cal standing moment (row.Contract r) none = tt
-accepted_has_room cal standing moment (row.Reallocation r) none =
-    let in_time : Bool = is_in_time cal (accepted_at moment (row.Reallocation r)) in
-    λ is other. within in_time hundred_percent (percent_of_others cal standing r.key +ℤ r.reallocation.percent) (none_met (reallocation_refusals cal standing in_time r) none).1.1.1.1.1.0 is
+-- where the date has the period, the row comes in time if it lies before its deadline
+in_time_by : (has_period in_time : Bool) → lacks_period (timing_by has_period in_time) ≡ false → comes_in_time (timing_by has_period in_time) ≡ in_time
+in_time_by true true e = refl
+in_time_by true false e = refl
+in_time_by false in_time e = cc
+
+pub accepted_has_room : (standing : Standing) (timing : Timing) (r : Row) → first_met (refusals_of standing timing r) ≡ None → HasRoomFor (comes_in_time timing) r standing
+accepted_has_room standing timing (row.Party r) none =
+    below (find bytes_cmp r.party standing.tables.parties) most_parties standing.party_count (none_met (party_refusals standing r) none).1.0
+accepted_has_room standing timing (row.Unit r) none =
+    below (find bytes_cmp r.unit standing.tables.units) most_units standing.unit_count (none_met (unit_refusals standing r) none).1.1.1.1.0
+accepted_has_room standing timing (row.Meter r) none = tt
+accepted_has_room standing timing (row.Price r) none = tt
+accepted_has_room standing timing (row.Contract r) none = tt
+accepted_has_room standing timing (row.Reallocation r) none =
+    within (comes_in_time timing) hundred_percent (percent_of_others r.key standing.tables.reallocations +ℤ r.reallocation.percent) (none_met (reallocation_refusals standing timing r) none).1.1.1.1.1.0
 
 -- the refusals of each kind stand in the order of their numbers
 abbrev none_below : ℕ → List (Refusal × Bool) → Bool
@@ -74,13 +76,13 @@ abbrev rises : List (Refusal × Bool) → Bool
 rises [] = true
 rises (r ∷ rs) = none_below (refusal_number r.0) rs && rises rs
 
-rising : (cal : Calendar) (standing : Standing) (moment : ℤ) (r : Row) → rises (refusals_of cal standing (accepted_at moment r)) ≡ true
-rising cal standing moment (row.Party r) = refl
-rising cal standing moment (row.Unit r) = refl
-rising cal standing moment (row.Meter r) = refl
-rising cal standing moment (row.Price r) = refl
-rising cal standing moment (row.Contract r) = refl
-rising cal standing moment (row.Reallocation r) = refl
+rising : (standing : Standing) (timing : Timing) (r : Row) → rises (refusals_of standing timing r) ≡ true
+rising standing timing (row.Party r) = refl
+rising standing timing (row.Unit r) = refl
+rising standing timing (row.Meter r) = refl
+rising standing timing (row.Price r) = refl
+rising standing timing (row.Contract r) = refl
+rising standing timing (row.Reallocation r) = refl
 
 at_most : (m n : ℕ) → nat_le m n ≡ true → m ≤ n
 at_most m n e = grind (arith, nat_tests)
@@ -101,36 +103,29 @@ first_is_least (r ∷ rs) least in_order is =
       | false ↦ λ unmet e. (λ met. absurd (false_is_not_true (sym unmet ∙ met)), first_is_least rs least halves.1 e)
     ] refl is
 
-pub least_refusal : (cal : Calendar) (standing : Standing) (moment : ℤ) (r : Row) (least : Refusal) → refusal_of cal standing (accepted_at moment r) ≡ Some least
-    → IsLeast least (refusals_of cal standing (accepted_at moment r))
-least_refusal cal standing moment r least is = first_is_least (refusals_of cal standing (accepted_at moment r)) least (rising cal standing moment r) is
+-- a row that is judged by the timing that was found, at the moment that was passed on
+module _ (timetable : Timetable) (standing : Standing) (z moment : ℤ) (r : Row) (timing : Timing) (answer : Option Refusal) (passed : z ≡ moment)
+    (timed : timing ≡ timing_of timetable (accepted_at z r)) (told : answer ≡ first_met (refusals_of standing timing r)) where
+  timed_at : timing ≡ timing_of timetable (accepted_at moment r)
+  timed_at = timed ∙ ap (λ m. timing_of timetable (accepted_at m r)) passed
 
--- a refusal is told as it is, also where it says that memory is wanted
-pub by_refusal : (P : Type 0) (r : Refusal) → P → ByRefusal r (plain_fault r ≡ memory_fault) P
-by_refusal P refusal.Memory p = refl
-by_refusal P _ p = p
+  pub told_at : answer ≡ first_met (refusals_of standing (timing_of timetable (accepted_at moment r)) r)
+  told_at = told ∙ ap (λ t. first_met (refusals_of standing t r)) timed_at
 
--- two lists that begin alike, where the rest of the second is not met
-pub record Agrees (xs ys : List (Refusal × Bool)) (o : Option Refusal) : Type 0 where
-  pub some : (r : Refusal) → first_met ys ≡ Some r → first_met xs ≡ Some r
-  pub none : first_met ys ≡ None → first_met xs ≡ o
+  pub least_told : (least : Refusal) → answer ≡ Some least → IsLeast least (refusals_of standing (timing_of timetable (accepted_at moment r)) r)
+  least_told least is =
+      first_is_least (refusals_of standing (timing_of timetable (accepted_at moment r)) r) least (rising standing (timing_of timetable (accepted_at moment r)) r) (sym told_at ∙ is)
 
-step : (a : Refusal × Bool) (xs ys : List (Refusal × Bool)) (o : Option Refusal) → Agrees xs ys o → Agrees (a ∷ xs) (a ∷ ys) o
-step a xs ys o h = record {
-  some = λ r. elim a.1 as (λ b. (if b then Some a.0 else first_met ys) ≡ Some r → (if b then Some a.0 else first_met xs) ≡ Some r) [ true ↦ λ e. e | false ↦ h.some r ];
-  none = elim a.1 as (λ b. (if b then Some a.0 else first_met ys) ≡ None → (if b then Some a.0 else first_met xs) ≡ o) [ true ↦ λ e. cc | false ↦ h.none ];
-}
+  pub in_time_told : answer ≡ None → comes_in_time timing ≡ is_in_time timetable (accepted_at moment r)
+  in_time_told none =
+      ap comes_in_time timed_at
+      ∙ in_time_by (has_its_period timetable.midnight r) (is_in_time timetable (accepted_at moment r)) (lacks_none timetable standing moment r (sym told_at ∙ none))
 
-last : (in_time over : Bool) → Agrees ((refusal.OverHundred, in_time && over) ∷ []) ((refusal.OverHundred, false) ∷ []) (if in_time && over then Some refusal.OverHundred else None)
-last in_time over = record { some = λ r e. cc; none = λ e. refl }
+-- where none is met, none has a lesser number
+none_is_least : (rs : List (Refusal × Bool)) (least : Refusal) → NoneMet rs → IsLeast least rs
+none_is_least [] least none = tt
+none_is_least (r ∷ rs) least none = (λ met. absurd (false_is_not_true (sym none.0 ∙ met)), none_is_least rs least none.1)
 
--- what is refused whatever the percentage is refused, and else the percentage decides
-pub with_percent : (cal : Calendar) (standing : Standing) (in_time : Bool) (r : ReallocationRow)
-    → Agrees (reallocation_refusals cal standing in_time r) (reallocation_refusals cal standing false r)
-    (if in_time && int_lt hundred_percent (percent_of_others cal standing r.key +ℤ r.reallocation.percent) then Some refusal.OverHundred else None)
-with_percent cal standing in_time r =
-    step _ _ _ _ (step _ _ _ _ (step _ _ _ _ (step _ _ _ _ (step _ _ _ _ (last in_time (int_lt hundred_percent (percent_of_others cal standing r.key +ℤ r.reallocation.percent)))))))
-
-pub has_reallocation_period : (cal : Calendar) (standing : Standing) (in_time : Bool) (r : ReallocationRow) → first_met (reallocation_refusals cal standing in_time r) ≡ None
-    → has_period cal.midnight r.key.unit_period.at.date r.key.unit_period.at.period ≡ true
-has_reallocation_period cal standing in_time r none = has_it _ (none_met (reallocation_refusals cal standing in_time r) none).1.1.1.0
+pub least_of_none : {X : Type 0} (rs : List (Refusal × Bool)) → first_met rs ≡ None → (r : Result X Fault) → IfErr r (λ fault. IsLeast fault.refusal rs)
+least_of_none rs none (Ok x) = tt
+least_of_none rs none (Err fault) = none_is_least rs fault.refusal (none_met rs none)

@@ -1,6 +1,6 @@
 -- What one more row changes, and what it leaves.
 use Rattle.std.proofs.Common.{◌≡◌, ℤ, Bool, true, false, cond, refl, sym, ap, subst, ◌∙◌, Option, Some, None, Ordering}
-use Rattle.std.specs.Prelude.{is_some, if◌then◌else◌}
+use Rattle.std.specs.Prelude.{is_some}
 use Rattle.std.specs.Cmp.{IsTotalOrder, Equal-is, eq_by_cmp_equiv}
 use Rattle.std.specs.Ordering.{eq_by_cmp}
 use Rattle.std.specs.declared.cmp.Ordering.TheVariants.{Equal}
@@ -11,110 +11,100 @@ use Rattle.hh_tables.proofs.TableLaws.{false_is_not_true}
 use Rattle.hh_tables.specs.Tables.{Table}
 use Rattle.hh_names.specs.Accounts.{bytes_cmp}
 use Rattle.hh_names.proofs.AccountLaws.{bytes_total}
-use Rattle.hh_rows.specs.Keys.{contract_key_cmp, reallocation_key_cmp, settlement_period_cmp, unit_period_cmp}
-use Rattle.hh_rows.specs.KeyOrders.{contract_key_total, reallocation_key_total, settlement_period_total, unit_period_total}
-use Rattle.hh_rows.specs.declared.rows.ContractRow.{ContractRow}
-use Rattle.hh_rows.specs.declared.rows.MeterRow.{MeterRow}
-use Rattle.hh_rows.specs.declared.rows.PriceRow.{PriceRow}
-use Rattle.hh_rows.specs.declared.rows.ReallocationRow.{ReallocationRow}
+use Rattle.hh_rows.specs.Keys.{contract_key_cmp, reallocation_key_cmp}
+use Rattle.hh_rows.proofs.KeyLaws.{contract_key_total, reallocation_key_total, settlement_period_total, unit_period_total}
 use Rattle.hh_rows.specs.declared.rows.Row.{Row}
 use Rattle.hh_rows.specs.declared.rows.Row.TheVariants as row
-use Rattle.hh_rules.specs.Entries.{reference_entry}
-use Rattle.hh_rules.specs.History.{Calendar, Accepted, Registered, is_in_time, accepted_at}
+use Rattle.hh_rules.specs.Entries.{contract_entry, reallocation_entry, reference_entry}
+use Rattle.hh_rules.specs.History.{Registered}
+use Rattle.hh_rules.specs.Lateness.{Timetable, Accepted, accepted_at, is_in_time}
 use Rattle.hh_rules.specs.declared.row_done.RowDone.{RowDone}
 use Rattle.hh_rules.specs.declared.row_done.RowDone.TheVariants.{Applied, Late}
 use Rattle.hh_rules.proofs.StandingLaws.{standing-append}
-use Rattle.hh_rules.specs.RowEffects.{KeepsRowsInForce, KeepsReferences, ReplacesRowOf, IsOneMoreRow}
-use Rattle.hh_rules.specs.RowRule.{Standing, put_row, put_new, with_row, standing_with}
+use Rattle.hh_rules.specs.Effects.{KeepsRowsInForce, ReplacesRowOf, IsOneMoreRow, put_in_time, put_new, row_done, standing_with, with_row}
+use Rattle.hh_rules.specs.Refusals.{Standing}
 
 -- a late row changes no row in force
-pub keeps_rows_in_force : (cal : Calendar) (a : Accepted) (tables : Registered) → is_in_time cal a ≡ false → KeepsRowsInForce tables (with_row cal a tables)
-keeps_rows_in_force cal a tables late = record {
-  parties = ap (λ b. (cond b (put_row a.row tables) tables).parties) late;
-  units = ap (λ b. (cond b (put_row a.row tables) tables).units) late;
-  meters = ap (λ b. (cond b (put_row a.row tables) tables).meters) late;
-  prices = ap (λ b. (cond b (put_row a.row tables) tables).prices) late;
-  contracts = ap (λ b. (cond b (put_row a.row tables) tables).contracts) late;
-  reallocations = ap (λ b. (cond b (put_row a.row tables) tables).reallocations) late;
-}
+late_alone : {X : Type 0} → true ≡ false → X
+late_alone late = absurd (false_is_not_true (sym late))
 
--- a reading replaces exactly the one of its key
-replaces_meter : (cal : Calendar) (moment : ℤ) (r : MeterRow) (tables : Registered)
-    → ReplacesRowOf unit_period_cmp r.key r.reading tables.meters (with_row cal (accepted_at moment (row.Meter r)) tables).meters
-replaces_meter cal moment r tables other = find-put unit_period_cmp unit_period_total other r.key r.reading tables.meters
+module _ (timetable : Timetable) (moment : ℤ) (tables : Registered) where
+  keeps_rows_in_force : (r : Row) → is_in_time timetable (accepted_at moment r) ≡ false
+      → KeepsRowsInForce tables (with_row (is_in_time timetable (accepted_at moment r)) r tables)
+  keeps_rows_in_force (row.Party r) late = late_alone late
+  keeps_rows_in_force (row.Unit r) late = late_alone late
+  keeps_rows_in_force (row.Meter r) late = late_alone late
+  keeps_rows_in_force (row.Price r) late = late_alone late
+  keeps_rows_in_force (row.Contract r) late = record {
+    parties = refl;
+    units = refl;
+    meters = refl;
+    prices = refl;
+    contracts = ap (λ t. put_in_time contract_key_cmp t (contract_entry (row.Contract r)) tables.contracts) late;
+    reallocations = refl;
+  }
+  keeps_rows_in_force (row.Reallocation r) late = record {
+    parties = refl;
+    units = refl;
+    meters = refl;
+    prices = refl;
+    contracts = refl;
+    reallocations = ap (λ t. put_in_time reallocation_key_cmp t (reallocation_entry (row.Reallocation r)) tables.reallocations) late;
+  }
 
--- a price replaces exactly the one of its Settlement Period
-replaces_price : (cal : Calendar) (moment : ℤ) (r : PriceRow) (tables : Registered)
-    → ReplacesRowOf settlement_period_cmp r.at r.price tables.prices (with_row cal (accepted_at moment (row.Price r)) tables).prices
-replaces_price cal moment r tables other = find-put settlement_period_cmp settlement_period_total other r.at r.price tables.prices
+module _ {K V : Type 0} {R : K → K → Ordering} (o : IsTotalOrder R) where
+  -- a table with a row put under a key has that row replaced, and no other
+  replaced : (key : K) (value : V) (old new : Table K V) → new ≡ put R key value old → ReplacesRowOf R key value old new
+  replaced key value old new is other = ap (find R other) is ∙ find-put R o other key value old
 
--- a contract row in time replaces exactly the row of its key
-pub replaces_contract : (cal : Calendar) (moment : ℤ) (r : ContractRow) (tables : Registered) → is_in_time cal (accepted_at moment (row.Contract r)) ≡ true
-    → ReplacesRowOf contract_key_cmp r.key r.contract.volume tables.contracts (with_row cal (accepted_at moment (row.Contract r)) tables).contracts
-replaces_contract cal moment r tables in_time other =
-    ap (λ b. find contract_key_cmp other (cond b (put_row (row.Contract r) tables) tables).contracts) in_time
-    ∙ find-put contract_key_cmp contract_key_total other r.key r.contract.volume tables.contracts
+  -- an entry that is put only where its key is new leaves the key that is there
+  kept-put_new : ((x y : K) → R x y ≡ Equal → x ≡ y) → (e : Option (K × V)) (table : Table K V) (q : K)
+      → is_some (find R q table) ≡ true → find R q (put_new R e table) ≡ find R q table
+  kept-put_new exact None table q there = refl
+  kept-put_new exact (Some e) table q there =
+      elim (is_some (find R e.0 table)) as (λ b. is_some (find R e.0 table) ≡ b → find R q (cond b table (put R e.0 e.1 table)) ≡ find R q table) [
+        | true ↦ λ known. refl
+        | false ↦ λ new. find-put R o q e.0 e.1 table ∙ apart new (eq_by_cmp R q e.0) refl
+      ] refl
+    where
+      apart : is_some (find R e.0 table) ≡ false → (b : Bool) → eq_by_cmp R q e.0 ≡ b → cond b (Some e.1) (find R q table) ≡ find R q table
+      apart new false differs = refl
+      apart new true same = absurd (false_is_not_true (sym new ∙ ap (λ k. is_some (find R k table)) (sym (exact q e.0 ((Equal-is (R q e.0)).0 same))) ∙ there))
 
--- a reallocation row in time likewise
-pub replaces_reallocation : (cal : Calendar) (moment : ℤ) (r : ReallocationRow) (tables : Registered) → is_in_time cal (accepted_at moment (row.Reallocation r)) ≡ true
-    → ReplacesRowOf reallocation_key_cmp r.key r.reallocation tables.reallocations (with_row cal (accepted_at moment (row.Reallocation r)) tables).reallocations
-replaces_reallocation cal moment r tables in_time other =
-    ap (λ b. find reallocation_key_cmp other (cond b (put_row (row.Reallocation r) tables) tables).reallocations) in_time
-    ∙ find-put reallocation_key_cmp reallocation_key_total other r.key r.reallocation tables.reallocations
-
--- an entry that is put only where its key is new leaves the key that is there
-kept-put_new : {K V : Type 0} {R : K → K → Ordering} (o : IsTotalOrder R) (exact : (x y : K) → R x y ≡ Equal → x ≡ y) (e : Option (K × V)) (table : Table K V) (q : K)
-    → is_some (find R q table) ≡ true → find R q (put_new R e table) ≡ find R q table
-kept-put_new o exact None table q there = refl
-kept-put_new {R = R} o exact (Some e) table q there =
-    elim (is_some (find R e.0 table)) as (λ b. is_some (find R e.0 table) ≡ b → find R q (cond b table (put R e.0 e.1 table)) ≡ find R q table) [
-      | true ↦ λ known. refl
-      | false ↦ λ new. find-put R o q e.0 e.1 table ∙ apart new (eq_by_cmp R q e.0) refl
-    ] refl
-  where
-    apart : is_some (find R e.0 table) ≡ false → (b : Bool) → eq_by_cmp R q e.0 ≡ b → cond b (Some e.1) (find R q table) ≡ find R q table
-    apart new false differs = refl
-    apart new true same = absurd (false_is_not_true (sym new ∙ ap (λ k. is_some (find R k table)) (sym (exact q e.0 ((Equal-is (R q e.0)).0 same))) ∙ there))
-
--- the first row of a reference fixes its seller and buyer
-fixes_reference : (cal : Calendar) (moment : ℤ) (r : ContractRow) (tables : Registered) → find bytes_cmp r.key.reference tables.references ≡ None
-    → find bytes_cmp r.key.reference (with_row cal (accepted_at moment (row.Contract r)) tables).references ≡ Some r.contract.counterparties
-fixes_reference cal moment r tables new =
-    let key = r.key.reference in
-    ap (λ b. find bytes_cmp key (cond b tables.references (put bytes_cmp key r.contract.counterparties tables.references))) (ap is_some new)
-    ∙ find-put bytes_cmp bytes_total key key r.contract.counterparties tables.references
-    ∙ ap (λ b. cond b (Some r.contract.counterparties) (find bytes_cmp key tables.references)) ((eq_by_cmp_equiv bytes_total).refl key)
-
--- no row moves the seller and buyer of a reference
-pub keeps_references : (cal : Calendar) (a : Accepted) (tables : Registered) → KeepsReferences tables (with_row cal a tables)
-keeps_references cal a tables q there = kept-put_new bytes_total exact_bytes (reference_entry a.row) tables.references q there
+  -- and is found where its key is new
+  found-put_new : (key : K) (value : V) (table : Table K V) → find R key table ≡ None → find R key (put_new R (Some (key, value)) table) ≡ Some value
+  found-put_new key value table new =
+      ap (λ b. find R key (cond b table (put R key value table))) (ap is_some new)
+      ∙ find-put R o key key value table
+      ∙ ap (λ b. cond b (Some value) (find R key table)) ((eq_by_cmp_equiv o).refl key)
 
 -- what became of a row tells whether it was in time
-late_is : (in_time : Bool) (done : RowDone) → done ≡ (if in_time then Applied else Late) → done ≡ Late → in_time ≡ false
+late_is : (in_time : Bool) (done : RowDone) → done ≡ row_done in_time → done ≡ Late → in_time ≡ false
 late_is true done is late = cc
 late_is false done is late = refl
 
-applied_is : (in_time : Bool) (done : RowDone) → done ≡ (if in_time then Applied else Late) → done ≡ Applied → in_time ≡ true
+applied_is : (in_time : Bool) (done : RowDone) → done ≡ row_done in_time → done ≡ Applied → in_time ≡ true
 applied_is true done is applied = refl
 applied_is false done is applied = cc
 
 -- an accepted row has the effects of one more row
-pub one_more_row : (cal : Calendar) (a : Accepted) (done : RowDone) (old new : Standing) → new ≡ standing_with cal a old → done ≡ (if is_in_time cal a then Applied else Late)
-    → IsOneMoreRow cal a done old new
-one_more_row cal a done old new changed became = record {
-  late = λ late. subst (λ s. KeepsRowsInForce old.tables s.tables) (sym changed) (keeps_rows_in_force cal a old.tables (late_is (is_in_time cal a) done became late));
-  meter = λ r is. subst (λ s. ReplacesRowOf unit_period_cmp r.key r.reading old.tables.meters s.tables.meters) (sym changed)
-      (subst (λ (x : Row). ReplacesRowOf unit_period_cmp r.key r.reading old.tables.meters (with_row cal (record a { row = x }) old.tables).meters) (sym is) (replaces_meter cal a.moment r old.tables));
-  price = λ r is. subst (λ s. ReplacesRowOf settlement_period_cmp r.at r.price old.tables.prices s.tables.prices) (sym changed)
-      (subst (λ (x : Row). ReplacesRowOf settlement_period_cmp r.at r.price old.tables.prices (with_row cal (record a { row = x }) old.tables).prices) (sym is) (replaces_price cal a.moment r old.tables));
-  contract = λ r is applied. subst (λ s. ReplacesRowOf contract_key_cmp r.key r.contract.volume old.tables.contracts s.tables.contracts) (sym changed)
-      (subst (λ (x : Row). is_in_time cal (record a { row = x }) ≡ true → ReplacesRowOf contract_key_cmp r.key r.contract.volume old.tables.contracts (with_row cal (record a { row = x }) old.tables).contracts) (sym is) (replaces_contract cal a.moment r old.tables)
-      (applied_is (is_in_time cal a) done became applied));
-  reallocation = λ r is applied. subst (λ s. ReplacesRowOf reallocation_key_cmp r.key r.reallocation old.tables.reallocations s.tables.reallocations) (sym changed)
-      (subst (λ (x : Row). is_in_time cal (record a { row = x }) ≡ true → ReplacesRowOf reallocation_key_cmp r.key r.reallocation old.tables.reallocations (with_row cal (record a { row = x }) old.tables).reallocations) (sym is) (replaces_reallocation cal a.moment r old.tables)
-      (applied_is (is_in_time cal a) done became applied));
-  fixes = λ r is new. subst (λ s. find bytes_cmp r.key.reference s.tables.references ≡ Some r.contract.counterparties) (sym changed)
-      (subst (λ (x : Row). find bytes_cmp r.key.reference (with_row cal (record a { row = x }) old.tables).references ≡ Some r.contract.counterparties) (sym is) (fixes_reference cal a.moment r old.tables new));
-  references = subst (λ s. KeepsReferences old.tables s.tables) (sym changed) (keeps_references cal a old.tables);
-  looks_back = λ history stands. changed ∙ ap (standing_with cal a) stands ∙ standing-append cal history a;
-}
+pub one_more_row : (timetable : Timetable) (a : Accepted) (old new : Standing) (done : RowDone)
+    → new ≡ standing_with (is_in_time timetable a) a.row old → done ≡ row_done (is_in_time timetable a) → IsOneMoreRow timetable a old new done
+one_more_row timetable a old new done changed became =
+    let in_time : Bool = is_in_time timetable a in
+    let tables : new.tables ≡ with_row in_time a.row old.tables = ap (λ s. s.tables) changed in
+    record {
+      late = λ late. subst (KeepsRowsInForce old.tables) (sym tables) (keeps_rows_in_force timetable a.moment old.tables a.row (late_is in_time done became late));
+      meter = λ r is. replaced unit_period_total r.key r.reading _ _ (ap (λ t. t.meters) tables ∙ ap (λ x. (with_row in_time x old.tables).meters) is);
+      price = λ r is. replaced settlement_period_total r.at r.price _ _ (ap (λ t. t.prices) tables ∙ ap (λ x. (with_row in_time x old.tables).prices) is);
+      contract = λ r is applied. replaced contract_key_total r.key r.contract.volume _ _
+          (ap (λ t. t.contracts) tables ∙ (λ i. (with_row (applied_is in_time done became applied i) (is i) old.tables).contracts));
+      reallocation = λ r is applied. replaced reallocation_key_total r.key r.reallocation _ _
+          (ap (λ t. t.reallocations) tables ∙ (λ i. (with_row (applied_is in_time done became applied i) (is i) old.tables).reallocations));
+      fixes = λ r is unknown. ap (λ t. find bytes_cmp r.key.reference t.references) tables
+          ∙ ap (λ x. find bytes_cmp r.key.reference (with_row in_time x old.tables).references) is
+          ∙ found-put_new bytes_total r.key.reference r.contract.counterparties old.tables.references unknown;
+      keeps = λ reference there. ap (λ t. find bytes_cmp reference t.references) tables
+          ∙ kept-put_new bytes_total exact_bytes (reference_entry a.row) old.tables.references reference there;
+      looks_back = λ history stands. changed ∙ ap (standing_with in_time a.row) stands ∙ standing-append timetable history a;
+    }

@@ -1,7 +1,7 @@
+pub mod Effects
 pub mod Entries
 pub mod History
-pub mod Judging
+pub mod Lateness
 pub mod Percents
+pub mod Refusals
 pub mod RegisterView
-pub mod RowEffects
-pub mod RowRule

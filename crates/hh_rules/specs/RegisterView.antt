@@ -1,12 +1,13 @@
--- What contracts see of a register in memory, and when it serves for some rows.
-use Rattle.std.specs.Prelude.{◌≡◌, ℕ, List, [], filter, All, Option, Some, None, Result, Ok, Err}
+-- What contracts see of a register in memory, and when a part of one serves for some rows.
+use Rattle.std.specs.Prelude.{◌≡◌, ℕ, ℤ, List, [], filter, All, Bool, Option, Some, None, Result, Ok, Err}
 use Rattle.std.specs.FinMap.{find}
 use Rattle.std.specs.Ordering.{eq_by_cmp}
-use Rattle.jiff.specs.Types.{TimeZone}
+use Rattle.jiff.specs.declared.tz.timezone.TimeZone.{TimeZone}
+use Rattle.jiff.specs.Words.{plain_zone}
 use Rattle.hh_tables.specs.Tables.{Table}
 use Rattle.hh_time.specs.Zone.{midnight_in}
 use Rattle.hh_names.specs.Accounts.{bytes_cmp}
-use Rattle.hh_names.specs.Faults.{plain_fault}
+use Rattle.hh_names.specs.Faults.{first_met, plain_fault, IsLeast}
 use Rattle.hh_names.specs.declared.fault.Fault.{Fault}
 use Rattle.hh_names.specs.declared.fault.Refusal.{Refusal}
 use Rattle.hh_rows.specs.Keys.{unit_period_cmp}
@@ -15,22 +16,16 @@ use Rattle.hh_rows.specs.declared.keys.ReallocationKey.{ReallocationKey}
 use Rattle.hh_names.specs.declared.values.Reallocation.{Reallocation}
 use Rattle.hh_rows.specs.declared.rows.Row.{Row}
 use Rattle.hh_rows.specs.declared.rows.Row.TheVariants as row
-use Rattle.hh_rules.specs.History.{Calendar, Registered}
-use Rattle.hh_rules.specs.RowRule.{Standing}
+use Rattle.hh_rules.specs.declared.row_done.RowDone.{RowDone}
+use Rattle.hh_rules.specs.Effects.{IsOneMoreRow, row_done, standing_with}
+use Rattle.hh_rules.specs.History.{Registered}
+use Rattle.hh_rules.specs.Lateness.{Timetable, accepted_at, is_in_time, timing_of}
+use Rattle.hh_rules.specs.Refusals.{Standing, refusals_of}
 
 -- what rows are judged by, and the minutes by which notifications close before their period
 pub record RegisterView : Type 0 where
   pub lead_minutes : ℕ
   pub standing : Standing
-
--- when local midnights fall in a zone, and the register's lead
-abbrev pub calendar_in : TimeZone → RegisterView → Calendar
-calendar_in zone register = record { midnight = midnight_in zone; lead_minutes = register.lead_minutes }
-
--- the answer to a row that is refused for a reason, or for none
-abbrev pub judged : Option Refusal → Result (Unit {0}) Fault
-judged None = Ok tt
-judged (Some r) = Err (plain_fault r)
 
 -- the register in which nothing is registered or in force
 abbrev pub empty_register : ℕ → RegisterView
@@ -42,6 +37,71 @@ empty_register lead_minutes = record {
     unit_count = 0;
   };
 }
+
+-- what is registered and in force in a register
+abbrev pub tables_in : RegisterView → Registered
+tables_in register = register.standing.tables
+
+-- when local midnights fall in a zone, and so many minutes before a period
+abbrev pub timetable_in : TimeZone → ℕ → Timetable
+timetable_in zone lead_minutes = record { midnight = midnight_in (plain_zone zone); lead_minutes = lead_minutes }
+
+-- the timetable by which a register judges rows
+abbrev pub timetable_of : TimeZone → RegisterView → Timetable
+timetable_of zone register = timetable_in zone register.lead_minutes
+
+-- the answer to a row that is refused for a reason, or for none
+abbrev pub judged : Option Refusal → Result (Unit {0}) Fault
+judged None = Ok tt
+judged (Some r) = Err (plain_fault r)
+
+-- the register after one more row that is in time or not
+abbrev pub after_row : Bool → Row → RegisterView → RegisterView
+after_row in_time r register = record register { standing = standing_with in_time r register.standing }
+
+-- of a row that comes to a register at a moment
+module _ (zone : TimeZone) (register : RegisterView) (moment : ℤ) (r : Row) where
+  -- whether it comes in time
+  abbrev pub in_time_at : Bool
+  in_time_at = is_in_time (timetable_of zone register) (accepted_at moment r)
+
+  abbrev pub TellsInTime : Bool → Type 0
+  TellsInTime in_time = in_time ≡ in_time_at
+
+  -- its refusals with their conditions
+  abbrev pub refusals_at : List (Refusal × Bool)
+  refusals_at = refusals_of register.standing (timing_of (timetable_of zone register) (accepted_at moment r)) r
+
+  -- why it is refused, if it is
+  abbrev pub refusal_at : Option Refusal
+  refusal_at = first_met refusals_at
+
+  abbrev pub IsRefusedFor : Refusal → Type 0
+  IsRefusedFor why = refusal_at ≡ Some why
+
+  -- the answer to it
+  abbrev pub judged_at : Result (Unit {0}) Fault
+  judged_at = judged refusal_at
+
+  -- of its refusals whose conditions are met, none has a lesser number
+  abbrev pub IsLeastRefusal : Refusal → Type 0
+  IsLeastRefusal why = IsLeast why refusals_at
+
+  abbrev pub IsLeastFault : Fault → Type 0
+  IsLeastFault fault = IsLeastRefusal fault.refusal
+
+  -- what becomes of it, if it is accepted
+  abbrev pub done_at : RowDone
+  done_at = row_done in_time_at
+
+  -- and the register after it
+  abbrev pub register_after : RegisterView
+  register_after = after_row in_time_at r register
+
+  -- what follows of it for the register, and of what becomes of it
+  abbrev pub AddsOneRow : RegisterView → RowDone → Type 0
+  AddsOneRow new done =
+      IsOneMoreRow (timetable_of zone register) (accepted_at moment r) register.standing new.standing done
 
 -- the reallocations in force of a unit in a Settlement Period
 abbrev pub reallocations_at : Registered → UnitPeriod → Table ReallocationKey Reallocation
@@ -55,20 +115,36 @@ AgreesOnParty whole part party = find bytes_cmp party part.parties ≡ find byte
 abbrev pub AgreesOnUnit : Registered → Registered → List ℕ → Type 0
 AgreesOnUnit whole part unit = find bytes_cmp unit part.units ≡ find bytes_cmp unit whole.units
 
+-- both have the same of a reference
+abbrev pub AgreesOnReference : Registered → Registered → List ℕ → Type 0
+AgreesOnReference whole part reference =
+    find bytes_cmp reference part.references ≡ find bytes_cmp reference whole.references
+
 -- the part has of the whole what a row is judged by
 abbrev pub AgreesOn : Registered → Registered → Row → Type 0
 AgreesOn whole part (row.Party r) = AgreesOnParty whole part r.party
-AgreesOn whole part (row.Unit r) = AgreesOnParty whole part r.registration.lead.party × AgreesOnUnit whole part r.unit
+AgreesOn whole part (row.Unit r) =
+    AgreesOnParty whole part r.registration.lead.party × AgreesOnUnit whole part r.unit
 AgreesOn whole part (row.Meter r) = AgreesOnUnit whole part r.key.unit
 AgreesOn whole part (row.Price r) = Unit {0}
 AgreesOn whole part (row.Contract r) =
-    AgreesOnParty whole part r.contract.counterparties.seller.party × AgreesOnParty whole part r.contract.counterparties.buyer.party
-    × (find bytes_cmp r.key.reference part.references ≡ find bytes_cmp r.key.reference whole.references)
+    AgreesOnParty whole part r.contract.counterparties.seller.party
+    × AgreesOnParty whole part r.contract.counterparties.buyer.party
+    × AgreesOnReference whole part r.key.reference
 AgreesOn whole part (row.Reallocation r) =
-    AgreesOnParty whole part r.key.account.party × AgreesOnUnit whole part r.key.unit_period.unit
+    AgreesOnParty whole part r.key.account.party
+    × AgreesOnUnit whole part r.key.unit_period.unit
     × (reallocations_at part r.key.unit_period ≡ reallocations_at whole r.key.unit_period)
 
--- a standing that serves for these rows: it counts all parties and units, and has what the rows are judged by
-abbrev pub ServesFor : List Row → Standing → Standing → Type 0
-ServesFor rows whole part =
-    (part.party_count ≡ whole.party_count) × (part.unit_count ≡ whole.unit_count) × All (AgreesOn whole.tables part.tables) rows
+-- a part that serves for some rows closes notifications when the whole does, counts all parties and units, and has what
+-- the rows are judged by
+pub record ServesFor (rows : List Row) (whole part : RegisterView) : Type 0 where
+  pub lead_minutes : part.lead_minutes ≡ whole.lead_minutes
+  pub parties : part.standing.party_count ≡ whole.standing.party_count
+  pub units : part.standing.unit_count ≡ whole.standing.unit_count
+  pub agrees : All (AgreesOn whole.standing.tables part.standing.tables) rows
+
+-- judged by a part that serves for it, each row is refused for the whole's reason, or for none
+abbrev pub PartsJudgeAlike : Type 0
+PartsJudgeAlike = (zone : TimeZone) (moment : ℤ) (rows : List Row) (whole part : RegisterView) → ServesFor rows whole part
+    → All (λ r. refusal_at zone part moment r ≡ refusal_at zone whole moment r) rows

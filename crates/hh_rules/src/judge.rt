@@ -1,22 +1,17 @@
 //! Why a row is refused: the rules of each kind, in the order of their numbers.
 
-ghost use Rattle.std.specs.Prelude.{◌≡◌, ◌∷◌, [], ℤ, ◌+ℤ◌, int_lt, Bool, true, false, not, ◌&&◌, if◌then◌else◌, Some, None, Ok, Err, IfErr};
-ghost use Rattle.jiff.specs.Words.{plain_zone};
-ghost use Rattle.hh_names.specs.declared.fault.Refusal.TheVariants.{NoSuchPeriod, OverHundred, ShrinksRange, UnitMoved};
-ghost use Rattle.hh_time.specs.Days as days;
-ghost use Rattle.hh_names.specs.Accounts.{is_same_account};
+ghost use Rattle.std.specs.Prelude.{◌≡◌, ◌∷◌, [], not, None, IfOk, IfErr, OnOk};
+ghost use Rattle.hh_names.specs.declared.fault.Refusal.TheVariants.{ShrinksRange, UnitMoved};
+ghost use Rattle.hh_names.specs.Faults.{first_met};
 ghost use Rattle.hh_rows.specs.DateRanges.{is_inside};
-ghost use Rattle.hh_rules.specs.History.{Calendar, accepted_at, is_in_time};
-ghost use Rattle.hh_rules.specs.Judging.{has_its_period};
-ghost use Rattle.hh_rules.specs.RegisterView.{calendar_in, judged};
-ghost use Rattle.hh_rules.specs.RowRule.{contract_refusals, first_met, hundred_percent, is_same_mark, percent_of_others, meter_refusals, party_refusals, price_refusals, reallocation_refusals, refusal_of, refusals_of, unit_refusals, IsLeast};
+ghost use Rattle.hh_rules.specs.Effects.{HasRoomFor};
+ghost use Rattle.hh_rules.specs.RegisterView.{judged_at, refusal_at, IsLeastFault, IsLeastRefusal, IsRefusedFor, PartsJudgeAlike, TellsInTime};
+ghost use Rattle.hh_rules.specs.Refusals.{contract_refusals, is_unit_moved, meter_refusals, party_refusals, passes_hundred, price_refusals, reallocation_refusals, refusals_of, unit_refusals};
 
 use crate::register::Register;
 use crate::timing::Timing;
-use hh_rows::{
-    ContractRow, MeterRow, PartyRow, PriceRow, ReallocationRow, Row, UnitRegistration, UnitRow,
-};
 use hh_names::{Fault, Refusal};
+use hh_rows::{ContractRow, MeterRow, PartyRow, ReallocationRow, Row, UnitRegistration, UnitRow};
 use jiff::tz::TimeZone;
 
 /// How many parties there may be.
@@ -32,34 +27,47 @@ impl Register {
     /// Whether a row that comes at a moment, in seconds since 1970-01-01T00:00:00Z, would be accepted,
     /// and why not: refusals 30 to 42, of which the least number wins (profile). Takes no memory.
     pub fn check_row(&self, zone: &TimeZone<'_>, moment: i64, row: &Row) -> Result<(), Fault>
-        ensures answer { result ≡ judged (refusal_of (calendar_in (plain_zone zone.now) self.now) self.now.standing (accepted_at moment row.now)) }
-        ensures least { IfErr result (λ fault. IsLeast fault.refusal (refusals_of (calendar_in (plain_zone zone.now) self.now) self.now.standing (accepted_at moment row.now))) }
+        ensures answer { result ≡ judged_at zone.now self.now moment row.now }
+        ensures least { IfErr result (IsLeastFault zone.now self.now moment row.now) }
     {
-        match self.refusal_of(self.timing_of(zone, moment, row), row) {
-            Some(refusal) => Err(Fault::of(refusal)),
-            None => Ok(()),
+        match self.judge(zone, moment, row) {
+            Ok(_) => Ok(()),
+            Err(refusal) => Err(Fault::of(refusal)),
+        }
+    }
+
+    /// Whether a row that comes at a moment is in time, where it would be accepted; or why it would not.
+    pub(crate) fn judge(&self, zone: &TimeZone<'_>, moment: i64, row: &Row) -> Result<bool, Refusal>
+        ensures accepted { OnOk result (refusal_at zone.now self.now moment row.now ≡ None) }
+        ensures in_time { IfOk result (TellsInTime zone.now self.now moment row.now) }
+        ensures room { IfOk result (λ in_time. HasRoomFor in_time row.now self.now.standing) }
+        ensures refused { IfErr result (IsRefusedFor zone.now self.now moment row.now) }
+        ensures least { IfErr result (IsLeastRefusal zone.now self.now moment row.now) }
+    {
+        let timing = self.timing_of(zone, moment, row);
+        match self.refusal_of(timing, row) {
+            Some(refusal) => Err(refusal),
+            None => Ok(timing.comes_in_time()),
         }
     }
 
     /// Why a row is refused, if it is.
-    pub(crate) fn refusal_of(&self, timing: Timing, row: &Row) -> Option<Refusal>
-        ensures { (cal : Calendar) (moment : ℤ) → timing.has_period ≡ has_its_period cal.midnight row.now
-            → (timing.has_period ≡ true → timing.in_time ≡ is_in_time cal (accepted_at moment row.now))
-            → result ≡ refusal_of cal self.now.standing (accepted_at moment row.now) }
+    fn refusal_of(&self, timing: Timing, row: &Row) -> Option<Refusal>
+        ensures { result ≡ first_met (refusals_of self.now.standing timing row.now) }
     {
         match row {
             Row::Party(row) => self.refusal_of_party(row),
             Row::Unit(row) => self.refusal_of_unit(row),
-            Row::Meter(row) => self.refusal_of_meter(timing.has_period, row),
-            Row::Price(row) => self.refusal_of_price(timing.has_period, row),
-            Row::Contract(row) => self.refusal_of_contract(timing.has_period, row),
+            Row::Meter(row) => self.refusal_of_meter(timing, row),
+            Row::Price(_) => refusal_of_price(timing),
+            Row::Contract(row) => self.refusal_of_contract(timing, row),
             Row::Reallocation(row) => self.refusal_of_reallocation(timing, row),
         }
     }
 
     /// Why a row of parties is refused, if it is.
-    pub(crate) fn refusal_of_party(&self, row: &PartyRow) -> Option<Refusal>
-        ensures { (cal : Calendar) → result ≡ first_met (party_refusals cal self.now.standing row.now) }
+    fn refusal_of_party(&self, row: &PartyRow) -> Option<Refusal>
+        ensures { result ≡ first_met (party_refusals self.now.standing row.now) }
     {
         match self.party(&row.party) {
             Some(known) if !known.range.is_inside(row.registration.range) => {
@@ -71,8 +79,8 @@ impl Register {
     }
 
     /// Why a row of units is refused, if it is.
-    pub(crate) fn refusal_of_unit(&self, row: &UnitRow) -> Option<Refusal>
-        ensures { (cal : Calendar) → result ≡ first_met (unit_refusals cal self.now.standing row.now) }
+    fn refusal_of_unit(&self, row: &UnitRow) -> Option<Refusal>
+        ensures { result ≡ first_met (unit_refusals self.now.standing row.now) }
     {
         let Some(lead_party) = self.party(&row.registration.lead.party) else {
             return Some(Refusal::UnknownParty);
@@ -89,9 +97,8 @@ impl Register {
     }
 
     /// Why a row of meter volumes is refused, if it is.
-    pub(crate) fn refusal_of_meter(&self, has_period: bool, row: &MeterRow) -> Option<Refusal>
-        ensures { (cal : Calendar) → has_period ≡ days.has_period cal.midnight row.now.key.at.date row.now.key.at.period
-            → result ≡ first_met (meter_refusals cal self.now.standing row.now) }
+    fn refusal_of_meter(&self, timing: Timing, row: &MeterRow) -> Option<Refusal>
+        ensures { result ≡ first_met (meter_refusals self.now.standing timing row.now) }
     {
         let Some(unit) = self.unit(&row.key.unit) else {
             return Some(Refusal::UnknownUnit);
@@ -99,65 +106,34 @@ impl Register {
         if !unit.range.holds(row.key.at.date) {
             return Some(Refusal::NotEffective);
         }
-        refusal_of_period(has_period)
-    }
-
-    /// Why a row of prices is refused, if it is.
-    pub(crate) fn refusal_of_price(&self, has_period: bool, row: &PriceRow) -> Option<Refusal>
-        ensures { (cal : Calendar) → has_period ≡ days.has_period cal.midnight row.now.at.date row.now.at.period
-            → result ≡ first_met (price_refusals cal self.now.standing row.now) }
-    {
-        refusal_of_period(has_period)
+        if timing.lacks_period() {
+            return Some(Refusal::NoSuchPeriod);
+        }
+        None
     }
 
     /// Why a row of contracts is refused, if it is.
-    pub(crate) fn refusal_of_contract(&self, has_period: bool, row: &ContractRow) -> Option<Refusal>
-        ensures { (cal : Calendar) → has_period ≡ days.has_period cal.midnight row.now.key.at.date row.now.key.at.period
-            → result ≡ first_met (contract_refusals cal self.now.standing row.now) }
+    fn refusal_of_contract(&self, timing: Timing, row: &ContractRow) -> Option<Refusal>
+        ensures { result ≡ first_met (contract_refusals self.now.standing timing row.now) }
     {
-        let ends = row.contract.counterparties;
-        let seller = self.party(&ends.seller.party);
-        let buyer = self.party(&ends.buyer.party);
+        let counterparties = row.contract.counterparties;
+        let seller = self.party(&counterparties.seller.party);
+        let buyer = self.party(&counterparties.buyer.party);
         let (Some(seller), Some(buyer)) = (seller, buyer) else {
             return Some(Refusal::UnknownParty);
         };
         if !seller.range.holds(row.key.at.date) || !buyer.range.holds(row.key.at.date) {
             return Some(Refusal::NotEffective);
         }
-        if !has_period {
+        if timing.lacks_period() {
             return Some(Refusal::NoSuchPeriod);
         }
-        if ends.seller == ends.buyer {
-            return Some(Refusal::SameAccount);
-        }
-        match self.reference(&row.key.reference) {
-            Some(first) if first != ends => Some(Refusal::ReferenceMoved),
-            _ => None,
-        }
+        counterparties.refusal_beside(self.reference(&row.key.reference))
     }
 
     /// Why a row of reallocations is refused, if it is.
-    pub(crate) fn refusal_of_reallocation(
-        &self,
-        timing: Timing,
-        row: &ReallocationRow,
-    ) -> Option<Refusal>
-        ensures { (cal : Calendar) (in_time : Bool)
-            → timing.has_period ≡ days.has_period cal.midnight row.now.key.unit_period.at.date row.now.key.unit_period.at.period
-            → (timing.has_period ≡ true → timing.in_time ≡ in_time)
-            → result ≡ first_met (reallocation_refusals cal self.now.standing in_time row.now) }
-    {
-        if let Some(refusal) = self.refusal_before_percent(timing.has_period, row) {
-            return Some(refusal);
-        }
-        refusal_of_percent(timing.in_time, self.passes_hundred(row))
-    }
-
-    /// Why a row of reallocations is refused whatever its percentage, as a late one is, if it is.
-    fn refusal_before_percent(&self, has_period: bool, row: &ReallocationRow) -> Option<Refusal>
-        ensures { (cal : Calendar)
-            → has_period ≡ days.has_period cal.midnight row.now.key.unit_period.at.date row.now.key.unit_period.at.period
-            → result ≡ first_met (reallocation_refusals cal self.now.standing false row.now) }
+    fn refusal_of_reallocation(&self, timing: Timing, row: &ReallocationRow) -> Option<Refusal>
+        ensures { result ≡ first_met (reallocation_refusals self.now.standing timing row.now) }
     {
         let Some(party) = self.party(&row.key.account.party) else {
             return Some(Refusal::UnknownParty);
@@ -169,18 +145,21 @@ impl Register {
         if !unit.range.holds(date) || !party.range.holds(date) {
             return Some(Refusal::NotEffective);
         }
-        if !has_period {
+        if timing.lacks_period() {
             return Some(Refusal::NoSuchPeriod);
         }
         if unit.lead == row.key.account {
             return Some(Refusal::OwnLead);
+        }
+        if timing.comes_in_time() && self.passes_hundred(row) {
+            return Some(Refusal::OverHundred);
         }
         None
     }
 
     /// Whether with the row more than 100 percent would be in force.
     fn passes_hundred(&self, row: &ReallocationRow) -> bool
-        ensures { (cal : Calendar) → result ≡ int_lt hundred_percent (percent_of_others cal self.now.standing row.now.key +ℤ row.now.reallocation.percent) }
+        ensures { result ≡ passes_hundred self.now.standing row.now }
     {
         HUNDRED_PERCENT < self.percent_of_others(&row.key) + row.reallocation.percent.units()
     }
@@ -189,7 +168,7 @@ impl Register {
 /// Why a known unit may not get another registration, if it may not.
 fn refusal_of_change(known: UnitRegistration, new: UnitRegistration) -> Option<Refusal>
     ensures { result ≡ first_met ((ShrinksRange, not (is_inside known.range new.range))
-        ∷ (UnitMoved, not (is_same_account known.lead new.lead && is_same_mark known.interconnector new.interconnector)) ∷ []) }
+        ∷ (UnitMoved, is_unit_moved known new) ∷ []) }
 {
     let is_moved = known.lead != new.lead || known.interconnector != new.interconnector;
     if !known.range.is_inside(new.range) {
@@ -201,24 +180,21 @@ fn refusal_of_change(known: UnitRegistration, new: UnitRegistration) -> Option<R
     }
 }
 
-/// Why a row is refused with which more than 100 percent may be in force, if it is in time.
-fn refusal_of_percent(in_time: bool, passes_hundred: bool) -> Option<Refusal>
-    ensures { result ≡ (if in_time && passes_hundred then Some OverHundred else None) }
+/// Why a row of prices is refused, if it is.
+fn refusal_of_price(timing: Timing) -> Option<Refusal>
+    ensures { result ≡ first_met (price_refusals timing) }
 {
-    if in_time && passes_hundred {
-        Some(Refusal::OverHundred)
+    if timing.lacks_period() {
+        Some(Refusal::NoSuchPeriod)
     } else {
         None
     }
 }
 
-/// Why a row is refused whose date may lack the period.
-fn refusal_of_period(has_period: bool) -> Option<Refusal>
-    ensures { result ≡ (if has_period then None else Some NoSuchPeriod) }
-{
-    if has_period {
-        None
-    } else {
-        Some(Refusal::NoSuchPeriod)
-    }
-}
+/// That a part of a register serves for some rows: with the whole's lead minutes, its counts of parties
+/// and units, and what it has of the parties, units, references and reallocations that a row names, the
+/// part refuses the row as the whole does, or accepts it (profile).
+#[tactic(auto, using(crate::proofs::ServingLaws::parts_judge_alike))]
+pub fn parts_judge_alike()
+    ensures { PartsJudgeAlike }
+{}

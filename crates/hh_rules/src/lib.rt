@@ -1,5 +1,5 @@
 //! The register of parties, units, references and rows in force, and the rule by which a row is
-//! accepted or refused.
+//! accepted or refused. The names and rows that it speaks of are handed on.
 #![tactic(auto)]
 
 mod judge;
@@ -7,6 +7,16 @@ mod register;
 mod row_done;
 mod timing;
 
+pub use hh_names::{
+    AccessKey, Account, Contract, Counterparties, Fault, FileName, OperatorKey, PartyId,
+    PeriodNumber, Reading, Reallocation, Reference, Refusal, Side, UnitId, read_yes_no,
+};
+pub use hh_rows::{
+    ContractKey, ContractRow, DateRange, FileKind, LeadMinutes, MeterRow, PartyRegistration,
+    PartyRow, PriceRow, ReallocationKey, ReallocationRow, Row, Settings, SettlementPeriod,
+    UnitPeriod, UnitRegistration, UnitRow,
+};
+pub use judge::parts_judge_alike;
 pub use register::Register;
 pub use row_done::RowDone;
 

@@ -1,31 +1,25 @@
 //! The register: parties, units and references, and the rows in force.
 
-ghost use Rattle.std.specs.Prelude.{◌≡◌, ◌<◌, ◌≤ℤ◌, ◌+ℤ◌, [], ℤ, pos, unwrap_or, option_map, true, None, Some, if◌then◌else◌, IfOk, IfErr, OnOk, OnErr};
+ghost use Rattle.std.specs.Prelude.{◌≡◌, pos, unwrap_or, true, IfOk, IfErr, OnOk, OnErr};
 ghost use Rattle.std.specs.FinMap.{find};
-ghost use Rattle.jiff.specs.Words.{plain_zone};
 ghost use Rattle.hh_num.specs.Ranges.{IsBetween};
 ghost use Rattle.hh_tables.specs.Tables.{IsTable};
 ghost use Rattle.hh_rows.specs.Keys.{contract_key_cmp, reallocation_key_cmp, settlement_period_cmp, unit_period_cmp};
 ghost use Rattle.hh_rows.specs.declared.rows.Row.TheVariants as rows;
 ghost use Rattle.hh_names.specs.Accounts.{bytes_cmp};
-ghost use Rattle.hh_names.specs.Faults.{memory_fault, plain_fault, ByRefusal};
-ghost use Rattle.hh_rules.specs.declared.row_done.RowDone.TheVariants.{Applied, Late};
-ghost use Rattle.hh_rules.specs.History.{Calendar, accepted_at, is_before_deadline, is_in_time};
-ghost use Rattle.hh_rules.specs.Judging.{HasRoomFor};
-ghost use Rattle.hh_rules.specs.Percents.{percent_in};
-ghost use Rattle.hh_rules.specs.RegisterView.{calendar_in, empty_register};
-ghost use Rattle.hh_rules.specs.RowEffects.{IsOneMoreRow};
-ghost use Rattle.hh_rules.specs.RowRule.{hundred_percent, most_parties, most_units, percent_of_others, refusal_of, standing_with};
+ghost use Rattle.hh_names.specs.Faults.{faults, Gives};
+ghost use Rattle.hh_rules.specs.Effects.{HasRoomFor};
+ghost use Rattle.hh_rules.specs.Percents.{percent_in, percent_of_others};
+ghost use Rattle.hh_rules.specs.RegisterView.{after_row, done_at, empty_register, judged_at, register_after, tables_in, AddsOneRow, IsLeastFault};
 
 use crate::row_done::RowDone;
-use hh_tables::{TreeTable, put_both};
+use hh_names::{Counterparties, Fault, PartyId, Reading, Reallocation, Reference, UnitId};
 use hh_num::{Kwh, Percent, Price};
 use hh_rows::{
-    ContractKey, ContractRow, Counterparties, LeadMinutes, MeterRow, PartyRegistration, PartyRow,
-    PriceRow, Reading, Reallocation, ReallocationKey, ReallocationRow, Row, SettlementPeriod,
-    UnitPeriod, UnitRegistration, UnitRow,
+    ContractKey, ContractRow, LeadMinutes, MeterRow, PartyRegistration, PartyRow, PriceRow,
+    ReallocationKey, ReallocationRow, Row, SettlementPeriod, UnitPeriod, UnitRegistration, UnitRow,
 };
-use hh_names::{Fault, PartyId, Reference, UnitId};
+use hh_tables::{TreeTable, put_both};
 use jiff::tz::TimeZone;
 use std::alloc::{AllocError, Global};
 use std::marker::Model;
@@ -34,7 +28,7 @@ use std::marker::Model;
 /// in force, and how many parties and units there are in all.
 #[derive(Drop)]
 pub struct Register {
-    lead: LeadMinutes,
+    lead_minutes: LeadMinutes,
     party_count: u32,
     unit_count: u32,
     parties: TreeTable<PartyId, PartyRegistration>,
@@ -49,13 +43,13 @@ pub struct Register {
 }
 
 impl Model for Register {
-    ghost use Rattle.hh_rules.specs.Percents.{AddsUp};
+    ghost use Rattle.hh_rules.specs.Percents.{SumsPercents};
     ghost use Rattle.hh_rules.specs.RegisterView.{RegisterView};
 
     ghost Value = { RegisterView };
 
     ghost view = { λ r. record {
-      lead_minutes = r.lead;
+      lead_minutes = r.lead_minutes;
       standing = record {
         tables = record {
           parties = r.parties;
@@ -71,16 +65,16 @@ impl Model for Register {
       };
     } };
 
-    ghost invariant = { λ r. AddsUp r.percents r.reallocations };
+    ghost invariant = { λ r. SumsPercents r.percents r.reallocations };
 }
 
 impl Register {
     /// The register in which nothing is registered or in force. Takes no memory.
-    pub fn new(alloc: Global, lead: LeadMinutes) -> Register
-        ensures { result ≡ empty_register lead }
+    pub fn new(alloc: Global, lead_minutes: LeadMinutes) -> Register
+        ensures { result ≡ empty_register lead_minutes }
     {
         Register {
-            lead,
+            lead_minutes,
             party_count: 0,
             unit_count: 0,
             parties: TreeTable::new(alloc),
@@ -95,10 +89,10 @@ impl Register {
     }
 
     /// How many minutes before a Settlement Period its notifications close.
-    pub fn lead(&self) -> LeadMinutes
+    pub fn lead_minutes(&self) -> LeadMinutes
         ensures { result ≡ self.now.lead_minutes }
     {
-        self.lead
+        self.lead_minutes
     }
 
     /// How many parties there are in all, of which `apply_row` lets there be 400.
@@ -117,14 +111,14 @@ impl Register {
 
     /// What is registered of a party, if it is registered (profile).
     pub fn party(&self, party: &PartyId) -> Option<PartyRegistration>
-        ensures { result ≡ find bytes_cmp party.now self.now.standing.tables.parties }
+        ensures { result ≡ find bytes_cmp party.now (tables_in self.now).parties }
     {
         self.parties.get(party)
     }
 
     /// What is registered of a unit, if it is registered (profile).
     pub fn unit(&self, unit: &UnitId) -> Option<UnitRegistration>
-        ensures { result ≡ find bytes_cmp unit.now self.now.standing.tables.units }
+        ensures { result ≡ find bytes_cmp unit.now (tables_in self.now).units }
     {
         self.units.get(unit)
     }
@@ -132,21 +126,21 @@ impl Register {
     /// The seller and the buyer of a reference, which its first row fixed, if there was one (Section P in
     /// shape).
     pub fn reference(&self, reference: &Reference) -> Option<Counterparties>
-        ensures { result ≡ find bytes_cmp reference.now self.now.standing.tables.references }
+        ensures { result ≡ find bytes_cmp reference.now (tables_in self.now).references }
     {
         self.references.get(reference)
     }
 
     /// The reading that counts for a unit in a Settlement Period, if there is one (profile).
     pub fn reading(&self, key: &UnitPeriod) -> Option<Reading>
-        ensures { result ≡ find unit_period_cmp key.now self.now.standing.tables.meters }
+        ensures { result ≡ find unit_period_cmp key.now (tables_in self.now).meters }
     {
         self.meters.get(key)
     }
 
     /// The price that counts for a Settlement Period, in 10^-5 pound per MWh, if there is one (profile).
     pub fn price(&self, at: &SettlementPeriod) -> Option<Price>
-        ensures { result ≡ find settlement_period_cmp at.now self.now.standing.tables.prices }
+        ensures { result ≡ find settlement_period_cmp at.now (tables_in self.now).prices }
     {
         self.prices.get(at)
     }
@@ -154,7 +148,7 @@ impl Register {
     /// The volume in force of a reference in a Settlement Period, in kWh, if a row is in force (Section P
     /// in shape).
     pub fn contract(&self, key: &ContractKey) -> Option<Kwh>
-        ensures { result ≡ find contract_key_cmp key.now self.now.standing.tables.contracts }
+        ensures { result ≡ find contract_key_cmp key.now (tables_in self.now).contracts }
     {
         self.contracts.get(key)
     }
@@ -162,7 +156,7 @@ impl Register {
     /// The reallocation in force of a unit to an account in a Settlement Period, if a row is in force
     /// (Section P in shape).
     pub fn reallocation(&self, key: &ReallocationKey) -> Option<Reallocation>
-        ensures { result ≡ find reallocation_key_cmp key.now self.now.standing.tables.reallocations }
+        ensures { result ≡ find reallocation_key_cmp key.now (tables_in self.now).reallocations }
     {
         self.reallocations.get(key)
     }
@@ -176,28 +170,27 @@ impl Register {
         moment: i64,
         row: Row,
     ) -> Result<RowDone, Fault>
-        ensures accepted { OnOk result (refusal_of (calendar_in (plain_zone zone.now) self.old) self.old.standing (accepted_at moment row) ≡ None) }
-        ensures applied { OnOk result (self.new ≡ record self.old { standing = standing_with (calendar_in (plain_zone zone.now) self.old) (accepted_at moment row) self.old.standing }) }
-        ensures done { IfOk result (λ done. done ≡ (if is_in_time (calendar_in (plain_zone zone.now) self.old) (accepted_at moment row) then Applied else Late)) }
-        ensures one_more_row { IfOk result (λ done. IsOneMoreRow (calendar_in (plain_zone zone.now) self.old) (accepted_at moment row) done self.old.standing self.new.standing) }
-        ensures refused { IfErr result (λ fault. ByRefusal fault.refusal (fault ≡ memory_fault)
-            (option_map plain_fault (refusal_of (calendar_in (plain_zone zone.now) self.old) self.old.standing (accepted_at moment row)) ≡ Some fault)) }
+        ensures judged { Gives faults (λ _. tt) result (judged_at zone.now self.old moment row) }
+        ensures least { IfErr result (IsLeastFault zone.now self.old moment row) }
+        ensures applied { OnOk result (self.new ≡ register_after zone.now self.old moment row) }
+        ensures done { IfOk result (λ done. done ≡ done_at zone.now self.old moment row) }
+        ensures one_more_row { IfOk result (AddsOneRow zone.now self.old moment row self.new) }
         ensures unchanged { OnErr result (self.new ≡ self.old) }
     {
-        let timing = self.timing_of(zone, moment, &row);
-        if let Some(refusal) = self.refusal_of(timing, &row) {
-            return Err(Fault::of(refusal));
-        }
-        self.put_row(timing.in_time, row)?;
-        Ok(RowDone::of(timing.in_time))
+        let in_time = match self.judge(zone, moment, &row) {
+            Ok(in_time) => in_time,
+            Err(refusal) => return Err(Fault::of(refusal)),
+        };
+        self.put_row(in_time, row)?;
+        Ok(RowDone::of(in_time))
     }
 
     /// The percentage of the key's unit, in 10^-5 percent, that is in force in the key's Settlement
-    /// PeriodNumber for other accounts than the key's.
+    /// Period for other accounts than the key's.
     pub(crate) fn percent_of_others(&self, key: &ReallocationKey) -> i64
-        ensures value { (cal : Calendar) → result ≡ percent_of_others cal self.now.standing key.now }
+        ensures value { result ≡ percent_of_others key.now (tables_in self.now).reallocations }
         ensures range { IsBetween (pos 0) (pos 10_000_000) result }
-        ensures rising { IsTable reallocation_key_cmp self.now.standing.tables.reallocations }
+        ensures rising { IsTable reallocation_key_cmp (tables_in self.now).reallocations }
     {
         let all = units_of(self.percents.get(&key.unit_period));
         let own = percent_in(self.reallocations.get(key));
@@ -206,9 +199,8 @@ impl Register {
 
     /// Changes what an accepted row changes.
     fn put_row(&mut self, in_time: bool, row: Row) -> Result<(), AllocError>
-        requires { HasRoomFor in_time self.old.standing row }
-        ensures ok { (cal : Calendar) (moment : ℤ) → in_time ≡ is_in_time cal (accepted_at moment row)
-            → OnOk result (self.new ≡ record self.old { standing = standing_with cal (accepted_at moment row) self.old.standing }) }
+        requires { HasRoomFor in_time row self.old.standing }
+        ensures ok { OnOk result (self.new ≡ after_row in_time row self.old) }
         ensures err { OnErr result (self.new ≡ self.old) }
     {
         match row {
@@ -222,9 +214,9 @@ impl Register {
     }
 
     /// Registers a party anew, or gives it a new registration.
-    pub(crate) fn put_party(&mut self, row: PartyRow) -> Result<(), AllocError>
-        requires { find bytes_cmp row.party self.old.standing.tables.parties ≡ None → self.old.standing.party_count < most_parties }
-        ensures ok { (cal : Calendar) (moment : ℤ) → OnOk result (self.new ≡ record self.old { standing = standing_with cal (accepted_at moment (rows.Party row)) self.old.standing }) }
+    fn put_party(&mut self, row: PartyRow) -> Result<(), AllocError>
+        requires { HasRoomFor true (rows.Party row) self.old.standing }
+        ensures ok { OnOk result (self.new ≡ after_row true (rows.Party row) self.old) }
         ensures err { OnErr result (self.new ≡ self.old) }
     {
         let is_new = self.parties.get(&row.party).is_none();
@@ -236,9 +228,9 @@ impl Register {
     }
 
     /// Registers a unit anew, or gives it a new registration.
-    pub(crate) fn put_unit(&mut self, row: UnitRow) -> Result<(), AllocError>
-        requires { find bytes_cmp row.unit self.old.standing.tables.units ≡ None → self.old.standing.unit_count < most_units }
-        ensures ok { (cal : Calendar) (moment : ℤ) → OnOk result (self.new ≡ record self.old { standing = standing_with cal (accepted_at moment (rows.Unit row)) self.old.standing }) }
+    fn put_unit(&mut self, row: UnitRow) -> Result<(), AllocError>
+        requires { HasRoomFor true (rows.Unit row) self.old.standing }
+        ensures ok { OnOk result (self.new ≡ after_row true (rows.Unit row) self.old) }
         ensures err { OnErr result (self.new ≡ self.old) }
     {
         let is_new = self.units.get(&row.unit).is_none();
@@ -250,52 +242,42 @@ impl Register {
     }
 
     /// Takes a reading in the place of its key's.
-    pub(crate) fn put_meter(&mut self, row: MeterRow) -> Result<(), AllocError>
-        ensures ok { (cal : Calendar) (moment : ℤ) → OnOk result (self.new ≡ record self.old { standing = standing_with cal (accepted_at moment (rows.Meter row)) self.old.standing }) }
+    fn put_meter(&mut self, row: MeterRow) -> Result<(), AllocError>
+        ensures ok { OnOk result (self.new ≡ after_row true (rows.Meter row) self.old) }
         ensures err { OnErr result (self.new ≡ self.old) }
     {
         self.meters.put(row.key, row.reading)
     }
 
     /// Takes a price in the place of its Settlement Period's.
-    pub(crate) fn put_price(&mut self, row: PriceRow) -> Result<(), AllocError>
-        ensures ok { (cal : Calendar) (moment : ℤ) → OnOk result (self.new ≡ record self.old { standing = standing_with cal (accepted_at moment (rows.Price row)) self.old.standing }) }
+    fn put_price(&mut self, row: PriceRow) -> Result<(), AllocError>
+        ensures ok { OnOk result (self.new ≡ after_row true (rows.Price row) self.old) }
         ensures err { OnErr result (self.new ≡ self.old) }
     {
         self.prices.put(row.at, row.price)
     }
 
     /// Fixes a new reference, and takes a contract that is in time in the place of its key's.
-    pub(crate) fn put_contract(&mut self, in_time: bool, row: ContractRow) -> Result<(), AllocError>
-        ensures ok { (cal : Calendar) (moment : ℤ) → in_time ≡ is_before_deadline cal moment row.key.at
-            → OnOk result (self.new ≡ record self.old { standing = standing_with cal (accepted_at moment (rows.Contract row)) self.old.standing }) }
+    fn put_contract(&mut self, in_time: bool, row: ContractRow) -> Result<(), AllocError>
+        ensures ok { OnOk result (self.new ≡ after_row in_time (rows.Contract row) self.old) }
         ensures err { OnErr result (self.new ≡ self.old) }
     {
-        let ContractRow {
-            key,
-            counterparties,
-            volume,
-        } = row;
+        let ContractRow { key, contract } = row;
         let is_new = self.references.get(&key.reference).is_none();
-        let fixed = (key.reference, counterparties);
-        let contract = (key, volume);
+        let fixed = (key.reference, contract.counterparties);
+        let volume = (key, contract.volume);
         match (is_new, in_time) {
-            (true, true) => put_both(&mut self.references, fixed, &mut self.contracts, contract),
+            (true, true) => put_both(&mut self.references, fixed, &mut self.contracts, volume),
             (true, false) => self.references.put(fixed.0, fixed.1),
-            (false, true) => self.contracts.put(contract.0, contract.1),
+            (false, true) => self.contracts.put(volume.0, volume.1),
             (false, false) => Ok(()),
         }
     }
 
     /// Takes a reallocation in the place of its key's, if it is in time.
-    pub(crate) fn put_reallocation(
-        &mut self,
-        in_time: bool,
-        row: ReallocationRow,
-    ) -> Result<(), AllocError>
-        requires { in_time ≡ true → (cal : Calendar) → (percent_of_others cal self.old.standing row.key +ℤ row.reallocation.percent) ≤ℤ hundred_percent }
-        ensures ok { (cal : Calendar) (moment : ℤ) → in_time ≡ is_before_deadline cal moment row.key.unit_period.at
-            → OnOk result (self.new ≡ record self.old { standing = standing_with cal (accepted_at moment (rows.Reallocation row)) self.old.standing }) }
+    fn put_reallocation(&mut self, in_time: bool, row: ReallocationRow) -> Result<(), AllocError>
+        requires { HasRoomFor in_time (rows.Reallocation row) self.old.standing }
+        ensures ok { OnOk result (self.new ≡ after_row in_time (rows.Reallocation row) self.old) }
         ensures err { OnErr result (self.new ≡ self.old) }
     {
         if !in_time {

@@ -1,7 +1,7 @@
 //! What becomes of an accepted row.
 
-ghost use Rattle.std.specs.Prelude.{◌≡◌, if◌then◌else◌};
-ghost use Rattle.hh_rules.specs.declared.row_done.RowDone.TheVariants.{Applied, Late};
+ghost use Rattle.std.specs.Prelude.{◌≡◌};
+ghost use Rattle.hh_rules.specs.Effects.{row_done};
 
 /// What became of an accepted row (profile).
 #[derive(Clone, Copy, Debug, PartialEq, Eq)]
@@ -16,7 +16,7 @@ pub enum RowDone {
 impl RowDone {
     /// What becomes of an accepted row that is in time or not.
     pub(crate) fn of(in_time: bool) -> RowDone
-        ensures { result ≡ (if in_time then Applied else Late) }
+        ensures { result ≡ row_done in_time }
     {
         if in_time {
             RowDone::Applied

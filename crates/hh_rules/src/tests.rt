@@ -3,12 +3,6 @@
 
 use super::*;
 use hh_num::{Kwh, Percent, Price, Tlm};
-use hh_rows::{
-    ContractKey, ContractRow, Counterparties, DateRange, LeadMinutes, MeterRow, PartyRegistration,
-    PartyRow, PriceRow, Reading, Reallocation, ReallocationKey, ReallocationRow, Row,
-    SettlementPeriod, UnitPeriod, UnitRegistration, UnitRow,
-};
-use hh_names::{AccessKey, Account, Fault, PartyId, PeriodNumber, Reference, UnitId};
 use hh_time::{SettlementDate, london};
 use jiff::tz::TimeZone;
 use std::alloc::Global;
@@ -94,11 +88,13 @@ fn contract_key(reference: &[u8], date: &[u8], number: u8) -> Option<ContractKey
 fn contract_row(reference: &[u8], seller: &[u8], buyer: &[u8], kwh: i64) -> Option<Row> {
     Some(Row::Contract(ContractRow {
         key: contract_key(reference, b"2024-07-01", 1)?,
-        counterparties: Counterparties {
-            seller: Account::read(seller)?,
-            buyer: Account::read(buyer)?,
+        contract: Contract {
+            counterparties: Counterparties {
+                seller: Account::read(seller)?,
+                buyer: Account::read(buyer)?,
+            },
+            volume: Kwh::new(kwh)?,
         },
-        volume: Kwh::new(kwh)?,
     }))
 }
 
@@ -213,7 +209,7 @@ fn holds_what_it_was_given(rt: HostRuntime) -> Result<(), Fail> {
     let Some(register) = after(rt.alloc(), &london(), &steps) else {
         panic!(&rt; "each row becomes what stands beside it");
     };
-    assert_eq!(rt; register.lead().minutes(), 60);
+    assert_eq!(rt; register.lead_minutes().minutes(), 60);
     assert_eq!(rt; register.party_count(), 2);
     assert_eq!(rt; register.unit_count(), 2);
     assert_eq!(rt; finds_all(&register), Some(true));
@@ -309,6 +305,18 @@ fn no_more_than_a_hundred_percent(rt: HostRuntime) -> Result<(), Fail> {
         (MOMENT, reallocation_row(b"GENCO-P", 0), 37),
     ];
     assert!(rt; after(rt.alloc(), &london(), &steps).is_some());
+    Ok(())
+}
+
+#[test]
+fn a_hundred_percent_in_time_is_accepted(rt: HostRuntime) -> Result<(), Fail> {
+    let one_row = [(MOMENT, reallocation_row(b"SUPCO-P", 10_000_000), APPLIED)];
+    assert!(rt; after(rt.alloc(), &london(), &one_row).is_some());
+    let two_rows = [
+        (MOMENT, reallocation_row(b"SUPCO-P", 6_000_000), APPLIED),
+        (MOMENT, reallocation_row(b"SUPCO-C", 4_000_000), APPLIED),
+    ];
+    assert!(rt; after(rt.alloc(), &london(), &two_rows).is_some());
     Ok(())
 }
 

@@ -1,17 +1,15 @@
 -- Tables: to put a row into a table is to append it to the list and look back at the last row of each key.
 use Rattle.std.proofs.Common.{◌≡◌, List, [], ◌∷◌, ◌++◌, Bool, true, false, cond, refl, sym, ap, ◌∙◌, reverse, Option, Some, None, Ordering}
-use Rattle.std.specs.Prelude.{◌||◌, ◌≢◌, is_some, ℤ, ◌+ℤ◌, T}
+use Rattle.std.specs.Prelude.{◌||◌, ◌≢◌, is_some, T}
 use Rattle.std.specs.BTreeMap.{insert_entry, is_at}
 use Rattle.std.specs.Cmp.{IsTotalOrder, eq_by_cmp_equiv}
 use Rattle.std.specs.FinMap.{find, put, is_sorted}
 use Rattle.std.specs.FinMap.Entries.{by_order, find-put, is_sorted-put, same_entries}
 use Rattle.std.specs.Map.{lookup}
-use Rattle.std.specs.Ordering.{eq_by_cmp, is_eq, match_ordering}
+use Rattle.std.specs.Ordering.{eq_by_cmp, match_ordering}
 use Rattle.std.specs.declared.cmp.Ordering.TheVariants.{Less, Equal, Greater}
-use Rattle.std.proofs.Math.IntN.{+ℤ_assoc, +ℤ_comm}
 use Rattle.std.proofs.lemmas.List.{reverse-append}
 use Rattle.hh_tables.specs.Tables.{latest, in_key_order, table_of_last, table_of_first}
-use Rattle.hh_num.specs.Totals.{total}
 
 module _ {K V : Type 0} (R : K → K → Ordering) where
   -- a map's look-up finds the first row of a key
@@ -136,41 +134,8 @@ module _ {K V : Type 0} {R : K → K → Ordering} (o : IsTotalOrder R) where
         ∙ ap (λ b. in_key_order R (cond b (latest R (reverse es)) (e ∷ latest R (reverse es)))) (sym (ap is_some (find-in_key_order (latest R (reverse es)) e.0) ∙ is_some-find-latest (reverse es) e.0))
         ∙ elim (is_some (find R e.0 (table_of_first R es))) as (λ b. in_key_order R (cond b (latest R (reverse es)) (e ∷ latest R (reverse es))) ≡ cond b (table_of_first R es) (put R e.0 e.1 (table_of_first R es))) [ true ↦ refl | false ↦ refl ]
 
-none_from_is_some : {A : Type 0} (o : Option A) → is_some o ≡ false → o ≡ None
-none_from_is_some None e = refl
-none_from_is_some (Some x) e = absurd (false_is_not_true (sym e))
-
 module _ {K V : Type 0} (R : K → K → Ordering) where
   -- no key stands twice
   abbrev pub AreDistinct : List (K × V) → Type 0
   AreDistinct [] = Unit {0}
   AreDistinct (e ∷ es) = (find R e.0 es ≡ None) × AreDistinct es
-
-  -- a row under a new key adds its own part to a sum
-  pub total-put : (f : K × V → ℤ) (k : K) (v : V) (es : List (K × V)) → find R k es ≡ None → total f (put R k v es) ≡ f (k, v) +ℤ total f es
-  total-put f k v [] new = refl
-  total-put f k v (e ∷ es) new = elim (R k e.0) as (λ o. cond (is_eq o) (Some e.1) (find R k es) ≡ None → total f (by_order o ((k, v) ∷ e ∷ es) ((e.0, v) ∷ es) (e ∷ put R k v es)) ≡ f (k, v) +ℤ (f e +ℤ total f es)) [
-    | Less ↦ λ n. refl
-    | Equal ↦ λ n. absurd (some_is_not_none e.1 n)
-    | Greater ↦ λ n. ap (λ z. f e +ℤ z) (total-put f k v es n) ∙ sym (+ℤ_assoc (f e) (f (k, v)) (total f es)) ∙ ap (λ z. z +ℤ total f es) (+ℤ_comm (f e) (f (k, v))) ∙ +ℤ_assoc (f (k, v)) (f e) (total f es)
-  ] new
-    where
-      some_is_not_none : (x : V) → Some x ≡ None → ⊥
-      some_is_not_none x e = cc
-
--- A sum over the rows in force does not depend on their order.
-module _ {K V : Type 0} {R : K → K → Ordering} (o : IsTotalOrder R) where
-  pub total-in_key_order : (f : K × V → ℤ) (es : List (K × V)) → AreDistinct R es → total f (in_key_order R es) ≡ total f es
-  total-in_key_order f [] d = refl
-  total-in_key_order f (e ∷ es) d =
-      total-put R f e.0 e.1 (in_key_order R es) (find-in_key_order o es e.0 ∙ d.0) ∙ ap (λ z. f e +ℤ z) (total-in_key_order f es d.1)
-
-  pub latest_distinct : (es : List (K × V)) → AreDistinct R (latest R es)
-  latest_distinct [] = tt
-  latest_distinct (e ∷ es) = elim (is_some (find R e.0 es)) as (λ b. is_some (find R e.0 es) ≡ b → AreDistinct R (cond b (latest R es) (e ∷ latest R es))) [
-    | true ↦ λ h. latest_distinct es
-    | false ↦ λ h. (none_from_is_some (find R e.0 (latest R es)) (is_some-find-latest o es e.0 ∙ h), latest_distinct es)
-  ] refl
-
-  pub total-table_of_last : (f : K × V → ℤ) (es : List (K × V)) → total f (table_of_last R es) ≡ total f (latest R es)
-  total-table_of_last f es = total-in_key_order f (latest R es) (latest_distinct es)

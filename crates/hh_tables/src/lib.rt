@@ -4,3 +4,6 @@
 mod tree_table;
 
 pub use tree_table::{TreeTable, put_both};
+
+#[cfg(test)]
+mod tests;

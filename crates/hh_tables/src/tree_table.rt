@@ -1,17 +1,17 @@
 //! Tables in memory, kept as trees of rows by their keys.
 
 ghost use Rattle.std.specs.Prelude.{◌≡◌, [], IsSome, OnOk, OnErr};
-ghost use Rattle.std.specs.BTreeMap.{get, insert_entry, is_at};
-ghost use Rattle.std.specs.Map.{remove_entry, set_value};
-ghost use Rattle.std.specs.Option.{MatchOption};
+ghost use Rattle.std.specs.BTreeMap.{get};
 ghost use Rattle.std.specs.FinMap.{find, put};
 ghost use Rattle.hh_tables.specs.Tables.{IsTable};
+ghost use Rattle.hh_tables.specs.Trees.{Inserts, PutsBack};
 
 use std::alloc::{AllocError, Global};
 use std::collections::BTreeMap;
 use std::marker::Model;
 
-/// Rows of columns under keys. Contracts see the rows in the order of their keys.
+/// Rows of columns under keys, at most one under each. Contracts see the list of the rows, in the order
+/// of their keys.
 #[derive(Drop)]
 pub struct TreeTable<K: Ord, V> {
     rows: BTreeMap<K, V>,
@@ -29,7 +29,7 @@ impl<K: Ord, V> Model for TreeTable<K, V> {
 }
 
 impl<K: Ord + Copy, V: Copy> TreeTable<K, V> {
-    /// The table without rows.
+    /// The table without rows. Takes no memory.
     pub fn new(alloc: Global) -> Self
         ensures { result ≡ [] }
     {
@@ -38,7 +38,7 @@ impl<K: Ord + Copy, V: Copy> TreeTable<K, V> {
         }
     }
 
-    /// What stands under a key, if it is there.
+    /// The columns of the row under a key, if there is one.
     pub fn get(&self, key: &K) -> Option<V>
         ensures value { result ≡ find K.cmp key.now self.now }
         ensures rising { IsTable K.cmp self.now }
@@ -46,8 +46,8 @@ impl<K: Ord + Copy, V: Copy> TreeTable<K, V> {
         self.rows.get(key).copied()
     }
 
-    /// Puts a row in the place of its key's. `Err` only where memory is refused: the table is then as
-    /// it was.
+    /// Puts a row into the table, in the place of the one under its key if there is one. `Err` only where
+    /// memory is refused: the table is then as it was.
     pub fn put(&mut self, key: K, value: V) -> Result<(), AllocError>
         ensures ok { OnOk result (self.new ≡ put K.cmp key value self.old) }
         ensures err { OnErr result (self.new ≡ self.old) }
@@ -57,8 +57,8 @@ impl<K: Ord + Copy, V: Copy> TreeTable<K, V> {
     }
 }
 
-/// Puts a row into each of two tables, or into neither. `Err` only where memory is refused: both tables
-/// are then as they were.
+/// Puts a row into each of two tables, in the place of the one under its key if there is one, or into
+/// neither. `Err` only where memory is refused: both tables are then as they were.
 pub fn put_both<K: Ord + Copy, V: Copy, L: Ord + Copy, W: Copy>(
     first: &mut TreeTable<K, V>,
     row: (K, V),
@@ -73,15 +73,15 @@ pub fn put_both<K: Ord + Copy, V: Copy, L: Ord + Copy, W: Copy>(
     put_into_both(&mut first.rows, row, &mut second.rows, second_row)
 }
 
-/// The same of two trees.
+/// Puts a row into each of two trees, or into neither where memory is refused.
 fn put_into_both<K: Ord + Copy, V: Copy, L: Ord + Copy, W: Copy>(
     first: &mut BTreeMap<K, V>,
     row: (K, V),
     second: &mut BTreeMap<L, W>,
     second_row: (L, W),
 ) -> Result<(), AllocError>
-    ensures first { OnOk result (first.new.entries ≡ insert_entry K.cmp first.old.entries row.0 row.1) }
-    ensures second { OnOk result (second.new.entries ≡ insert_entry L.cmp second.old.entries second_row.0 second_row.1) }
+    ensures first { OnOk result (Inserts K.cmp row first.old.entries first.new.entries) }
+    ensures second { OnOk result (Inserts L.cmp second_row second.old.entries second.new.entries) }
     ensures first_err { OnErr result (first.new.entries ≡ first.old.entries) }
     ensures second_err { OnErr result (second.new.entries ≡ second.old.entries) }
 {
@@ -96,8 +96,7 @@ fn put_into_both<K: Ord + Copy, V: Copy, L: Ord + Copy, W: Copy>(
 /// Puts back what stood under a key, or takes the key out where nothing did.
 fn put_back<K: Ord + Copy, V: Copy>(map: &mut BTreeMap<K, V>, key: &K, before: Option<V>)
     requires { IsSome before → IsSome (get K.cmp map.old key.now) }
-    ensures { MatchOption before (map.new.entries ≡ remove_entry (is_at (K.cmp key.now)) map.old.entries)
-        (λ value. map.new.entries ≡ set_value (is_at (K.cmp key.now)) map.old.entries value) }
+    ensures { PutsBack K.cmp key.now before map.old.entries map.new.entries }
 {
     match before {
         Some(value) => {

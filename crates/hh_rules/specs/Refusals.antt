@@ -1,0 +1,139 @@
+-- Why a row is refused: the refusals of each kind of row with their conditions, in the order of their numbers.
+use Rattle.std.specs.Prelude.{ℕ, ◌+ℤ◌, ℤ, pos, nat_le, int_lt, List, [], ◌∷◌, length, Bool, true, false, not, ◌&&◌, ◌||◌, Option, Some, None, is_none}
+use Rattle.std.specs.FinMap.{find}
+use Rattle.hh_names.specs.declared.fault.Refusal.{Refusal}
+use Rattle.hh_names.specs.declared.fault.Refusal.TheVariants as refusal
+use Rattle.hh_names.specs.Accounts.{bytes_cmp, is_same_account}
+use Rattle.hh_names.specs.CounterpartyRule.{counterparty_refusals}
+use Rattle.hh_rows.specs.DateRanges.{holds, is_inside}
+use Rattle.hh_rows.specs.declared.rows.Row.{Row}
+use Rattle.hh_rows.specs.declared.rows.Row.TheVariants as row
+use Rattle.hh_rows.specs.declared.rows.PartyRow.{PartyRow}
+use Rattle.hh_rows.specs.declared.rows.UnitRow.{UnitRow}
+use Rattle.hh_rows.specs.declared.rows.MeterRow.{MeterRow}
+use Rattle.hh_rows.specs.declared.rows.ContractRow.{ContractRow}
+use Rattle.hh_rows.specs.declared.rows.ReallocationRow.{ReallocationRow}
+use Rattle.hh_rows.specs.declared.rows.PartyRegistration.{PartyRegistration}
+use Rattle.hh_rows.specs.declared.rows.UnitRegistration.{UnitRegistration}
+use Rattle.hh_rules.specs.declared.timing.Timing.{Timing}
+use Rattle.hh_rules.specs.History.{Registered}
+use Rattle.hh_rules.specs.Lateness.{comes_in_time, lacks_period}
+use Rattle.hh_rules.specs.Percents.{percent_of_others}
+
+-- what a row is judged by: what is registered and in force, and how many parties and units there are in all
+pub record Standing : Type 0 where
+  pub tables : Registered
+  pub party_count : ℕ
+  pub unit_count : ℕ
+
+-- the standing that has everything that the tables have
+abbrev pub whole_standing : Registered → Standing
+whole_standing tables = record { tables = tables; party_count = length tables.parties; unit_count = length tables.units }
+
+-- how many parties there may be
+abbrev pub most_parties : ℕ
+most_parties = 400
+
+-- how many units there may be
+abbrev pub most_units : ℕ
+most_units = 2000
+
+-- 100 percent, in 10^-5 percent
+abbrev pub hundred_percent : ℤ
+hundred_percent = pos 10_000_000
+
+-- there is a value, and it passes the test
+abbrev pub is_some_that : {X : Type 0} → (X → Bool) → Option X → Bool
+is_some_that test None = false
+is_some_that test (Some x) = test x
+
+abbrev pub is_same_mark : Bool → Bool → Bool
+is_same_mark true mark = mark
+is_same_mark false mark = not mark
+
+-- a known unit's new registration has another lead account or interconnector mark
+abbrev pub is_unit_moved : UnitRegistration → UnitRegistration → Bool
+is_unit_moved known new =
+    not (is_same_account known.lead new.lead && is_same_mark known.interconnector new.interconnector)
+
+-- a row of prices needs its period alone
+abbrev pub price_refusals : Timing → List (Refusal × Bool)
+price_refusals timing = (refusal.NoSuchPeriod, lacks_period timing) ∷ []
+
+module _ (standing : Standing) where
+  abbrev pub registered_party : List ℕ → Option PartyRegistration
+  registered_party party = find bytes_cmp party standing.tables.parties
+
+  abbrev pub registered_unit : List ℕ → Option UnitRegistration
+  registered_unit unit = find bytes_cmp unit standing.tables.units
+
+  -- the party is registered, and its range does not hold the date
+  abbrev pub is_party_off : List ℕ → ℕ → Bool
+  is_party_off party date = is_some_that (λ p. not (holds p.range date)) (registered_party party)
+
+  -- the unit is registered, and its range does not hold the date
+  abbrev pub is_unit_off : List ℕ → ℕ → Bool
+  is_unit_off unit date = is_some_that (λ u. not (holds u.range date)) (registered_unit unit)
+
+  abbrev pub party_refusals : PartyRow → List (Refusal × Bool)
+  party_refusals r =
+      let known = registered_party r.party in
+      (refusal.ShrinksRange, is_some_that (λ p. not (is_inside p.range r.registration.range)) known)
+      ∷ (refusal.TooMany, is_none known && nat_le most_parties standing.party_count)
+      ∷ []
+
+  abbrev pub unit_refusals : UnitRow → List (Refusal × Bool)
+  unit_refusals r =
+      let new = r.registration in
+      let lead_party = registered_party new.lead.party in
+      let known = registered_unit r.unit in
+      (refusal.UnknownParty, is_none lead_party)
+      ∷ (refusal.NotEffective, is_some_that (λ p. not (is_inside new.range p.range)) lead_party)
+      ∷ (refusal.ShrinksRange, is_some_that (λ u. not (is_inside u.range new.range)) known)
+      ∷ (refusal.UnitMoved, is_some_that (λ u. is_unit_moved u new) known)
+      ∷ (refusal.TooMany, is_none known && nat_le most_units standing.unit_count)
+      ∷ []
+
+  abbrev pub meter_refusals : Timing → MeterRow → List (Refusal × Bool)
+  meter_refusals timing r =
+      (refusal.UnknownUnit, is_none (registered_unit r.key.unit))
+      ∷ (refusal.NotEffective, is_unit_off r.key.unit r.key.at.date)
+      ∷ (refusal.NoSuchPeriod, lacks_period timing)
+      ∷ []
+
+  abbrev pub contract_refusals : Timing → ContractRow → List (Refusal × Bool)
+  contract_refusals timing r =
+      let seller = r.contract.counterparties.seller.party in
+      let buyer = r.contract.counterparties.buyer.party in
+      (refusal.UnknownParty, is_none (registered_party seller) || is_none (registered_party buyer))
+      ∷ (refusal.NotEffective, is_party_off seller r.key.at.date || is_party_off buyer r.key.at.date)
+      ∷ (refusal.NoSuchPeriod, lacks_period timing)
+      ∷ counterparty_refusals (find bytes_cmp r.key.reference standing.tables.references) r.contract.counterparties
+
+  -- with the row more than 100 percent of the unit would be in force
+  abbrev pub passes_hundred : ReallocationRow → Bool
+  passes_hundred r =
+      int_lt hundred_percent (percent_of_others r.key standing.tables.reallocations +ℤ r.reallocation.percent)
+
+  -- a late row is never in force, so that with it no more than 100 percent can be
+  abbrev pub reallocation_refusals : Timing → ReallocationRow → List (Refusal × Bool)
+  reallocation_refusals timing r =
+      let party = r.key.account.party in
+      let unit = r.key.unit_period.unit in
+      let date = r.key.unit_period.at.date in
+      (refusal.UnknownParty, is_none (registered_party party))
+      ∷ (refusal.UnknownUnit, is_none (registered_unit unit))
+      ∷ (refusal.NotEffective, is_unit_off unit date || is_party_off party date)
+      ∷ (refusal.NoSuchPeriod, lacks_period timing)
+      ∷ (refusal.OwnLead, is_some_that (λ u. is_same_account u.lead r.key.account) (registered_unit unit))
+      ∷ (refusal.OverHundred, comes_in_time timing && passes_hundred r)
+      ∷ []
+
+  -- those of a row of any kind
+  abbrev pub refusals_of : Timing → Row → List (Refusal × Bool)
+  refusals_of timing (row.Party r) = party_refusals r
+  refusals_of timing (row.Unit r) = unit_refusals r
+  refusals_of timing (row.Meter r) = meter_refusals timing r
+  refusals_of timing (row.Price r) = price_refusals timing
+  refusals_of timing (row.Contract r) = contract_refusals timing r
+  refusals_of timing (row.Reallocation r) = reallocation_refusals timing r
