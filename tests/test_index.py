@@ -1,0 +1,75 @@
+"""The index of rules in docs/architecture.md: each definition, function, wrong body, test and heading
+that a row names is there."""
+import re
+import unittest
+
+from programs import HOME
+
+PAGE = HOME / "docs" / "architecture.md"
+HEAD = "| Rule | Definition | Code | Wrong body | Test | Stated in |"
+NAME = re.compile(r"`([^`]+)`")
+LINK = re.compile(r"\]\(([\w.]+)#([\w-]+)\)")
+
+
+def rows_of(text):
+    """The cells of each row of the index."""
+    lines = text[text.index(HEAD) :].split("\n")[2:]
+    for line in lines:
+        if not line.startswith("|"):
+            return
+        yield [cell.strip() for cell in line.strip("|").split(" | ")]
+
+
+def text_of(folder, ending):
+    return "\n".join(file.read_text(encoding="utf-8") for file in sorted(HOME.glob(f"{folder}/**/*{ending}")))
+
+
+def slug_of(heading):
+    """The anchor that a heading has."""
+    return re.sub(r"[^\w\- ]", "", heading.lower()).replace(" ", "-")
+
+
+class Index(unittest.TestCase):
+    def test_each_row_names_what_is_there(self):
+        rows = list(rows_of(PAGE.read_text(encoding="utf-8")))
+        self.assertGreater(len(rows), 30)
+        for rule, definition, code, wrong_body, test, page in rows:
+            with self.subTest(rule):
+                crate = self.check_definition(definition)
+                self.check_code(crate, code)
+                self.check_wrong_body(wrong_body)
+                self.check_test(test)
+                self.check_page(page)
+
+    def check_definition(self, cell):
+        """A definition stands in the file that the cell names. The crate of the file."""
+        place, *names = NAME.findall(cell)
+        crate, file = place.split("/")
+        text = (HOME / "crates" / crate / "specs" / f"{file}.antt").read_text(encoding="utf-8")
+        for name in names:
+            self.assertRegex(text, rf"(?m)^\s*(?:(?:abbrev|unfoldable) )?pub (?:record )?{re.escape(name)}\b")
+        return crate
+
+    def check_code(self, crate, cell):
+        text = text_of(f"crates/{crate}/src", ".rt")
+        for name in NAME.findall(cell):
+            self.assertRegex(text, rf"\bfn {re.escape(name.split('::')[-1])}\b")
+
+    def check_wrong_body(self, cell):
+        for name in NAME.findall(cell):
+            self.assertTrue(list(HOME.glob(f"crates/*/must-fail/{name}.edit")), f"no wrong body {name}")
+
+    def check_test(self, cell):
+        names = NAME.findall(cell)
+        self.assertTrue(names)
+        for name in names:
+            self.assertRegex(text_of("crates", ".rt"), rf"#\[test\]\n\s*fn {re.escape(name)}\(")
+
+    def check_page(self, cell):
+        for file, anchor in LINK.findall(cell):
+            headings = re.findall(r"(?m)^#+ (.*)$", (HOME / "docs" / file).read_text(encoding="utf-8"))
+            self.assertIn(anchor, map(slug_of, headings))
+
+
+if __name__ == "__main__":
+    unittest.main()
