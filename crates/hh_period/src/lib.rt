@@ -7,4 +7,4 @@ mod period_text;
 mod rejection;
 
 pub use inputs::{PeriodFault, period};
-pub use rejection::Input;
+pub use rejection::{Input, Rejection};
