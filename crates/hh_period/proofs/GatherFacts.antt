@@ -15,7 +15,8 @@ use Rattle.hh_tables.proofs.TableLaws.{insert_entry-put, table_of_last-append}
 use Rattle.hh_names.specs.declared.account.Account.{Account}
 use Rattle.hh_names.specs.Accounts.{account_cmp}
 use Rattle.hh_names.proofs.AccountLaws.{account_total, exact_accounts}
-use Rattle.hh_period.specs.Rows.{in_account_order}
+use Rattle.hh_texts.specs.declared.period_contracts.PeriodContractRow.{PeriodContractRow}
+use Rattle.hh_period.specs.Rows.{in_account_order, seller_and_buyer}
 
 module _ {K V : Type 0} (R : K → K → Ordering) (k : K) (v : V) where
   -- a set's insertion adds the key of a row
@@ -60,17 +61,18 @@ named_more name rows i row inside is keys new so_far e =
     ∙ ap in_account_order (ap (λ r. map name (take i rows) ++ name r ∷ []) is ∙ sym (ap (map name) (take_more rows i row inside) ∙ map-append name (take i rows) (get_or rows i row ∷ [])))
 
 -- both accounts of one row more
-pub ends_more : {X : Type 0} (first second : X → Account) (rows : List X) (i : ℕ) (row : X) → i < length rows → row ≡ get_or rows i row
-    → (names keys once twice : List Account) → keys ≡ in_account_order (names ++ flat_map (λ r. first r ∷ second r ∷ []) (take i rows))
-    → once ≡ insert_key account_cmp keys (first row) → twice ≡ insert_key account_cmp once (second row)
-    → twice ≡ in_account_order (names ++ flat_map (λ r. first r ∷ second r ∷ []) (take (i + 1) rows))
-ends_more {X = X} first second rows i row inside is names keys once twice so_far e e' =
-    let ends = λ (r : X). first r ∷ second r ∷ [] in
-    let front : List Account = names ++ flat_map ends (take i rows) in
-    account_more (front ++ first row ∷ []) (second row) once twice (account_more front (first row) keys once so_far e) e'
+pub counterparties_more : (rows : List PeriodContractRow) (i : ℕ) (row : PeriodContractRow) → i < length rows → row ≡ get_or rows i row
+    → (names keys once twice : List Account) → keys ≡ in_account_order (names ++ flat_map seller_and_buyer (take i rows))
+    → once ≡ insert_key account_cmp keys row.contract.counterparties.seller → twice ≡ insert_key account_cmp once row.contract.counterparties.buyer
+    → twice ≡ in_account_order (names ++ flat_map seller_and_buyer (take (i + 1) rows))
+counterparties_more rows i row inside is names keys once twice so_far e e' =
+    let seller : List Account = row.contract.counterparties.seller ∷ [] in
+    let buyer : List Account = row.contract.counterparties.buyer ∷ [] in
+    let front : List Account = names ++ flat_map seller_and_buyer (take i rows) in
+    account_more (front ++ seller) row.contract.counterparties.buyer once twice (account_more front row.contract.counterparties.seller keys once so_far e) e'
     ∙ ap in_account_order (
-    append_assoc front (first row ∷ []) (second row ∷ [])
-    ∙ append_assoc names (flat_map ends (take i rows)) (ends row)
+    append_assoc front seller buyer
+    ∙ append_assoc names (flat_map seller_and_buyer (take i rows)) (seller_and_buyer row)
     ∙ ap (λ more. names ++ more) (
-    ap (λ r. flat_map ends (take i rows) ++ ends r) is
-    ∙ sym (ap (flat_map ends) (take_more rows i row inside) ∙ flat_map-append ends (take i rows) (get_or rows i row ∷ []) ∙ ap (λ last. flat_map ends (take i rows) ++ last) (append-nil (ends (get_or rows i row))))))
+    ap (λ r. flat_map seller_and_buyer (take i rows) ++ seller_and_buyer r) is
+    ∙ sym (ap (flat_map seller_and_buyer) (take_more rows i row inside) ∙ flat_map-append seller_and_buyer (take i rows) (get_or rows i row ∷ []) ∙ ap (λ last. flat_map seller_and_buyer (take i rows) ++ last) (append-nil (seller_and_buyer (get_or rows i row))))))

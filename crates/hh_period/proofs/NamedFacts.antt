@@ -17,7 +17,7 @@ use Rattle.hh_names.specs.declared.values.Contract.{Contract}
 use Rattle.hh_calc.specs.Terms.{BmUnit}
 use Rattle.hh_texts.specs.declared.period_contracts.PeriodContractRow.{PeriodContractRow}
 use Rattle.hh_texts.specs.declared.period_meters.PeriodMeterRow.{PeriodMeterRow}
-use Rattle.hh_period.specs.Rows.{contract_entry, in_account_order, in_force, named_accounts, unit_entry, unit_of}
+use Rattle.hh_period.specs.Rows.{bm_unit_entry, bm_unit_of, in_account_order, in_force, named_accounts, period_accounts, period_contract_entry, seller_and_buyer}
 use Rattle.hh_period.proofs.ContractFacts.{equal}
 
 module _ {K V : Type 0} (R : K → K → Ordering) (P : V → Type 0) where
@@ -78,19 +78,18 @@ among names a h =
     keys [] = refl
     keys (n ∷ ns) = ap (λ more. n ∷ more) (keys ns)
 
--- the account of a row is named, and so are both ends of a contract row
+-- the account of a row is named, and so are both counterparties of a contract row
 named_by : {X : Type 0} (name : X → Account) (rows : List X) → All (λ a. Contains (map name rows) a) (map name rows)
 named_by name rows = All-contains_itself (map name rows)
 
-ends_named : (rows : List PeriodContractRow) → All (λ r. Contains (flat_map (λ x. x.seller ∷ x.buyer ∷ []) rows) r.seller × Contains (flat_map (λ x. x.seller ∷ x.buyer ∷ []) rows) r.buyer) rows
-ends_named [] = All-nil _
-ends_named (r ∷ rows) =
-    let ends = λ (x : PeriodContractRow). x.seller ∷ x.buyer ∷ [] in
-    let Named : PeriodContractRow → List Account → Type 0 = λ x names. Contains names x.seller × Contains names x.buyer in
-    All-cons (λ x. Named x (flat_map ends (r ∷ rows))) r rows
+counterparties_named : (rows : List PeriodContractRow) → All (λ r. Contains (flat_map seller_and_buyer rows) r.contract.counterparties.seller × Contains (flat_map seller_and_buyer rows) r.contract.counterparties.buyer) rows
+counterparties_named [] = All-nil _
+counterparties_named (r ∷ rows) =
+    let Named : PeriodContractRow → List Account → Type 0 = λ x names. Contains names x.contract.counterparties.seller × Contains names x.contract.counterparties.buyer in
+    All-cons (λ x. Named x (flat_map seller_and_buyer (r ∷ rows))) r rows
     ((0, omega arith, refl), (1, omega arith, refl))
-    (All-weaker (λ x. Named x (flat_map ends rows)) (λ x. Named x (flat_map ends (r ∷ rows)))
-    (λ x h. (Contains-append_right (ends r) (flat_map ends rows) x.seller h.0, Contains-append_right (ends r) (flat_map ends rows) x.buyer h.1)) rows (ends_named rows))
+    (All-weaker (λ x. Named x (flat_map seller_and_buyer rows)) (λ x. Named x (flat_map seller_and_buyer (r ∷ rows)))
+    (λ x h. (Contains-append_right (seller_and_buyer r) (flat_map seller_and_buyer rows) x.contract.counterparties.seller h.0, Contains-append_right (seller_and_buyer r) (flat_map seller_and_buyer rows) x.contract.counterparties.buyer h.1)) rows (counterparties_named rows))
 
 all-values : {X K V : Type 0} (P : V → Type 0) (entry : X → K × V) (rows : List X) → All (λ x. P (entry x).1) rows → All P (map (λ e. e.1) (map entry rows))
 all-values P entry [] all = All-nil P
@@ -103,35 +102,36 @@ all-back name P (x ∷ rows) all = All-cons (λ y. P (name y)) x rows (All-head 
 
 -- each lead of a unit in force is among the accounts, and each of its subsidiaries, of which it has none
 pub leads_among : (meters : List PeriodMeterRow) (contracts : List PeriodContractRow)
-    → let accounts : List Account = in_account_order (named_accounts meters contracts) in
-    All (λ u. Contains accounts u.lead × All (λ s. Contains accounts s.account) u.subsidiaries) (in_force (map unit_entry meters))
+    → let accounts : List Account = period_accounts meters contracts in
+    All (λ u. Contains accounts u.lead × All (λ s. Contains accounts s.account) u.subsidiaries) (in_force (map bm_unit_entry meters))
 leads_among meters contracts =
     let names : List Account = named_accounts meters contracts in
     let P : BmUnit → Type 0 = λ u. Contains (in_account_order names) u.lead × All (λ s. Contains (in_account_order names) s.account) u.subsidiaries in
-    all-table bytes_cmp P (map unit_entry meters)
-    (all-values P unit_entry meters
-    (All-weaker (λ r. Contains (in_account_order names) r.account) (λ r. P (unit_of r)) (λ r h. (h, All-nil (λ s. Contains (in_account_order names) s.account))) meters
-    (all-back (λ r. r.account) (Contains (in_account_order names)) meters
-    (All-weaker (Contains (map (λ r. r.account) meters)) (Contains (in_account_order names))
-    (λ a h. among names a (Contains-append_left (map (λ r. r.account) meters) (flat_map (λ r. r.seller ∷ r.buyer ∷ []) contracts) a h))
-    (map (λ r. r.account) meters) (named_by (λ r. r.account) meters)))))
+    all-table bytes_cmp P (map bm_unit_entry meters)
+    (all-values P bm_unit_entry meters
+    (All-weaker (λ r. Contains (in_account_order names) r.lead) (λ r. P (bm_unit_of r)) (λ r h. (h, All-nil (λ s. Contains (in_account_order names) s.account))) meters
+    (all-back (λ r. r.lead) (Contains (in_account_order names)) meters
+    (All-weaker (Contains (map (λ r. r.lead) meters)) (Contains (in_account_order names))
+    (λ a h. among names a (Contains-append_left (map (λ r. r.lead) meters) (flat_map seller_and_buyer contracts) a h))
+    (map (λ r. r.lead) meters) (named_by (λ r. r.lead) meters)))))
 
 -- a unit in force has no subsidiaries
-pub subsidiaries_few : (meters : List PeriodMeterRow) → All (λ u. length u.subsidiaries ≤ 799) (in_force (map unit_entry meters))
+pub subsidiaries_few : (meters : List PeriodMeterRow) → All (λ u. length u.subsidiaries ≤ 799) (in_force (map bm_unit_entry meters))
 subsidiaries_few meters =
     let P : BmUnit → Type 0 = λ u. length u.subsidiaries ≤ 799 in
-    all-table bytes_cmp P (map unit_entry meters) (all-values P unit_entry meters (λ k d inside. omega arith))
+    all-table bytes_cmp P (map bm_unit_entry meters) (all-values P bm_unit_entry meters (λ k d inside. omega arith))
 
 -- and so are seller and buyer of each contract in force
-pub ends_among : (meters : List PeriodMeterRow) (contracts : List PeriodContractRow)
-    → All (λ c. Contains (in_account_order (named_accounts meters contracts)) c.seller × Contains (in_account_order (named_accounts meters contracts)) c.buyer) (in_force (map contract_entry contracts))
-ends_among meters contracts =
+pub counterparties_among : (meters : List PeriodMeterRow) (contracts : List PeriodContractRow)
+    → let accounts : List Account = period_accounts meters contracts in
+    All (λ c. Contains accounts c.counterparties.seller × Contains accounts c.counterparties.buyer) (in_force (map period_contract_entry contracts))
+counterparties_among meters contracts =
     let names : List Account = named_accounts meters contracts in
-    let front : List Account = map (λ r. r.account) meters in
-    let back : List Account = flat_map (λ r. r.seller ∷ r.buyer ∷ []) contracts in
-    let P : Contract → Type 0 = λ c. Contains (in_account_order names) c.seller × Contains (in_account_order names) c.buyer in
-    all-table bytes_cmp P (map contract_entry contracts)
-    (all-values P contract_entry contracts
-    (All-weaker (λ r. Contains back r.seller × Contains back r.buyer) (λ r. P (contract_entry r).1)
-    (λ r h. (among names r.seller (Contains-append_right front back r.seller h.0), among names r.buyer (Contains-append_right front back r.buyer h.1)))
-    contracts (ends_named contracts)))
+    let front : List Account = map (λ r. r.lead) meters in
+    let back : List Account = flat_map seller_and_buyer contracts in
+    let P : Contract → Type 0 = λ c. Contains (in_account_order names) c.counterparties.seller × Contains (in_account_order names) c.counterparties.buyer in
+    all-table bytes_cmp P (map period_contract_entry contracts)
+    (all-values P period_contract_entry contracts
+    (All-weaker (λ r. Contains back r.contract.counterparties.seller × Contains back r.contract.counterparties.buyer) (λ r. P (period_contract_entry r).1)
+    (λ r h. (among names r.contract.counterparties.seller (Contains-append_right front back r.contract.counterparties.seller h.0), among names r.contract.counterparties.buyer (Contains-append_right front back r.contract.counterparties.buyer h.1)))
+    contracts (counterparties_named contracts)))

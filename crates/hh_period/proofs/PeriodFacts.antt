@@ -6,11 +6,11 @@ use Rattle.hh_calc.specs.declared.result.AccountRow.{AccountRow}
 use Rattle.hh_calc.specs.Formulas.{figures, figures_of, is_within_limits, IsSettled}
 use Rattle.hh_calc.specs.Terms.{PeriodTerms, Settled}
 use Rattle.hh_period.specs.Outcome.{settled_text}
-use Rattle.hh_period.specs.PeriodText.{account_line, residual_line}
+use Rattle.hh_period.specs.PeriodText.{account_line, residual_line, settled_lines}
 
 -- the text of the settled figures is the text of the period
 pub settled_is : (p : PeriodTerms) (s : Settled) → IsSettled p s → is_within_limits p ≡ true
-    → settled_text p ≡ Ok (flat_map (λ r. account_line (figures_of r)) s.accounts ++ residual_line s.residual)
+    → settled_text p ≡ Ok (settled_lines s)
 settled_is p s h within = rw within (ap Ok (λ i. lines i ++ residual_line (sym h.remainder i)))
   where
     by_row : (rows : List AccountRow) → flat_map account_line (map figures_of rows) ≡ flat_map (λ r. account_line (figures_of r)) rows

@@ -1,3 +1,4 @@
 pub mod Outcome
 pub mod PeriodText
+pub mod RejectionText
 pub mod Rows

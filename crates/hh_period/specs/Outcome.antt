@@ -1,18 +1,19 @@
 -- What the inputs of `settle period` give: the text of the settled period, or the first refusal.
 use Rattle.std.specs.Prelude.{◌≡◌, ℕ, ℤ, List, Option, Some, None, Result, Ok, Err, if◌then◌else◌}
+use Rattle.std.specs.Io.KnownBytes.{Appends}
+use Rattle.hh_devices.specs.Devices.{AppendsFront}
 use Rattle.hh_names.specs.declared.fault.Fault.{Fault}
 use Rattle.hh_names.specs.declared.fault.Refusal.TheVariants.{BadField, TooLarge}
-use Rattle.hh_names.specs.Faults.{memory_fault, plain_fault, ByRefusal}
+use Rattle.hh_names.specs.Faults.{memory_fault, plain_fault, Refusing}
 use Rattle.hh_num.specs.Quantities.{price_value}
 use Rattle.hh_calc.specs.Formulas.{is_within_limits}
 use Rattle.hh_calc.specs.Terms.{PeriodTerms}
 use Rattle.hh_texts.specs.PeriodFiles.{period_contract_rows, period_meter_rows}
-use Rattle.hh_texts.specs.declared.period_contracts.PeriodContractRow.{PeriodContractRow}
 use Rattle.hh_period.specs.declared.rejection.Input.{Input}
 use Rattle.hh_period.specs.declared.rejection.Input.TheVariants.{Contracts, Meter, Price}
 use Rattle.hh_period.specs.declared.rejection.Rejection.{Rejection}
 use Rattle.hh_period.specs.PeriodText.{period_text}
-use Rattle.hh_period.specs.Rows.{first_refusal, period_of}
+use Rattle.hh_period.specs.Rows.{accepted_rows, period_of}
 
 -- what the inputs give, or why they are refused
 abbrev pub Outcome : Type 0 → Type 0
@@ -23,22 +24,18 @@ abbrev pub ◌>>=◌ : {A B : Type 0} → Outcome A → (A → Outcome B) → Ou
 (Ok x) >>= f = f x
 (Err e) >>= f = Err e
 
--- what a file reads as, or the fault in it
+-- a fault in an input
+abbrev pub rejection_in : Input → Fault → Rejection
+rejection_in input fault = record { fault = fault; input = Some input }
+
+-- what an input reads as, or the fault in it
 abbrev pub read_from : {A : Type 0} → Input → Result A Fault → Outcome A
 read_from input (Ok x) = Ok x
-read_from input (Err fault) = Err (record { fault = fault; input = Some input })
-
--- contract rows, unless one of them is refused
-abbrev pub accepted_or : List PeriodContractRow → Option Fault → Outcome (List PeriodContractRow)
-accepted_or rows None = Ok rows
-accepted_or rows (Some fault) = Err (record { fault = fault; input = Some Contracts })
-
-abbrev pub accepted_rows : List PeriodContractRow → Outcome (List PeriodContractRow)
-accepted_rows rows = accepted_or rows (first_refusal rows)
+read_from input (Err fault) = Err (rejection_in input fault)
 
 -- a price in its grammar and range
 abbrev pub priced : Option ℤ → Outcome ℤ
-priced None = Err (record { fault = plain_fault BadField; input = Some Price })
+priced None = Err (rejection_in Price (plain_fault BadField))
 priced (Some price) = Ok price
 
 -- the period of the inputs: meter rows are judged first, then contract rows, then the price
@@ -46,7 +43,7 @@ abbrev pub period_input : List ℕ → List ℕ → List ℕ → Outcome PeriodT
 period_input meter contracts price = do
   meter_rows ← read_from Meter (period_meter_rows meter)
   rows ← read_from Contracts (period_contract_rows contracts)
-  contract_rows ← accepted_rows rows
+  contract_rows ← read_from Contracts (accepted_rows rows)
   value ← priced (price_value price)
   Ok (period_of meter_rows contract_rows value)
 
@@ -62,15 +59,14 @@ period_outcome meter contracts price = period_input meter contracts price >>= se
 abbrev pub memory_rejection : Rejection
 memory_rejection = record { fault = memory_fault; input = None }
 
--- the refusal is the outcome's; want of memory may stand in the place of any outcome
-abbrev pub Rejects : {A : Type 0} → Rejection → Outcome A → Type 0
-Rejects e outcome = ByRefusal e.fault.refusal (e ≡ memory_rejection) (outcome ≡ Err e)
+-- rejections as errors that are refusals
+abbrev pub rejections : Refusing Rejection
+rejections = record { refusal = λ e. e.fault.refusal; memory = memory_rejection }
 
--- what was answered is the outcome
-abbrev pub Answers : {A B : Type 0} → (A → B) → Result A Rejection → Outcome B → Type 0
-Answers view (Ok x) outcome = outcome ≡ Ok (view x)
-Answers view (Err e) outcome = Rejects e outcome
+-- the outcome is a text, and known bytes grow by it
+abbrev pub Writes : Outcome (List ℕ) → Option (List ℕ) → Option (List ℕ) → Type 0
+Writes outcome old new = (text : List ℕ) × (outcome ≡ Ok text) × Appends old new text
 
--- the outcome is a text, of which this holds
-abbrev pub GivesText : Outcome (List ℕ) → (List ℕ → Type 0) → Type 0
-GivesText outcome P = (text : List ℕ) × (outcome ≡ Ok text) × P text
+-- the outcome is a text, and known bytes grow by a beginning of it
+abbrev pub WritesFront : Outcome (List ℕ) → Option (List ℕ) → Option (List ℕ) → Type 0
+WritesFront outcome old new = (text : List ℕ) × (outcome ≡ Ok text) × AppendsFront old new text

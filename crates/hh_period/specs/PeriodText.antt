@@ -5,8 +5,8 @@ use Rattle.hh_num.specs.Fixed.{fixed_text}
 use Rattle.hh_names.specs.declared.account.Account.{Account}
 use Rattle.hh_names.specs.declared.account.Side.{Side}
 use Rattle.hh_names.specs.declared.account.Side.TheVariants.{Consumption, Production}
-use Rattle.hh_calc.specs.Formulas.{Figures, figures, residual}
-use Rattle.hh_calc.specs.Terms.{PeriodTerms}
+use Rattle.hh_calc.specs.Formulas.{Figures, figures, figures_of, residual}
+use Rattle.hh_calc.specs.Terms.{PeriodTerms, Settled}
 
 abbrev pub side_letter : Side → ℕ
 side_letter Production = 80
@@ -31,6 +31,10 @@ account_line f = codes "account " ++ account_text f.account ++ figures_text f ++
 -- `residual T`
 abbrev pub residual_line : ℤ → List ℕ
 residual_line pence = named (codes "residual ") 0 pence ++ 10 ∷ []
+
+-- the lines of settled figures
+abbrev pub settled_lines : Settled → List ℕ
+settled_lines s = flat_map (λ r. account_line (figures_of r)) s.accounts ++ residual_line s.residual
 
 -- a line for each account in order, then the residual
 abbrev pub period_text : PeriodTerms → List ℕ

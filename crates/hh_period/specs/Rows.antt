@@ -1,38 +1,31 @@
 -- The period that the rows of two files and a price make.
-use Rattle.std.specs.Prelude.{ℕ, ◌+◌, ℤ, List, [], ◌∷◌, ◌++◌, map, Bool, false, not, ◌&&◌, Option, Some, None, if◌then◌else◌}
+use Rattle.std.specs.Prelude.{◌≡◌, ℕ, ◌+◌, ℤ, List, [], ◌∷◌, ◌++◌, map, false, Option, Some, None, Result, Ok, Err}
 use Rattle.std.specs.FinMap.{find}
 use Rattle.std.specs.List.{flat_map}
 use Rattle.hh_tables.specs.Tables.{table_of_last}
 use Rattle.hh_names.specs.declared.account.Account.{Account}
 use Rattle.hh_names.specs.declared.fault.Fault.{Fault}
 use Rattle.hh_names.specs.declared.fault.Refusal.{Refusal}
-use Rattle.hh_names.specs.declared.fault.Refusal.TheVariants.{ReferenceMoved, SameAccount}
-use Rattle.hh_names.specs.Accounts.{account_cmp, bytes_cmp, is_same_account}
-use Rattle.hh_names.specs.Faults.{row_fault}
 use Rattle.hh_names.specs.declared.values.Contract.{Contract}
+use Rattle.hh_names.specs.declared.values.Counterparties.{Counterparties}
+use Rattle.hh_names.specs.Accounts.{account_cmp, bytes_cmp}
+use Rattle.hh_names.specs.CounterpartyRule.{counterparty_refusals}
+use Rattle.hh_names.specs.Faults.{first_met, row_fault}
 use Rattle.hh_calc.specs.Terms.{PeriodTerms, BmUnit}
 use Rattle.hh_texts.specs.declared.period_contracts.PeriodContractRow.{PeriodContractRow}
 use Rattle.hh_texts.specs.declared.period_meters.PeriodMeterRow.{PeriodMeterRow}
 
--- the unit of a row: no interconnector's, and without subsidiaries
-abbrev pub unit_of : PeriodMeterRow → BmUnit
-unit_of r = record {
-  unit = r.unit;
-  lead = r.account;
-  interconnector = false;
-  metered = r.metered;
-  tlm = r.tlm;
-  balancing = r.balancing;
-  subsidiaries = [];
-}
+-- the BM Unit of a row: no interconnector's, and without subsidiaries
+abbrev pub bm_unit_of : PeriodMeterRow → BmUnit
+bm_unit_of r = record { unit = r.unit; lead = r.lead; interconnector = false; reading = r.reading; subsidiaries = [] }
 
 -- what a row puts under its unit
-abbrev pub unit_entry : PeriodMeterRow → List ℕ × BmUnit
-unit_entry r = (r.unit, unit_of r)
+abbrev pub bm_unit_entry : PeriodMeterRow → List ℕ × BmUnit
+bm_unit_entry r = (r.unit, bm_unit_of r)
 
--- and under its reference
-abbrev pub contract_entry : PeriodContractRow → List ℕ × Contract
-contract_entry r = (r.reference, record { seller = r.seller; buyer = r.buyer; volume = r.volume })
+-- what a row puts under its reference
+abbrev pub period_contract_entry : PeriodContractRow → List ℕ × Contract
+period_contract_entry r = (r.reference, r.contract)
 
 -- the last row of each key counts, in the order of the keys
 abbrev pub in_force : {V : Type 0} → List (List ℕ × V) → List V
@@ -42,38 +35,38 @@ in_force entries = map (λ e. e.1) (table_of_last bytes_cmp entries)
 abbrev pub in_account_order : List Account → List Account
 in_account_order names = map (λ e. e.0) (table_of_last account_cmp (map (λ a. (a, a)) names))
 
+-- the seller and the buyer of a row
+abbrev pub seller_and_buyer : PeriodContractRow → List Account
+seller_and_buyer r = r.contract.counterparties.seller ∷ r.contract.counterparties.buyer ∷ []
+
 -- all accounts that rows name, also those of rows that a later one replaces
 abbrev pub named_accounts : List PeriodMeterRow → List PeriodContractRow → List Account
-named_accounts meters contracts = map (λ r. r.account) meters ++ flat_map (λ r. r.seller ∷ r.buyer ∷ []) contracts
+named_accounts meters contracts = map (λ r. r.lead) meters ++ flat_map seller_and_buyer contracts
+
+-- the accounts of a period of these rows
+abbrev pub period_accounts : List PeriodMeterRow → List PeriodContractRow → List Account
+period_accounts meters contracts = in_account_order (named_accounts meters contracts)
+
+-- a list holds the accounts of the names that another one holds and of more names
+abbrev pub NamesMore : List Account → List Account → List Account → Type 0
+NamesMore old new more = (names : List Account) → old ≡ in_account_order names → new ≡ in_account_order (names ++ more)
 
 -- the period of these rows and this price
 abbrev pub period_of : List PeriodMeterRow → List PeriodContractRow → ℤ → PeriodTerms
 period_of meters contracts price = record {
-  accounts = in_account_order (named_accounts meters contracts);
-  units = in_force (map unit_entry meters);
-  contracts = in_force (map contract_entry contracts);
+  accounts = period_accounts meters contracts;
+  units = in_force (map bm_unit_entry meters);
+  contracts = in_force (map period_contract_entry contracts);
   price = price;
 }
 
--- the seller and the buyer that a row gives its reference
-abbrev pub ends_entry : PeriodContractRow → List ℕ × (Account × Account)
-ends_entry r = (r.reference, (r.seller, r.buyer))
+-- the counterparties that a row gives its reference
+abbrev pub counterparties_entry : PeriodContractRow → List ℕ × Counterparties
+counterparties_entry r = (r.reference, r.contract.counterparties)
 
--- whether a row has another seller or buyer than its reference
-abbrev pub is_moved : Option (Account × Account) → PeriodContractRow → Bool
-is_moved None r = false
-is_moved (Some first) r = not (is_same_account first.0 r.seller && is_same_account first.1 r.buyer)
-
--- why a row is refused whose reference has these ends: 35 before 36
-abbrev pub refusal_beside : Option (Account × Account) → PeriodContractRow → Option Refusal
-refusal_beside ends r =
-    if is_same_account r.seller r.buyer then Some SameAccount
-    else if is_moved ends r then Some ReferenceMoved
-    else None
-
--- why a row is refused among these rows: the first of its reference gives the ends
+-- why a row is refused among these rows: the first of its reference gives the counterparties
 abbrev pub refusal_among : List PeriodContractRow → PeriodContractRow → Option Refusal
-refusal_among rows r = refusal_beside (find bytes_cmp r.reference (map ends_entry rows)) r
+refusal_among rows r = first_met (counterparty_refusals (find bytes_cmp r.reference (map counterparties_entry rows)) r.contract.counterparties)
 
 -- a refusal of a row, or what comes later
 abbrev pub refused_or : ℕ → Option Refusal → Option Fault → Option Fault
@@ -88,3 +81,12 @@ first_refused refusal_of row (r ∷ rows) = refused_or row (refusal_of r) (first
 -- the first refusal of all rows, with the number of its row
 abbrev pub first_refusal : List PeriodContractRow → Option Fault
 first_refusal rows = first_refused (refusal_among rows) 1 rows
+
+-- rows, unless they have a refusal
+abbrev pub accepted_or : List PeriodContractRow → Option Fault → Result (List PeriodContractRow) Fault
+accepted_or rows None = Ok rows
+accepted_or rows (Some fault) = Err fault
+
+-- rows, unless one of them is refused
+abbrev pub accepted_rows : List PeriodContractRow → Result (List PeriodContractRow) Fault
+accepted_rows rows = accepted_or rows (first_refusal rows)

@@ -1,24 +1,23 @@
 //! One Settlement Period from the texts of its inputs.
 
-ghost use Rattle.std.specs.Prelude.{◌≡◌, ◌≤◌, length, map, Option, IfOk, OnOk, IsErrOf};
-ghost use Rattle.std.specs.Io.KnownBytes.{Appends};
-ghost use Rattle.hh_devices.specs.Devices.{AppendsFront, Failed};
+ghost use Rattle.std.specs.Prelude.{◌≡◌, ◌≤◌, length, map, Err, IfOk, OnOk, IsErrOf};
 ghost use Rattle.hh_calc.specs.Formulas.{AreInOrder, AreNamed, AreSubsidiariesFew};
+ghost use Rattle.hh_devices.specs.Devices.{Failed};
+ghost use Rattle.hh_names.specs.Faults.{Gives, Refuses};
 ghost use Rattle.hh_num.specs.Quantities.{price_value};
-ghost use Rattle.hh_names.specs.declared.fault.Fault.{Fault};
-ghost use Rattle.hh_period.specs.declared.rejection.Input.{Input};
+ghost use Rattle.hh_period.specs.declared.rejection.Rejection.{Rejection};
 ghost use Rattle.hh_texts.specs.PeriodFiles.{period_contract_rows, period_meter_rows};
 ghost use Rattle.hh_texts.specs.Rows.{most_rows};
-ghost use Rattle.hh_period.specs.Outcome.{accepted_rows, period_input, period_outcome, priced, read_from, Answers, GivesText, Rejects};
-ghost use Rattle.hh_period.specs.Rows.{contract_entry, in_force};
+ghost use Rattle.hh_period.specs.Outcome.{period_input, period_outcome, priced, read_from, rejections, Writes, WritesFront};
+ghost use Rattle.hh_period.specs.Rows.{accepted_rows, in_force, period_contract_entry};
 
 use crate::gather::{accounts_named, contracts_in_force, units_in_force};
 use crate::period_text::push_period;
 use crate::rejection::{Input, Rejection};
-use hh_calc::{CalcFault, Contract, PeriodData, settle_period};
+use hh_calc::{CalcFault, PeriodData, settle_period};
 use hh_devices::{DeviceFailed, Sink, write_whole};
+use hh_names::{Contract, Fault, Refusal};
 use hh_num::Price;
-use hh_names::{Fault, Refusal};
 use hh_texts::{PeriodContractRow, PeriodMeterRow, read_period_contracts, read_period_meters};
 use std::alloc::Global;
 
@@ -26,7 +25,7 @@ use std::alloc::Global;
 #[derive(Clone, Copy, Debug, PartialEq, Eq)]
 pub enum PeriodFault {
     /// The inputs are refused, and nothing was written. 55 and 90 name no input.
-    Refused(Fault, Option<Input>),
+    Refused(Rejection),
     /// The output failed or took nothing, and a beginning of the text went out.
     Write,
 }
@@ -35,10 +34,10 @@ impl From<Rejection> for PeriodFault {
     ghost use Rattle.std.specs.Prelude.{◌≡◌};
     ghost use Rattle.hh_period.specs.declared.inputs.PeriodFault.TheVariants.{Refused};
 
-    ghost from_gives = { λ rejection fault. fault ≡ Refused rejection.fault rejection.input };
+    ghost from_gives = { λ rejection fault. fault ≡ Refused rejection };
 
     fn from(rejection: Rejection) -> PeriodFault {
-        PeriodFault::Refused(rejection.fault, rejection.input)
+        PeriodFault::Refused(rejection)
     }
 }
 
@@ -48,7 +47,7 @@ impl From<Rejection> for PeriodFault {
 /// # Errors
 ///
 /// `Refused` with the first refusal in the order METER (10 to 14), CONTRACTS (10 to 14, then 35 and
-/// 36), PRICE (14), the limits of a run (55), or with 90 for want of memory in the place of any
+/// 36), PRICE (14), the limits of a run (55), or with 90 if memory runs out, in the place of any
 /// answer; nothing was written then. `Write` where the output failed or took nothing in this call;
 /// a beginning of the text went out then.
 pub fn period<S: Sink>(
@@ -59,16 +58,20 @@ pub fn period<S: Sink>(
     out: &mut S,
 ) -> Result<(), PeriodFault>
     // The text of the settled period went out, and nothing else.
-    ensures written { OnOk result (GivesText (period_outcome meter.now contracts.now price.now) (λ text. Appends (S.taken out.old) (S.taken out.new) text)) }
+    ensures written { OnOk result (Writes (period_outcome meter.now contracts.now price.now)
+        (S.taken out.old) (S.taken out.new)) }
     ensures well { OnOk result (S.failures out.new ≡ S.failures out.old) }
 
-    // The first refusal, or want of memory, and then nothing was written.
-    ensures refused { (fault : Fault) (input : Option Input) → result ≡ Err (PeriodFault.Refused fault input) → Rejects (record { fault = fault; input = input }) (period_outcome meter.now contracts.now price.now) }
-    ensures untouched { (fault : Fault) (input : Option Input) → result ≡ Err (PeriodFault.Refused fault input) → out.new ≡ out.old }
+    // The first refusal, or that of memory, and then nothing was written.
+    ensures refused { (e : Rejection) → result ≡ Err (PeriodFault.Refused e)
+        → Refuses rejections e (period_outcome meter.now contracts.now price.now) }
+    ensures untouched { (e : Rejection) → result ≡ Err (PeriodFault.Refused e) → out.new ≡ out.old }
 
     // The device failed in this call, and a beginning of the text went out.
-    ensures cut { IsErrOf result PeriodFault.Write → GivesText (period_outcome meter.now contracts.now price.now) (λ text. AppendsFront (S.taken out.old) (S.taken out.new) text) }
-    ensures failed { IsErrOf result PeriodFault.Write → Failed (S.failures out.old) (S.failures out.new) }
+    ensures cut { IsErrOf result PeriodFault.Write
+        → WritesFront (period_outcome meter.now contracts.now price.now) (S.taken out.old) (S.taken out.new) }
+    ensures failed { IsErrOf result PeriodFault.Write
+        → Failed (S.failures out.old) (S.failures out.new) }
 {
     let text = settle_inputs(alloc, meter, contracts, price)?;
     match write_whole(out, &text) {
@@ -79,7 +82,8 @@ pub fn period<S: Sink>(
 
 /// The rows of METER.
 fn meter_rows(alloc: Global, meter: &[u8]) -> Result<Vec<PeriodMeterRow>, Rejection>
-    ensures { Answers (λ rows. rows.items) result (read_from Input.Meter (period_meter_rows meter.now)) }
+    ensures { Gives rejections (λ rows. rows.items) result
+        (read_from Input.Meter (period_meter_rows meter.now)) }
 {
     match read_period_meters(alloc, meter) {
         Ok(rows) => Ok(rows),
@@ -89,7 +93,8 @@ fn meter_rows(alloc: Global, meter: &[u8]) -> Result<Vec<PeriodMeterRow>, Reject
 
 /// The rows of CONTRACTS.
 fn contract_rows(alloc: Global, contracts: &[u8]) -> Result<Vec<PeriodContractRow>, Rejection>
-    ensures rows { Answers (λ rows. rows.items) result (read_from Input.Contracts (period_contract_rows contracts.now)) }
+    ensures rows { Gives rejections (λ rows. rows.items) result
+        (read_from Input.Contracts (period_contract_rows contracts.now)) }
     ensures few { IfOk result (λ rows. length rows.items ≤ most_rows) }
 {
     match read_period_contracts(alloc, contracts) {
@@ -101,8 +106,9 @@ fn contract_rows(alloc: Global, contracts: &[u8]) -> Result<Vec<PeriodContractRo
 /// The contracts in force of rows of which none is refused.
 fn accepted_contracts(alloc: Global, rows: &[PeriodContractRow]) -> Result<Vec<Contract>, Rejection>
     requires { length rows.now ≤ most_rows }
-    ensures accepted { Answers (λ _. rows.now) result (accepted_rows rows.now) }
-    ensures contracts { IfOk result (λ contracts. contracts.items ≡ in_force (map contract_entry rows.now)) }
+    ensures accepted { Gives rejections (λ _. rows.now) result
+        (read_from Input.Contracts (accepted_rows rows.now)) }
+    ensures contracts { IfOk result (λ all. all.items ≡ in_force (map period_contract_entry rows.now)) }
 {
     match contracts_in_force(alloc, rows) {
         Ok(contracts) => Ok(contracts),
@@ -112,7 +118,7 @@ fn accepted_contracts(alloc: Global, rows: &[PeriodContractRow]) -> Result<Vec<C
 
 /// The price in PRICE.
 fn read_price(price: &[u8]) -> Result<Price, Rejection>
-    ensures { Answers (λ value. value) result (priced (price_value price.now)) }
+    ensures { Gives rejections (λ value. value) result (priced (price_value price.now)) }
 {
     match Price::read(price) {
         Some(value) => Ok(value),
@@ -127,7 +133,8 @@ fn gather_period(
     contracts: &[u8],
     price: &[u8],
 ) -> Result<PeriodData, Rejection>
-    ensures gathered { Answers (λ period. period) result (period_input meter.now contracts.now price.now) }
+    ensures gathered { Gives rejections (λ period. period) result
+        (period_input meter.now contracts.now price.now) }
     ensures ordered { IfOk result (λ period. AreInOrder period) }
     ensures named { IfOk result (λ period. AreNamed period) }
     ensures few { IfOk result (λ period. AreSubsidiariesFew period) }
@@ -148,7 +155,8 @@ fn settle_inputs(
     contracts: &[u8],
     price: &[u8],
 ) -> Result<Vec<u8>, Rejection>
-    ensures { Answers (λ text. text.items) result (period_outcome meter.now contracts.now price.now) }
+    ensures { Gives rejections (λ text. text.items) result
+        (period_outcome meter.now contracts.now price.now) }
 {
     let period = gather_period(alloc, meter, contracts, price)?;
     match settle_period(alloc, &period) {

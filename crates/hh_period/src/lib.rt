@@ -5,6 +5,7 @@ mod gather;
 mod inputs;
 mod period_text;
 mod rejection;
+mod rejection_text;
 
 pub use inputs::{PeriodFault, period};
-pub use rejection::Input;
+pub use rejection::{Input, Rejection};

@@ -1,13 +1,12 @@
 //! The text of a settled period.
 
 ghost use Rattle.std.specs.Prelude.{◌≡◌, ◌++◌, OnOk};
-ghost use Rattle.std.specs.List.{flat_map};
 ghost use Rattle.hh_calc.specs.Formulas.{figures_of};
-ghost use Rattle.hh_period.specs.PeriodText.{account_line, account_text, figures_text, named, residual_line, side_letter};
+ghost use Rattle.hh_period.specs.PeriodText.{account_line, account_text, figures_text, named, residual_line, settled_lines, side_letter};
 
 use hh_calc::{AccountRow, PeriodResult};
-use hh_num::{Pence, Quantity, Scaled};
 use hh_names::{Account, Side};
+use hh_num::{Pence, Quantity, Scaled};
 use std::alloc::AllocError;
 
 /// The letter by which a side is written.
@@ -71,7 +70,7 @@ fn push_residual_line(text: &mut Vec<u8>, residual: Pence) -> Result<(), AllocEr
 
 /// Appends the text of a settled period: a line for each account in order, then the residual.
 pub(crate) fn push_period(text: &mut Vec<u8>, settled: &PeriodResult) -> Result<(), AllocError>
-    ensures { OnOk result (text.new.items ≡ text.old.items ++ (flat_map (λ r. account_line (figures_of r)) settled.now.accounts ++ residual_line settled.now.residual)) }
+    ensures { OnOk result (text.new.items ≡ text.old.items ++ settled_lines settled.now) }
 {
     for row in settled.accounts() {
         push_account_line(text, row)?;

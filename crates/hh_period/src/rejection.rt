@@ -22,9 +22,9 @@ pub struct Rejection {
 }
 
 impl Rejection {
-    ghost use Rattle.std.specs.Prelude.{◌≡◌, None, Some};
+    ghost use Rattle.std.specs.Prelude.{◌≡◌, None};
     ghost use Rattle.hh_names.specs.Faults.{plain_fault, ByRefusal};
-    ghost use Rattle.hh_period.specs.Outcome.{memory_rejection};
+    ghost use Rattle.hh_period.specs.Outcome.{memory_rejection, rejection_in};
 
     /// A refusal of the whole.
     pub fn of(refusal: Refusal) -> Rejection
@@ -39,7 +39,8 @@ impl Rejection {
     /// A refusal that an input meets.
     pub fn of_input(input: Input, fault: Fault) -> Rejection
         ensures refusal { result.fault.refusal ≡ fault.refusal }
-        ensures input { ByRefusal fault.refusal (result ≡ memory_rejection) (result ≡ record { fault = fault; input = Some input }) }
+        ensures input { ByRefusal fault.refusal (result ≡ memory_rejection)
+            (result ≡ rejection_in input fault) }
     {
         match fault.refusal {
             Refusal::Memory => Rejection::of(Refusal::Memory),

@@ -1,3 +1,4 @@
+pub mod FrontFacts
 pub mod LineFacts
 pub mod ResultFacts
 pub mod StopFacts

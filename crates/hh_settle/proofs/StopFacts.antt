@@ -1,33 +1,59 @@
--- How a command's stops come of the faults of a period.
-use Rattle.std.proofs.Common.{◌≡◌, Result, Ok, Err, List, ℕ, Option, sym, refl, subst, IfErr}
+-- How a line stops, or is done, by what was read of its files.
+use Rattle.std.proofs.Common.{◌≡◌, ◌<◌, ℕ, List, Option, Some, Result, Ok, Err, IfErr, take, refl, sym, subst, ◌∙◌}
 use Rattle.std.specs.Result.{IsErrAnd}
-use Rattle.hh_devices.specs.Devices.{AppendsFront}
-use Rattle.hh_names.specs.declared.fault.Fault.{Fault}
-use Rattle.hh_period.specs.declared.rejection.Input.{Input}
+use Rattle.hh_names.specs.declared.fault.Refusal.{Refusal}
+use Rattle.hh_names.specs.declared.fault.Refusal.TheVariants as refusal
+use Rattle.hh_names.specs.Faults.{ByRefusal, Refuses}
+use Rattle.hh_texts.specs.Rows.{most_bytes}
 use Rattle.hh_period.specs.declared.inputs.PeriodFault.{PeriodFault}
 use Rattle.hh_period.specs.declared.inputs.PeriodFault.TheVariants.{Refused, Write}
+use Rattle.hh_period.specs.declared.rejection.Rejection.{Rejection}
+use Rattle.hh_period.specs.Outcome.{period_outcome, rejections, Outcome, Writes, WritesFront}
 use Rattle.hh_settle.specs.declared.program.Stop.{Stop}
 use Rattle.hh_settle.specs.Lines.{PeriodLine}
-use Rattle.hh_period.specs.Outcome.{period_outcome, GivesText, Rejects}
-use Rattle.hh_settle.specs.Stops.{period_stop, StopsLine}
+use Rattle.hh_settle.specs.Stops.{period_stop, ComesTo, Does, StopsLine}
+use Rattle.hh_settle.proofs.FrontFacts.{period_outcome-front}
 
--- An output had these bytes and has those, and it failed if this holds. The files of a period had bytes, and its price is this.
-module _ (old new : Option (List ℕ)) (failed : Type 0) (meter contracts price : List ℕ) where
-  -- the period's fault, as its contract tells it
-  pub record IsPeriodFault (fault : PeriodFault) : Type 0 where
-    pub refused : (f : Fault) (i : Option Input) → fault ≡ Refused f i → Rejects (record { fault = f; input = i }) (period_outcome meter contracts price)
-    pub untouched : (f : Fault) (i : Option Input) → fault ≡ Refused f i → new ≡ old
-    pub cut : fault ≡ Write → GivesText (period_outcome meter contracts price) (λ text. AppendsFront old new text)
-    pub failed_then : fault ≡ Write → failed
+ByRefusal-map : (r : Refusal) (P Q R : Type 0) → (Q → R) → ByRefusal r P Q → ByRefusal r P R
+ByRefusal-map refusal.Memory P Q R f p = p
+ByRefusal-map r P Q R f q = f q
 
-  -- the line stops as the fault says
-  line_stops : (meter_name contracts_name : List ℕ) (fault : PeriodFault) → IsPeriodFault fault
-      → StopsLine old new failed (PeriodLine meter_name contracts_name price) (period_stop fault)
-  line_stops _ _ (Refused f i) h = (h.untouched f i refl, (meter, contracts, h.refused f i refl))
-  line_stops _ _ Write h = (h.failed_then refl, (meter, contracts, h.cut refl))
+-- these bytes were read of a path: the front of what it may read as
+abbrev pub IsFrontOf : (List ℕ → Option (List ℕ) → Type 0) → ℕ → List ℕ → List ℕ → Type 0
+IsFrontOf reads most path front = (all : List ℕ) × reads path (Some all) × (front ≡ take most all)
 
-  pub stopped_by_period : {T : Type 0} (meter_name contracts_name : List ℕ) (fault : PeriodFault) → IsPeriodFault fault
-      → (result : Result T Stop) → IsErrAnd result (λ s. s ≡ period_stop fault)
-      → IfErr result (λ s. StopsLine old new failed (PeriodLine meter_name contracts_name price) s)
-  stopped_by_period _ _ fault h (Ok x) passed = tt
-  stopped_by_period m c fault h (Err s) passed = subst (StopsLine old new failed (PeriodLine m c price)) (sym passed) (line_stops m c fault h)
+-- The files of a line were read so far that a file that is too large is known.
+module _ (reads : List ℕ → Option (List ℕ) → Type 0) (most : ℕ) (enough : most_bytes < most) (meter contracts price : List ℕ)
+    (m c : List ℕ) (meter_read : IsFrontOf reads most meter m) (contracts_read : IsFrontOf reads most contracts c) where
+  -- what the bytes that were read come to, the line does
+  comes_to : (outcome : Outcome (List ℕ)) → period_outcome m c price ≡ outcome → ComesTo reads (PeriodLine meter contracts price) outcome
+  comes_to outcome is = (
+    meter_read.0,
+    contracts_read.0,
+    meter_read.1,
+    contracts_read.1,
+    sym (period_outcome-front most enough meter_read.0 contracts_read.0 price) ∙ sym (λ i. period_outcome (meter_read.2 i) (contracts_read.2 i) price) ∙ is,
+  )
+
+  pub done_by_period : (old new : Option (List ℕ)) → Writes (period_outcome m c price) old new → Does reads (PeriodLine meter contracts price) old new
+  done_by_period old new (text, is, went) = (text, comes_to (Ok text) is, went)
+
+  -- An output had these bytes before and has those after, and it failed if this holds.
+  module _ (old new : Option (List ℕ)) (failed : Type 0) where
+    -- a period's fault, as its contract tells it
+    pub record IsPeriodFault (fault : PeriodFault) : Type 0 where
+      pub refused : (e : Rejection) → fault ≡ Refused e → Refuses rejections e (period_outcome m c price)
+      pub untouched : (e : Rejection) → fault ≡ Refused e → new ≡ old
+      pub cut : fault ≡ Write → WritesFront (period_outcome m c price) old new
+      pub failed_then : fault ≡ Write → failed
+
+    -- the line stops as the fault says
+    line_stops : (fault : PeriodFault) → IsPeriodFault fault → StopsLine reads old new failed (PeriodLine meter contracts price) (period_stop fault)
+    line_stops (Refused e) h = (h.untouched e refl, ByRefusal-map e.fault.refusal _ _ _ (comes_to (Err e)) (h.refused e refl))
+    line_stops Write h = let (text, is, went) = h.cut refl in (h.failed_then refl, (text, comes_to (Ok text) is, went))
+
+    pub stopped_by_period : {T : Type 0} (fault : PeriodFault) → IsPeriodFault fault
+        → (result : Result T Stop) → IsErrAnd result (λ s. s ≡ period_stop fault)
+        → IfErr result (λ s. StopsLine reads old new failed (PeriodLine meter contracts price) s)
+    stopped_by_period fault h (Ok x) passed = tt
+    stopped_by_period fault h (Err s) passed = subst (StopsLine reads old new failed (PeriodLine meter contracts price)) (sym passed) (line_stops fault h)

@@ -1,4 +1,3 @@
 pub mod Grammar
 pub mod Lines
-pub mod Refusals
 pub mod Stops

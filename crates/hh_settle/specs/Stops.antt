@@ -1,58 +1,102 @@
--- How faults of the layers below end a command.
-use Rattle.std.specs.Prelude.{◌≡◌, ◌⊎◌, ℕ, List, Option, Some, None, codes}
+-- How a line of words ends: done, or stopped, and what is told of it.
+use Rattle.std.specs.Prelude.{◌≡◌, ◌≢◌, ◌⊎◌, ℕ, List, [], ◌++◌, Option, Some, None, Ok, Err, codes}
 use Rattle.std.specs.Io.KnownBytes.{Appends}
-use Rattle.std.specs.declared.io.ErrorKind.{ErrorKind}
-use Rattle.std.specs.declared.io.ErrorKind.TheVariants.{OutOfMemory}
-use Rattle.hh_devices.specs.Devices.{AppendsFront}
-use Rattle.hh_names.specs.Faults.{memory_fault}
-use Rattle.hh_settle.specs.declared.files.InputFault.{InputFault}
-use Rattle.hh_settle.specs.declared.files.InputFault.TheVariants.{Unreadable, Memory}
+use Rattle.clap.specs.Words.{Text}
+use Rattle.hh_devices.specs.Devices.{AppendsFront, Failed}
+use Rattle.hh_inputs.specs.declared.inputs.InputFault.{InputFault}
+use Rattle.hh_inputs.specs.declared.inputs.InputFault.TheVariants.{Unreadable, Memory}
+use Rattle.hh_names.specs.Faults.{ByRefusal}
 use Rattle.hh_period.specs.declared.inputs.PeriodFault.{PeriodFault}
 use Rattle.hh_period.specs.declared.inputs.PeriodFault.TheVariants as period
+use Rattle.hh_period.specs.declared.rejection.Rejection.{Rejection}
+use Rattle.hh_period.specs.Outcome.{memory_rejection, period_outcome, Outcome}
+use Rattle.hh_period.specs.RejectionText.{rejection_text}
 use Rattle.hh_settle.specs.declared.program.Stop.{Stop}
 use Rattle.hh_settle.specs.declared.program.Stop.TheVariants as stop
-use Rattle.hh_settle.specs.Lines.{Line, PeriodLine}
-use Rattle.hh_period.specs.Outcome.{period_outcome, GivesText, Rejects}
-use Rattle.hh_settle.specs.Refusals.{refusal_line}
+use Rattle.hh_settle.specs.Lines.{Line, PeriodLine, line_value}
 
--- want of memory is told apart, and every other error of a file is one
-abbrev pub input_fault : ErrorKind → InputFault
-input_fault OutOfMemory = Memory
-input_fault _ = Unreadable
-
+-- why a command stops whose file gives no bytes
 abbrev pub input_stop : InputFault → Stop
 input_stop Unreadable = stop.File
-input_stop Memory = stop.Refused memory_fault None
+input_stop Memory = stop.Refused memory_rejection
 
+-- why a command stops whose period has a fault
 abbrev pub period_stop : PeriodFault → Stop
-period_stop (period.Refused fault input) = stop.Refused fault input
+period_stop (period.Refused e) = stop.Refused e
 period_stop period.Write = stop.Output
+
+-- the line that tells a rejection
+abbrev pub rejection_line : Rejection → List ℕ
+rejection_line e = rejection_text e ++ codes "\n"
 
 -- the line that tells why a command stops
 abbrev pub stop_line : Stop → List ℕ
-stop_line (stop.Refused fault input) = refusal_line fault input
+stop_line (stop.Refused e) = rejection_line e
 stop_line stop.File = codes "fault file\n"
 stop_line stop.Output = codes "fault output\n"
 
--- known bytes grow by the line, or by that of want of memory
-abbrev pub Tells : Option (List ℕ) → Option (List ℕ) → Stop → Type 0
-Tells old new s = Appends old new (stop_line s) ⊎ Appends old new (refusal_line memory_fault None)
+-- the bytes that a device tells before and after a command, and its counts of failures
+pub record Course : Type 0 where
+  pub old : Option (List ℕ)
+  pub new : Option (List ℕ)
+  pub old_failures : ℕ
+  pub new_failures : ℕ
 
--- known bytes grow by what a line of words asks for, of the bytes that its files had
-abbrev pub Does : Option (List ℕ) → Option (List ℕ) → Line → Type 0
-Does old new (PeriodLine _ _ price) = (meter contracts : List ℕ) × GivesText (period_outcome meter contracts price) (λ text. Appends old new text)
+-- the course of a device from one state to another
+abbrev pub course : {S : Type 0} → (S → Option (List ℕ)) → (S → ℕ) → S → S → Course
+course taken failures old new = record { old = taken old; new = taken new; old_failures = failures old; new_failures = failures new }
 
--- An output had these bytes before a command and has those after it, and it failed if this holds.
+-- the device failed
+abbrev pub HasFailed : Course → Type 0
+HasFailed device = Failed device.old_failures device.new_failures
+
+-- a text went out that is not empty, unless the device failed
+abbrev pub IsTold : Course → Type 0
+IsTold device = HasFailed device ⊎ ((text : List ℕ) × (text ≢ []) × Appends device.old device.new text)
+
+-- the line of the stop went out, or that of want of memory, unless the device failed
+abbrev pub Tells : Course → Stop → Type 0
+Tells device s = HasFailed device ⊎ Appends device.old device.new (stop_line s) ⊎ Appends device.old device.new (rejection_line memory_rejection)
+
+-- An output had these bytes before and has those after, and it failed if this holds. What may come to these outcomes stops so,
+-- or because a file cannot be read if that holds: then, and where it is refused, nothing went out; where the output failed, a
+-- beginning of the text did. Memory may run out in the place of any rejection.
 module _ (old new : Option (List ℕ)) (failed : Type 0) where
-  -- A line of words stops so. A refusal is that of bytes that its files had and its price, or for want of memory; then, and
-  -- where a file fails, nothing went out. Where the output failed, a beginning of the text went out.
-  abbrev pub StopsLine : Line → Stop → Type 0
-  StopsLine (PeriodLine _ _ price) (stop.Refused fault input) =
-      (new ≡ old) × ((meter contracts : List ℕ) × Rejects (record { fault = fault; input = input }) (period_outcome meter contracts price))
-  StopsLine (PeriodLine _ _ price) stop.File = new ≡ old
-  StopsLine (PeriodLine _ _ price) stop.Output =
-      failed × ((meter contracts : List ℕ) × GivesText (period_outcome meter contracts price) (λ text. AppendsFront old new text))
+  abbrev pub StopsBy : (Outcome (List ℕ) → Type 0) → Type 0 → Stop → Type 0
+  StopsBy Comes unread (stop.Refused e) = (new ≡ old) × ByRefusal e.fault.refusal (e ≡ memory_rejection) (Comes (Err e))
+  StopsBy Comes unread stop.File = (new ≡ old) × unread
+  StopsBy Comes unread stop.Output = failed × ((text : List ℕ) × Comes (Ok text) × AppendsFront old new text)
 
-  -- words stop as the line that they are, or for want of memory before they are read
-  abbrev pub StopsWords : Option Line → Stop → Type 0
-  StopsWords words s = ((s ≡ stop.Refused memory_fault None) × (new ≡ old)) ⊎ ((line : Line) × (words ≡ Some line) × StopsLine line s)
+-- What a path may read as: the bytes of its file, or nothing where it cannot be read.
+module _ (reads : List ℕ → Option (List ℕ) → Type 0) where
+  -- what a line may come to: a text, or a rejection, by what its files may read as
+  abbrev pub ComesTo : Line → Outcome (List ℕ) → Type 0
+  ComesTo (PeriodLine meter contracts price) outcome =
+      (m c : List ℕ) × reads meter (Some m) × reads contracts (Some c) × (period_outcome m c price ≡ outcome)
+
+  -- a file of a line cannot be read: METER, or CONTRACTS where METER can
+  abbrev pub HasUnreadable : Line → Type 0
+  HasUnreadable (PeriodLine meter contracts price) = reads meter None ⊎ ((m : List ℕ) × reads meter (Some m) × reads contracts None)
+
+  -- the line comes to a text, and known bytes grow by it
+  abbrev pub Does : Line → Option (List ℕ) → Option (List ℕ) → Type 0
+  Does line old new = (text : List ℕ) × ComesTo line (Ok text) × Appends old new text
+
+  -- a line stops so, where the output had these bytes and has those, and failed if this holds
+  abbrev pub StopsLine : Option (List ℕ) → Option (List ℕ) → Type 0 → Line → Stop → Type 0
+  StopsLine old new failed (PeriodLine meter contracts price) =
+      let line : Line = PeriodLine meter contracts price in
+      StopsBy old new failed (ComesTo line) (HasUnreadable line)
+
+  -- words form a line, and it is done
+  abbrev pub DoesWords : List Text → Option (List ℕ) → Option (List ℕ) → Type 0
+  DoesWords words old new = (line : Line) × (line_value words ≡ Some line) × Does line old new
+
+  -- words stop as the line that they form, or because memory ran out before they were read
+  abbrev pub StopsWords : List Text → Course → Stop → Type 0
+  StopsWords words out s = ((s ≡ stop.Refused memory_rejection) × (out.new ≡ out.old))
+      ⊎ ((line : Line) × (line_value words ≡ Some line) × StopsLine out.old out.new (HasFailed out) line s)
+
+  -- words stop, and why is told
+  abbrev pub Stops : List Text → Course → Course → Type 0
+  Stops words out err = (s : Stop) × StopsWords words out s × Tells err s

@@ -1,17 +1,17 @@
 //! The program `settle`.
 #![tactic(auto)]
 
-mod files;
 mod program;
-mod refusal;
 mod words;
 
 use hh_devices::StreamSink;
+use hh_inputs::{FileInputs, RuntimeFiles};
 use program::run;
 use std::process::ExitCode;
 
 fn main(rt: HostRuntime) -> ExitCode {
+    let inputs = FileInputs(RuntimeFiles(&rt));
     let mut out = StreamSink::new(rt.stdout());
     let mut err = StreamSink::new(rt.stderr());
-    ExitCode::from(run(&rt, &mut out, &mut err))
+    ExitCode::from(run(&rt, &inputs, &mut out, &mut err))
 }

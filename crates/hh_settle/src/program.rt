@@ -1,23 +1,22 @@
 //! One line of words, from its reading to the exit status.
 
-ghost use Rattle.std.specs.Prelude.{◌≡◌, ◌≤◌, ◌⊎◌, IfErr, OnErr, OnOk, Option, map, string_bytes, Some, None};
-ghost use Rattle.std.specs.Io.KnownBytes.{Appends};
+ghost use Rattle.std.specs.Prelude.{◌≡◌, ◌≤◌, ◌<◌, IfErr, OnErr, OnOk, List, map, string_bytes, None};
+ghost use Rattle.clap.specs.Words.{Text};
 ghost use Rattle.hh_devices.specs.Devices.{Failed};
-ghost use Rattle.hh_names.specs.Faults.{memory_fault};
-ghost use Rattle.hh_settle.specs.Lines.{Line, PeriodLine, line_of, line_value};
-ghost use Rattle.hh_settle.specs.Refusals.{refusal_line};
-ghost use Rattle.hh_settle.specs.declared.program.Stop.{Stop};
-ghost use Rattle.hh_settle.specs.Stops.{Does, StopsLine, StopsWords, Tells};
+ghost use Rattle.hh_period.specs.Outcome.{memory_rejection};
+ghost use Rattle.hh_settle.specs.Lines.{PeriodLine, line_of, line_value};
+ghost use Rattle.hh_settle.specs.Stops.{course, Does, DoesWords, IsTold, Stops, StopsLine, Tells};
+ghost use Rattle.hh_texts.specs.Rows.{most_bytes};
 
-use crate::files::{InputFault, read_input};
-use crate::refusal::push_refusal;
-use crate::words::{self, USAGE, WordsFault, read_words};
+use crate::words::{Command, USAGE, WordsFault, read_words};
 use hh_devices::{DeviceFailed, Sink, write_whole};
-use hh_period::{Input, PeriodFault, period};
-use hh_names::{Fault, Refusal};
+use hh_inputs::{InputFault, Inputs};
+use hh_names::Refusal;
+use hh_period::{PeriodFault, Rejection, period};
+use hh_texts::MOST_BYTES;
 use std::alloc::{AllocError, Global};
 use std::io::ErrorKind;
-use std::rt::{Env, Files};
+use std::rt::Env;
 use std::{env, io};
 
 /// The exit status of a command that was done.
@@ -29,19 +28,27 @@ const REFUSED: u8 = 1;
 /// Of wrong words, or a call for help.
 const WRONG_WORDS: u8 = 2;
 
+/// What is told of words that are not text.
+const NOT_TEXT: &str =
+    "words that are not text (UTF-8)\nusage: settle period METER CONTRACTS PRICE\n";
+
+/// The most bytes that are read of a file: one more than a file may have, so that a larger one is
+/// told, and an endless one ends.
+const MOST_READ: usize = MOST_BYTES + 1;
+
 /// Why a command stops with a line on the standard error.
 #[derive(Clone, Copy, Debug, PartialEq, Eq)]
 enum Stop {
-    Refused(Fault, Option<Input>),
+    Refused(Rejection),
     File,
     Output,
 }
 
 impl Stop {
     fn no_memory() -> Stop
-        ensures { result ≡ Stop.Refused memory_fault None }
+        ensures { result ≡ Stop.Refused memory_rejection }
     {
-        Stop::Refused(Fault::of(Refusal::Memory), None)
+        Stop::Refused(Rejection::of(Refusal::Memory))
     }
 }
 
@@ -65,29 +72,44 @@ impl From<PeriodFault> for Stop {
 
     fn from(fault: PeriodFault) -> Stop {
         match fault {
-            PeriodFault::Refused(fault, input) => Stop::Refused(fault, input),
+            PeriodFault::Refused(rejection) => Stop::Refused(rejection),
             PeriodFault::Write => Stop::Output,
         }
     }
 }
 
-/// Runs the line of words that the program was called with, as `command` does. Words that are not
-/// text are wrong.
-pub fn run<R: Files + Env + AllocGlobal, O: Sink, E: Sink>(rt: &R, out: &mut O, err: &mut E) -> u8
+/// Runs the line of words that the program was called with, as `command` does. No contract knows
+/// which words these are. Words that are not text are told as such, with status 2.
+pub fn run<R: Env + AllocGlobal, I: Inputs, O: Sink, E: Sink>(
+    rt: &R,
+    inputs: &I,
+    out: &mut O,
+    err: &mut E,
+) -> u8
     ensures status { result ≤ 2 }
-    ensures done { result ≡ 0 → (line : Line) × Does (O.taken out.old) (O.taken out.new) line }
-    ensures silent { result ≡ 0 → E.taken err.new ≡ E.taken err.old }
-    ensures stopped { result ≡ 1 → (words : Option Line) × (stop : Stop) × StopsWords (O.taken out.old) (O.taken out.new) (Failed (O.failures out.old) (O.failures out.new)) words stop × (Failed (E.failures err.old) (E.failures err.new) ⊎ Tells (E.taken err.old) (E.taken err.new) stop) }
-    ensures untouched { result ≡ 2 → O.taken out.new ≡ O.taken out.old }
+
+    // Some words form a line, and it was done.
+    ensures done { result ≡ 0 → (words : List Text)
+        × DoesWords (I.reads_as inputs.now) words (O.taken out.old) (O.taken out.new) }
+    ensures well { result ≡ 0 → O.failures out.new ≡ O.failures out.old }
+    ensures silent { result ≡ 0 → err.new ≡ err.old }
+
+    // Some words form a line that stops so, or memory ran out before they were read.
+    ensures stopped { result ≡ 1 → (words : List Text) × Stops (I.reads_as inputs.now) words
+        (course O.taken O.failures out.old out.new) (course E.taken E.failures err.old err.new) }
+
+    // The words form no line, or are not text.
+    ensures wrong { result ≡ 2 → IsTold (course E.taken E.failures err.old err.new) }
+    ensures untouched { result ≡ 2 → out.new ≡ out.old }
 {
     match arguments(rt) {
-        Ok(words) => command(rt, &words, out, err),
+        Ok(words) => command(rt.alloc(), inputs, &words, out, err),
         Err(error) if error.kind() == ErrorKind::OutOfMemory => refused(
             rt.alloc(),
             err,
             Stop::no_memory(),
         ),
-        Err(_) => wrong(err, USAGE),
+        Err(_) => wrong(err, NOT_TEXT),
     }
 }
 
@@ -96,11 +118,12 @@ fn arguments<R: Env + AllocGlobal>(rt: &R) -> io::Result<Vec<String>> {
     Ok(words)
 }
 
-/// Runs one line of words, the program's own name in front, over two sinks, and answers the exit
-/// status: 0 done, 1 refused or a fault of a file or of the output, 2 wrong words or a call for
-/// help. What ends it is told on `err`; where `err` fails, the status alone tells it.
-pub fn command<R: Files + AllocGlobal, O: Sink, E: Sink>(
-    rt: &R,
+/// Runs one line of words, the program's own name in front, over files and two sinks, and answers
+/// the exit status: 0 done, 1 refused or a fault of a file or of the output, 2 wrong words or a
+/// call for help. What ends it is told on `err`; where `err` fails, the status alone tells it.
+pub fn command<I: Inputs, O: Sink, E: Sink>(
+    alloc: Global,
+    inputs: &I,
     words: &[String],
     out: &mut O,
     err: &mut E,
@@ -108,72 +131,93 @@ pub fn command<R: Files + AllocGlobal, O: Sink, E: Sink>(
     ensures status { result ≤ 2 }
 
     // Done is what the words ask for, and nothing is said on `err` then.
-    ensures done { result ≡ 0 → (line : Line) × (line_value (map string_bytes words.now) ≡ Some line) × Does (O.taken out.old) (O.taken out.new) line }
-    ensures silent { result ≡ 0 → E.taken err.new ≡ E.taken err.old }
+    ensures done { result ≡ 0 → DoesWords (I.reads_as inputs.now) (map string_bytes words.now)
+        (O.taken out.old) (O.taken out.new) }
+    ensures well { result ≡ 0 → O.failures out.new ≡ O.failures out.old }
+    ensures silent { result ≡ 0 → err.new ≡ err.old }
 
-    // A stop is one that the words and `out` have, and it is told, unless `err` failed.
-    ensures stopped { result ≡ 1 → (stop : Stop) × StopsWords (O.taken out.old) (O.taken out.new) (Failed (O.failures out.old) (O.failures out.new)) (line_value (map string_bytes words.now)) stop × (Failed (E.failures err.old) (E.failures err.new) ⊎ Tells (E.taken err.old) (E.taken err.new) stop) }
+    // A stop is one that the words, the files and `out` have, and it is told, unless `err` failed.
+    ensures stopped { result ≡ 1 → Stops (I.reads_as inputs.now) (map string_bytes words.now)
+        (course O.taken O.failures out.old out.new) (course E.taken E.failures err.old err.new) }
 
+    // Words that form no line are told, unless `err` failed.
     ensures wrong { result ≡ 2 → line_value (map string_bytes words.now) ≡ None }
-    ensures untouched { result ≡ 2 → O.taken out.new ≡ O.taken out.old }
+    ensures told { result ≡ 2 → IsTold (course E.taken E.failures err.old err.new) }
+    ensures untouched { result ≡ 2 → out.new ≡ out.old }
 {
-    match read_words(rt.alloc(), words) {
-        Ok(command) => match perform(rt, command, out) {
+    match read_words(alloc, words) {
+        Ok(command) => match perform(alloc, inputs, command, out) {
             Ok(()) => DONE,
-            Err(stop) => refused(rt.alloc(), err, stop),
+            Err(stop) => refused(alloc, err, stop),
         },
         Err(WordsFault::Wrong(text)) => wrong(err, text.as_str()),
-        Err(WordsFault::Memory) => refused(rt.alloc(), err, Stop::no_memory()),
+        Err(WordsFault::Memory) => refused(alloc, err, Stop::no_memory()),
     }
 }
 
 /// Does what a line of words asks for.
-fn perform<R: Files + AllocGlobal, O: Sink>(
-    rt: &R,
-    command: words::Command<'_>,
+fn perform<I: Inputs, O: Sink>(
+    alloc: Global,
+    inputs: &I,
+    command: Command<'_>,
     out: &mut O,
 ) -> Result<(), Stop>
-    ensures done { OnOk result (Does (O.taken out.old) (O.taken out.new) (line_of command.entry)) }
-    ensures stopped { IfErr result (λ stop. StopsLine (O.taken out.old) (O.taken out.new) (Failed (O.failures out.old) (O.failures out.new)) (line_of command.entry) stop) }
+    ensures done { OnOk result (Does (I.reads_as inputs.now) (line_of command.entry)
+        (O.taken out.old) (O.taken out.new)) }
+    ensures well { OnOk result (O.failures out.new ≡ O.failures out.old) }
+    ensures stopped { IfErr result (λ stop. StopsLine (I.reads_as inputs.now) (O.taken out.old) (O.taken out.new)
+        (Failed (O.failures out.old) (O.failures out.new)) (line_of command.entry) stop) }
 {
-    match command {
-        words::Command::Period {
-            meter,
-            contracts,
-            price,
-        } => settle_files(rt, meter, contracts, price, out),
-    }
+    let given = command.words();
+    settle_files(
+        alloc,
+        inputs,
+        MOST_READ,
+        given.meter,
+        given.contracts,
+        given.price,
+        out,
+    )
 }
 
-/// Settles one period from the files of two paths and a price.
-fn settle_files<R: Files + AllocGlobal, O: Sink>(
-    rt: &R,
+/// Settles one period from the files of two paths and a price, of so many bytes of each file.
+fn settle_files<I: Inputs, O: Sink>(
+    alloc: Global,
+    inputs: &I,
+    most: usize,
     meter: &str,
     contracts: &str,
     price: &str,
     out: &mut O,
 ) -> Result<(), Stop>
-    ensures done { OnOk result (Does (O.taken out.old) (O.taken out.new) (PeriodLine meter.now contracts.now price.now)) }
-    ensures stopped { IfErr result (λ stop. StopsLine (O.taken out.old) (O.taken out.new) (Failed (O.failures out.old) (O.failures out.new)) (PeriodLine meter.now contracts.now price.now) stop) }
+    requires { most_bytes < most }
+    ensures done { OnOk result (Does (I.reads_as inputs.now)
+        (PeriodLine meter.now contracts.now price.now) (O.taken out.old) (O.taken out.new)) }
+    ensures well { OnOk result (O.failures out.new ≡ O.failures out.old) }
+    ensures stopped { IfErr result (λ stop. StopsLine (I.reads_as inputs.now) (O.taken out.old) (O.taken out.new)
+        (Failed (O.failures out.old) (O.failures out.new)) (PeriodLine meter.now contracts.now price.now) stop) }
 {
-    let meter = read_input(rt, meter)?;
-    let contracts = read_input(rt, contracts)?;
-    period(rt.alloc(), &meter, &contracts, price.as_bytes(), out)?;
+    let meter = inputs.read(alloc, meter, most)?;
+    let contracts = inputs.read(alloc, contracts, most)?;
+    period(alloc, &meter, &contracts, price.as_bytes(), out)?;
     Ok(())
 }
 
-/// Tells how the program is used.
+/// Tells what is wrong with words, where the device for it does not fail, and how the program is
+/// used, where nothing is said.
 fn wrong<E: Sink>(err: &mut E, text: &str) -> u8
-    ensures { result ≡ 2 }
+    ensures status { result ≡ 2 }
+    ensures told { IsTold (course E.taken E.failures err.old err.new) }
 {
-    let _ = write_whole(err, text.as_bytes());
+    let told = if text.is_empty() { USAGE } else { text };
+    let _ = write_whole(err, told.as_bytes());
     WRONG_WORDS
 }
 
 /// Tells why a command stops, where the device for it does not fail.
 fn refused<E: Sink>(alloc: Global, err: &mut E, stop: Stop) -> u8
     ensures status { result ≡ 1 }
-    ensures told { Failed (E.failures err.old) (E.failures err.new) ⊎ Tells (E.taken err.old) (E.taken err.new) stop }
+    ensures told { Tells (course E.taken E.failures err.old err.new) stop }
 {
     let _ = write_stop(alloc, err, stop);
     REFUSED
@@ -182,32 +226,26 @@ fn refused<E: Sink>(alloc: Global, err: &mut E, stop: Stop) -> u8
 /// Writes why a command stops.
 fn write_stop<E: Sink>(alloc: Global, err: &mut E, stop: Stop) -> Result<(), DeviceFailed>
     ensures failed { OnErr result (Failed (E.failures err.old) (E.failures err.new)) }
-    ensures told { OnOk result (Tells (E.taken err.old) (E.taken err.new) stop) }
+    ensures told { OnOk result (Tells (course E.taken E.failures err.old err.new) stop) }
 {
     match stop {
-        Stop::Refused(fault, input) => write_refusal(alloc, err, &fault, input),
+        Stop::Refused(rejection) => write_rejection(alloc, err, rejection),
         Stop::File => write_whole(err, b"fault file\n"),
         Stop::Output => write_whole(err, b"fault output\n"),
     }
 }
 
-/// Writes a refusal's line, or that of want of memory where there is none for the line itself.
-fn write_refusal<S: Sink>(
+/// Writes a rejection's line, or that of memory where memory runs out for the line itself.
+fn write_rejection<S: Sink>(
     alloc: Global,
     sink: &mut S,
-    fault: &Fault,
-    input: Option<Input>,
+    rejection: Rejection,
 ) -> Result<(), DeviceFailed>
     ensures failed { OnErr result (Failed (S.failures sink.old) (S.failures sink.new)) }
-    ensures told { OnOk result (Appends (S.taken sink.old) (S.taken sink.new) (refusal_line fault.now input)
-        ⊎ Appends (S.taken sink.old) (S.taken sink.new) (refusal_line memory_fault None)) }
+    ensures told { OnOk result (Tells (course S.taken S.failures sink.old sink.new) (Stop.Refused rejection)) }
 {
-    let mut line = Vec::new(alloc);
-    match push_refusal(&mut line, fault, input) {
-        Ok(()) => write_whole(sink, &line),
+    match format!(in alloc; "{rejection}\n") {
+        Ok(line) => write_whole(sink, line.as_bytes()),
         Err(AllocError) => write_whole(sink, b"refused 90 Memory\n"),
     }
 }
-
-#[cfg(test)]
-mod tests;

@@ -5,10 +5,10 @@ ghost use Rattle.clap.specs.Words.{app_of, rule_of, found_of, rows_of, first_of,
 ghost use Rattle.clap.specs.declared.builder.command.Command.TheViews.{out-Command};
 ghost use Rattle.clap.specs.declared.error.kind.ErrorKind.TheVariants.{OutOfMemory};
 ghost use Rattle.hh_settle.specs.Grammar.{positional, period_app, settle_app};
-ghost use Rattle.hh_settle.specs.Lines.{line_of, line_value, given_line, given_period};
+ghost use Rattle.hh_settle.specs.Lines.{PeriodLine, line_of, line_value, given_line, given_period};
 
 use clap::error::ErrorKind;
-use clap::{Arg, ArgAction, ArgMatches};
+use clap::{Arg, ArgAction, ArgMatches, Command as Grammar};
 use std::alloc::{AllocError, Global};
 
 /// How the program is used, in short.
@@ -23,6 +23,33 @@ pub enum Command<'a> {
         contracts: &'a str,
         price: &'a str,
     },
+}
+
+/// The words of `period`, as they were given.
+#[derive(Clone, Copy, Debug, PartialEq, Eq)]
+pub struct PeriodWords<'a> {
+    pub meter: &'a str,
+    pub contracts: &'a str,
+    pub price: &'a str,
+}
+
+impl<'a> Command<'a> {
+    /// The words of the command.
+    pub fn words(self) -> PeriodWords<'a>
+        ensures { line_of self.entry ≡ PeriodLine result.meter.now result.contracts.now result.price.now }
+    {
+        match self {
+            Command::Period {
+                meter,
+                contracts,
+                price,
+            } => PeriodWords {
+                meter,
+                contracts,
+                price,
+            },
+        }
+    }
 }
 
 /// Why the words give no command.
@@ -55,11 +82,12 @@ fn positional_of<'a>(alloc: Global, id: &'a str, help: &'a str) -> Arg<'a>
         .help(help)
 }
 
-fn period<'a>(alloc: Global) -> Result<clap::Command<'a>, AllocError>
+/// The grammar of `period METER CONTRACTS PRICE`.
+fn period_grammar<'a>(alloc: Global) -> Result<Grammar<'a>, AllocError>
     ensures app { IfOk result (λ c. app_of c ≡ period_app) }
     ensures own { IfOk result (λ c. (out-Command c).has_globals ≡ false) }
 {
-    clap::Command::new(alloc, "period")
+    Grammar::new(alloc, "period")
         .about("Settles one period from two files and a price")
         .arg(positional_of(alloc, "METER", "File of the units' meter rows"))?
         .arg(positional_of(alloc, "CONTRACTS", "File of the contract rows"))?
@@ -70,14 +98,15 @@ fn period<'a>(alloc: Global) -> Result<clap::Command<'a>, AllocError>
         ))
 }
 
-fn settle<'a>(alloc: Global) -> Result<clap::Command<'a>, AllocError>
+/// The grammar of the program, which asks for a subcommand.
+fn settle_grammar<'a>(alloc: Global) -> Result<Grammar<'a>, AllocError>
     ensures app { IfOk result (λ c. app_of c ≡ settle_app) }
     ensures own { IfOk result (λ c. (out-Command c).has_globals ≡ false) }
 {
-    clap::Command::new(alloc, "settle")
+    Grammar::new(alloc, "settle")
         .about("Settles the imbalances of half-hourly energy accounts")
         .subcommand_required(true)
-        .subcommand(period(alloc)?)
+        .subcommand(period_grammar(alloc)?)
 }
 
 /// Reads a line of words, the program's own name in front.
@@ -87,10 +116,12 @@ fn settle<'a>(alloc: Global) -> Result<clap::Command<'a>, AllocError>
 /// `Wrong` where the words are no command by `clap`'s grammar, or call for help; `Memory` where
 /// memory was refused.
 pub fn read_words<'a>(alloc: Global, words: &'a [String]) -> Result<Command<'a>, WordsFault>
-    ensures command { IfOk result (λ command. line_value (map string_bytes words.entry.now) ≡ Some (line_of command)) }
-    ensures wrong { IfErr result (λ fault. fault ≢ WordsFault.Memory → line_value (map string_bytes words.entry.now) ≡ None) }
+    ensures command { IfOk result (λ command.
+        line_value (map string_bytes words.entry.now) ≡ Some (line_of command)) }
+    ensures wrong { IfErr result (λ fault. fault ≢ WordsFault.Memory
+        → line_value (map string_bytes words.entry.now) ≡ None) }
 {
-    let settle = settle(alloc)?;
+    let settle = settle_grammar(alloc)?;
     match settle.try_get_matches_from(words) {
         Ok(matches) => match command_of(&matches) {
             Some(command) => Ok(command),

@@ -1,14 +1,22 @@
 use Rattle.std.proofs.Common.{Err, ap}
-use Rattle.hh_settle.proofs.StopFacts.{stopped_by_period}
+use Rattle.hh_settle.proofs.StopFacts.{done_by_period, stopped_by_period}
 use Rattle.hh_settle.proofs.program.settle_files.Goals as goal
 
+pub returns-clause-done : goal.returns-clause-done
+returns-clause-done g c =
+    done_by_period (g.I.Inputs.reads_as c.args.inputs.now) c.args.most c.requires c.args.meter.now c.args.contracts.now c.args.price.now
+    c.in_ok-meter.meter.items c.in_ok-contracts.contracts.items c.in_ok-meter.ensures.bytes c.in_ok-contracts.ensures.bytes _ _
+    (rw (c.deref.ensures.value, c.deref-2.ensures.value, c.as_bytes.ensures.value) at c.in_ok-period.ensures.written)
+
 pub returns-in_err-period-clause-stopped : goal.returns-in_err-period-clause-stopped
-returns-in_err-period-clause-stopped g c = stopped_by_period _ _ _ c.deref.result.now c.deref-2.result.now c.args.price.now
-    c.args.meter.now c.args.contracts.now c.in_err-period.field-0.0
+returns-in_err-period-clause-stopped g c =
+    stopped_by_period (g.I.Inputs.reads_as c.args.inputs.now) c.args.most c.requires c.args.meter.now c.args.contracts.now c.args.price.now
+    c.in_ok-meter.meter.items c.in_ok-contracts.contracts.items c.in_ok-meter.ensures.bytes c.in_ok-contracts.ensures.bytes
+    _ _ _ c.in_err-period.field-0.0
     record {
-      refused = λ fault input same. rw c.as_bytes.ensures.value at c.in_err-period.ensures.refused fault input (ap Err same);
-      untouched = λ fault input same. ap g.O.Sink.taken (c.in_err-period.ensures.untouched fault input (ap Err same));
-      cut = λ same. rw c.as_bytes.ensures.value at c.in_err-period.ensures.cut (ap Err same);
+      refused = λ e same. rw (c.deref.ensures.value, c.deref-2.ensures.value, c.as_bytes.ensures.value) at c.in_err-period.ensures.refused e (ap Err same);
+      untouched = λ e same. ap g.O.Sink.taken (c.in_err-period.ensures.untouched e (ap Err same));
+      cut = λ same. rw (c.deref.ensures.value, c.deref-2.ensures.value, c.as_bytes.ensures.value) at c.in_err-period.ensures.cut (ap Err same);
       failed_then = λ same. c.in_err-period.ensures.failed (ap Err same);
     }
     c.from_residual-in_err-period.result c.from_residual-in_err-period.ensures.1

@@ -1,9 +1,10 @@
--- The line of a refusal.
+-- The text that tells a rejection.
 use Rattle.std.specs.Prelude.{ℕ, List, [], ◌++◌, Option, Some, None, codes, decimal}
 use Rattle.hh_names.specs.declared.fault.Fault.{Fault}
 use Rattle.hh_names.specs.Faults.{refusal_number, refusal_name}
 use Rattle.hh_period.specs.declared.rejection.Input.{Input}
 use Rattle.hh_period.specs.declared.rejection.Input.TheVariants.{Meter, Contracts, Price}
+use Rattle.hh_period.specs.declared.rejection.Rejection.{Rejection}
 
 -- the word of an input
 abbrev pub input_word : Input → List ℕ
@@ -11,14 +12,15 @@ input_word Meter = codes "meter"
 input_word Contracts = codes "contracts"
 input_word Price = codes "price"
 
--- a place that a refusal may have, behind its word
-abbrev pub place : List ℕ → Option (List ℕ) → List ℕ
-place word None = []
-place word (Some text) = word ++ text
-
+-- a number that a refusal may have, behind its word
 abbrev pub number_place : List ℕ → Option ℕ → List ℕ
 number_place word None = []
 number_place word (Some number) = word ++ decimal number
+
+-- the unit that a refusal may have
+abbrev pub unit_place : Option (List ℕ) → List ℕ
+unit_place None = []
+unit_place (Some unit) = codes " unit " ++ unit
 
 -- the ending that names an input
 abbrev pub input_ending : Option Input → List ℕ
@@ -32,7 +34,8 @@ refusal_head fault = codes "refused " ++ decimal (refusal_number fault.refusal) 
 -- the row, the column, the unit and the period, where the fault has them
 abbrev pub refusal_places : Fault → List ℕ
 refusal_places fault = number_place (codes " row ") fault.row ++ number_place (codes " column ") fault.column
-    ++ place (codes " unit ") fault.unit ++ number_place (codes " period ") fault.period
+    ++ unit_place fault.unit ++ number_place (codes " period ") fault.period
 
-abbrev pub refusal_line : Fault → Option Input → List ℕ
-refusal_line fault input = refusal_head fault ++ refusal_places fault ++ input_ending input ++ codes "\n"
+-- the refusal, its places and its input
+abbrev pub rejection_text : Rejection → List ℕ
+rejection_text e = refusal_head e.fault ++ refusal_places e.fault ++ input_ending e.input

@@ -1,0 +1,3 @@
+pub mod FileInputs
+pub mod Inputs
+pub mod MemoryInputs

@@ -1,0 +1,118 @@
+//! What no clause says: that each call succeeds, and that a path of the system is the file that is
+//! opened.
+
+use super::*;
+use hh_devices::MemorySource;
+use std::alloc::Global;
+use std::io::ErrorKind;
+use std::test::Fail;
+use std::{fs, io};
+
+/// The bytes that a path reads as, through the bound of the trait.
+fn read_of<I: Inputs>(
+    alloc: Global,
+    inputs: &I,
+    path: &str,
+    most: usize,
+) -> Result<Vec<u8>, InputFault> {
+    inputs.read(alloc, path, most)
+}
+
+#[test]
+fn files_in_memory(rt: HostRuntime) -> Result<(), Fail> {
+    let files = [
+        MemoryFile {
+            path: "a.csv",
+            bytes: b"first",
+        },
+        MemoryFile {
+            path: "b.csv",
+            bytes: b"second",
+        },
+        MemoryFile {
+            path: "a.csv",
+            bytes: b"third",
+        },
+    ];
+    let inputs = MemoryInputs::new(&files);
+    for (path, most, bytes) in [
+        ("a.csv", 100, b"first".as_slice()),
+        ("b.csv", 6, b"second".as_slice()),
+        ("b.csv", 3, b"sec".as_slice()),
+        ("b.csv", 0, b"".as_slice()),
+    ] {
+        let read = read_of(rt.alloc(), &inputs, path, most);
+        assert_eq!(&rt;
+            read.is_ok_and(|read| read.as_slice() == bytes),
+            true,
+            "{path} {most}"
+        );
+    }
+    let absent = read_of(rt.alloc(), &inputs, "c.csv", 9).map(|read| read.len());
+    assert_eq!(&rt; absent, Err(InputFault::Unreadable));
+    Ok(())
+}
+
+#[test]
+fn files_of_the_system(rt: HostRuntime) -> Result<(), Fail> {
+    let inputs = FileInputs(RuntimeFiles(&rt));
+    let (one, other) = ("/tmp/hh_inputs_one.csv", "/tmp/hh_inputs_other.csv");
+    fs::write(&rt, one, "one file")?;
+    fs::write(&rt, other, "the other")?;
+    let first = read_of(rt.alloc(), &inputs, one, 100);
+    let second = read_of(rt.alloc(), &inputs, other, 5);
+    fs::remove_file(&rt, one)?;
+    fs::remove_file(&rt, other)?;
+    assert_eq!(&rt;
+        first.is_ok_and(|read| read.as_slice() == b"one file".as_slice()),
+        true
+    );
+    assert_eq!(&rt;
+        second.is_ok_and(|read| read.as_slice() == b"the o".as_slice()),
+        true
+    );
+    for (path, most, length) in [
+        ("/dev/null", 9, Ok(0)),
+        ("/dev/zero", 20_000, Ok(20_000)),
+        ("/", 9, Err(InputFault::Unreadable)),
+        ("", 9, Err(InputFault::Unreadable)),
+        ("/nowhere/meter.csv", 9, Err(InputFault::Unreadable)),
+    ] {
+        let read = read_of(rt.alloc(), &inputs, path, most).map(|read| read.len());
+        assert_eq!(&rt; read, length, "{path}");
+    }
+    Ok(())
+}
+
+#[test]
+fn fronts_of_sources(rt: HostRuntime) {
+    for (most, bytes) in [
+        (0, b"".as_slice()),
+        (4, b"abcd".as_slice()),
+        (6, b"abcdef".as_slice()),
+        (9, b"abcdef".as_slice()),
+    ] {
+        let mut source = MemorySource::new(b"abcdef").in_pieces(2);
+        let read = read_front(rt.alloc(), &mut source, most);
+        assert_eq!(&rt;
+            read.is_ok_and(|read| read.as_slice() == bytes),
+            true,
+            "{most}"
+        );
+    }
+    let mut failing = MemorySource::new(b"abcdef").failing_after(3);
+    let read = read_front(rt.alloc(), &mut failing, 6).map(|read| read.len());
+    assert_eq!(&rt; read, Err(InputFault::Unreadable));
+    assert_eq!(&rt; failing.failures(), 1);
+}
+
+#[test]
+fn faults_of_errors(rt: HostRuntime) {
+    for (kind, fault) in [
+        (ErrorKind::OutOfMemory, InputFault::Memory),
+        (ErrorKind::NotFound, InputFault::Unreadable),
+        (ErrorKind::PermissionDenied, InputFault::Unreadable),
+    ] {
+        assert_eq!(&rt; InputFault::from(io::Error::from(kind)), fault);
+    }
+}
