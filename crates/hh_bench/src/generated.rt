@@ -2,8 +2,8 @@
 
 use crate::draw::Draw;
 use hh_calc::{PeriodData, Subsidiary, UnitData};
-use hh_names::{Account, Contract, Counterparties, Reading, Reallocation, UnitId};
 use hh_num::{Kwh, Percent, Price, Tlm};
+use hh_rules::{Account, Contract, Counterparties, Reading, Reallocation, UnitId};
 use std::alloc::Global;
 
 /// Two to each of 400 parties.

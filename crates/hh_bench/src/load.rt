@@ -3,9 +3,7 @@
 use crate::stop::Stop;
 use crate::watch::Watch;
 use crate::words::NamedFile;
-use hh_rules::{Register, RowDone};
-use hh_rows::{LeadMinutes, Row};
-use hh_names::{Fault, Refusal};
+use hh_rules::{Fault, LeadMinutes, Refusal, Register, Row, RowDone};
 use hh_texts::read_file;
 use hh_time::london;
 use jiff::tz::TimeZone;

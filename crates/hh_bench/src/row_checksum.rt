@@ -1,11 +1,10 @@
 //! A number that tells lists of rows apart.
 
 use crate::checksum::mixed;
-use hh_rows::{
-    ContractRow, DateRange, MeterRow, PartyRow, PriceRow, ReallocationRow, Row, SettlementPeriod,
-    UnitPeriod, UnitRow,
+use hh_rules::{
+    Account, ContractRow, DateRange, MeterRow, PartyRow, PriceRow, ReallocationRow, Row,
+    SettlementPeriod, Side, UnitPeriod, UnitRow,
 };
-use hh_names::{Account, Side};
 
 /// The checksum of all fields of the rows, in their order.
 pub(crate) fn checksum_of_rows(rows: &[Row]) -> u64 {

@@ -5,7 +5,7 @@ use crate::generated::generated_period;
 use crate::stop::Stop;
 use crate::watch::Watch;
 use hh_calc::{CalcFault, PeriodData, settle_period};
-use hh_names::Refusal;
+use hh_rules::Refusal;
 use std::io::{Eprint, Print};
 use std::rt::Clock;
 

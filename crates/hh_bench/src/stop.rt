@@ -1,6 +1,6 @@
 //! Why the program ends before it is done.
 
-use hh_names::{Fault, Refusal};
+use hh_rules::{Fault, Refusal};
 use std::alloc::{AllocError, AllocFailed};
 use std::io;
 use std::io::{Eprint, ErrorKind};

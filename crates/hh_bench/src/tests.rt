@@ -2,9 +2,10 @@
 //! example market; they are read by `read_file`, and their rows judged by `check_row` and applied by
 //! `apply_row`.
 
-use hh_rules::{Register, RowDone};
-use hh_rows::{ContractKey, FileKind, LeadMinutes, Row, SettlementPeriod};
-use hh_names::{Fault, PeriodNumber, Reference, Refusal};
+use hh_rules::{
+    ContractKey, Fault, FileKind, LeadMinutes, PeriodNumber, Reference, Refusal, Register, Row,
+    RowDone, SettlementPeriod,
+};
 use hh_texts::read_file;
 use hh_time::{SettlementDate, london};
 use jiff::tz::TimeZone;

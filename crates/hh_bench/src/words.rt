@@ -1,7 +1,7 @@
 //! The words of the command line.
 
 use crate::stop::Stop;
-use hh_rows::FileKind;
+use hh_rules::FileKind;
 use std::alloc::Global;
 
 /// What the program is to do.
