@@ -1,8 +1,9 @@
 //! What no clause says: that the words of the clauses come to the market's texts and numbers.
 
 use super::*;
-use hh_names::{OperatorKey, PeriodNumber, UnitId};
+use hh_names::{Account, OperatorKey, PeriodNumber, Reference, UnitId};
 use hh_time::SettlementDate;
+use std::cmp::Ordering;
 use std::test::Fail;
 
 #[test]
@@ -134,5 +135,42 @@ fn keys_have_an_order(rt: HostRuntime) -> Result<(), Fail> {
             assert_eq!(rt; order, at.cmp(&beside), "{at} and {beside}");
         }
     }
+    Ok(())
+}
+
+/// A reference in a Settlement Period.
+fn contract_key(reference: &[u8], day: u16, number: u8) -> Option<ContractKey> {
+    Some(ContractKey {
+        reference: Reference::read(reference)?,
+        at: period(day, number)?,
+    })
+}
+
+/// A unit in a Settlement Period with an account.
+fn reallocation_key(unit: &[u8], day: u16, account: &[u8]) -> Option<ReallocationKey> {
+    Some(ReallocationKey {
+        unit_period: unit_period(unit, day, 1)?,
+        account: Account::read(account)?,
+    })
+}
+
+#[test]
+fn references_and_units_come_first(rt: HostRuntime) -> Result<(), Fail> {
+    let contracts = (
+        contract_key(b"C1", 19_724, 2),
+        contract_key(b"C2", 19_723, 1),
+    );
+    let reallocations = (
+        reallocation_key(b"G1", 19_724, b"SUPCO-P"),
+        reallocation_key(b"G2", 19_723, b"GENCO-P"),
+    );
+    let ((Some(first), Some(second)), (Some(lesser), Some(greater))) = (contracts, reallocations)
+    else {
+        panic!(&rt; "the keys are read");
+    };
+    assert_eq!(rt; first.order_beside(&second), Ordering::Less);
+    assert_eq!(rt; second.order_beside(&first), Ordering::Greater);
+    assert_eq!(rt; lesser.order_beside(&greater), Ordering::Less);
+    assert_eq!(rt; lesser.order_beside(&lesser), Ordering::Equal);
     Ok(())
 }

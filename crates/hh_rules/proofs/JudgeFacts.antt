@@ -40,7 +40,7 @@ within : (in_time : Bool) (most sum : ℤ) → (in_time && int_lt most sum) ≡ 
 within true most sum e t = grind (arith, ints)
 within false most sum e t = cc
 
--- the timing of an accepted row, unless it has no period to lack
+-- the date of an accepted row has the row's period
 lacks_none : (timetable : Timetable) (standing : Standing) (moment : ℤ) (r : Row)
     → first_met (refusals_of standing (timing_of timetable (accepted_at moment r)) r) ≡ None
     → lacks_period (timing_of timetable (accepted_at moment r)) ≡ false

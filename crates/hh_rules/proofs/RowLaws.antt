@@ -24,17 +24,18 @@ use Rattle.hh_rules.proofs.StandingLaws.{standing-append}
 use Rattle.hh_rules.specs.Effects.{KeepsRowsInForce, ReplacesRowOf, IsOneMoreRow, put_in_time, put_new, row_done, standing_with, with_row}
 use Rattle.hh_rules.specs.Refusals.{Standing}
 
--- a late row changes no row in force
-late_alone : {X : Type 0} → true ≡ false → X
-late_alone late = absurd (false_is_not_true (sym late))
+-- a row that is in time is not late
+not_late : {X : Type 0} → true ≡ false → X
+not_late late = absurd (false_is_not_true (sym late))
 
+-- a late row changes no row in force
 module _ (timetable : Timetable) (moment : ℤ) (tables : Registered) where
   keeps_rows_in_force : (r : Row) → is_in_time timetable (accepted_at moment r) ≡ false
       → KeepsRowsInForce tables (with_row (is_in_time timetable (accepted_at moment r)) r tables)
-  keeps_rows_in_force (row.Party r) late = late_alone late
-  keeps_rows_in_force (row.Unit r) late = late_alone late
-  keeps_rows_in_force (row.Meter r) late = late_alone late
-  keeps_rows_in_force (row.Price r) late = late_alone late
+  keeps_rows_in_force (row.Party r) late = not_late late
+  keeps_rows_in_force (row.Unit r) late = not_late late
+  keeps_rows_in_force (row.Meter r) late = not_late late
+  keeps_rows_in_force (row.Price r) late = not_late late
   keeps_rows_in_force (row.Contract r) late = record {
     parties = refl;
     units = refl;
@@ -71,7 +72,7 @@ module _ {K V : Type 0} {R : K → K → Ordering} (o : IsTotalOrder R) where
       apart new false differs = refl
       apart new true same = absurd (false_is_not_true (sym new ∙ ap (λ k. is_some (find R k table)) (sym (exact q e.0 ((Equal-is (R q e.0)).0 same))) ∙ there))
 
-  -- and is found where its key is new
+  -- an entry that is put only where its key is new is found under a new key
   found-put_new : (key : K) (value : V) (table : Table K V) → find R key table ≡ None → find R key (put_new R (Some (key, value)) table) ≡ Some value
   found-put_new key value table new =
       ap (λ b. find R key (cond b table (put R key value table))) (ap is_some new)

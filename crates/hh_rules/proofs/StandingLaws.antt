@@ -27,7 +27,7 @@ module _ (in_time : Bool) (tables : Registered) where
   party_count-with (row.Contract r) sorted = refl
   party_count-with (row.Reallocation r) sorted = refl
 
-  -- a unit likewise
+  -- a unit is counted where it is new
   unit_count-with : (r : Row) → T (is_sorted bytes_cmp tables.units)
       → count_new bytes_cmp (unit_entry r) tables.units (length tables.units) ≡ length (with_row in_time r tables).units
   unit_count-with (row.Party r) sorted = refl

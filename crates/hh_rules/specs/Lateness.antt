@@ -12,7 +12,7 @@ pub record Timetable : Type 0 where
   pub midnight : Midnights
   pub lead_minutes : ℕ
 
--- a row with the moment at which it comes, as an accepted one has it
+-- an accepted row with the moment at which it came
 pub record Accepted : Type 0 where
   pub moment : ℤ
   pub row : Row

@@ -47,6 +47,7 @@ abbrev pub is_some_that : {X : Type 0} → (X → Bool) → Option X → Bool
 is_some_that test None = false
 is_some_that test (Some x) = test x
 
+-- whether two marks are the same
 abbrev pub is_same_mark : Bool → Bool → Bool
 is_same_mark true mark = mark
 is_same_mark false mark = not mark
@@ -61,9 +62,11 @@ abbrev pub price_refusals : Timing → List (Refusal × Bool)
 price_refusals timing = (refusal.NoSuchPeriod, lacks_period timing) ∷ []
 
 module _ (standing : Standing) where
+  -- what is registered of a party, if it is registered
   abbrev pub registered_party : List ℕ → Option PartyRegistration
   registered_party party = find bytes_cmp party standing.tables.parties
 
+  -- what is registered of a unit, if it is registered
   abbrev pub registered_unit : List ℕ → Option UnitRegistration
   registered_unit unit = find bytes_cmp unit standing.tables.units
 
@@ -75,6 +78,7 @@ module _ (standing : Standing) where
   abbrev pub is_unit_off : List ℕ → ℕ → Bool
   is_unit_off unit date = is_some_that (λ u. not (holds u.range date)) (registered_unit unit)
 
+  -- the refusals of each kind of row
   abbrev pub party_refusals : PartyRow → List (Refusal × Bool)
   party_refusals r =
       let known = registered_party r.party in
@@ -129,7 +133,7 @@ module _ (standing : Standing) where
       ∷ (refusal.OverHundred, comes_in_time timing && passes_hundred r)
       ∷ []
 
-  -- those of a row of any kind
+  -- the refusals of a row of any kind
   abbrev pub refusals_of : Timing → Row → List (Refusal × Bool)
   refusals_of timing (row.Party r) = party_refusals r
   refusals_of timing (row.Unit r) = unit_refusals r

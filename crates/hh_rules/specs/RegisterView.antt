@@ -61,44 +61,47 @@ after_row in_time r register = record register { standing = standing_with in_tim
 
 -- of a row that comes to a register at a moment
 module _ (zone : TimeZone) (register : RegisterView) (moment : ℤ) (r : Row) where
-  -- whether it comes in time
+  -- whether the row comes in time
   abbrev pub in_time_at : Bool
   in_time_at = is_in_time (timetable_of zone register) (accepted_at moment r)
 
+  -- that a mark tells whether the row comes in time
   abbrev pub TellsInTime : Bool → Type 0
   TellsInTime in_time = in_time ≡ in_time_at
 
-  -- its refusals with their conditions
+  -- the row's refusals with their conditions
   abbrev pub refusals_at : List (Refusal × Bool)
   refusals_at = refusals_of register.standing (timing_of (timetable_of zone register) (accepted_at moment r)) r
 
-  -- why it is refused, if it is
+  -- why the row is refused, if it is
   abbrev pub refusal_at : Option Refusal
   refusal_at = first_met refusals_at
 
+  -- that the row is refused for this reason
   abbrev pub IsRefusedFor : Refusal → Type 0
   IsRefusedFor why = refusal_at ≡ Some why
 
-  -- the answer to it
+  -- the answer to the row
   abbrev pub judged_at : Result (Unit {0}) Fault
   judged_at = judged refusal_at
 
-  -- of its refusals whose conditions are met, none has a lesser number
+  -- of the row's refusals whose conditions are met, none has a lesser number than this
   abbrev pub IsLeastRefusal : Refusal → Type 0
   IsLeastRefusal why = IsLeast why refusals_at
 
+  -- of the row's refusals whose conditions are met, none has a lesser number than the fault's
   abbrev pub IsLeastFault : Fault → Type 0
   IsLeastFault fault = IsLeastRefusal fault.refusal
 
-  -- what becomes of it, if it is accepted
+  -- what becomes of the row, if it is accepted
   abbrev pub done_at : RowDone
   done_at = row_done in_time_at
 
-  -- and the register after it
+  -- the register after the row, if it is accepted
   abbrev pub register_after : RegisterView
   register_after = after_row in_time_at r register
 
-  -- what follows of it for the register, and of what becomes of it
+  -- what an accepted row changes in the register, and what becomes of the row
   abbrev pub AddsOneRow : RegisterView → RowDone → Type 0
   AddsOneRow new done =
       IsOneMoreRow (timetable_of zone register) (accepted_at moment r) register.standing new.standing done
