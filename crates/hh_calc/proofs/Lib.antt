@@ -3,9 +3,9 @@ pub mod CreditLaws
 pub mod OrderLaws
 pub mod PeriodLaws
 pub mod RowFacts
-pub mod RowsFacts
-pub mod SettleFacts
+pub mod LedgerLaws
 pub mod SpreadLaws
+pub mod SumFacts
 pub mod SumLaws
 pub mod WordFacts
 mod Examples

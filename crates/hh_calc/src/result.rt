@@ -2,8 +2,8 @@
 
 ghost use Rattle.std.specs.Prelude.{◌≡◌};
 
-use hh_num::{Pence, Ticks};
 use hh_names::{Account, UnitId};
+use hh_num::{Pence, Ticks};
 use std::alloc::{AllocError, AllocFailed};
 use std::marker::Model;
 
@@ -18,6 +18,18 @@ pub struct AccountRow {
     pub charge: Pence,
     /// The account's share of the residual.
     pub share: Pence,
+}
+
+/// What an account has in a period but for its share of the residual: energy in ticks, cash in
+/// pence.
+#[derive(Clone, Copy)]
+pub(crate) struct Figures {
+    pub account: Account,
+    pub credited: Ticks,
+    pub balancing: Ticks,
+    pub contracts: Ticks,
+    pub imbalance: Ticks,
+    pub charge: Pence,
 }
 
 /// What an account is credited with from a unit: energy in ticks.
