@@ -12,7 +12,7 @@ use Rattle.hh_num.specs.Rounding.{near}
 use Rattle.hh_names.specs.declared.account.Account.{Account}
 use Rattle.hh_calc.specs.declared.sums.AccountSums.{AccountSums}
 use Rattle.hh_calc.specs.Formulas.{imbalance_of}
-use Rattle.hh_calc.specs.Limits.{is_at_most}
+use Rattle.hh_calc.specs.Limits.{is_at_most, kept_where}
 use Rattle.hh_calc.specs.Sums.{greatest_sum, IsWithin}
 use Rattle.hh_calc.proofs.WordFacts.{long_word, word}
 
@@ -84,3 +84,11 @@ cash_word x h = to_z-of_z w128 x (record { sfits = h })
 -- a number of 64 bits, widened twice
 pub wide_word : (v units wide : ℤ) → units ≡ v → unsigned_abs v ≤ 10 ^ 18 → wide ≡ to_z w64 (of_z w64 units) → to_z w128 (of_z w128 wide) ≡ v
 wide_word v units wide same le e = ap (λ z. to_z w128 (of_z w128 z)) (widened v units wide same le e) ∙ long_word v (omega arith)
+
+-- the sum of an account, as a word holds it
+pub sum_held : (x : ℤ) → unsigned_abs x ≤ greatest_sum → word x ≡ x
+sum_held x le = long_word x (omega arith)
+
+-- nothing is kept of what does not pass
+pub none_kept : {A : Type 0} (r : Option A) (test : Bool) (value : A) → r ≡ None → test ≡ false → r ≡ kept_where test value
+none_kept r test value none past = none ∙ ap (λ b. cond b (Some value) None) (sym past)

@@ -67,6 +67,27 @@ fn add_units(
     Ok(())
 }
 
+/// Appends the credits of a period, and adds them, the balancing volumes and the contracts to sums
+/// that have nothing yet.
+fn add_period(
+    period: &PeriodData,
+    credits: &mut Vec<CreditRow>,
+    sums: &mut [AccountSums],
+) -> Result<(), AllocError>
+    requires ordered { AreInOrder period.now }
+    requires named { AreNamed period.now }
+    requires few { AreSubsidiariesFew period.now }
+    requires none { credits.old.items ≡ [] }
+    requires start { sums.old ≡ replicate (length period.now.accounts) no_sums }
+    ensures credits { OnOk result (credits.new.items ≡ credits_of period.now.units) }
+    ensures sums { OnOk result (sums.new ≡ map (period_sums period.now) period.now.accounts) }
+    ensures small { OnOk result (All (IsWithin greatest_sum) sums.new) }
+{
+    add_units(period.accounts(), period.units(), credits, sums)?;
+    add_contracts(period.accounts(), period.contracts(), sums);
+    Ok(())
+}
+
 /// The credits of a period and the sums of its accounts.
 pub(crate) fn ledger_of(alloc: Global, period: &PeriodData) -> Result<Ledger, AllocError>
     requires ordered { AreInOrder period.now }
@@ -76,10 +97,8 @@ pub(crate) fn ledger_of(alloc: Global, period: &PeriodData) -> Result<Ledger, Al
     ensures sums { IfOk result (λ l. l.sums.items ≡ map (period_sums period.now) period.now.accounts) }
     ensures small { IfOk result (λ l. All (IsWithin greatest_sum) l.sums.items) }
 {
-    let accounts = period.accounts();
     let mut credits = Vec::new(alloc);
-    let mut sums = vec![in alloc; AccountSums::NONE; accounts.len()]?;
-    add_units(accounts, period.units(), &mut credits, &mut sums)?;
-    add_contracts(accounts, period.contracts(), &mut sums);
+    let mut sums = vec![in alloc; AccountSums::NONE; period.accounts().len()]?;
+    add_period(period, &mut credits, &mut sums)?;
     Ok(Ledger { credits, sums })
 }
