@@ -11,8 +11,9 @@ use Rattle.std.proofs.lemmas.Bool.Decides.{nat_tests}
 use Rattle.hh_num.specs.Rounding.{near}
 use Rattle.hh_names.specs.declared.account.Account.{Account}
 use Rattle.hh_calc.specs.declared.sums.AccountSums.{AccountSums}
-use Rattle.hh_calc.specs.Formulas.{imbalance_of}
-use Rattle.hh_calc.specs.Limits.{is_at_most, kept_where}
+use Rattle.hh_calc.specs.declared.result.Figures.{Figures}
+use Rattle.hh_calc.specs.Formulas.{charge_for, figures_from, imbalance_of}
+use Rattle.hh_calc.specs.Limits.{are_within, is_at_most, kept_where}
 use Rattle.hh_calc.specs.Sums.{greatest_sum, IsWithin}
 use Rattle.hh_calc.proofs.WordFacts.{long_word, word}
 
@@ -92,3 +93,13 @@ sum_held x le = long_word x (omega arith)
 -- nothing is kept of what does not pass
 pub none_kept : {A : Type 0} (r : Option A) (test : Bool) (value : A) → r ≡ None → test ≡ false → r ≡ kept_where test value
 none_kept r test value none past = none ∙ ap (λ b. cond b (Some value) None) (sym past)
+
+-- figures that are those of the sums, and pass no limit, are kept
+pub figures_kept : (account : Account) (sums : AccountSums) (price : ℤ) (credited balancing contracts imbalance charge : ℤ)
+    → credited ≡ sums.credited → balancing ≡ sums.balancing → contracts ≡ sums.contracts → imbalance ≡ imbalance_of sums → charge ≡ charge_for (imbalance_of sums) price
+    → are_within (figures_from account sums price) ≡ true
+    → let figures : Figures = record { account = account; credited = credited; balancing = balancing; contracts = contracts; imbalance = imbalance; charge = charge } in
+    Some figures ≡ kept_where (are_within (figures_from account sums price)) (figures_from account sums price)
+figures_kept account sums price credited balancing contracts imbalance charge a b d e f within =
+    (λ i. Some (record { account = account; credited = a i; balancing = b i; contracts = d i; imbalance = e i; charge = f i }))
+    ∙ ap (λ t. cond t (Some (figures_from account sums price)) None) (sym within)

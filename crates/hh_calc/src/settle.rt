@@ -65,14 +65,19 @@ fn figures_within(account: Account, sums: AccountSums, price: Price) -> Option<F
     ensures { let figures = figures_from account sums price in
         result ≡ kept_where (are_within figures) figures }
 {
-    let imbalance = energy_within(sums.credited - sums.balancing - sums.contracts)?;
+    let imbalance = sums.credited - sums.balancing - sums.contracts;
+    let credited = energy_within(sums.credited)?;
+    let balancing = energy_within(sums.balancing)?;
+    let contracts = energy_within(sums.contracts)?;
+    let imbalance = energy_within(imbalance)?;
+    let charge = cash_within(charge_of(imbalance, price))?;
     Some(Figures {
         account,
-        credited: energy_within(sums.credited)?,
-        balancing: energy_within(sums.balancing)?,
-        contracts: energy_within(sums.contracts)?,
+        credited,
+        balancing,
+        contracts,
         imbalance,
-        charge: cash_within(charge_of(imbalance, price))?,
+        charge,
     })
 }
 
