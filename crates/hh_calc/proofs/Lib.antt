@@ -4,6 +4,7 @@ pub mod OrderLaws
 pub mod PeriodLaws
 pub mod RowFacts
 pub mod LedgerLaws
+pub mod RowsFacts
 pub mod SpreadLaws
 pub mod SumFacts
 pub mod SumLaws
