@@ -11,7 +11,8 @@ use Rattle.hh_num.specs.Totals.{total}
 use Rattle.hh_names.specs.declared.account.Account.{Account}
 use Rattle.hh_calc.specs.declared.result.Figures.{Figures}
 use Rattle.hh_calc.specs.declared.sums.AccountSums.{AccountSums}
-use Rattle.hh_calc.specs.Formulas.{period_sums}
+use Rattle.hh_calc.specs.Formulas.{figures, figures_from, period_sums}
+use Rattle.hh_calc.specs.Sums.{no_sums}
 use Rattle.hh_calc.specs.Limits.{are_accounts_within, are_within, greatest_cash, is_account_within, kept_where}
 use Rattle.hh_calc.specs.Terms.{PeriodTerms}
 use Rattle.hh_calc.proofs.RowFacts.{at_most}
@@ -29,9 +30,13 @@ kept_none r false value e none = refl
 
 module _ (p : PeriodTerms) (place : ℕ) (account : Account) (inside : place < length p.accounts) (is : account ≡ get_or p.accounts place account) where
   -- The sums at an account's place are its sums over the period.
-  pub sums_read : (sums : List AccountSums) (s : AccountSums) → sums ≡ map (period_sums p) p.accounts → s ≡ get_or sums place s → s ≡ period_sums p account
-  sums_read sums s e at =
-      at ∙ ap (λ l. get_or l place s) e ∙ get_or-map (period_sums p) p.accounts place account s inside ∙ ap (period_sums p) (sym is)
+  pub sums_read : (sums : List AccountSums) → sums ≡ map (period_sums p) p.accounts → get_or sums place no_sums ≡ period_sums p account
+  sums_read sums e = ap (λ l. get_or l place no_sums) e ∙ get_or-map (period_sums p) p.accounts place account no_sums inside ∙ ap (period_sums p) (sym is)
+
+  -- Its figures from them are its figures in the period.
+  pub figures_read : (sums : List AccountSums) → sums ≡ map (period_sums p) p.accounts → (price : ℤ) → price ≡ p.price
+      → figures_from account (get_or sums place no_sums) price ≡ figures p account
+  figures_read sums e price same = λ i. figures_from account (sums_read sums e i) (same i)
 
   -- One account past the limits decides.
   pub past_account : is_account_within p account ≡ false → are_accounts_within p p.accounts ≡ false
