@@ -14,12 +14,13 @@ use Rattle.hh_names.specs.Accounts.{account_cmp, is_same_account}
 use Rattle.hh_names.proofs.AccountLaws.{account_total}
 use Rattle.hh_share.specs.Shares.{SumsTo}
 use Rattle.hh_share.proofs.QuotaLaws.{quotas_rounded}
+use Rattle.hh_share.proofs.SumLaws.{shares_sum}
 use Rattle.hh_names.specs.declared.values.Contract.{Contract}
 use Rattle.hh_calc.specs.declared.data.Subsidiary.{Subsidiary}
 use Rattle.hh_calc.specs.declared.result.AccountRow.{AccountRow}
 use Rattle.hh_calc.specs.declared.result.CreditRow.{CreditRow}
 use Rattle.hh_calc.specs.declared.result.Figures.{Figures}
-use Rattle.hh_calc.specs.Formulas.{contracted, credits_of, figures, lead_credit, loss_adjusted, net_of, of_account, residual, subsidiary_credit, unit_credits, weights, AreSharesRounded}
+use Rattle.hh_calc.specs.Formulas.{contracted, credits_of, figures, lead_credit, loss_adjusted, net_of, of_account, period_sums, residual, subsidiary_credit, unit_credits, weights, AreSharesRounded}
 use Rattle.hh_calc.specs.Ready.{AreInOrder, AreNamed, AreUnitsDistinct, IsContractNamed}
 use Rattle.hh_calc.specs.Settled.{figures_of, shares_shown, IsBalanced, IsSettled, IsUnitCredited}
 use Rattle.hh_calc.specs.Terms.{PeriodTerms, Settled, BmUnit}
@@ -114,13 +115,17 @@ module _ (p : PeriodTerms) (s : Settled) (settled : IsSettled p s) where
       ∙ (λ i. rows_sum (λ f. f.charge) i +ℤ (sym (total-map (λ x. x) (λ r. r.share) s.accounts) ∙ shares) i)
       ∙ +ℤ_invr (total (λ a. (figures p a).charge) p.accounts)
 
+-- a residual that is not zero is some account's
+some_account : (accounts : List Account) (f : Account → ℤ) (g : Account → ℕ) → neg_ℤ (total f accounts) ≢ pos 0 → 0 < length (map g accounts)
+some_account [] f g differs = absurd (differs refl)
+some_account (a ∷ accounts) f g differs = omega arith
+
 -- What a settled period adds up to: contracts to zero, the credits from each unit to its loss-adjusted volume, cash to zero;
--- and what its shares are.
-pub adds_up : (p : PeriodTerms) (s : Settled) → AreInOrder p → AreNamed p → IsSettled p s
-    → SumsTo (residual p) (shares_shown s.accounts) → IsBalanced p s
-adds_up p s up named settled shares = record {
+-- and its shares are quotas rounded.
+pub adds_up : (p : PeriodTerms) (s : Settled) → AreInOrder p → AreNamed p → IsSettled p s → IsBalanced p s
+adds_up p s up named settled = record {
   contracts = rows_sum p s settled (λ f. f.contracts) ∙ contracts_sum p up named;
   credits = λ distinct. credits_sum p s distinct settled;
-  cash = cash_sum p s settled shares;
+  cash = cash_sum p s settled (rw settled.shared (shares_sum (residual p) (weights p) (some_account p.accounts (λ a. (figures p a).charge) (λ a. (period_sums p a).weight))));
   quota = rw settled.shared (quotas_rounded (residual p) (weights p));
 }

@@ -198,8 +198,9 @@ pub fn settle_period(alloc: Global, period: &PeriodData) -> Result<PeriodResult,
         return Err(CalcFault::TooLarge);
     };
     let shares = apportion(alloc, residual.units(), &charged.weights)?;
+    let rows = rows_of(alloc, &charged.figures, &shares)?;
     Ok(PeriodResult::new(
-        rows_of(alloc, &charged.figures, &shares)?,
+        rows,
         sorted_credits(ledger.credits),
         residual,
     ))
