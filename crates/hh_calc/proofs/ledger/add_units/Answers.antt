@@ -34,9 +34,9 @@ loop-unit-preserved c =
     record {
       credits = more ∙ ap (λ rows. rows ++ unit_credits unit) c.loop-unit.invariant.credits ∙ sym (credits_next units i unit (omega arith) c.unit-item.is);
       sums = c.in_ok-add_unit.ensures.added (sums_over (take i units) []) c.loop-unit.invariant.sums
-        ∙ (λ j. map (λ a. units_step units i unit (omega arith) c.unit-item.is [] a j) c.args.accounts.now);
+          ∙ (λ j. map (λ a. units_step units i unit (omega arith) c.unit-item.is [] a j) c.args.accounts.now);
       small = all_within ((length c.loop-unit.credits.items * greatest_credit + i * greatest_volume) + (length (unit_credits unit) * greatest_credit + greatest_volume)) _ _ (omega arith)
-        (c.in_ok-add_unit.ensures.grown (length c.loop-unit.credits.items * greatest_credit + i * greatest_volume) c.loop-unit.invariant.small);
+          (c.in_ok-add_unit.ensures.grown (length c.loop-unit.credits.items * greatest_credit + i * greatest_volume) c.loop-unit.invariant.small);
     }
 
 pub returns-clause-small : goal.returns-clause-small

@@ -25,8 +25,8 @@ loop-contract-preserved c =
     let i = c.loop-contract.contract-index in
     record {
       added = changed_on c.args.accounts.now (with_contracts (take i contracts)) (with_contract contract) (with_contracts (take (i + 1) contracts))
-        (contract_step contracts i contract (omega arith) c.contract-item.is)
-        _ _ _ c.loop-contract.invariant.added c.add_contract.ensures.added;
+          (contract_step contracts i contract (omega arith) c.contract-item.is)
+          _ _ _ c.loop-contract.invariant.added c.add_contract.ensures.added;
       grown = grown_on (i * (2 * greatest_volume)) (2 * greatest_volume) ((i + 1) * (2 * greatest_volume)) (omega arith) _ _ _ c.loop-contract.invariant.grown c.add_contract.ensures.grown;
     }
 

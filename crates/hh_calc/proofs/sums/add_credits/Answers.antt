@@ -26,11 +26,11 @@ loop-credit-preserved c =
     let i = c.loop-credit.credit-index in
     record {
       added = changed_on accounts (with_credits c.args.weighs (take i credits)) (with_amounts credit.account c.amounts_of_credit.result) (with_credits c.args.weighs (take (i + 1) credits))
-        (λ a s. ap (λ x. with_amounts credit.account x a (with_credits c.args.weighs (take i credits) a s)) c.amounts_of_credit.ensures.amounts
-        ∙ credit_step c.args.weighs credits i credit (omega arith) c.credit-item.is a s)
-        _ _ _ c.loop-credit.invariant.added c.add_to.ensures.added;
+          (λ a s. ap (λ x. with_amounts credit.account x a (with_credits c.args.weighs (take i credits) a s)) c.amounts_of_credit.ensures.amounts
+          ∙ credit_step c.args.weighs credits i credit (omega arith) c.credit-item.is a s)
+          _ _ _ c.loop-credit.invariant.added c.add_to.ensures.added;
       grown = grown_on (i * greatest_credit) greatest_credit ((i + 1) * greatest_credit) (omega arith) _ _ _ c.loop-credit.invariant.grown
-        (c.add_to.ensures.grown greatest_credit c.amounts_of_credit.ensures.small);
+          (c.add_to.ensures.grown greatest_credit c.amounts_of_credit.ensures.small);
     }
 
 pub returns-clause-grown : goal.returns-clause-grown
