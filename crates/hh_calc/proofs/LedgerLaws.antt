@@ -1,6 +1,6 @@
 -- Unit after unit: the sums of accounts over units.
 use Rattle.std.proofs.Common.{◌≡◌, ℕ, ◌+◌, ◌<◌, Bool, true, false, cond, List, [], ◌∷◌, ◌++◌, ◌-◌, ◌*◌, ◌≤◌, length, get_or, take, drop, map, replicate, refl, sym, ap, ◌∙◌, arith, length-append}
-use Rattle.std.specs.Prelude.{ℤ, pos, ◌+ℤ◌, filter, not, sum_by, All}
+use Rattle.std.specs.Prelude.{◌+ℤ◌, not, sum_by, All}
 use Rattle.std.proofs.Math.IntN.{+ℤ_idl}
 use Rattle.std.proofs.Math.Seq.{drop-append_seam}
 use Rattle.std.proofs.lemmas.List.{append-nil, length-map, take_all, take_more}

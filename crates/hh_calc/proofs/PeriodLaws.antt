@@ -1,6 +1,6 @@
 -- What a settled period adds up to.
 use Rattle.std.proofs.Common.{◌≡◌, ℕ, suc, ◌<◌, Bool, true, false, cond, List, [], ◌∷◌, length, get_or, map, refl, sym, ap, ◌∙◌, arith, inl, inr}
-use Rattle.std.specs.Prelude.{◌≢◌, ℤ, pos, neg_ℤ, ◌+ℤ◌, ◌*ℤ◌, filter, All, Contains}
+use Rattle.std.specs.Prelude.{◌≢◌, ℤ, pos, neg_ℤ, ◌+ℤ◌, All, Contains}
 use Rattle.std.specs.Ordering.{is_eq, ordering_reverse}
 use Rattle.std.specs.Str.{bytes_eq}
 use Rattle.std.specs.Cmp.{tied_itself}
@@ -20,7 +20,7 @@ use Rattle.hh_calc.specs.declared.data.Subsidiary.{Subsidiary}
 use Rattle.hh_calc.specs.declared.result.AccountRow.{AccountRow}
 use Rattle.hh_calc.specs.declared.result.CreditRow.{CreditRow}
 use Rattle.hh_calc.specs.declared.result.Figures.{Figures}
-use Rattle.hh_calc.specs.Formulas.{contracted, credits_of, figures, lead_credit, loss_adjusted, net_of, of_account, period_sums, residual, subsidiary_credit, unit_credits, weights, AreSharesRounded}
+use Rattle.hh_calc.specs.Formulas.{contracted, credits_of, figures, lead_credit, loss_adjusted, net_of, of_account, period_sums, residual, subsidiary_credit, unit_credits, weights}
 use Rattle.hh_calc.specs.Ready.{AreInOrder, AreNamed, AreUnitsDistinct, IsContractNamed}
 use Rattle.hh_calc.specs.Settled.{figures_of, shares_shown, IsBalanced, IsSettled, IsUnitCredited}
 use Rattle.hh_calc.specs.Terms.{PeriodTerms, Settled, BmUnit}

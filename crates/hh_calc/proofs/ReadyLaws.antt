@@ -1,6 +1,6 @@
 -- What a period is tested for before it is settled: accounts in order, and what they name.
 use Rattle.std.proofs.Common.{◌≡◌, ℕ, ◌+◌, ◌<◌, ◌≤◌, refl, subst, length, get_or, take, true, false}
-use Rattle.std.specs.Prelude.{[], ◌∷◌, List, All, Contains, IsTrue, ◌↔◌}
+use Rattle.std.specs.Prelude.{[], ◌∷◌, List, All, IsTrue, ◌↔◌}
 use Rattle.std.specs.declared.cmp.Ordering.{Ordering}
 use Rattle.std.specs.declared.cmp.Ordering.TheVariants.{Less}
 use Rattle.std.specs.Cmp.{IsTotalOrder}
@@ -8,9 +8,6 @@ use Rattle.std.specs.List.Sorted.{IsStrictlySortedBy}
 use Rattle.std.proofs.lemmas.List.{take_all}
 use Rattle.std.proofs.lemmas.List.Elements.{All-more}
 use Rattle.std.proofs.lemmas.Map.Keys.{sorted_from_all_adjacent}
-use Rattle.hh_names.specs.declared.account.Account.{Account}
-use Rattle.hh_names.specs.declared.values.Contract.{Contract}
-use Rattle.hh_calc.specs.Terms.{BmUnit}
 
 -- what a test found
 pub passed : (P : Type 0) → P → IsTrue true ↔ P

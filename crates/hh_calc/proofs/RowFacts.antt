@@ -1,5 +1,5 @@
 -- The figures of one account, and the limits.
-use Rattle.std.proofs.Common.{◌≡◌, ℕ, ◌*◌, ◌^◌, ◌<◌, ◌≤◌, Bool, true, false, cond, Option, Some, None, refl, sym, ap, ◌∙◌, arith, FitsSigned, to_z, of_z, IfNone}
+use Rattle.std.proofs.Common.{◌≡◌, ℕ, ◌*◌, ◌^◌, ◌<◌, ◌≤◌, Bool, true, false, cond, Option, Some, None, refl, sym, ap, ◌∙◌, arith, FitsSigned, to_z, of_z}
 use Rattle.std.specs.Prelude.{ℤ, pos, neg_ℤ, ◌-ℤ◌, ◌*ℤ◌, unsigned_abs}
 use Rattle.std.specs.Int.{w64, w128}
 use Rattle.std.specs.Int.Signed.{mag}
@@ -8,7 +8,6 @@ use Rattle.std.proofs.Math.Nat.{mul-le-mul}
 use Rattle.std.proofs.lemmas.Int.{ints, to_z-of_z, unsigned_abs-mul}
 use Rattle.hh_num.specs.Ranges.{IsBetween}
 use Rattle.std.proofs.lemmas.Bool.Decides.{nat_tests}
-use Rattle.hh_num.specs.Rounding.{near}
 use Rattle.hh_names.specs.declared.account.Account.{Account}
 use Rattle.hh_calc.specs.declared.sums.AccountSums.{AccountSums}
 use Rattle.hh_calc.specs.declared.result.Figures.{Figures}
@@ -31,10 +30,6 @@ past_limit most x word r e same none = go (is_at_most most word) refl (sym e ∙
     go : (b : Bool) → is_at_most most word ≡ b → cond b (Some word) None ≡ None → is_at_most most x ≡ false
     go true k h = cc h
     go false k h = ap (is_at_most most) (sym same) ∙ k
-
-pub if_none : {A : Type 0} (r : Option A) (P : Type 0) → P → IfNone r P
-if_none None P p = p
-if_none (Some x) P p = tt
 
 -- the imbalance, as the machine's words hold it
 pub imbalance_word : (s : AccountSums) → IsWithin greatest_sum s
@@ -81,10 +76,6 @@ at_most most x h = grind (arith, nat_tests)
 -- a word of 128 bits is itself
 pub cash_word : (x : ℤ) → mag x < 2 ^ 127 → to_z w128 (of_z w128 x) ≡ x
 cash_word x h = to_z-of_z w128 x (record { sfits = h })
-
--- a number of 64 bits, widened twice
-pub wide_word : (v units wide : ℤ) → units ≡ v → unsigned_abs v ≤ 10 ^ 18 → wide ≡ to_z w64 (of_z w64 units) → to_z w128 (of_z w128 wide) ≡ v
-wide_word v units wide same le e = ap (λ z. to_z w128 (of_z w128 z)) (widened v units wide same le e) ∙ long_word v (omega arith)
 
 -- the sum of an account, as a word holds it
 pub sum_held : (x : ℤ) → unsigned_abs x ≤ greatest_sum → word x ≡ x

@@ -1,6 +1,6 @@
 -- The sums of accounts, as amounts are added to them.
-use Rattle.std.proofs.Common.{◌≡◌, ℕ, zero, suc, ◌+◌, ◌*◌, ◌<◌, ◌≤◌, Bool, true, false, cond, List, [], ◌∷◌, length, get_or, set, take, map, refl, sym, ap, subst, ◌∙◌, arith}
-use Rattle.std.specs.Prelude.{ℤ, pos, neg_ℤ, ◌+ℤ◌, ◌-ℤ◌, unsigned_abs, sum_by}
+use Rattle.std.proofs.Common.{◌≡◌, ℕ, zero, suc, ◌+◌, ◌<◌, ◌≤◌, Bool, true, false, cond, List, [], ◌∷◌, length, get_or, set, take, map, refl, sym, ap, subst, ◌∙◌, arith}
+use Rattle.std.specs.Prelude.{ℤ, pos, neg_ℤ, ◌+ℤ◌, unsigned_abs, sum_by}
 use Rattle.std.specs.List.{AllByRecursion, HoldsAt, All}
 use Rattle.std.specs.List.Sorted.{IsStrictlySortedBy}
 use Rattle.std.specs.Ordering.{is_eq, ordering_reverse}
@@ -49,21 +49,21 @@ none_before [] to later f x = refl
 none_before (a ∷ accounts) to later f x = λ i. apart a to x (f a) (ap is_eq later.0) i ∷ none_before accounts to later.1 f x i
 
 -- amounts that are added at an account's place count for that account alone
-pub added_at : (accounts : List Account) → IsStrictlySortedBy account_cmp accounts
+pub added_once : (accounts : List Account) → IsStrictlySortedBy account_cmp accounts
     → (place : ℕ) (to : Account) → place < length accounts → HoldsAt (λ a. a ≡ to) accounts place
     → (f : Account → AccountSums) (x d : AccountSums)
     → set (map f accounts) place (sums_plus (get_or (map f accounts) place d) x) ≡ map (λ a. with_amounts to x a (f a)) accounts
 unfolding IsStrictlySortedBy
-added_at [] up place to inside is f x d = absurd (omega arith)
-added_at (a ∷ accounts) up zero to inside is f x d =
+added_once [] up place to inside is f x d = absurd (omega arith)
+added_once (a ∷ accounts) up zero to inside is f x d =
     let same : a ≡ to = is a in
     let tied : account_cmp to a ≡ Equal = ap (λ c. account_cmp to c) same ∙ tied_itself account_total to in
     let later : AllByRecursion (λ c. account_cmp to c ≡ Less) accounts = subst (λ c. AllByRecursion (λ y. account_cmp c y ≡ Less) accounts) same up.0 in
     λ i. own a to x (f a) (ap is_eq tied) i ∷ none_before accounts to later f x i
-added_at (a ∷ accounts) up (suc place) to inside is f x d =
+added_once (a ∷ accounts) up (suc place) to inside is f x d =
     let below : account_cmp a to ≡ Less = ap (account_cmp a) (sym (is to)) ∙ All-from_recursion (λ c. account_cmp a c ≡ Less) accounts up.0 place to (omega arith) in
     let above : account_cmp to a ≡ Greater = account_total.antisymm to a ∙ ap ordering_reverse below in
-    λ i. apart a to x (f a) (ap is_eq above) i ∷ added_at accounts up.1 place to (omega arith) is f x d i
+    λ i. apart a to x (f a) (ap is_eq above) i ∷ added_once accounts up.1 place to (omega arith) is f x d i
 
 -- a change, and one more after it
 pub changed_on : (accounts : List Account) (first second both : Account → AccountSums → AccountSums) → ((a : Account) (s : AccountSums) → second a (first a s) ≡ both a s)

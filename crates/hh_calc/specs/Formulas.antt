@@ -124,6 +124,13 @@ module _ (p : PeriodTerms) where
   abbrev pub figures : Account → Figures
   figures a = figures_from a (period_sums a) p.price
 
+  -- the sums and the figures of all accounts, in their order
+  abbrev pub all_sums : List AccountSums
+  all_sums = map period_sums p.accounts
+
+  abbrev pub all_figures : List Figures
+  all_figures = map figures p.accounts
+
   -- the weights of the accounts, in their order
   abbrev pub weights : List ℕ
   weights = map (λ a. (period_sums a).weight) p.accounts

@@ -35,6 +35,10 @@ module _ (p : PeriodTerms) where
   abbrev pub are_accounts_within : List Account → Bool
   are_accounts_within accounts = list_all is_account_within accounts
 
+  -- nor do those of all accounts of the period
+  abbrev pub are_all_within : Bool
+  are_all_within = are_accounts_within p.accounts
+
   -- nor does the residual of the period
   abbrev pub is_within_limits : Bool
-  is_within_limits = are_accounts_within p.accounts && is_at_most greatest_cash (residual p)
+  is_within_limits = are_all_within && is_at_most greatest_cash (residual p)

@@ -8,7 +8,7 @@ use Rattle.hh_names.specs.Accounts.{account_cmp, bytes_cmp}
 use Rattle.hh_calc.specs.declared.result.AccountRow.{AccountRow}
 use Rattle.hh_calc.specs.declared.result.CreditRow.{CreditRow}
 use Rattle.hh_calc.specs.declared.result.Figures.{Figures}
-use Rattle.hh_calc.specs.Formulas.{credits_of, figures, loss_adjusted, residual, residual_shares, AreSharesRounded}
+use Rattle.hh_calc.specs.Formulas.{all_figures, credits_of, loss_adjusted, residual, residual_shares, AreSharesRounded}
 use Rattle.hh_calc.specs.Ready.{AreUnitsDistinct}
 use Rattle.hh_calc.specs.Terms.{BmUnit, PeriodTerms, Settled}
 
@@ -27,7 +27,7 @@ shares_shown rows = map (λ r. r.share) rows
 -- the rows hold the figures and the shares of the accounts in order, the credits are those of the units in order, and the
 -- residual is the period's
 pub record IsSettled (p : PeriodTerms) (s : Settled) : Type 0 where
-  pub rows : map figures_of s.accounts ≡ map (figures p) p.accounts
+  pub rows : map figures_of s.accounts ≡ all_figures p
   pub shared : shares_shown s.accounts ≡ residual_shares p
   pub credits : IsPermutation (credits_of p.units) s.credits
   pub ordered : IsSorted credit_cmp s.credits

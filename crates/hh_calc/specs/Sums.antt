@@ -1,5 +1,5 @@
 -- The sums of the accounts of a period, as a list in account order, while rows are added to them.
-use Rattle.std.specs.Prelude.{◌≡◌, ℕ, ◌+◌, ◌*◌, ◌^◌, ◌≤◌, unsigned_abs, ℤ, pos, ◌+ℤ◌, List, map, All, Bool, sum_by, if◌then◌else◌}
+use Rattle.std.specs.Prelude.{◌≡◌, ℕ, ◌+◌, ◌*◌, ◌^◌, ◌≤◌, unsigned_abs, ℤ, pos, ◌+ℤ◌, List, slice_index_or, slice_set, map, All, Bool, sum_by, if◌then◌else◌}
 use Rattle.hh_num.specs.Totals.{total}
 use Rattle.hh_names.specs.declared.account.Account.{Account}
 use Rattle.hh_names.specs.declared.values.Contract.{Contract}
@@ -20,6 +20,10 @@ sums_plus held more = record {
   contracts = held.contracts +ℤ more.contracts;
   weight = held.weight + more.weight;
 }
+
+-- the sums of accounts after amounts are added to those at a place
+abbrev pub added_at : List AccountSums → ℕ → AccountSums → List AccountSums
+added_at sums place amounts = slice_set sums place (sums_plus (slice_index_or sums place no_sums) amounts)
 
 -- what a credit adds to its account's sums
 abbrev pub credit_amounts : Bool → ℤ → AccountSums

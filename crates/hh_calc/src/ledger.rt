@@ -1,7 +1,7 @@
 //! The credits of a period, and the sums of its accounts, which are made together.
 
 ghost use Rattle.std.specs.Prelude.{◌≡◌, ◌+◌, ◌*◌, ◌++◌, [], length, map, replicate, All, IfOk, OnOk};
-ghost use Rattle.hh_calc.specs.Formulas.{credits_of, period_sums, sums_over, unit_credits};
+ghost use Rattle.hh_calc.specs.Formulas.{all_sums, credits_of, sums_over, unit_credits};
 ghost use Rattle.hh_calc.specs.Ready.{AreAccountsInOrder, AreInOrder, AreNamed, AreSubsidiariesFew, HasFewSubsidiaries, IsUnitNamed};
 ghost use Rattle.hh_calc.specs.Sums.{greatest_credit, greatest_sum, greatest_unit_sum, greatest_volume, no_sums, with_unit, AreChanged, AreGrown, IsWithin};
 
@@ -80,7 +80,7 @@ fn add_period(
     requires none { credits.old.items ≡ [] }
     requires start { sums.old ≡ replicate (length period.now.accounts) no_sums }
     ensures credits { OnOk result (credits.new.items ≡ credits_of period.now.units) }
-    ensures sums { OnOk result (sums.new ≡ map (period_sums period.now) period.now.accounts) }
+    ensures sums { OnOk result (sums.new ≡ all_sums period.now) }
     ensures small { OnOk result (All (IsWithin greatest_sum) sums.new) }
 {
     add_units(period.accounts(), period.units(), credits, sums)?;
@@ -94,7 +94,7 @@ pub(crate) fn ledger_of(alloc: Global, period: &PeriodData) -> Result<Ledger, Al
     requires named { AreNamed period.now }
     requires few { AreSubsidiariesFew period.now }
     ensures credits { IfOk result (λ l. l.credits.items ≡ credits_of period.now.units) }
-    ensures sums { IfOk result (λ l. l.sums.items ≡ map (period_sums period.now) period.now.accounts) }
+    ensures sums { IfOk result (λ l. l.sums.items ≡ all_sums period.now) }
     ensures small { IfOk result (λ l. All (IsWithin greatest_sum) l.sums.items) }
 {
     let mut credits = Vec::new(alloc);

@@ -1,6 +1,7 @@
 //! A settled period.
 
 ghost use Rattle.std.specs.Prelude.{◌≡◌};
+ghost use Rattle.hh_calc.specs.Terms.{settled_period};
 
 use hh_names::{Account, UnitId};
 use hh_num::{Pence, Ticks};
@@ -63,7 +64,7 @@ impl PeriodResult {
         credits: Vec<CreditRow>,
         residual: Pence,
     ) -> PeriodResult
-        ensures { result ≡ record { accounts = accounts.items; credits = credits.items; residual = residual } }
+        ensures { result ≡ settled_period accounts.items credits.items residual }
     {
         PeriodResult {
             accounts,

@@ -1,8 +1,8 @@
 //! The settlement of one period.
 
 ghost use Rattle.std.specs.Prelude.{◌≡◌, ◌≤◌, ◌^◌, ◌*◌, neg_ℤ, unsigned_abs, length, map, nat_le, All, IfOk, IsTrue, IsFalse, Err};
-ghost use Rattle.hh_calc.specs.Formulas.{charge_for, figures, figures_from, period_sums, residual, weights};
-ghost use Rattle.hh_calc.specs.Limits.{are_accounts_within, are_within, greatest_cash, greatest_energy, is_at_most, is_within_limits, kept_where};
+ghost use Rattle.hh_calc.specs.Formulas.{all_figures, all_sums, charge_for, figures_from, residual, weights};
+ghost use Rattle.hh_calc.specs.Limits.{are_all_within, are_within, greatest_cash, greatest_energy, is_at_most, is_within_limits, kept_where};
 ghost use Rattle.hh_calc.specs.Ready.{AreInOrder, AreNamed, AreSubsidiariesFew};
 ghost use Rattle.hh_calc.specs.Settled.{figures_of, shares_shown, IsBalanced, IsSettled};
 ghost use Rattle.hh_calc.specs.Sums.{greatest_sum, IsWithin};
@@ -108,13 +108,13 @@ fn charged_accounts(
     period: &PeriodData,
     sums: &[AccountSums],
 ) -> Result<Charged, CalcFault>
-    requires sums { sums.now ≡ map (period_sums period.now) period.now.accounts }
+    requires sums { sums.now ≡ all_sums period.now }
     requires small { All (IsWithin greatest_sum) sums.now }
-    ensures figures { IfOk result (λ c. c.figures.items ≡ map (figures period.now) period.now.accounts) }
+    ensures figures { IfOk result (λ c. c.figures.items ≡ all_figures period.now) }
     ensures weights { IfOk result (λ c. c.weights.items ≡ weights period.now) }
-    ensures within { IfOk result (λ c. IsTrue (are_accounts_within period.now period.now.accounts)) }
+    ensures within { IfOk result (λ c. IsTrue (are_all_within period.now)) }
     ensures residual { IfOk result (λ c. c.residual ≡ residual period.now) }
-    ensures too_large { result ≡ Err CalcFault.TooLarge → IsFalse (are_accounts_within period.now period.now.accounts) }
+    ensures too_large { result ≡ Err CalcFault.TooLarge → IsFalse (are_all_within period.now) }
 {
     let accounts = period.accounts();
     let mut figures = Vec::with_capacity(alloc, accounts.len())?;

@@ -1,10 +1,10 @@
 //! The sums of the accounts of a period.
 
-ghost use Rattle.std.specs.Prelude.{◌≡◌, ◌<◌, ◌≤◌, ◌*◌, ◌+◌, ℕ, length, slice_index_or, slice_set, All, unsigned_abs};
+ghost use Rattle.std.specs.Prelude.{◌≡◌, ◌<◌, ◌≤◌, ◌*◌, ◌+◌, ℕ, length, All, unsigned_abs};
 ghost use Rattle.std.specs.List.{HoldsAt};
 ghost use Rattle.hh_calc.specs.Formulas.{balanced, contracted};
 ghost use Rattle.hh_calc.specs.Ready.{most_subsidiaries, AreAccountsInOrder, IsContractNamed, IsCreditNamed, IsNamed};
-ghost use Rattle.hh_calc.specs.Sums.{greatest_credit, greatest_sum, greatest_unit_sum, greatest_volume, balancing_amounts, contract_amounts, credit_amounts, no_sums, sums_plus, with_amounts, with_contract, with_contracts, with_credits, AreChanged, AreGrown, IsCreditSmall, IsWithin};
+ghost use Rattle.hh_calc.specs.Sums.{added_at, greatest_credit, greatest_sum, greatest_unit_sum, greatest_volume, added_at, balancing_amounts, contract_amounts, credit_amounts, no_sums, sums_plus, with_amounts, with_contract, with_contracts, with_credits, AreChanged, AreGrown, IsCreditSmall, IsWithin};
 
 use crate::data::UnitData;
 use crate::result::CreditRow;
@@ -66,7 +66,7 @@ fn add_at(sums: &mut [AccountSums], place: usize, amounts: AccountSums)
     requires inside { place < length sums.old }
     requires room { All (IsWithin (2 * greatest_sum)) sums.old }
     requires small { IsWithin greatest_credit amounts }
-    ensures { sums.new ≡ slice_set sums.old place (sums_plus (slice_index_or sums.old place no_sums) amounts) }
+    ensures { sums.new ≡ added_at sums.old place amounts }
 {
     sums[place] = sums_with(sums[place], amounts);
 }

@@ -1,5 +1,4 @@
-use Rattle.std.proofs.Common.{◌∙◌, ◌+◌, ◌*◌, ◌++◌, ◌≡◌, [], ap, arith, length, map, take, sym, refl, length-append}
-use Rattle.std.specs.Prelude.{All}
+use Rattle.std.proofs.Common.{◌∙◌, ◌+◌, ◌*◌, ◌++◌, [], ap, arith, length, map, take, sym, length-append}
 use Rattle.hh_calc.specs.Formulas.{sums_over, unit_credits}
 use Rattle.hh_calc.specs.Ready.{HasFewSubsidiaries, IsUnitNamed}
 use Rattle.hh_calc.specs.Sums.{greatest_credit, greatest_sum, greatest_unit_sum, greatest_volume}

@@ -1,4 +1,4 @@
-use Rattle.std.proofs.Common.{◌∙◌, sym}
+use Rattle.std.proofs.Common.{◌∙◌}
 use Rattle.std.proofs.lemmas.Bool.{and_from, and_left, and_right}
 use Rattle.hh_calc.specs.Formulas.{imbalance_of}
 use Rattle.hh_calc.specs.Limits.{greatest_cash, greatest_energy}

@@ -1,4 +1,4 @@
-use Rattle.std.proofs.Common.{◌∙◌, ◌≤◌, arith, get_or, refl}
+use Rattle.std.proofs.Common.{◌≤◌, arith, get_or, refl}
 use Rattle.std.specs.Prelude.{pos, unsigned_abs}
 use Rattle.hh_calc.specs.Limits.{greatest_cash}
 use Rattle.hh_calc.specs.Settled.{figures_of}

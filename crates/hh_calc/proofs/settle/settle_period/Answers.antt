@@ -1,4 +1,4 @@
-use Rattle.std.proofs.Common.{rules, arith}
+use Rattle.std.proofs.Common.{rules}
 use Rattle.hh_calc.specs.Settled.{IsSettled}
 use Rattle.hh_calc.proofs.PeriodLaws.{adds_up}
 use Rattle.hh_calc.proofs.settle.settle_period.Goals as goal
