@@ -1,22 +1,24 @@
 -- What credits come to, and the machine's words that hold it.
-use Rattle.std.proofs.Common.{◌≡◌, ℕ, ◌+◌, ◌*◌, ◌^◌, ◌<◌, ◌≤◌, Bool, true, false, cond, List, [], ◌∷◌, ◌++◌, length, get_or, take, map, refl, sym, ap, ◌∙◌, arith, FitsSigned, to_z, of_z, add-one}
-use Rattle.std.specs.Prelude.{ℤ, pos, negsuc, ◌+ℤ◌, ◌-ℤ◌, ◌*ℤ◌, unsigned_abs, filter, not}
+use Rattle.std.proofs.Common.{◌≡◌, ℕ, ◌+◌, ◌*◌, ◌^◌, ◌<◌, ◌≤◌, List, [], ◌∷◌, ◌++◌, length, get_or, take, map, refl, sym, ap, ◌∙◌, arith, FitsSigned, to_z, of_z, add-one}
+use Rattle.std.specs.Prelude.{ℤ, pos, negsuc, ◌+ℤ◌, ◌-ℤ◌, ◌*ℤ◌, unsigned_abs}
 use Rattle.std.specs.Int.{w64, w128}
 use Rattle.std.specs.Int.Signed.{mag}
 use Rattle.std.specs.Cmp.{IsTotalOrder, on_total, then_total}
 use Rattle.std.specs.List.{All}
 use Rattle.std.proofs.Math.Nat.{mul-le-mul, suc-mul}
 use Rattle.std.proofs.lemmas.Int.{ints, to_z-of_z, unsigned_abs-mul}
-use Rattle.std.proofs.lemmas.List.{append-nil, append_assoc, map_more, take_all}
-use Rattle.std.proofs.lemmas.List.Concat.{flat_map-append}
-use Rattle.std.proofs.lemmas.List.Elements.{All-map, All-more, All-push, filter_more}
+use Rattle.std.proofs.lemmas.List.{append_assoc, map_more, take_all}
+use Rattle.std.proofs.lemmas.List.Elements.{All-map, All-more, All-push}
 use Rattle.hh_num.specs.Ranges.{IsBetween}
 use Rattle.hh_num.specs.Rounding.{near}
 use Rattle.hh_num.specs.Totals.{total}
 use Rattle.hh_names.proofs.AccountLaws.{account_total, bytes_total}
 use Rattle.hh_calc.specs.declared.data.Subsidiary.{Subsidiary}
 use Rattle.hh_calc.specs.declared.result.CreditRow.{CreditRow}
-use Rattle.hh_calc.specs.Formulas.{credit_cmp, credits_of, lead_credit, loss_adjusted, most_subsidiaries, subsidiary_credit, unit_credits}
+use Rattle.hh_calc.specs.Formulas.{lead_credit, loss_adjusted, subsidiary_credit, unit_credits}
+use Rattle.hh_calc.specs.Ready.{most_subsidiaries}
+use Rattle.hh_calc.specs.Settled.{credit_cmp}
+use Rattle.hh_calc.specs.Sums.{IsCreditSmall}
 use Rattle.hh_calc.specs.Terms.{BmUnit}
 use Rattle.hh_calc.proofs.SumLaws.{total-more}
 use Rattle.hh_calc.proofs.WordFacts.{long_word, word}
@@ -143,32 +145,12 @@ rest_word i rest credit few le le' =
 pub unit_credits_small : (u : BmUnit) (i : ℕ) (rest : ℤ) → length u.subsidiaries ≤ i → i ≤ most_subsidiaries
     → All (λ x. unsigned_abs (subsidiary_credit u x) ≤ 10 ^ 18) (take i u.subsidiaries)
     → rest ≡ loss_adjusted u -ℤ total (subsidiary_credit u) (take i u.subsidiaries) → unsigned_abs rest ≤ 2 * 10 ^ 14 + i * 10 ^ 15
-    → All (λ c. unsigned_abs c.credited ≤ 10 ^ 18) (unit_credits u)
+    → All IsCreditSmall (unit_credits u)
 unit_credits_small u i rest all few each is le =
     let whole : take i u.subsidiaries ≡ u.subsidiaries = take_all i u.subsidiaries all in
     let lead : unsigned_abs (lead_credit u) ≤ 10 ^ 18 = rw (sym (is ∙ ap (λ l. loss_adjusted u -ℤ total (subsidiary_credit u) l) whole)) (omega arith) in
-    All-push (λ c. unsigned_abs c.credited ≤ 10 ^ 18) (map (credit_of u) u.subsidiaries) _
-    (All-map (λ c. unsigned_abs c.credited ≤ 10 ^ 18) (credit_of u) u.subsidiaries (rw whole at each)) lead
-
--- Unit after unit: the credits that weigh.
-module _ (units : List BmUnit) (i : ℕ) (u : BmUnit) (inside : i < length units) (is : u ≡ get_or units i u) where
-  weighing_next : (weighs : Bool) → not u.interconnector ≡ weighs
-      → credits_of (filter (λ v. not v.interconnector) (take (i + 1) units)) ≡ credits_of (filter (λ v. not v.interconnector) (take i units)) ++ credits_of (cond weighs (u ∷ []) [])
-  weighing_next weighs e =
-      ap credits_of (filter_more (λ v. not v.interconnector) units i u inside)
-      ∙ (λ j. credits_of (filter (λ v. not v.interconnector) (take i units) ++ cond (not (sym is j).interconnector) (sym is j ∷ []) []))
-      ∙ (λ j. credits_of (filter (λ v. not v.interconnector) (take i units) ++ cond (e j) (u ∷ []) []))
-      ∙ flat_map-append unit_credits (filter (λ v. not v.interconnector) (take i units)) (cond weighs (u ∷ []) [])
-
-  pub weighing_more : (so_far new : List CreditRow) → so_far ≡ credits_of (filter (λ v. not v.interconnector) (take i units)) → u.interconnector ≡ false → new ≡ so_far ++ unit_credits u
-      → new ≡ credits_of (filter (λ v. not v.interconnector) (take (i + 1) units))
-  weighing_more so_far new before inland e =
-      e ∙ (λ j. before j ++ sym (append-nil (unit_credits u)) j) ∙ sym (weighing_next true (ap not inland))
-
-  pub weighing_same : (so_far new : List CreditRow) → so_far ≡ credits_of (filter (λ v. not v.interconnector) (take i units)) → u.interconnector ≡ true → new ≡ so_far
-      → new ≡ credits_of (filter (λ v. not v.interconnector) (take (i + 1) units))
-  weighing_same so_far new before out e =
-      e ∙ before ∙ sym (append-nil (credits_of (filter (λ v. not v.interconnector) (take i units)))) ∙ sym (weighing_next false (ap not out))
+    All-push IsCreditSmall (map (credit_of u) u.subsidiaries) _
+    (All-map IsCreditSmall (credit_of u) u.subsidiaries (rw whole at each)) lead
 
 -- the order of credits is total
 pub credit_total : IsTotalOrder credit_cmp

@@ -3,9 +3,10 @@ pub mod CreditLaws
 pub mod OrderLaws
 pub mod PeriodLaws
 pub mod RowFacts
+pub mod LedgerLaws
 pub mod RowsFacts
-pub mod SettleFacts
 pub mod SpreadLaws
+pub mod SumFacts
 pub mod SumLaws
 pub mod WordFacts
 mod Examples

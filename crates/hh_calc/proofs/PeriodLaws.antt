@@ -1,6 +1,6 @@
 -- What a settled period adds up to.
 use Rattle.std.proofs.Common.{◌≡◌, ℕ, suc, ◌<◌, Bool, true, false, cond, List, [], ◌∷◌, length, get_or, map, refl, sym, ap, ◌∙◌, arith, inl, inr}
-use Rattle.std.specs.Prelude.{◌≢◌, ℤ, pos, neg_ℤ, ◌+ℤ◌, ◌*ℤ◌, filter, All, Contains}
+use Rattle.std.specs.Prelude.{◌≢◌, ℤ, pos, neg_ℤ, ◌+ℤ◌, All, Contains}
 use Rattle.std.specs.Ordering.{is_eq, ordering_reverse}
 use Rattle.std.specs.Str.{bytes_eq}
 use Rattle.std.specs.Cmp.{tied_itself}
@@ -13,14 +13,19 @@ use Rattle.hh_names.specs.declared.account.Account.{Account}
 use Rattle.hh_names.specs.Accounts.{account_cmp, is_same_account}
 use Rattle.hh_names.proofs.AccountLaws.{account_total}
 use Rattle.hh_share.specs.Shares.{SumsTo}
+use Rattle.hh_share.proofs.QuotaLaws.{quotas_rounded}
+use Rattle.hh_share.proofs.SumLaws.{shares_sum}
 use Rattle.hh_names.specs.declared.values.Contract.{Contract}
 use Rattle.hh_calc.specs.declared.data.Subsidiary.{Subsidiary}
 use Rattle.hh_calc.specs.declared.result.AccountRow.{AccountRow}
 use Rattle.hh_calc.specs.declared.result.CreditRow.{CreditRow}
-use Rattle.hh_calc.specs.Formulas.{AddsUp, AreInOrder, AreNamed, AreUnitsDistinct, Figures, IsSettled, credits_of, figures, figures_of, lead_credit, loss_adjusted, net_of, of_account, residual, subsidiary_credit, unit_credits}
+use Rattle.hh_calc.specs.declared.result.Figures.{Figures}
+use Rattle.hh_calc.specs.Formulas.{contracted, credits_of, figures, lead_credit, loss_adjusted, net_of, of_account, period_sums, residual, subsidiary_credit, unit_credits, weights}
+use Rattle.hh_calc.specs.Ready.{AreInOrder, AreNamed, AreUnitsDistinct, IsContractNamed}
+use Rattle.hh_calc.specs.Settled.{figures_of, shares_shown, IsBalanced, IsSettled, IsUnitCredited}
 use Rattle.hh_calc.specs.Terms.{PeriodTerms, Settled, BmUnit}
 use Rattle.hh_calc.proofs.OrderLaws.{rises}
-use Rattle.hh_calc.proofs.SpreadLaws.{counted, counts_once, total-IsPermutation, total-flat_map, total-ticks}
+use Rattle.hh_calc.proofs.SpreadLaws.{counted, counts_once, total-IsPermutation, total-flat_map}
 
 module _ (p : PeriodTerms) (up : AreInOrder p) where
   -- no other place of the accounts is the account's
@@ -41,24 +46,22 @@ module _ (p : PeriodTerms) (up : AreInOrder p) where
       (λ j among ne. ap (λ c. is_same_account c (get_or p.accounts j b)) (sym is) ∙ others_differ b k j inside among ne)
 
   -- a contract is for its seller what it is against its buyer
-  one_contract : (c : Contract) → Contains p.accounts c.counterparties.seller × Contains p.accounts c.counterparties.buyer → total (λ a. net_of a c) p.accounts ≡ pos 0
+  one_contract : (c : Contract) → IsContractNamed p.accounts c → total (λ a. net_of a c) p.accounts ≡ pos 0
   one_contract c (sells, buys) =
-      total-plus (λ a. of_account a c.counterparties.seller c.volume) (λ a. neg_ℤ (of_account a c.counterparties.buyer c.volume)) p.accounts
-      ∙ (λ i. spread c.counterparties.seller sells c.volume i +ℤ total-neg (λ a. of_account a c.counterparties.buyer c.volume) p.accounts i)
-      ∙ ap (λ z. c.volume +ℤ neg_ℤ z) (spread c.counterparties.buyer buys c.volume)
-      ∙ +ℤ_invr c.volume
+      total-plus (λ a. of_account a c.counterparties.seller (contracted c)) (λ a. neg_ℤ (of_account a c.counterparties.buyer (contracted c))) p.accounts
+      ∙ (λ i. spread c.counterparties.seller sells (contracted c) i +ℤ total-neg (λ a. of_account a c.counterparties.buyer (contracted c)) p.accounts i)
+      ∙ ap (λ z. contracted c +ℤ neg_ℤ z) (spread c.counterparties.buyer buys (contracted c))
+      ∙ +ℤ_invr (contracted c)
 
   -- so all contracts together sum to zero over the accounts
-  all_contracts : (cs : List Contract) → All (λ c. Contains p.accounts c.counterparties.seller × Contains p.accounts c.counterparties.buyer) cs
+  all_contracts : (cs : List Contract) → All (IsContractNamed p.accounts) cs
       → total (λ c. total (λ a. net_of a c) p.accounts) cs ≡ pos 0
   all_contracts [] named = refl
   all_contracts (c ∷ cs) named = λ i. one_contract c (named 0 c (omega arith)) i +ℤ all_contracts cs (λ k d lt. named (suc k) d (omega arith)) i
 
-  -- and so do the accounts' net contracts, in ticks
+  -- and so do the accounts' net contracts
   contracts_sum : AreNamed p → total (λ a. (figures p a).contracts) p.accounts ≡ pos 0
-  contracts_sum named =
-      total-ticks (λ a. total (net_of a) p.contracts) p.accounts
-      ∙ ap (λ z. z *ℤ pos 10_000_000) (total-swap net_of p.accounts p.contracts ∙ all_contracts p.contracts named.1)
+  contracts_sum named = total-swap net_of p.accounts p.contracts ∙ all_contracts p.contracts named.1
 
 -- The credits from a unit sum to its loss-adjusted volume; where they do not count, to zero.
 unit_credits_sum : (u : BmUnit) (do_count : Bool)
@@ -83,7 +86,7 @@ credits_under name u =
 
 -- no other unit has a unit's name, so the credits under it sum to its loss-adjusted volume
 credits_sum : (p : PeriodTerms) (s : Settled) → AreUnitsDistinct p → IsSettled p s
-    → All (λ u. total (λ c. c.credited) (filter (λ c. bytes_eq c.unit u.unit) s.credits) ≡ loss_adjusted u) p.units
+    → All (IsUnitCredited s.credits) p.units
 credits_sum p s distinct settled k d inside =
     let u : BmUnit = get_or p.units k d in
     total-filter (λ c. c.credited) (λ c. bytes_eq c.unit u.unit) s.credits
@@ -106,17 +109,23 @@ module _ (p : PeriodTerms) (s : Settled) (settled : IsSettled p s) where
   rows_sum f = sym (total-map f figures_of s.accounts) ∙ ap (total f) settled.rows ∙ total-map f (figures p) p.accounts
 
   -- charges and shares together sum to zero, where the shares sum to the residual
-  cash_sum : SumsTo (residual p) (map (λ r. r.share) s.accounts) → total (λ r. r.charge +ℤ r.share) s.accounts ≡ pos 0
+  cash_sum : SumsTo (residual p) (shares_shown s.accounts) → total (λ r. r.charge +ℤ r.share) s.accounts ≡ pos 0
   cash_sum shares =
       total-plus (λ (r : AccountRow). r.charge) (λ r. r.share) s.accounts
       ∙ (λ i. rows_sum (λ f. f.charge) i +ℤ (sym (total-map (λ x. x) (λ r. r.share) s.accounts) ∙ shares) i)
       ∙ +ℤ_invr (total (λ a. (figures p a).charge) p.accounts)
 
--- What a settled period adds up to: contracts to zero, the credits from each unit to its loss-adjusted volume, cash to zero.
-pub adds_up : (p : PeriodTerms) (s : Settled) → AreInOrder p → AreNamed p → IsSettled p s
-    → SumsTo (residual p) (map (λ r. r.share) s.accounts) → AddsUp p s
-adds_up p s up named settled shares = record {
+-- a residual that is not zero is some account's
+some_account : (accounts : List Account) (f : Account → ℤ) (g : Account → ℕ) → neg_ℤ (total f accounts) ≢ pos 0 → 0 < length (map g accounts)
+some_account [] f g differs = absurd (differs refl)
+some_account (a ∷ accounts) f g differs = omega arith
+
+-- What a settled period adds up to: contracts to zero, the credits from each unit to its loss-adjusted volume, cash to zero;
+-- and its shares are quotas rounded.
+pub adds_up : (p : PeriodTerms) (s : Settled) → AreInOrder p → AreNamed p → IsSettled p s → IsBalanced p s
+adds_up p s up named settled = record {
   contracts = rows_sum p s settled (λ f. f.contracts) ∙ contracts_sum p up named;
   credits = λ distinct. credits_sum p s distinct settled;
-  cash = cash_sum p s settled shares;
+  cash = cash_sum p s settled (rw settled.shared (shares_sum (residual p) (weights p) (some_account p.accounts (λ a. (figures p a).charge) (λ a. (period_sums p a).weight))));
+  quota = rw settled.shared (quotas_rounded (residual p) (weights p));
 }

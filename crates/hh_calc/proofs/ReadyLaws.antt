@@ -1,6 +1,6 @@
 -- What a period is tested for before it is settled: accounts in order, and what they name.
 use Rattle.std.proofs.Common.{◌≡◌, ℕ, ◌+◌, ◌<◌, ◌≤◌, refl, subst, length, get_or, take, true, false}
-use Rattle.std.specs.Prelude.{[], ◌∷◌, List, All, Contains, IsTrue, ◌↔◌}
+use Rattle.std.specs.Prelude.{[], ◌∷◌, List, All, IsTrue, ◌↔◌}
 use Rattle.std.specs.declared.cmp.Ordering.{Ordering}
 use Rattle.std.specs.declared.cmp.Ordering.TheVariants.{Less}
 use Rattle.std.specs.Cmp.{IsTotalOrder}
@@ -8,11 +8,6 @@ use Rattle.std.specs.List.Sorted.{IsStrictlySortedBy}
 use Rattle.std.proofs.lemmas.List.{take_all}
 use Rattle.std.proofs.lemmas.List.Elements.{All-more}
 use Rattle.std.proofs.lemmas.Map.Keys.{sorted_from_all_adjacent}
-use Rattle.hh_names.specs.declared.account.Account.{Account}
-use Rattle.hh_names.specs.declared.values.Contract.{Contract}
-use Rattle.hh_calc.specs.Formulas.{most_subsidiaries}
-use Rattle.hh_calc.specs.Terms.{BmUnit}
-use Rattle.hh_calc.proofs.CreditLaws.{IsUnitNamed}
 
 -- what a test found
 pub passed : (P : Type 0) → P → IsTrue true ↔ P
@@ -34,18 +29,6 @@ one_more P xs i x inside is before here = All-more P xs i x inside before (subst
 -- and at the end it holds of each
 pub all_of : {X : Type 0} (P : X → Type 0) (xs : List X) (i : ℕ) → length xs ≤ i → All P (take i xs) → All P xs
 all_of P xs i end before = subst (All P) (take_all i xs end) before
-
--- each lead and subsidiary of these units is one of the accounts
-abbrev pub AreUnitsNamed : List Account → List BmUnit → Type 0
-AreUnitsNamed accounts units = All (IsUnitNamed accounts) units
-
--- each seller and buyer of these contracts is one of the accounts
-abbrev pub AreContractsNamed : List Account → List Contract → Type 0
-AreContractsNamed accounts contracts = All (λ c. Contains accounts c.counterparties.seller × Contains accounts c.counterparties.buyer) contracts
-
--- these units have no more subsidiaries than the most
-abbrev pub AreFew : List BmUnit → Type 0
-AreFew units = All (λ u. length u.subsidiaries ≤ most_subsidiaries) units
 
 -- what holds of two lists holds of the same under other names
 pub carried : {A B : Type 0} (P : A → B → Type 0) (a a' : A) (b b' : B) → a ≡ a' → b ≡ b' → P a b → P a' b'

@@ -1,5 +1,5 @@
 -- The figures of one account, and the limits.
-use Rattle.std.proofs.Common.{◌≡◌, ℕ, ◌*◌, ◌^◌, ◌<◌, ◌≤◌, Bool, true, false, cond, Option, Some, None, refl, sym, ap, ◌∙◌, arith, FitsSigned, to_z, of_z, IfNone}
+use Rattle.std.proofs.Common.{◌≡◌, ℕ, ◌*◌, ◌^◌, ◌<◌, ◌≤◌, Bool, true, false, cond, Option, Some, None, refl, sym, ap, ◌∙◌, arith, FitsSigned, to_z, of_z}
 use Rattle.std.specs.Prelude.{ℤ, pos, neg_ℤ, ◌-ℤ◌, ◌*ℤ◌, unsigned_abs}
 use Rattle.std.specs.Int.{w64, w128}
 use Rattle.std.specs.Int.Signed.{mag}
@@ -8,10 +8,13 @@ use Rattle.std.proofs.Math.Nat.{mul-le-mul}
 use Rattle.std.proofs.lemmas.Int.{ints, to_z-of_z, unsigned_abs-mul}
 use Rattle.hh_num.specs.Ranges.{IsBetween}
 use Rattle.std.proofs.lemmas.Bool.Decides.{nat_tests}
-use Rattle.hh_num.specs.Rounding.{near}
 use Rattle.hh_names.specs.declared.account.Account.{Account}
-use Rattle.hh_calc.specs.Formulas.{Figures, figures_from, is_at_most}
-use Rattle.hh_calc.proofs.WordFacts.{long_word}
+use Rattle.hh_calc.specs.declared.sums.AccountSums.{AccountSums}
+use Rattle.hh_calc.specs.declared.result.Figures.{Figures}
+use Rattle.hh_calc.specs.Formulas.{charge_for, figures_from, imbalance_of}
+use Rattle.hh_calc.specs.Limits.{are_within, is_at_most, kept_where}
+use Rattle.hh_calc.specs.Sums.{greatest_sum, IsWithin}
+use Rattle.hh_calc.proofs.WordFacts.{long_word, word}
 
 -- an amount that a limit let through, or did not
 pub in_limit : (most : ℕ) (x word v : ℤ) (r : Option ℤ) → r ≡ cond (is_at_most most word) (Some word) None → word ≡ x → r ≡ Some v → (v ≡ x) × (is_at_most most x ≡ true)
@@ -28,27 +31,18 @@ past_limit most x word r e same none = go (is_at_most most word) refl (sym e ∙
     go true k h = cc h
     go false k h = ap (is_at_most most) (sym same) ∙ k
 
-pub if_none : {A : Type 0} (r : Option A) (P : Type 0) → P → IfNone r P
-if_none None P p = p
-if_none (Some x) P p = tt
-
--- net contracts in ticks
-pub contracts_word : (net : ℤ) → unsigned_abs net ≤ 10 ^ 28
-    → to_z w128 (of_z w128 (to_z w128 (of_z w128 net) *ℤ pos (10 ^ 7))) ≡ net *ℤ pos (10 ^ 7)
-contracts_word net le =
-    let small : unsigned_abs (net *ℤ pos (10 ^ 7)) ≤ 10 ^ 38 = omega (arith, ints) in
-    ap (λ z. to_z w128 (of_z w128 (z *ℤ pos (10 ^ 7)))) (long_word net (omega arith)) ∙ long_word (net *ℤ pos (10 ^ 7)) small
-
-pub imbalance_word : (credited balancing contracts word : ℤ) → unsigned_abs credited ≤ 2 * 10 ^ 37 → unsigned_abs balancing ≤ 10 ^ 34 → unsigned_abs contracts ≤ 10 ^ 35 → word ≡ contracts
-    → to_z w128 (of_z w128 (to_z w128 (of_z w128 (to_z w128 (of_z w128 credited) -ℤ to_z w128 (of_z w128 balancing))) -ℤ word)) ≡ (credited -ℤ balancing) -ℤ contracts
-imbalance_word credited balancing contracts word a b d same =
-    let first : unsigned_abs (credited -ℤ balancing) ≤ 10 ^ 38 = omega (arith, ints) in
-    let all : unsigned_abs ((credited -ℤ balancing) -ℤ contracts) ≤ 10 ^ 38 = omega (arith, ints) in
-    ap (λ z. to_z w128 (of_z w128 (to_z w128 (of_z w128 (z -ℤ to_z w128 (of_z w128 balancing))) -ℤ word))) (long_word credited (omega arith))
-    ∙ ap (λ z. to_z w128 (of_z w128 (to_z w128 (of_z w128 (credited -ℤ z)) -ℤ word))) (long_word balancing (omega arith))
-    ∙ ap (λ z. to_z w128 (of_z w128 (z -ℤ word))) (long_word (credited -ℤ balancing) (omega arith))
-    ∙ ap (λ z. to_z w128 (of_z w128 ((credited -ℤ balancing) -ℤ z))) same
-    ∙ long_word ((credited -ℤ balancing) -ℤ contracts) all
+-- the imbalance, as the machine's words hold it
+pub imbalance_word : (s : AccountSums) → IsWithin greatest_sum s
+    → word (word (word s.credited -ℤ word s.balancing) -ℤ word s.contracts) ≡ imbalance_of s
+imbalance_word s small =
+    let a : unsigned_abs s.credited ≤ 2 * 10 ^ 37 = small.credited in
+    let b : unsigned_abs s.balancing ≤ 2 * 10 ^ 37 = small.balancing in
+    let d : unsigned_abs s.contracts ≤ 2 * 10 ^ 37 = small.contracts in
+    let first : unsigned_abs (s.credited -ℤ s.balancing) ≤ 10 ^ 38 = omega (arith, ints) in
+    let all : unsigned_abs ((s.credited -ℤ s.balancing) -ℤ s.contracts) ≤ 10 ^ 38 = omega (arith, ints) in
+    (λ i. word (word (long_word s.credited (omega arith) i -ℤ long_word s.balancing (omega arith) i) -ℤ long_word s.contracts (omega arith) i))
+    ∙ ap (λ z. word (z -ℤ s.contracts)) (long_word (s.credited -ℤ s.balancing) first)
+    ∙ long_word ((s.credited -ℤ s.balancing) -ℤ s.contracts) all
 
 -- the energy's price, turned round: it stays far below the limits of rounding
 pub charge_word : (imbalance price wide wide' : ℤ) → unsigned_abs imbalance ≤ 10 ^ 17 → unsigned_abs price ≤ 10 ^ 10 → wide ≡ imbalance → wide' ≡ price
@@ -79,22 +73,24 @@ price_size p (low, high) = omega (arith, ints)
 pub at_most : (most : ℕ) (x : ℤ) → is_at_most most x ≡ true → unsigned_abs x ≤ most
 at_most most x h = grind (arith, nat_tests)
 
--- an account's figures, from its row's
-pub same_figures : (account : Account) (credited balancing contracts imbalance charge : ℤ) (credited' balancing' net price : ℤ)
-    → credited ≡ credited' → balancing ≡ balancing' → contracts ≡ net *ℤ pos (10 ^ 7)
-    → imbalance ≡ (credited' -ℤ balancing') -ℤ (net *ℤ pos (10 ^ 7)) → charge ≡ near (neg_ℤ (((credited' -ℤ balancing') -ℤ (net *ℤ pos (10 ^ 7))) *ℤ price)) (pos (10 ^ 13))
-    → let figures : Figures = record { account = account; credited = credited; balancing = balancing; contracts = contracts; imbalance = imbalance; charge = charge } in
-    figures ≡ figures_from account credited' balancing' net price
-same_figures account credited balancing contracts imbalance charge credited' balancing' net price a b d e f =
-    λ i. record { account = account; credited = a i; balancing = b i; contracts = d i; imbalance = e i; charge = f i }
-
-pub contracts_size : (net : ℤ) → unsigned_abs net ≤ 10 ^ 28 → unsigned_abs (net *ℤ pos (10 ^ 7)) ≤ 10 ^ 35
-contracts_size net le = omega (arith, ints)
-
 -- a word of 128 bits is itself
 pub cash_word : (x : ℤ) → mag x < 2 ^ 127 → to_z w128 (of_z w128 x) ≡ x
 cash_word x h = to_z-of_z w128 x (record { sfits = h })
 
--- a number of 64 bits, widened twice
-pub wide_word : (v units wide : ℤ) → units ≡ v → unsigned_abs v ≤ 10 ^ 18 → wide ≡ to_z w64 (of_z w64 units) → to_z w128 (of_z w128 wide) ≡ v
-wide_word v units wide same le e = ap (λ z. to_z w128 (of_z w128 z)) (widened v units wide same le e) ∙ long_word v (omega arith)
+-- the sum of an account, as a word holds it
+pub sum_held : (x : ℤ) → unsigned_abs x ≤ greatest_sum → word x ≡ x
+sum_held x le = long_word x (omega arith)
+
+-- nothing is kept of what does not pass
+pub none_kept : {A : Type 0} (r : Option A) (test : Bool) (value : A) → r ≡ None → test ≡ false → r ≡ kept_where test value
+none_kept r test value none past = none ∙ ap (λ b. cond b (Some value) None) (sym past)
+
+-- figures that are those of the sums, and pass no limit, are kept
+pub figures_kept : (account : Account) (sums : AccountSums) (price : ℤ) (credited balancing contracts imbalance charge : ℤ)
+    → credited ≡ sums.credited → balancing ≡ sums.balancing → contracts ≡ sums.contracts → imbalance ≡ imbalance_of sums → charge ≡ charge_for (imbalance_of sums) price
+    → are_within (figures_from account sums price) ≡ true
+    → let figures : Figures = record { account = account; credited = credited; balancing = balancing; contracts = contracts; imbalance = imbalance; charge = charge } in
+    Some figures ≡ kept_where (are_within (figures_from account sums price)) (figures_from account sums price)
+figures_kept account sums price credited balancing contracts imbalance charge a b d e f within =
+    (λ i. Some (record { account = account; credited = a i; balancing = b i; contracts = d i; imbalance = e i; charge = f i }))
+    ∙ ap (λ t. cond t (Some (figures_from account sums price)) None) (sym within)

@@ -1,6 +1,6 @@
--- Sums of an amount that counts at one place, of the parts of rows, in other units of energy and in another order.
+-- Sums of an amount that counts at one place, of the parts of rows and in another order.
 use Rattle.std.proofs.Common.{◌≡◌, ℕ, zero, suc, ◌+◌, ◌<◌, Bool, true, false, cond, List, [], ◌∷◌, length, get_or, refl, sym, ap, ◌∙◌, arith}
-use Rattle.std.specs.Prelude.{◌≢◌, ℤ, pos, negsuc, ◌+ℤ◌, ◌-ℤ◌, ◌*ℤ◌, sum_by}
+use Rattle.std.specs.Prelude.{◌≢◌, ℤ, pos, negsuc, ◌+ℤ◌, ◌-ℤ◌, sum_by}
 use Rattle.std.specs.List.{flat_map}
 use Rattle.std.specs.List.Sorted.{IsPermutation}
 use Rattle.std.proofs.Math.IntN.{+ℤ_idl, +ℤ_idr}
@@ -35,14 +35,6 @@ module _ {X : Type 0} (test : X → Bool) (f : X → ℤ) where
 pub total-flat_map : {X Y : Type 0} (f : Y → ℤ) (parts : X → List Y) (xs : List X) → total f (flat_map parts xs) ≡ total (λ x. total f (parts x)) xs
 total-flat_map f parts [] = refl
 total-flat_map f parts (x ∷ xs) = total-append f (parts x) (flat_map parts xs) ∙ ap (λ z. total f (parts x) +ℤ z) (total-flat_map f parts xs)
-
--- a sum of kWh, in ticks
-pub total-ticks : {X : Type 0} (f : X → ℤ) (xs : List X) → total (λ x. f x *ℤ pos 10_000_000) xs ≡ total f xs *ℤ pos 10_000_000
-total-ticks f [] = refl
-total-ticks f (x ∷ xs) = ap (λ z. (f x *ℤ pos 10_000_000) +ℤ z) (total-ticks f xs) ∙ sum_of_ticks (f x) (total f xs)
-  where
-    sum_of_ticks : (y z : ℤ) → (y *ℤ pos 10_000_000) +ℤ (z *ℤ pos 10_000_000) ≡ (y +ℤ z) *ℤ pos 10_000_000
-    sum_of_ticks y z = omega (arith, ints)
 
 -- what a number is above zero, and below
 abbrev above : ℤ → ℕ

@@ -1,50 +1,121 @@
--- Sums over accounts, one amount after another.
-use Rattle.std.proofs.Common.{◌≡◌, ℕ, zero, suc, ◌+◌, ◌*◌, ◌<◌, ◌≤◌, true, false, cond, List, [], ◌∷◌, length, get_or, set, take, replicate, map, refl, sym, ap, subst, ◌∙◌, arith, add-one, ◌^◌}
-use Rattle.std.specs.Prelude.{ℤ, pos, neg_ℤ, ◌+ℤ◌, ◌-ℤ◌, unsigned_abs}
+-- The sums of accounts, as amounts are added to them.
+use Rattle.std.proofs.Common.{◌≡◌, ℕ, zero, suc, ◌+◌, ◌<◌, ◌≤◌, Bool, true, false, cond, List, [], ◌∷◌, length, get_or, set, take, map, refl, sym, ap, subst, ◌∙◌, arith}
+use Rattle.std.specs.Prelude.{ℤ, pos, neg_ℤ, ◌+ℤ◌, unsigned_abs, sum_by}
 use Rattle.std.specs.List.{AllByRecursion, HoldsAt, All}
 use Rattle.std.specs.List.Sorted.{IsStrictlySortedBy}
 use Rattle.std.specs.Ordering.{is_eq, ordering_reverse}
 use Rattle.std.specs.declared.cmp.Ordering.TheVariants.{Less, Equal, Greater}
 use Rattle.std.specs.Cmp.{tied_itself}
 use Rattle.std.proofs.Math.IntN.{+ℤ_idr, +ℤ_assoc}
-use Rattle.std.proofs.lemmas.List.{take_more, length-map, length-set, get_or-map}
-use Rattle.std.proofs.Math.Nat.{suc-mul, mul-le-mul}
-use Rattle.std.proofs.lemmas.List.Elements.{All-from_recursion, All-set, All-weaker, All-replicate}
+use Rattle.std.proofs.lemmas.List.{take_more}
+use Rattle.std.proofs.lemmas.List.Elements.{All-from_recursion, All-set, All-weaker}
+use Rattle.std.proofs.lemmas.List.Sums.{sum_by-append, sum_by-cons}
 use Rattle.std.proofs.lemmas.Int.{ints}
 use Rattle.hh_num.specs.Totals.{total}
 use Rattle.hh_num.proofs.TotalLaws.{total-append}
 use Rattle.hh_names.specs.declared.account.Account.{Account}
-use Rattle.hh_names.specs.Accounts.{account_cmp}
+use Rattle.hh_names.specs.declared.values.Contract.{Contract}
+use Rattle.hh_names.specs.Accounts.{account_cmp, is_same_account}
 use Rattle.hh_names.proofs.AccountLaws.{account_total}
-use Rattle.hh_calc.specs.Formulas.{of_account}
-use Rattle.hh_calc.specs.Sums.{sums_of, AreSumsOver}
+use Rattle.hh_calc.specs.declared.result.CreditRow.{CreditRow}
+use Rattle.hh_calc.specs.declared.sums.AccountSums.{AccountSums}
+use Rattle.hh_calc.specs.Formulas.{contracted, credited_of, net_of, of_account, weight_of}
+use Rattle.hh_calc.specs.Sums.{contract_amounts, credit_amounts, sums_plus, with_amounts, with_contract, with_contracts, with_credits, AreChanged, AreGrown, IsWithin}
 
--- an amount of another account does not count
-apart : (a b : Account) (f : Account → ℤ) (x : ℤ) → is_eq (account_cmp b a) ≡ false → f a ≡ f a +ℤ of_account a b x
-apart a b f x other = sym (+ℤ_idr (f a)) ∙ ap (λ t. f a +ℤ cond t x (pos 0)) (sym other)
+-- amounts of another account do not count
+apart : (a to : Account) (x held : AccountSums) → is_same_account to a ≡ false → held ≡ with_amounts to x a held
+apart a to x held other =
+    let w : held.weight ≡ held.weight + 0 = omega arith in
+    λ i. record {
+      credited = (sym (+ℤ_idr held.credited) ∙ ap (λ t. held.credited +ℤ cond t x.credited (pos 0)) (sym other)) i;
+      balancing = (sym (+ℤ_idr held.balancing) ∙ ap (λ t. held.balancing +ℤ cond t x.balancing (pos 0)) (sym other)) i;
+      contracts = (sym (+ℤ_idr held.contracts) ∙ ap (λ t. held.contracts +ℤ cond t x.contracts (pos 0)) (sym other)) i;
+      weight = (w ∙ ap (λ t. held.weight + cond t x.weight 0) (sym other)) i;
+    }
 
--- nor does one of an account that comes before all
-none_before : (accounts : List Account) (b : Account) → AllByRecursion (λ a. account_cmp b a ≡ Less) accounts
-    → (f : Account → ℤ) (x : ℤ) → map f accounts ≡ map (λ a. f a +ℤ of_account a b x) accounts
-none_before [] b later f x = refl
-none_before (a ∷ accounts) b later f x = λ i. apart a b f x (ap is_eq later.0) i ∷ none_before accounts b later.1 f x i
+-- and those of the account itself do
+own : (a to : Account) (x held : AccountSums) → is_same_account to a ≡ true → sums_plus held x ≡ with_amounts to x a held
+own a to x held same = λ i. record {
+  credited = held.credited +ℤ cond (sym same i) x.credited (pos 0);
+  balancing = held.balancing +ℤ cond (sym same i) x.balancing (pos 0);
+  contracts = held.contracts +ℤ cond (sym same i) x.contracts (pos 0);
+  weight = held.weight + cond (sym same i) x.weight 0;
+}
 
--- an amount added at an account's place counts for that account alone
-pub posted : (accounts : List Account) → IsStrictlySortedBy account_cmp accounts
-    → (place : ℕ) (b : Account) → place < length accounts → HoldsAt (λ a. a ≡ b) accounts place
-    → (f : Account → ℤ) (x d : ℤ)
-    → set (map f accounts) place (get_or (map f accounts) place d +ℤ x) ≡ map (λ a. f a +ℤ of_account a b x) accounts
+-- amounts of an account that comes before all do not count
+none_before : (accounts : List Account) (to : Account) → AllByRecursion (λ a. account_cmp to a ≡ Less) accounts
+    → (f : Account → AccountSums) (x : AccountSums) → map f accounts ≡ map (λ a. with_amounts to x a (f a)) accounts
+none_before [] to later f x = refl
+none_before (a ∷ accounts) to later f x = λ i. apart a to x (f a) (ap is_eq later.0) i ∷ none_before accounts to later.1 f x i
+
+-- amounts that are added at an account's place count for that account alone
+pub added_once : (accounts : List Account) → IsStrictlySortedBy account_cmp accounts
+    → (place : ℕ) (to : Account) → place < length accounts → HoldsAt (λ a. a ≡ to) accounts place
+    → (f : Account → AccountSums) (x d : AccountSums)
+    → set (map f accounts) place (sums_plus (get_or (map f accounts) place d) x) ≡ map (λ a. with_amounts to x a (f a)) accounts
 unfolding IsStrictlySortedBy
-posted [] up place b inside is f x d = absurd (omega arith)
-posted (a ∷ accounts) up zero b inside is f x d =
-    let same : a ≡ b = is a in
-    let own : account_cmp b a ≡ Equal = ap (λ c. account_cmp b c) same ∙ tied_itself account_total b in
-    let later : AllByRecursion (λ c. account_cmp b c ≡ Less) accounts = subst (λ c. AllByRecursion (λ y. account_cmp c y ≡ Less) accounts) same up.0 in
-    λ i. (f a +ℤ ap (λ o. cond (is_eq o) x (pos 0)) (sym own) i) ∷ none_before accounts b later f x i
-posted (a ∷ accounts) up (suc place) b inside is f x d =
-    let below : account_cmp a b ≡ Less = ap (account_cmp a) (sym (is b)) ∙ All-from_recursion (λ c. account_cmp a c ≡ Less) accounts up.0 place b (omega arith) in
-    let above : account_cmp b a ≡ Greater = account_total.antisymm b a ∙ ap ordering_reverse below in
-    λ i. apart a b f x (ap is_eq above) i ∷ posted accounts up.1 place b (omega arith) is f x d i
+added_once [] up place to inside is f x d = absurd (omega arith)
+added_once (a ∷ accounts) up zero to inside is f x d =
+    let same : a ≡ to = is a in
+    let tied : account_cmp to a ≡ Equal = ap (λ c. account_cmp to c) same ∙ tied_itself account_total to in
+    let later : AllByRecursion (λ c. account_cmp to c ≡ Less) accounts = subst (λ c. AllByRecursion (λ y. account_cmp c y ≡ Less) accounts) same up.0 in
+    λ i. own a to x (f a) (ap is_eq tied) i ∷ none_before accounts to later f x i
+added_once (a ∷ accounts) up (suc place) to inside is f x d =
+    let below : account_cmp a to ≡ Less = ap (account_cmp a) (sym (is to)) ∙ All-from_recursion (λ c. account_cmp a c ≡ Less) accounts up.0 place to (omega arith) in
+    let above : account_cmp to a ≡ Greater = account_total.antisymm to a ∙ ap ordering_reverse below in
+    λ i. apart a to x (f a) (ap is_eq above) i ∷ added_once accounts up.1 place to (omega arith) is f x d i
+
+-- a change, and one more after it
+pub changed_on : (accounts : List Account) (first second both : Account → AccountSums → AccountSums) → ((a : Account) (s : AccountSums) → second a (first a s) ≡ both a s)
+    → (start old new : List AccountSums) → AreChanged accounts first start old → AreChanged accounts second old new → AreChanged accounts both start new
+changed_on accounts first second both same start old new h k = λ had e. k (λ a. first a (had a)) (h had e) ∙ (λ i. map (λ a. same a (had a) i) accounts)
+
+-- no change
+pub unchanged : (accounts : List Account) (change : Account → AccountSums → AccountSums) → ((a : Account) (s : AccountSums) → s ≡ change a s)
+    → (sums : List AccountSums) → AreChanged accounts change sums sums
+unchanged accounts change same sums = λ had e. e ∙ (λ i. map (λ a. same a (had a) i) accounts)
+
+-- growth, and more growth after it
+pub grown_on : (n m k : ℕ) → k ≡ n + m → (start old new : List AccountSums) → AreGrown n start old → AreGrown m old new → AreGrown k start new
+grown_on n m k same start old new h g = λ most small.
+    let e : (most + n) + m ≡ most + k = omega arith in
+    subst (λ b. All (IsWithin b) new) e (g (most + n) (h most small))
+
+pub within_more : (n m : ℕ) (s : AccountSums) → n ≤ m → IsWithin n s → IsWithin m s
+within_more n m s le h =
+    let a : unsigned_abs s.credited ≤ n = h.credited in
+    let b : unsigned_abs s.balancing ≤ n = h.balancing in
+    let c : unsigned_abs s.contracts ≤ n = h.contracts in
+    let d : s.weight ≤ n = h.weight in
+    record { credited = omega arith; balancing = omega arith; contracts = omega arith; weight = omega arith }
+
+pub all_within : (n m : ℕ) (sums : List AccountSums) → n ≤ m → All (IsWithin n) sums → All (IsWithin m) sums
+all_within n m sums le small = All-weaker (IsWithin n) (IsWithin m) (λ s. within_more n m s le) sums small
+
+-- no growth
+pub not_grown : (n : ℕ) (sums : List AccountSums) → AreGrown n sums sums
+not_grown n sums = λ most small. all_within most (most + n) sums (omega arith) small
+
+unsigned_abs-plus : (x y : ℤ) (n m : ℕ) → unsigned_abs x ≤ n → unsigned_abs y ≤ m → unsigned_abs (x +ℤ y) ≤ n + m
+unsigned_abs-plus x y n m a b = omega (arith, ints)
+
+within_plus : (n m : ℕ) (held x : AccountSums) → IsWithin n held → IsWithin m x → IsWithin (n + m) (sums_plus held x)
+within_plus n m held x h k =
+    let d : held.weight ≤ n = h.weight in
+    let e : x.weight ≤ m = k.weight in
+    record {
+      credited = unsigned_abs-plus held.credited x.credited n m h.credited k.credited;
+      balancing = unsigned_abs-plus held.balancing x.balancing n m h.balancing k.balancing;
+      contracts = unsigned_abs-plus held.contracts x.contracts n m h.contracts k.contracts;
+      weight = omega arith;
+    }
+
+-- amounts that are added at a place add their size
+pub grown_at : (sums : List AccountSums) (place : ℕ) (x d : AccountSums) → place < length sums → (m : ℕ) → IsWithin m x
+    → AreGrown m sums (set sums place (sums_plus (get_or sums place d) x))
+grown_at sums place x d inside m h = λ most small.
+    All-set (IsWithin (most + m)) sums place (sums_plus (get_or sums place d) x) (within_plus most m _ x (small place d inside) h)
+    (all_within most (most + m) sums (omega arith) small)
 
 pub total-more : {X : Type 0} (f : X → ℤ) (rows : List X) (i : ℕ) (row : X) → i < length rows → row ≡ get_or rows i row
     → total f (take (i + 1) rows) ≡ total f (take i rows) +ℤ f row
@@ -53,138 +124,84 @@ total-more f rows i row inside is =
     ∙ total-append f (take i rows) (get_or rows i row ∷ [])
     ∙ ap (λ z. total f (take i rows) +ℤ z) (+ℤ_idr (f (get_or rows i row)) ∙ ap f (sym is))
 
--- one row more, whose amount is one account's
-pub sums_more : {X : Type 0} (f : Account → X → ℤ) (accounts : List Account) → IsStrictlySortedBy account_cmp accounts
-    → (rows : List X) (i : ℕ) (row : X) → i < length rows → row ≡ get_or rows i row
-    → (place : ℕ) (b : Account) → place < length accounts → HoldsAt (λ a. a ≡ b) accounts place
-    → (x : ℤ) → ((a : Account) → f a row ≡ of_account a b x)
-    → (sums : List ℤ) → sums ≡ sums_of f accounts (take i rows) → (d : ℤ)
-    → set sums place (get_or sums place d +ℤ x) ≡ sums_of f accounts (take (i + 1) rows)
-sums_more f accounts up rows i row inside is place b among at x amount sums so_far d =
-    ap (λ s. set s place (get_or s place d +ℤ x)) so_far
-    ∙ posted accounts up place b among at (λ a. total (f a) (take i rows)) x d
-    ∙ λ j. map (λ a. step a j) accounts
+sum_by-more : {X : Type 0} (f : X → ℕ) (rows : List X) (i : ℕ) (row : X) → i < length rows → row ≡ get_or rows i row
+    → sum_by f (take (i + 1) rows) ≡ sum_by f (take i rows) + f row
+sum_by-more f rows i row inside is =
+    ap (sum_by f) (take_more rows i row inside)
+    ∙ sum_by-append f (take i rows) (get_or rows i row ∷ [])
+    ∙ ap (λ n. sum_by f (take i rows) + n) (sum_by-cons f (get_or rows i row) [] ∙ alone (f (get_or rows i row)) ∙ ap f (sym is))
   where
-    step : (a : Account) → total (f a) (take i rows) +ℤ of_account a b x ≡ total (f a) (take (i + 1) rows)
-    step a = ap (λ z. total (f a) (take i rows) +ℤ z) (sym (amount a)) ∙ sym (total-more (f a) rows i row inside is)
+    alone : (n : ℕ) → n + 0 ≡ n
+    alone n = omega arith
 
--- a row that counts for one account and against another
-pub sums_moved : {X : Type 0} (f : Account → X → ℤ) (accounts : List Account) → IsStrictlySortedBy account_cmp accounts
-    → (rows : List X) (i : ℕ) (row : X) → i < length rows → row ≡ get_or rows i row
-    → (place : ℕ) (b : Account) → place < length accounts → HoldsAt (λ a. a ≡ b) accounts place
-    → (place' : ℕ) (b' : Account) → place' < length accounts → HoldsAt (λ a. a ≡ b') accounts place'
-    → (x : ℤ) → ((a : Account) → f a row ≡ of_account a b x -ℤ of_account a b' x)
-    → (sums : List ℤ) → sums ≡ sums_of f accounts (take i rows) → (d d' : ℤ)
-    → let once : List ℤ = set sums place (get_or sums place d +ℤ x) in
-    set once place' (get_or once place' d' +ℤ neg_ℤ x) ≡ sums_of f accounts (take (i + 1) rows)
-sums_moved f accounts up rows i row inside is place b among at place' b' among' at' x amount sums so_far d d' =
-    ap (λ s. set s place' (get_or s place' d' +ℤ neg_ℤ x)) (
-    ap (λ s. set s place (get_or s place d +ℤ x)) so_far
-    ∙ posted accounts up place b among at (λ a. total (f a) (take i rows)) x d)
-    ∙ posted accounts up place' b' among' at' (λ a. total (f a) (take i rows) +ℤ of_account a b x) (neg_ℤ x) d'
-    ∙ λ j. map (λ a. step a j) accounts
+-- nothing counts for nobody
+pub of_none : (a to : Account) → of_account a to (pos 0) ≡ pos 0
+of_none a to = elim (is_same_account to a) as (λ t. cond t (pos 0) (pos 0) ≡ pos 0) [ true ↦ refl | false ↦ refl ]
+
+pub none_more : (a to : Account) (z : ℤ) → z +ℤ of_account a to (pos 0) ≡ z
+none_more a to z = ap (λ y. z +ℤ y) (of_none a to) ∙ +ℤ_idr z
+
+pub weight_of_none : (a to : Account) (n : ℕ) → n + cond (is_same_account to a) 0 0 ≡ n
+weight_of_none a to n = elim (is_same_account to a) as (λ t. n + cond t 0 0 ≡ n) [ true ↦ omega arith | false ↦ omega arith ]
+
+one_more : (x s d t : ℤ) → t ≡ s +ℤ d → (x +ℤ s) +ℤ d ≡ x +ℤ t
+one_more x s d t e = +ℤ_assoc x s d ∙ ap (λ z. x +ℤ z) (sym e)
+
+-- no credits
+pub no_credits : (weighs : Bool) (a : Account) (s : AccountSums) → s ≡ with_credits weighs [] a s
+no_credits weighs a s = λ j. record { credited = sym (+ℤ_idr s.credited) j; balancing = s.balancing; contracts = s.contracts; weight = nothing weighs j }
   where
-    against : (a : Account) → of_account a b' (neg_ℤ x) ≡ neg_ℤ (of_account a b' x)
-    against a = elim (is_eq (account_cmp b' a)) as (λ t. cond t (neg_ℤ x) (pos 0) ≡ neg_ℤ (cond t x (pos 0))) [ true ↦ refl | false ↦ refl ]
+    nothing : (b : Bool) → s.weight ≡ s.weight + cond b (sum_by (weight_of a) []) 0
+    nothing true = omega arith
+    nothing false = omega arith
 
-    step : (a : Account) → (total (f a) (take i rows) +ℤ of_account a b x) +ℤ of_account a b' (neg_ℤ x) ≡ total (f a) (take (i + 1) rows)
-    step a =
-        ap (λ z. (total (f a) (take i rows) +ℤ of_account a b x) +ℤ z) (against a)
-        ∙ +ℤ_assoc (total (f a) (take i rows)) (of_account a b x) (neg_ℤ (of_account a b' x))
-        ∙ ap (λ z. total (f a) (take i rows) +ℤ z) (sym (amount a))
-        ∙ sym (total-more (f a) rows i row inside is)
+-- no contracts
+pub no_contracts : (a : Account) (s : AccountSums) → s ≡ with_contracts [] a s
+no_contracts a s = λ j. record { credited = s.credited; balancing = s.balancing; contracts = sym (+ℤ_idr s.contracts) j; weight = s.weight }
 
--- The sums of the accounts over the first i rows, of which each moves a sum by at most so much.
-pub record AreSums {X : Type 0} (f : Account → X → ℤ) (accounts : List Account) (rows : List X) (i most : ℕ) (sums : List ℤ) : Type 0 where
-  pub summed : sums ≡ sums_of f accounts (take i rows)
-  pub small : All (λ s. unsigned_abs s ≤ i * most) sums
+-- Credit after credit.
+module _ (weighs : Bool) (credits : List CreditRow) (i : ℕ) (credit : CreditRow) (inside : i < length credits) (is : credit ≡ get_or credits i credit) where
+  weight_step : (a : Account) (n : ℕ) → (n + cond weighs (sum_by (weight_of a) (take i credits)) 0) + cond (is_same_account credit.account a) (cond weighs (unsigned_abs credit.credited) 0) 0
+      ≡ n + cond weighs (sum_by (weight_of a) (take (i + 1) credits)) 0
+  weight_step a n =
+      elim weighs as (λ b. (n + cond b (sum_by (weight_of a) (take i credits)) 0) + cond (is_same_account credit.account a) (cond b (unsigned_abs credit.credited) 0) 0 ≡ n + cond b (sum_by (weight_of a) (take (i + 1) credits)) 0) [
+        | true ↦ (let e : sum_by (weight_of a) (take (i + 1) credits) ≡ sum_by (weight_of a) (take i credits) + cond (is_same_account credit.account a) (unsigned_abs credit.credited) 0 = sum_by-more (weight_of a) credits i credit inside is in omega arith)
+        | false ↦ weight_of_none a credit.account (n + 0)
+      ]
 
-unsigned_abs-plus : (x y : ℤ) → unsigned_abs (x +ℤ y) ≤ unsigned_abs x + unsigned_abs y
-unsigned_abs-plus x y = omega (arith, ints)
+  pub credit_step : (a : Account) (s : AccountSums) → with_amounts credit.account (credit_amounts weighs credit.credited) a (with_credits weighs (take i credits) a s) ≡ with_credits weighs (take (i + 1) credits) a s
+  credit_step a s = λ j. record {
+    credited = one_more s.credited (total (credited_of a) (take i credits)) (credited_of a credit) _ (total-more (credited_of a) credits i credit inside is) j;
+    balancing = none_more a credit.account s.balancing j;
+    contracts = none_more a credit.account s.contracts j;
+    weight = weight_step a s.weight j;
+  }
 
--- no rows
-pub sums_start : {X : Type 0} (f : Account → X → ℤ) (accounts : List Account) (rows : List X) (most : ℕ) (sums : List ℤ)
-    → sums ≡ replicate (length accounts) (pos 0) → AreSums f accounts rows 0 most sums
-sums_start f accounts rows most sums e = record {
-  summed = e ∙ zeros accounts;
-  small = rw e (All-replicate (λ s. unsigned_abs s ≤ 0 * most) (length accounts) (pos 0) (omega arith));
-}
-  where
-    zeros : (accounts : List Account) → replicate (length accounts) (pos 0) ≡ map (λ a. pos 0) accounts
-    zeros [] = refl
-    zeros (a ∷ accounts) = λ i. pos 0 ∷ zeros accounts i
-
--- an amount moves a sum by its size
-pub small_add : (sums : List ℤ) (most more place : ℕ) (x d : ℤ) → All (λ s. unsigned_abs s ≤ most) sums → unsigned_abs x ≤ more → place < length sums
-    → All (λ s. unsigned_abs s ≤ most + more) (set sums place (get_or sums place d +ℤ x))
-small_add sums most more place x d small le inside =
-    let here : unsigned_abs (get_or sums place d) ≤ most = small place d inside in
-    let there = unsigned_abs-plus (get_or sums place d) x in
-    All-set (λ s. unsigned_abs s ≤ most + more) sums place (get_or sums place d +ℤ x) (omega arith)
-    (All-weaker (λ s. unsigned_abs s ≤ most) (λ s. unsigned_abs s ≤ most + more) (λ s h. omega arith) sums small)
-
--- there is a sum for each account
-pub length-sums : {X : Type 0} (f : Account → X → ℤ) (accounts : List Account) (rows : List X) (i most : ℕ) (sums : List ℤ)
-    → AreSums f accounts rows i most sums → length sums ≡ length accounts
-length-sums f accounts rows i most sums h = ap length h.summed ∙ length-map accounts (λ a. total (f a) (take i rows))
-
-pub sums_step : {X : Type 0} (f : Account → X → ℤ) (accounts : List Account) → IsStrictlySortedBy account_cmp accounts
-    → (rows : List X) (i : ℕ) (row : X) → i < length rows → row ≡ get_or rows i row
-    → (place : ℕ) (b : Account) → place < length accounts → HoldsAt (λ a. a ≡ b) accounts place
-    → (x : ℤ) (most : ℕ) → unsigned_abs x ≤ most → ((a : Account) → f a row ≡ of_account a b x)
-    → (sums : List ℤ) → AreSums f accounts rows i most sums → (d : ℤ)
-    → (new : List ℤ) → new ≡ set sums place (get_or sums place d +ℤ x)
-    → AreSums f accounts rows (i + 1) most new
-sums_step f accounts up rows i row inside is place b among at x most le amount sums so_far d new e = rw e record {
-  summed = sums_more f accounts up rows i row inside is place b among at x amount sums so_far.summed d;
-  small = rw (add-one, suc-mul i most) (small_add sums (i * most) most place x d so_far.small le (rw (length-sums f accounts rows i most sums so_far) among));
+-- Contract after contract.
+pub contract_step : (contracts : List Contract) (i : ℕ) (contract : Contract) → i < length contracts → contract ≡ get_or contracts i contract
+    → (a : Account) (s : AccountSums) → with_contract contract a (with_contracts (take i contracts) a s) ≡ with_contracts (take (i + 1) contracts) a s
+contract_step contracts i contract inside is a s = λ j. record {
+  credited = s.credited;
+  balancing = s.balancing;
+  contracts = one_more s.contracts (total (net_of a) (take i contracts)) (net_of a contract) _ (total-more (net_of a) contracts i contract inside is) j;
+  weight = s.weight;
 }
 
-pub moved_step : {X : Type 0} (f : Account → X → ℤ) (accounts : List Account) → IsStrictlySortedBy account_cmp accounts
-    → (rows : List X) (i : ℕ) (row : X) → i < length rows → row ≡ get_or rows i row
-    → (place : ℕ) (b : Account) → place < length accounts → HoldsAt (λ a. a ≡ b) accounts place
-    → (place' : ℕ) (b' : Account) → place' < length accounts → HoldsAt (λ a. a ≡ b') accounts place'
-    → (x : ℤ) (half : ℕ) → unsigned_abs x ≤ half → ((a : Account) → f a row ≡ of_account a b x -ℤ of_account a b' x)
-    → (sums : List ℤ) → AreSums f accounts rows i (half + half) sums → (d d' : ℤ)
-    → (once : List ℤ) → once ≡ set sums place (get_or sums place d +ℤ x)
-    → (twice : List ℤ) → twice ≡ set once place' (get_or once place' d' +ℤ neg_ℤ x)
-    → AreSums f accounts rows (i + 1) (half + half) twice
-moved_step f accounts up rows i row inside is place b among at place' b' among' at' x half le amount sums so_far d d' new e newer e' =
-    let once : List ℤ = set sums place (get_or sums place d +ℤ x) in
-    let long = length-sums f accounts rows i (half + half) sums so_far in
-    let first = small_add sums (i * (half + half)) half place x d so_far.small le (rw long among) in
-    let back : unsigned_abs (neg_ℤ x) ≤ half = omega (arith, ints) in
-    let second = small_add once (i * (half + half) + half) half place' (neg_ℤ x) d' first back (rw (length-set sums place (get_or sums place d +ℤ x), long) among') in
-    let grown : (i + 1) * (half + half) ≡ i * (half + half) + half + half = rw (add-one, suc-mul i (half + half)) (omega arith) in
-    rw (e', e) record {
-      summed = sums_moved f accounts up rows i row inside is place b among at place' b' among' at' x amount sums so_far.summed d d';
-      small = rw grown second;
+-- a contract is added to its seller's sums and taken from its buyer's
+pub sold_and_bought : (c : Contract) (a : Account) (s : AccountSums)
+    → with_amounts c.counterparties.buyer (contract_amounts (neg_ℤ (contracted c))) a (with_amounts c.counterparties.seller (contract_amounts (contracted c)) a s) ≡ with_contract c a s
+sold_and_bought c a s =
+    let seller : Account = c.counterparties.seller in
+    let buyer : Account = c.counterparties.buyer in
+    λ j. record {
+      credited = (none_more a buyer (s.credited +ℤ of_account a seller (pos 0)) ∙ none_more a seller s.credited) j;
+      balancing = (none_more a buyer (s.balancing +ℤ of_account a seller (pos 0)) ∙ none_more a seller s.balancing) j;
+      contracts = one_more s.contracts (of_account a seller (contracted c)) (of_account a buyer (neg_ℤ (contracted c))) _ (ap (λ z. of_account a seller (contracted c) +ℤ z) (sym (against (contracted c)))) j;
+      weight = (weight_of_none a buyer (s.weight + cond (is_same_account seller a) 0 0) ∙ weight_of_none a seller s.weight) j;
     }
-
--- between the two there is room as well
-pub room_between : {X : Type 0} (f : Account → X → ℤ) (accounts : List Account) (rows : List X) (i half : ℕ) (sums : List ℤ)
-    → AreSums f accounts rows i (half + half) sums → i < 2 ^ 64 → half ≤ 2 ^ 60
-    → (place : ℕ) → place < length accounts → (x : ℤ) → unsigned_abs x ≤ half → (d : ℤ)
-    → (once : List ℤ) → once ≡ set sums place (get_or sums place d +ℤ x)
-    → (place' : ℕ) → place' < length accounts → (y : ℤ) → unsigned_abs y ≤ half
-    → unsigned_abs (get_or once place' (pos 0)) + unsigned_abs y < 2 ^ 127
-room_between f accounts rows i half sums h low few place inside x le d once e place' inside' y le' =
-    let long = length-sums f accounts rows i (half + half) sums h in
-    let small = small_add sums (i * (half + half)) half place x d h.small le (rw long inside) in
-    let there : unsigned_abs (get_or once place' (pos 0)) ≤ i * (half + half) + half =
-    rw e (small place' (pos 0) (rw (length-set sums place (get_or sums place d +ℤ x), long) inside')) in
-    let product : i * (half + half) ≤ 2 ^ 64 * 2 ^ 61 = mul-le-mul {n₁ = i} {n₂ = 2 ^ 64} {m₂ = 2 ^ 61} (omega arith) (omega arith) in
-    omega arith
-
--- the sum of an account that is read at its place
-pub read_sum : {X : Type 0} (f : Account → X → ℤ) (accounts : List Account) (rows : List X) (most : ℕ) (sums : List ℤ) → AreSumsOver f accounts rows most sums
-    → (place : ℕ) (account : Account) (d : ℤ) → place < length accounts → account ≡ get_or accounts place account
-    → (get_or sums place d ≡ total (f account) rows) × (unsigned_abs (get_or sums place d) ≤ most)
-read_sum f accounts rows most sums h place account d inside is =
-    let there : place < length sums = rw (ap length h.summed ∙ length-map accounts (λ a. total (f a) rows)) inside in (
-      ap (λ s. get_or s place d) h.summed ∙ get_or-map (λ a. total (f a) rows) accounts place account d inside ∙ ap (λ a. total (f a) rows) (sym is),
-      h.small place d there,
-    )
+  where
+    against : (x : ℤ) → of_account a c.counterparties.buyer (neg_ℤ x) ≡ neg_ℤ (of_account a c.counterparties.buyer x)
+    against x = elim (is_same_account c.counterparties.buyer a) as (λ t. cond t (neg_ℤ x) (pos 0) ≡ neg_ℤ (cond t x (pos 0))) [ true ↦ refl | false ↦ refl ]
 
 -- what holds of each row holds of one that is read
 pub all_read : {X : Type 0} (P : X → Type 0) (rows : List X) (i : ℕ) (row : X) → All P rows → i < length rows → row ≡ get_or rows i row → P row

@@ -1,3 +1,6 @@
 pub mod Formulas
 pub mod Terms
+pub mod Ready
+pub mod Limits
+pub mod Settled
 pub mod Sums

@@ -15,6 +15,10 @@ pub record BmUnit : Type 0 where
   pub reading : Reading
   pub subsidiaries : List Subsidiary
 
+abbrev pub bm_unit : List ℕ → Account → Bool → Reading → List Subsidiary → BmUnit
+bm_unit unit lead interconnector reading subsidiaries =
+    record { unit = unit; lead = lead; interconnector = interconnector; reading = reading; subsidiaries = subsidiaries }
+
 -- all that a period is settled from
 pub record PeriodTerms : Type 0 where
   pub accounts : List Account
@@ -22,8 +26,14 @@ pub record PeriodTerms : Type 0 where
   pub contracts : List Contract
   pub price : ℤ
 
+abbrev pub period_terms : List Account → List BmUnit → List Contract → ℤ → PeriodTerms
+period_terms accounts units contracts price = record { accounts = accounts; units = units; contracts = contracts; price = price }
+
 -- a settled period
 pub record Settled : Type 0 where
   pub accounts : List AccountRow
   pub credits : List CreditRow
   pub residual : ℤ
+
+abbrev pub settled_period : List AccountRow → List CreditRow → ℤ → Settled
+settled_period accounts credits residual = record { accounts = accounts; credits = credits; residual = residual }

@@ -1,20 +1,23 @@
 //! The credits from units: to their subsidiaries, and the rest to their lead accounts.
 
-ghost use Rattle.std.specs.Prelude.{◌≡◌, ◌≤◌, ◌^◌, ◌*◌, ◌++◌, unsigned_abs, length, filter, not, All, IfOk, OnOk, IsPermutation, IsSorted};
-ghost use Rattle.hh_calc.specs.Formulas.{credit_cmp, credits_of, loss_adjusted, most_subsidiaries, subsidiary_credit, unit_credits};
+ghost use Rattle.std.specs.Prelude.{◌≡◌, ◌≤◌, ◌^◌, ◌++◌, unsigned_abs, All, OnOk, IsPermutation, IsSorted};
+ghost use Rattle.hh_calc.specs.Formulas.{loss_adjusted, subsidiary_credit, unit_credits};
+ghost use Rattle.hh_calc.specs.Ready.{HasFewSubsidiaries};
+ghost use Rattle.hh_calc.specs.Settled.{credit_cmp};
+ghost use Rattle.hh_calc.specs.Sums.{greatest_volume, IsCreditSmall};
 
 use crate::data::{Subsidiary, UnitData};
 use crate::result::CreditRow;
 use hh_num::{Ticks, round_div};
-use std::alloc::{AllocError, Global};
+use std::alloc::AllocError;
 
-/// Ticks to the kWh, and the scale of a loss multiplier and of a whole part in percentages.
-pub(crate) const TICKS_PER_KWH: i128 = 10_000_000;
+/// The whole of a volume, as a percentage in its units.
+const WHOLE_PERCENTAGE: i128 = 10_000_000;
 
 /// The loss-adjusted volume of a unit, in ticks (Section T).
 fn loss_adjusted_volume(unit: &UnitData) -> i128
     ensures volume { result ≡ loss_adjusted unit.now }
-    ensures size { unsigned_abs result ≤ 2 * 10 ^ 14 }
+    ensures size { unsigned_abs result ≤ greatest_volume }
 {
     let reading = unit.reading();
     i128::from(reading.metered.units()) * i128::from(reading.tlm.units())
@@ -28,15 +31,15 @@ fn credit_to(unit: &UnitData, subsidiary: &Subsidiary) -> i128
     let reading = unit.reading();
     let volume = i128::from(reading.metered.units()) - i128::from(reading.balancing.units());
     let part = volume * i128::from(subsidiary.reallocation.percent.units())
-        + i128::from(subsidiary.reallocation.fixed.units()) * TICKS_PER_KWH;
-    round_div(part * i128::from(reading.tlm.units()), TICKS_PER_KWH)
+        + i128::from(subsidiary.reallocation.fixed.units()) * WHOLE_PERCENTAGE;
+    round_div(part * i128::from(reading.tlm.units()), WHOLE_PERCENTAGE)
 }
 
 /// Appends the credits from a unit: to each subsidiary, and the exact rest to the lead account.
-fn push_credits(credits: &mut Vec<CreditRow>, unit: &UnitData) -> Result<(), AllocError>
-    requires few { length unit.now.subsidiaries ≤ most_subsidiaries }
+pub(crate) fn push_credits(credits: &mut Vec<CreditRow>, unit: &UnitData) -> Result<(), AllocError>
+    requires few { HasFewSubsidiaries unit.now }
     ensures credits { OnOk result (credits.new.items ≡ credits.old.items ++ unit_credits unit.now) }
-    ensures small { OnOk result (All (λ c. unsigned_abs c.credited ≤ 10 ^ 18) (unit_credits unit.now)) }
+    ensures small { OnOk result (All IsCreditSmall (unit_credits unit.now)) }
 {
     let mut rest = loss_adjusted_volume(unit);
     for subsidiary in unit.subsidiaries() {
@@ -56,37 +59,6 @@ fn push_credits(credits: &mut Vec<CreditRow>, unit: &UnitData) -> Result<(), All
     Ok(())
 }
 
-/// The credits from all these units.
-pub(crate) fn all_credits(alloc: Global, units: &[UnitData]) -> Result<Vec<CreditRow>, AllocError>
-    requires few { All (λ u. length u.subsidiaries ≤ most_subsidiaries) units.now }
-    ensures credits { IfOk result (λ credits. credits.items ≡ credits_of units.now) }
-    ensures small { IfOk result (λ credits. All (λ c. unsigned_abs c.credited ≤ 10 ^ 18) credits.items) }
-{
-    let mut credits = Vec::new(alloc);
-    for unit in units {
-        push_credits(&mut credits, unit)?;
-    }
-    Ok(credits)
-}
-
-/// The credits that weigh: those from the units that are no interconnectors.
-pub(crate) fn weighing_credits(
-    alloc: Global,
-    units: &[UnitData],
-) -> Result<Vec<CreditRow>, AllocError>
-    requires few { All (λ u. length u.subsidiaries ≤ most_subsidiaries) units.now }
-    ensures credits { IfOk result (λ credits. credits.items ≡ credits_of (filter (λ u. not u.interconnector) units.now)) }
-    ensures small { IfOk result (λ credits. All (λ c. unsigned_abs c.credited ≤ 10 ^ 18) credits.items) }
-{
-    let mut credits = Vec::new(alloc);
-    for unit in units {
-        if !unit.is_interconnector() {
-            push_credits(&mut credits, unit)?;
-        }
-    }
-    Ok(credits)
-}
-
 /// The credits in the order of their units' bytes, then of their accounts.
 pub(crate) fn sorted_credits(mut credits: Vec<CreditRow>) -> Vec<CreditRow>
     ensures same { IsPermutation credits.items result.items }
@@ -96,7 +68,7 @@ pub(crate) fn sorted_credits(mut credits: Vec<CreditRow>) -> Vec<CreditRow>
     credits
 }
 
-/// Puts credits in that order.
+/// Puts credits in the order of their units' bytes, then of their accounts.
 fn sort_credits(credits: &mut [CreditRow])
     ensures same { IsPermutation credits.old credits.new }
     ensures ordered { IsSorted credit_cmp credits.new }

@@ -1,6 +1,7 @@
 //! What a period is settled from.
 
 ghost use Rattle.std.specs.Prelude.{◌≡◌};
+ghost use Rattle.hh_calc.specs.Terms.{bm_unit, period_terms};
 
 use hh_names::{Account, Contract, Reading, Reallocation, UnitId};
 use hh_num::Price;
@@ -41,7 +42,7 @@ impl UnitData {
         reading: Reading,
         subsidiaries: Vec<Subsidiary>,
     ) -> UnitData
-        ensures { result ≡ record { unit = unit; lead = lead; interconnector = interconnector; reading = reading; subsidiaries = subsidiaries.items } }
+        ensures { result ≡ bm_unit unit lead interconnector reading subsidiaries.items }
     {
         UnitData {
             unit,
@@ -113,7 +114,7 @@ impl PeriodData {
         contracts: Vec<Contract>,
         price: Price,
     ) -> PeriodData
-        ensures { result ≡ record { accounts = accounts.items; units = units.items; contracts = contracts.items; price = price } }
+        ensures { result ≡ period_terms accounts.items units.items contracts.items price }
     {
         PeriodData {
             accounts,

@@ -3,6 +3,7 @@
 
 mod credits;
 mod data;
+mod ledger;
 mod ready;
 mod result;
 mod settle;

@@ -1,10 +1,9 @@
 //! Whether a period may be settled.
 
-ghost use Rattle.std.specs.Prelude.{◌≡◌, ◌≤◌, ◌↔◌, length, All, Contains, IsTrue};
-ghost use Rattle.std.specs.List.Sorted.{IsStrictlySortedBy};
+ghost use Rattle.std.specs.Prelude.{◌≡◌, ◌↔◌, All, IsTrue};
 ghost use Rattle.std.specs.declared.cmp.Ordering.TheVariants.{Less};
 ghost use Rattle.hh_names.specs.Accounts.{account_cmp};
-ghost use Rattle.hh_calc.specs.Formulas.{most_subsidiaries, AreInOrder, AreNamed, AreSubsidiariesFew};
+ghost use Rattle.hh_calc.specs.Ready.{AreAccountsInOrder, AreSubsidiariesNamed, HasFewSubsidiaries, IsContractNamed, IsNamed, IsReady, IsUnitNamed};
 
 use crate::data::{PeriodData, Subsidiary, UnitData};
 use hh_names::{Account, Contract};
@@ -22,7 +21,7 @@ fn is_before(account: &Account, other: &Account) -> bool
 
 /// Whether the accounts rise in account order.
 fn are_in_order(accounts: &[Account]) -> bool
-    ensures { IsTrue result ↔ IsStrictlySortedBy account_cmp accounts.now }
+    ensures { IsTrue result ↔ AreAccountsInOrder accounts.now }
 {
     for place in 1..accounts.len() {
         if !is_before(&accounts[place - 1], &accounts[place]) {
@@ -34,8 +33,8 @@ fn are_in_order(accounts: &[Account]) -> bool
 
 /// Whether an account is one of these.
 fn is_named(accounts: &[Account], account: &Account) -> bool
-    requires { IsStrictlySortedBy account_cmp accounts.now }
-    ensures { IsTrue result ↔ Contains accounts.now account.now }
+    requires { AreAccountsInOrder accounts.now }
+    ensures { IsTrue result ↔ IsNamed accounts.now account.now }
 {
     match accounts.binary_search(account) {
         Ok(_) => true,
@@ -45,8 +44,8 @@ fn is_named(accounts: &[Account], account: &Account) -> bool
 
 /// Whether each subsidiary's account is one of these.
 fn are_subsidiaries_named(accounts: &[Account], subsidiaries: &[Subsidiary]) -> bool
-    requires { IsStrictlySortedBy account_cmp accounts.now }
-    ensures { IsTrue result ↔ All (λ s. Contains accounts.now s.account) subsidiaries.now }
+    requires { AreAccountsInOrder accounts.now }
+    ensures { IsTrue result ↔ AreSubsidiariesNamed accounts.now subsidiaries.now }
 {
     for subsidiary in subsidiaries {
         if !is_named(accounts, &subsidiary.account) {
@@ -58,16 +57,16 @@ fn are_subsidiaries_named(accounts: &[Account], subsidiaries: &[Subsidiary]) -> 
 
 /// Whether the lead account and the subsidiaries of a unit are some of these accounts.
 fn is_unit_named(accounts: &[Account], unit: &UnitData) -> bool
-    requires { IsStrictlySortedBy account_cmp accounts.now }
-    ensures { IsTrue result ↔ (Contains accounts.now unit.now.lead × All (λ s. Contains accounts.now s.account) unit.now.subsidiaries) }
+    requires { AreAccountsInOrder accounts.now }
+    ensures { IsTrue result ↔ IsUnitNamed accounts.now unit.now }
 {
     is_named(accounts, &unit.lead()) && are_subsidiaries_named(accounts, unit.subsidiaries())
 }
 
-/// Whether this is so of each of these units.
+/// Whether the lead account and the subsidiaries of each unit are some of these accounts.
 fn are_units_named(accounts: &[Account], units: &[UnitData]) -> bool
-    requires { IsStrictlySortedBy account_cmp accounts.now }
-    ensures { IsTrue result ↔ All (λ u. Contains accounts.now u.lead × All (λ s. Contains accounts.now s.account) u.subsidiaries) units.now }
+    requires { AreAccountsInOrder accounts.now }
+    ensures { IsTrue result ↔ All (IsUnitNamed accounts.now) units.now }
 {
     for unit in units {
         if !is_unit_named(accounts, unit) {
@@ -79,7 +78,7 @@ fn are_units_named(accounts: &[Account], units: &[UnitData]) -> bool
 
 /// Whether no unit has more subsidiaries than the most.
 fn are_subsidiaries_few(units: &[UnitData]) -> bool
-    ensures { IsTrue result ↔ All (λ u. length u.subsidiaries ≤ most_subsidiaries) units.now }
+    ensures { IsTrue result ↔ All HasFewSubsidiaries units.now }
 {
     for unit in units {
         if unit.subsidiaries().len() > MOST_SUBSIDIARIES {
@@ -91,16 +90,17 @@ fn are_subsidiaries_few(units: &[UnitData]) -> bool
 
 /// Whether the seller and the buyer of a contract are some of these accounts.
 fn is_contract_named(accounts: &[Account], contract: &Contract) -> bool
-    requires { IsStrictlySortedBy account_cmp accounts.now }
-    ensures { IsTrue result ↔ (Contains accounts.now contract.now.counterparties.seller × Contains accounts.now contract.now.counterparties.buyer) }
+    requires { AreAccountsInOrder accounts.now }
+    ensures { IsTrue result ↔ IsContractNamed accounts.now contract.now }
 {
-    is_named(accounts, &contract.counterparties.seller) && is_named(accounts, &contract.counterparties.buyer)
+    is_named(accounts, &contract.counterparties.seller)
+        && is_named(accounts, &contract.counterparties.buyer)
 }
 
-/// Whether this is so of each of these contracts.
+/// Whether the seller and the buyer of each contract are some of these accounts.
 fn are_contracts_named(accounts: &[Account], contracts: &[Contract]) -> bool
-    requires { IsStrictlySortedBy account_cmp accounts.now }
-    ensures { IsTrue result ↔ All (λ c. Contains accounts.now c.counterparties.seller × Contains accounts.now c.counterparties.buyer) contracts.now }
+    requires { AreAccountsInOrder accounts.now }
+    ensures { IsTrue result ↔ All (IsContractNamed accounts.now) contracts.now }
 {
     for contract in contracts {
         if !is_contract_named(accounts, contract) {
@@ -114,7 +114,7 @@ impl PeriodData {
     /// Whether the period may be settled: the accounts rise in account order, each lead,
     /// subsidiary, seller and buyer is one of them, and no unit has more than 799 subsidiaries.
     pub fn is_ready(&self) -> bool
-        ensures { IsTrue result ↔ (AreInOrder self.now × AreNamed self.now × AreSubsidiariesFew self.now) }
+        ensures { IsTrue result ↔ IsReady self.now }
     {
         if !are_in_order(self.accounts()) {
             return false;

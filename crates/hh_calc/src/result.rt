@@ -1,9 +1,10 @@
 //! A settled period.
 
 ghost use Rattle.std.specs.Prelude.{◌≡◌};
+ghost use Rattle.hh_calc.specs.Terms.{settled_period};
 
-use hh_num::{Pence, Ticks};
 use hh_names::{Account, UnitId};
+use hh_num::{Pence, Ticks};
 use std::alloc::{AllocError, AllocFailed};
 use std::marker::Model;
 
@@ -18,6 +19,18 @@ pub struct AccountRow {
     pub charge: Pence,
     /// The account's share of the residual.
     pub share: Pence,
+}
+
+/// What an account has in a period but for its share of the residual: energy in ticks, cash in
+/// pence.
+#[derive(Clone, Copy)]
+pub(crate) struct Figures {
+    pub account: Account,
+    pub credited: Ticks,
+    pub balancing: Ticks,
+    pub contracts: Ticks,
+    pub imbalance: Ticks,
+    pub charge: Pence,
 }
 
 /// What an account is credited with from a unit: energy in ticks.
@@ -51,7 +64,7 @@ impl PeriodResult {
         credits: Vec<CreditRow>,
         residual: Pence,
     ) -> PeriodResult
-        ensures { result ≡ record { accounts = accounts.items; credits = credits.items; residual = residual } }
+        ensures { result ≡ settled_period accounts.items credits.items residual }
     {
         PeriodResult {
             accounts,

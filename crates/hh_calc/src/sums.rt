@@ -1,20 +1,43 @@
 //! The sums of the accounts of a period.
 
-ghost use Rattle.std.specs.Prelude.{◌≡◌, ◌<◌, ◌≤◌, ◌^◌, ◌*◌, ◌+◌, ◌+ℤ◌, pos, length, slice_index_or, slice_set, replicate, Contains, All, unsigned_abs};
+ghost use Rattle.std.specs.Prelude.{◌≡◌, ◌<◌, ◌≤◌, ◌*◌, ◌+◌, ℕ, length, All, unsigned_abs};
 ghost use Rattle.std.specs.List.{HoldsAt};
-ghost use Rattle.std.specs.List.Sorted.{IsStrictlySortedBy};
-ghost use Rattle.hh_names.specs.Accounts.{account_cmp};
-ghost use Rattle.hh_calc.specs.Formulas.{balanced, balancing_of, credited_of, net_of, weight_of};
-ghost use Rattle.hh_calc.specs.Sums.{AreSumsOver};
+ghost use Rattle.hh_calc.specs.Formulas.{balanced, contracted};
+ghost use Rattle.hh_calc.specs.Ready.{most_subsidiaries, AreAccountsInOrder, IsContractNamed, IsCreditNamed, IsNamed};
+ghost use Rattle.hh_calc.specs.Sums.{added_at, greatest_credit, greatest_sum, greatest_unit_sum, greatest_volume, added_at, balancing_amounts, contract_amounts, credit_amounts, no_sums, sums_plus, with_amounts, with_contract, with_contracts, with_credits, AreChanged, AreGrown, IsCreditSmall, IsWithin};
 
 use crate::data::UnitData;
 use crate::result::CreditRow;
 use hh_names::{Account, Contract};
 
+/// Ticks to the kWh.
+const TICKS_PER_KWH: i128 = 10_000_000;
+
+/// The sums of one account, or what is added to them: all in ticks.
+#[derive(Clone, Copy)]
+pub(crate) struct AccountSums {
+    pub credited: i128,
+    pub balancing: i128,
+    /// Net contracts: what is sold less what is bought.
+    pub contracts: i128,
+    /// The sizes of the credits that weigh.
+    pub weight: u128,
+}
+
+impl AccountSums {
+    /// The sums of an account that has nothing yet.
+    pub(crate) const NONE: AccountSums = AccountSums {
+        credited: 0,
+        balancing: 0,
+        contracts: 0,
+        weight: 0,
+    };
+}
+
 /// Where an account stands among the accounts.
 fn place_of(accounts: &[Account], account: &Account) -> usize
-    requires ordered { IsStrictlySortedBy account_cmp accounts.now }
-    requires named { Contains accounts.now account.now }
+    requires ordered { AreAccountsInOrder accounts.now }
+    requires named { IsNamed accounts.now account.now }
     ensures inside { result < length accounts.now }
     ensures place { HoldsAt (λ a. a ≡ account.now) accounts.now result }
 {
@@ -24,75 +47,159 @@ fn place_of(accounts: &[Account], account: &Account) -> usize
     }
 }
 
-/// Adds an amount to the sum at a place.
-fn add_at(sums: &mut [i128], place: usize, amount: i128)
-    requires inside { place < length sums.old }
-    requires room { unsigned_abs (slice_index_or sums.old place (pos 0)) + unsigned_abs amount < 2 ^ 127 }
-    ensures { sums.new ≡ slice_set sums.old place (slice_index_or sums.old place (pos 0) +ℤ amount) }
+/// Sums with amounts added to them.
+fn sums_with(held: AccountSums, amounts: AccountSums) -> AccountSums
+    requires held { IsWithin (2 * greatest_sum) held }
+    requires amounts { IsWithin greatest_credit amounts }
+    ensures { result ≡ sums_plus held amounts }
 {
-    sums[place] += amount;
+    AccountSums {
+        credited: held.credited + amounts.credited,
+        balancing: held.balancing + amounts.balancing,
+        contracts: held.contracts + amounts.contracts,
+        weight: held.weight + amounts.weight,
+    }
 }
 
-/// The balancing volume of a unit, in ticks.
-fn balancing_volume(unit: &UnitData) -> i128
-    ensures volume { result ≡ balanced unit.now }
-    ensures size { unsigned_abs result ≤ 2 * 10 ^ 14 }
+/// Adds amounts to the sums at a place.
+fn add_at(sums: &mut [AccountSums], place: usize, amounts: AccountSums)
+    requires inside { place < length sums.old }
+    requires room { All (IsWithin (2 * greatest_sum)) sums.old }
+    requires small { IsWithin greatest_credit amounts }
+    ensures { sums.new ≡ added_at sums.old place amounts }
+{
+    sums[place] = sums_with(sums[place], amounts);
+}
+
+/// Adds amounts to the sums of an account.
+pub(crate) fn add_to(
+    accounts: &[Account],
+    account: &Account,
+    amounts: AccountSums,
+    sums: &mut [AccountSums],
+)
+    requires ordered { AreAccountsInOrder accounts.now }
+    requires named { IsNamed accounts.now account.now }
+    requires each { length sums.old ≡ length accounts.now }
+    requires room { All (IsWithin (2 * greatest_sum)) sums.old }
+    requires small { IsWithin greatest_credit amounts }
+    ensures added { AreChanged accounts.now (with_amounts account.now amounts) sums.old sums.new }
+    ensures grown { (most : ℕ) → IsWithin most amounts → AreGrown most sums.old sums.new }
+{
+    add_at(sums, place_of(accounts, account), amounts);
+}
+
+/// What a credit adds to its account's sums.
+fn amounts_of_credit(credit: &CreditRow, weighs: bool) -> AccountSums
+    requires { IsCreditSmall credit.now }
+    ensures amounts { result ≡ credit_amounts weighs credit.now.credited }
+    ensures small { IsWithin greatest_credit result }
+{
+    let credited = credit.credited.units();
+    AccountSums {
+        credited: i128::from(credited),
+        weight: if weighs {
+            u128::from(credited.unsigned_abs())
+        } else {
+            0
+        },
+        ..AccountSums::NONE
+    }
+}
+
+/// Adds each credit to its account's sums; its size too, where the credits weigh.
+pub(crate) fn add_credits(
+    accounts: &[Account],
+    credits: &[CreditRow],
+    weighs: bool,
+    sums: &mut [AccountSums],
+)
+    requires ordered { AreAccountsInOrder accounts.now }
+    requires named { All (IsCreditNamed accounts.now) credits.now }
+    requires small { All IsCreditSmall credits.now }
+    requires few { length credits.now ≤ most_subsidiaries + 1 }
+    requires each { length sums.old ≡ length accounts.now }
+    requires room { All (IsWithin greatest_sum) sums.old }
+    ensures added { AreChanged accounts.now (with_credits weighs credits.now) sums.old sums.new }
+    ensures grown { AreGrown (length credits.now * greatest_credit) sums.old sums.new }
+{
+    for credit in credits {
+        add_to(
+            accounts,
+            &credit.account,
+            amounts_of_credit(credit, weighs),
+            sums,
+        );
+    }
+}
+
+/// The balancing volume of a unit, as what it adds to its lead account's sums.
+pub(crate) fn amounts_of_balancing(unit: &UnitData) -> AccountSums
+    ensures amounts { result ≡ balancing_amounts (balanced unit.now) }
+    ensures small { IsWithin greatest_volume result }
 {
     let reading = unit.reading();
-    i128::from(reading.balancing.units()) * i128::from(reading.tlm.units())
-}
-
-/// Adds each credit to its account's sum.
-pub(crate) fn add_credits(accounts: &[Account], credits: &[CreditRow], credited: &mut [i128])
-    requires ordered { IsStrictlySortedBy account_cmp accounts.now }
-    requires named { All (λ c. Contains accounts.now c.account) credits.now }
-    requires small { All (λ c. unsigned_abs c.credited ≤ 10 ^ 18) credits.now }
-    requires credited { credited.old ≡ replicate (length accounts.now) (pos 0) }
-    ensures credited { AreSumsOver credited_of accounts.now credits.now (2 * 10 ^ 37) credited.new }
-{
-    for credit in credits {
-        let place = place_of(accounts, &credit.account);
-        add_at(credited, place, i128::from(credit.credited.units()));
+    AccountSums {
+        balancing: i128::from(reading.balancing.units()) * i128::from(reading.tlm.units()),
+        ..AccountSums::NONE
     }
 }
 
-/// Adds the size of each credit to its account's sum.
-pub(crate) fn add_weights(accounts: &[Account], credits: &[CreditRow], weight: &mut [i128])
-    requires ordered { IsStrictlySortedBy account_cmp accounts.now }
-    requires named { All (λ c. Contains accounts.now c.account) credits.now }
-    requires small { All (λ c. unsigned_abs c.credited ≤ 10 ^ 18) credits.now }
-    requires weight { weight.old ≡ replicate (length accounts.now) (pos 0) }
-    ensures weight { AreSumsOver weight_of accounts.now credits.now (2 * 10 ^ 37) weight.new }
+/// The volume of a contract, in ticks.
+fn contracted_volume(contract: &Contract) -> i128
+    ensures volume { result ≡ contracted contract.now }
+    ensures size { unsigned_abs result ≤ greatest_volume }
 {
-    for credit in credits {
-        let place = place_of(accounts, &credit.account);
-        add_at(weight, place, i128::from(credit.credited.units()).abs());
+    i128::from(contract.volume.units()) * TICKS_PER_KWH
+}
+
+/// A contracted volume, as what it adds to its account's sums.
+fn amounts_of_contract(volume: i128) -> AccountSums
+    requires { unsigned_abs volume ≤ greatest_volume }
+    ensures amounts { result ≡ contract_amounts volume }
+    ensures small { IsWithin greatest_volume result }
+{
+    AccountSums {
+        contracts: volume,
+        ..AccountSums::NONE
     }
 }
 
-/// Adds the balancing volume of each unit to the sum of its lead account.
-pub(crate) fn add_balancing(accounts: &[Account], units: &[UnitData], balancing: &mut [i128])
-    requires ordered { IsStrictlySortedBy account_cmp accounts.now }
-    requires named { All (λ u. Contains accounts.now u.lead) units.now }
-    requires balancing { balancing.old ≡ replicate (length accounts.now) (pos 0) }
-    ensures balancing { AreSumsOver balancing_of accounts.now units.now (10 ^ 34) balancing.new }
+/// Adds the volume of a contract to its seller's sums, and takes it from its buyer's.
+fn add_contract(accounts: &[Account], contract: &Contract, sums: &mut [AccountSums])
+    requires ordered { AreAccountsInOrder accounts.now }
+    requires named { IsContractNamed accounts.now contract.now }
+    requires each { length sums.old ≡ length accounts.now }
+    requires room { All (IsWithin greatest_sum) sums.old }
+    ensures added { AreChanged accounts.now (with_contract contract.now) sums.old sums.new }
+    ensures grown { AreGrown (2 * greatest_volume) sums.old sums.new }
 {
-    for unit in units {
-        let place = place_of(accounts, &unit.lead());
-        add_at(balancing, place, balancing_volume(unit));
-    }
+    let volume = contracted_volume(contract);
+    let counterparties = contract.counterparties;
+    add_to(
+        accounts,
+        &counterparties.seller,
+        amounts_of_contract(volume),
+        sums,
+    );
+    add_to(
+        accounts,
+        &counterparties.buyer,
+        amounts_of_contract(-volume),
+        sums,
+    );
 }
 
-/// Adds the volume of each contract to its seller's sum, and takes it from its buyer's.
-pub(crate) fn add_contracts(accounts: &[Account], contracts: &[Contract], net: &mut [i128])
-    requires ordered { IsStrictlySortedBy account_cmp accounts.now }
-    requires named { All (λ c. Contains accounts.now c.counterparties.seller × Contains accounts.now c.counterparties.buyer) contracts.now }
-    requires net { net.old ≡ replicate (length accounts.now) (pos 0) }
-    ensures net { AreSumsOver net_of accounts.now contracts.now (10 ^ 28) net.new }
+/// Adds the volume of each contract to its seller's sums, and takes it from its buyer's.
+pub(crate) fn add_contracts(accounts: &[Account], contracts: &[Contract], sums: &mut [AccountSums])
+    requires ordered { AreAccountsInOrder accounts.now }
+    requires named { All (IsContractNamed accounts.now) contracts.now }
+    requires each { length sums.old ≡ length accounts.now }
+    requires room { All (IsWithin greatest_unit_sum) sums.old }
+    ensures added { AreChanged accounts.now (with_contracts contracts.now) sums.old sums.new }
+    ensures grown { AreGrown (length contracts.now * (2 * greatest_volume)) sums.old sums.new }
 {
     for contract in contracts {
-        let volume = i128::from(contract.volume.units());
-        add_at(net, place_of(accounts, &contract.counterparties.seller), volume);
-        add_at(net, place_of(accounts, &contract.counterparties.buyer), -volume);
+        add_contract(accounts, contract, sums);
     }
 }

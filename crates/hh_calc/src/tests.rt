@@ -1,8 +1,8 @@
 //! What no clause says: that a period is settled, and what the words of the clauses come to.
 
 use super::*;
-use hh_num::{Kwh, Percent, Price, Ticks, Tlm};
 use hh_names::{Account, Contract, Counterparties, Reading, Reallocation, UnitId};
+use hh_num::{Kwh, Percent, Price, Ticks, Tlm};
 use std::alloc::Global;
 use std::test::Fail;
 
@@ -74,14 +74,39 @@ fn unit(
     Some(UnitData::new(id, lead, interconnector, reading, subsidiaries))
 }
 
-/// Settles a period of one account, which leads these units and has no contracts.
-fn settle_alone(alloc: Global, volumes: &[Volumes], price: i64) -> Answer {
-    let mut units = Vec::new(alloc);
+/// Appends a unit of each of these volumes, which an account leads.
+fn push_units(
+    alloc: Global,
+    units: &mut Vec<UnitData>,
+    lead: &str,
+    volumes: &[Volumes],
+) -> Option<()> {
     for of_unit in volumes {
-        let unit = unit(alloc, ("U", "GENCO-P"), false, *of_unit, &[])?;
+        let unit = unit(alloc, ("U", lead), false, *of_unit, &[])?;
         units.push(unit).ok()?;
     }
+    Some(())
+}
+
+/// Settles a period of one account, which leads units of these volumes and has no contracts.
+fn settle_alone(alloc: Global, volumes: &[Volumes], price: i64) -> Answer {
+    let mut units = Vec::new(alloc);
+    push_units(alloc, &mut units, "GENCO-P", volumes)?;
     settle(alloc, &["GENCO-P"], units, vec![in alloc].ok()?, price)
+}
+
+/// Settles a period of two accounts, which lead units of these volumes each and have no contracts.
+fn settle_two(alloc: Global, first: &[Volumes], second: &[Volumes], price: i64) -> Answer {
+    let mut units = Vec::new(alloc);
+    push_units(alloc, &mut units, "GENCO-P", first)?;
+    push_units(alloc, &mut units, "SUPCO-C", second)?;
+    settle(
+        alloc,
+        &["GENCO-P", "SUPCO-C"],
+        units,
+        vec![in alloc].ok()?,
+        price,
+    )
 }
 
 /// Settles a period of these accounts, in which GENCO-P and SUPCO-C lead a unit each, maybe of an
@@ -363,6 +388,31 @@ fn limit_of_a_weight(rt: HostRuntime) -> Result<(), Fail> {
     );
     assert_eq!(rt;
         told(settle_alone(rt.alloc(), &units, 9_999_999_999)),
+        Some(Err(CalcFault::TooLarge))
+    );
+    Ok(())
+}
+
+// Each charge is within its limit; together they are at the limit of the residual, or pass it.
+#[test]
+fn limit_of_the_residual(rt: HostRuntime) -> Result<(), Fail> {
+    let large = [(10_000_000, 20_000_000, 0); 5];
+    let energy = 1_000_000_000_000_000;
+    let first = (energy, 0, 0, energy, -999_999_999_900, 999_999_999_900);
+    let second = (100_000, 0, 0, 100_000, -100, 100);
+    assert_eq!(rt;
+        told(settle_two(rt.alloc(), &large, &[(1, 100_000, 0)], 9_999_999_999)),
+        Some(Ok((Some(first), Some(second), 1_000_000_000_000)))
+    );
+    for past in [(1, 101_000, 0), (10_000_000, 20_000_000, 0)] {
+        assert_eq!(rt;
+            told(settle_two(rt.alloc(), &large, &[past], 9_999_999_999)),
+            Some(Err(CalcFault::TooLarge))
+        );
+    }
+    // The same, where the accounts are paid.
+    assert_eq!(rt;
+        told(settle_two(rt.alloc(), &large, &[(1, 101_000, 0)], -9_999_999_999)),
         Some(Err(CalcFault::TooLarge))
     );
     Ok(())

@@ -42,9 +42,13 @@ with_sign_of z n = if int_lt z (pos 0) then neg_ℤ (pos n) else pos n
 abbrev pub share_of : ℤ → List ℕ → ℕ × ℕ → ℤ
 share_of amount weights a = with_sign_of amount (share_size (unsigned_abs amount) weights a)
 
--- the shares of an amount of pence, in the order of the weights
+-- the shares that weights have of an amount, in their order
+abbrev pub shares_by : ℤ → List ℕ → List ℤ
+shares_by amount weights = map (share_of amount weights) (enumerate_from 0 weights)
+
+-- the shares of an amount of pence: by the weights that count
 abbrev pub shares : ℤ → List ℕ → List ℤ
-shares amount weights = map (share_of amount (effective weights)) (enumerate_from 0 (effective weights))
+shares amount weights = shares_by amount (effective weights)
 
 -- the pence of a split come to this amount
 abbrev pub SumsTo : ℤ → List ℤ → Type 0

@@ -1,8 +1,8 @@
 //! Shares by largest remainders: Hamilton's method.
 
-ghost use Rattle.std.specs.Prelude.{◌≡◌, ◌==◌, ℕ, ◌<◌, ◌≤◌, ◌^◌, ◌-◌, ◌*◌, ◌/◌, ◌%◌, ◌≢◌, ◌≤ℤ◌, pos, unsigned_abs, nat_lt, if◌then◌else◌, ◌+◌, length, map, replicate, sum, sum_by, All, IfOk};
-ghost use Rattle.std.specs.List.{enumerate_from, list_all};
-ghost use Rattle.hh_share.specs.Shares.{effective, rank, share_of, shares, with_sign_of, AreQuotasRounded, SumsTo};
+ghost use Rattle.std.specs.Prelude.{◌≡◌, ◌==◌, ℕ, ◌<◌, ◌≤◌, ◌^◌, ◌-◌, ◌*◌, ◌/◌, ◌%◌, ◌≢◌, pos, unsigned_abs, nat_lt, if◌then◌else◌, ◌+◌, length, map, replicate, sum, sum_by, All, IfOk};
+ghost use Rattle.std.specs.List.{list_all};
+ghost use Rattle.hh_share.specs.Shares.{effective, rank, shares, shares_by, with_sign_of, AreQuotasRounded, SumsTo};
 ghost use Rattle.hh_share.specs.Quotas.{quota_for, remainders_of};
 
 use std::alloc::{AllocError, Global};
@@ -17,23 +17,20 @@ struct Quota {
 }
 
 /// Whether all weights are 0.
-fn are_all_zero(weights: &[i64]) -> bool
-    ensures { result ≡ list_all (λ w. w == 0) (map unsigned_abs weights.now) }
+fn are_all_zero(weights: &[u64]) -> bool
+    ensures { result ≡ list_all (λ w. w == 0) weights.now }
 {
-    weights
-        .iter()
-        .map(|weight| weight.unsigned_abs())
-        .all(|weight| weight == 0)
+    weights.iter().all(|weight| *weight == 0)
 }
 
 /// The weights that count: each of them 1 where all are 0.
-fn effective_weights(alloc: Global, weights: &[i64]) -> Result<Vec<u64>, AllocError>
-    ensures { IfOk result (λ v. v.items ≡ effective (map unsigned_abs weights.now)) }
+fn effective_weights(alloc: Global, weights: &[u64]) -> Result<Vec<u64>, AllocError>
+    ensures { IfOk result (λ v. v.items ≡ effective weights.now) }
 {
     if are_all_zero(weights) {
         ones(alloc, weights.len())
     } else {
-        unsigned_weights(alloc, weights)
+        copied(alloc, weights)
     }
 }
 
@@ -44,14 +41,11 @@ fn ones(alloc: Global, count: usize) -> Result<Vec<u64>, AllocError>
     vec![in alloc; 1; count]
 }
 
-/// The weights without their signs.
-fn unsigned_weights(alloc: Global, weights: &[i64]) -> Result<Vec<u64>, AllocError>
-    ensures { IfOk result (λ v. v.items ≡ map unsigned_abs weights.now) }
+/// The same weights.
+fn copied(alloc: Global, weights: &[u64]) -> Result<Vec<u64>, AllocError>
+    ensures { IfOk result (λ v. v.items ≡ weights.now) }
 {
-    weights
-        .iter()
-        .map(|weight| weight.unsigned_abs())
-        .collect(alloc)
+    weights.to_vec(alloc)
 }
 
 /// The sum of weights.
@@ -142,7 +136,7 @@ fn shares_of(
 ) -> Result<Vec<i64>, AllocError>
     requires positive { 0 < length weights.now → 0 < sum weights.now }
     requires quotas { quotas.now ≡ map (quota_for (unsigned_abs total) weights.now) weights.now }
-    ensures { IfOk result (λ v. v.items ≡ map (share_of total weights.now) (enumerate_from 0 weights.now)) }
+    ensures { IfOk result (λ v. v.items ≡ shares_by total weights.now) }
 {
     let left = pence_left(total.unsigned_abs(), quotas);
     let mut shares = Vec::with_capacity(alloc, quotas.len())?;
@@ -157,14 +151,13 @@ fn shares_of(
 /// gets the whole pence of its quota, and of the pence that are left over one each goes to the
 /// accounts with the largest remainders, of equal ones to the earlier. Each share has the total's
 /// sign. Where all weights are 0, each counts as 1.
-pub fn apportion(alloc: Global, total: i64, weights: &[i64]) -> Result<Vec<i64>, AllocError>
-    requires weights { All (λ w. pos 0 ≤ℤ w) weights.now }
+pub fn apportion(alloc: Global, total: i64, weights: &[u64]) -> Result<Vec<i64>, AllocError>
     requires some { total ≢ pos 0 → 0 < length weights.now }
-    ensures shares { IfOk result (λ v. v.items ≡ shares total (map unsigned_abs weights.now)) }
+    ensures shares { IfOk result (λ v. v.items ≡ shares total weights.now) }
     ensures length { IfOk result (λ v. length v.items ≡ length weights.now) }
     ensures sum { IfOk result (λ v. SumsTo total v.items) }
     ensures within { IfOk result (λ v. All (λ s. unsigned_abs s ≤ unsigned_abs total) v.items) }
-    ensures quota { IfOk result (λ v. AreQuotasRounded total (effective (map unsigned_abs weights.now)) v.items) }
+    ensures quota { IfOk result (λ v. AreQuotasRounded total (effective weights.now) v.items) }
 {
     let weights = effective_weights(alloc, weights)?;
     let quotas = quotas_of(alloc, total.unsigned_abs(), &weights)?;

@@ -4,17 +4,16 @@ use super::*;
 use std::alloc::{AllocError, Global};
 use std::test::Fail;
 
-/// The shares of a total by weights of which none is negative, and at least one where there is a
-/// total.
-fn shares_by(alloc: Global, total: i64, weights: &[i64]) -> Result<Option<Vec<i64>>, AllocError> {
-    if weights.iter().any(|weight| *weight < 0) || (total != 0 && weights.is_empty()) {
+/// The shares of a total by weights, of which there is at least one where there is a total.
+fn shares_by(alloc: Global, total: i64, weights: &[u64]) -> Result<Option<Vec<i64>>, AllocError> {
+    if total != 0 && weights.is_empty() {
         return Ok(None);
     }
     Ok(Some(apportion(alloc, total, weights)?))
 }
 
 /// Whether a total is apportioned so.
-fn gives(alloc: Global, total: i64, weights: &[i64], wanted: &[i64]) -> Result<bool, AllocError> {
+fn gives(alloc: Global, total: i64, weights: &[u64], wanted: &[i64]) -> Result<bool, AllocError> {
     match shares_by(alloc, total, weights)? {
         Some(shares) => Ok(shares.as_slice() == wanted),
         None => Ok(false),
@@ -23,7 +22,7 @@ fn gives(alloc: Global, total: i64, weights: &[i64], wanted: &[i64]) -> Result<b
 
 #[test]
 fn worked_shares(rt: HostRuntime) -> Result<(), Fail> {
-    let cases: [(i64, &[i64], &[i64]); 13] = [
+    let cases: [(i64, &[u64], &[i64]); 13] = [
         (1, &[5, 5, 5], &[1, 0, 0]),
         (-100, &[1, 1, 1], &[-34, -33, -33]),
         (10, &[0, 0, 0, 0], &[3, 3, 2, 2]),
@@ -34,7 +33,7 @@ fn worked_shares(rt: HostRuntime) -> Result<(), Fail> {
         (1, &[2, 1], &[1, 0]),
         (1, &[1, 2], &[0, 1]),
         (i64::MIN, &[1], &[i64::MIN]),
-        (i64::MAX, &[0, i64::MAX], &[0, i64::MAX]),
+        (i64::MAX, &[0, u64::MAX], &[0, i64::MAX]),
         // The first period: the weights in ticks, the residual in pence.
         (5_050, &[995_000_000_000, 984_900_000_000], &[2_538, 2_512]),
         // Four accounts with no weight, as where all units are of interconnectors.
@@ -48,7 +47,7 @@ fn worked_shares(rt: HostRuntime) -> Result<(), Fail> {
 
 #[test]
 fn many_weights_of_the_greatest_size(rt: HostRuntime) -> Result<(), Fail> {
-    let weights = vec![in rt.alloc(); i64::MAX; 800]?;
+    let weights = vec![in rt.alloc(); u64::MAX; 800]?;
     let mut wanted = vec![in rt.alloc(); 1; 800]?;
     for share in wanted[..200].iter_mut() {
         *share = 2;

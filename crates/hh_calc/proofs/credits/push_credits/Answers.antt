@@ -1,6 +1,6 @@
 use Rattle.std.proofs.Common.{arith, rules, ap, ◌≡◌, ◌∙◌, ◌<◌, ◌≤◌, length, to_z}
 use Rattle.std.specs.Int.{w128}
-use Rattle.hh_calc.specs.Formulas.{most_subsidiaries}
+use Rattle.hh_calc.specs.Ready.{most_subsidiaries}
 use Rattle.hh_calc.proofs.CreditFacts.{credit_of, credits_more, rest_more, rest_word, small_more, unit_credits_small}
 use Rattle.hh_calc.proofs.credits.push_credits.Goals as goal
 

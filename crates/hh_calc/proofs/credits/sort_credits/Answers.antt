@@ -1,7 +1,7 @@
 use Rattle.std.proofs.Common.{rules}
 use Rattle.std.specs.Ordering.{is_lt}
 use Rattle.std.proofs.lemmas.List.Sorted.{answers_always, ranks_by}
-use Rattle.hh_calc.specs.Formulas.{credit_cmp}
+use Rattle.hh_calc.specs.Settled.{credit_cmp}
 use Rattle.hh_calc.proofs.CreditFacts.{credit_total}
 use Rattle.hh_calc.proofs.credits.sort_credits.Goals as goal
 

@@ -1,16 +1,16 @@
 use Rattle.std.proofs.Common.{arith, refl}
-use Rattle.std.specs.Prelude.{Contains}
+use Rattle.hh_calc.specs.Ready.{IsContractNamed}
 use Rattle.hh_calc.proofs.ReadyLaws.{all_of, failed, one_more, passed}
 use Rattle.hh_calc.proofs.SumLaws.{all_read}
 use Rattle.hh_calc.proofs.ready.are_contracts_named.Goals as goal
 
 pub returns-then-not-is_contract_named : goal.returns-then-not-is_contract_named
 returns-then-not-is_contract_named c =
-    failed _ (λ all. cc (c.if-not-is_contract_named.ensures.1 (all_read (λ x. Contains c.args.accounts.now x.counterparties.seller × Contains c.args.accounts.now x.counterparties.buyer) c.args.contracts.now c.loop-contract.contract-index c.contract-item.result all (omega arith) c.contract-item.is)))
+    failed _ (λ all. cc (c.if-not-is_contract_named.ensures.1 (all_read (IsContractNamed c.args.accounts.now) c.args.contracts.now c.loop-contract.contract-index c.contract-item.result all (omega arith) c.contract-item.is)))
 
 pub loop-contract-preserved : goal.loop-contract-preserved
 loop-contract-preserved c =
-    one_more (λ x. Contains c.args.accounts.now x.counterparties.seller × Contains c.args.accounts.now x.counterparties.buyer) c.args.contracts.now c.loop-contract.contract-index c.contract-item.result (omega arith) c.contract-item.is c.loop-contract.invariant (c.if-not-is_contract_named.ensures.0 refl)
+    one_more (IsContractNamed c.args.accounts.now) c.args.contracts.now c.loop-contract.contract-index c.contract-item.result (omega arith) c.contract-item.is c.loop-contract.invariant (c.if-not-is_contract_named.ensures.0 refl)
 
 pub returns : goal.returns
-returns c = passed _ (all_of (λ x. Contains c.args.accounts.now x.counterparties.seller × Contains c.args.accounts.now x.counterparties.buyer) c.args.contracts.now c.loop-contract.contract-index (omega arith) c.loop-contract.invariant)
+returns c = passed _ (all_of (IsContractNamed c.args.accounts.now) c.args.contracts.now c.loop-contract.contract-index (omega arith) c.loop-contract.invariant)

@@ -1,5 +1,5 @@
 use Rattle.std.proofs.Common.{arith, refl}
-use Rattle.hh_calc.proofs.CreditLaws.{IsUnitNamed}
+use Rattle.hh_calc.specs.Ready.{IsUnitNamed}
 use Rattle.hh_calc.proofs.ReadyLaws.{all_of, failed, one_more, passed}
 use Rattle.hh_calc.proofs.SumLaws.{all_read}
 use Rattle.hh_calc.proofs.ready.are_units_named.Goals as goal

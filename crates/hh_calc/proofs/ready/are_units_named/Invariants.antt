@@ -1,5 +1,5 @@
 use Rattle.std.proofs.Common.{take}
-use Rattle.hh_calc.proofs.CreditLaws.{IsUnitNamed}
+use Rattle.hh_calc.specs.Ready.{IsUnitNamed}
 use Rattle.std.specs.Prelude.{All}
 use Rattle.hh_calc.proofs.ready.are_units_named.Given as goal
 

@@ -1,37 +1,36 @@
-use Rattle.std.proofs.Common.{arith, ◌^◌, refl}
-use Rattle.std.specs.Prelude.{neg_ℤ, Contains}
-use Rattle.hh_calc.specs.Formulas.{net_of}
-use Rattle.hh_calc.proofs.SumLaws.{all_read, moved_step, room_between, sums_start}
-use Rattle.hh_calc.proofs.WordFacts.{turned_size, turned_word, volume_size, volume_word}
+use Rattle.std.proofs.Common.{[], ◌*◌, ◌+◌, arith, length, take}
+use Rattle.hh_calc.specs.Ready.{IsContractNamed}
+use Rattle.hh_calc.specs.Sums.{greatest_sum, greatest_unit_sum, greatest_volume, with_contract, with_contracts}
+use Rattle.hh_calc.proofs.SumLaws.{all_read, all_within, changed_on, contract_step, grown_on, no_contracts, not_grown, unchanged}
 use Rattle.hh_calc.proofs.sums.add_contracts.Goals as goal
 
 pub loop-contract-init : goal.loop-contract-init
-loop-contract-init c = sums_start _ _ _ _ _ c.requires.net
+loop-contract-init c = record {
+  added = unchanged c.args.accounts.now (with_contracts []) no_contracts c.args.sums.now;
+  grown = not_grown (0 * (2 * greatest_volume)) c.args.sums.now;
+}
 
-pub place_of-requires-clause-named : goal.place_of-requires-clause-named
-place_of-requires-clause-named c =
-    (all_read (λ k. Contains c.args.accounts.now k.counterparties.seller × Contains c.args.accounts.now k.counterparties.buyer) c.args.contracts.now c.loop-contract.contract-index _ c.requires.named (omega arith) c.contract-item.is).0
+pub add_contract-requires-clause-named : goal.add_contract-requires-clause-named
+add_contract-requires-clause-named c = all_read (IsContractNamed c.args.accounts.now) c.args.contracts.now c.loop-contract.contract-index _ c.requires.named (omega arith) c.contract-item.is
 
-pub place_of-requires-in-loop-contract-clause-named : goal.place_of-requires-in-loop-contract-clause-named
-place_of-requires-in-loop-contract-clause-named c =
-    (all_read (λ k. Contains c.args.accounts.now k.counterparties.seller × Contains c.args.accounts.now k.counterparties.buyer) c.args.contracts.now c.loop-contract.contract-index _ c.requires.named (omega arith) c.contract-item.is).1
-
-pub add_at-requires-in-loop-contract-clause-room : goal.add_at-requires-in-loop-contract-clause-room
-add_at-requires-in-loop-contract-clause-room c =
-    let volume = c.contract-item.result.volume in
-    let size = volume_size volume c.units.ensures.range in
-    let wide = volume_word volume _ _ c.units.ensures.value c.units.ensures.range c.from-volume.ensures in
-    let turned = turned_word volume _ wide size in
-    rw turned
-    (room_between net_of _ _ _ (10 ^ 7) _ c.loop-contract.invariant (omega arith) (omega arith) _ c.place_of.ensures.inside volume size _ _ (rw wide at c.add_at.ensures)
-    _ c.place_of-in-loop-contract.ensures.inside (neg_ℤ volume) (turned_size volume size))
+pub add_contract-requires-clause-room : goal.add_contract-requires-clause-room
+add_contract-requires-clause-room c =
+    all_within (greatest_unit_sum + c.loop-contract.contract-index * (2 * greatest_volume)) greatest_sum c.loop-contract.sums (omega arith)
+    (c.loop-contract.invariant.grown greatest_unit_sum c.requires.room)
 
 pub loop-contract-preserved : goal.loop-contract-preserved
 loop-contract-preserved c =
-    let volume = c.contract-item.result.volume in
-    let size = volume_size volume c.units.ensures.range in
-    let wide = volume_word volume _ _ c.units.ensures.value c.units.ensures.range c.from-volume.ensures in
-    let turned = turned_word volume _ wide size in
-    moved_step net_of _ c.requires.ordered _ _ c.contract-item.result (omega arith) c.contract-item.is _ _ c.place_of.ensures.inside c.place_of.ensures.place
-    _ _ c.place_of-in-loop-contract.ensures.inside c.place_of-in-loop-contract.ensures.place volume (10 ^ 7) size (λ a. refl) _ c.loop-contract.invariant _ _ _ (rw wide at c.add_at.ensures)
-    _ (rw turned at c.add_at-in-loop-contract.ensures)
+    let contracts = c.args.contracts.now in
+    let contract = c.contract-item.result in
+    let i = c.loop-contract.contract-index in
+    record {
+      added = changed_on c.args.accounts.now (with_contracts (take i contracts)) (with_contract contract) (with_contracts (take (i + 1) contracts))
+          (contract_step contracts i contract (omega arith) c.contract-item.is)
+          _ _ _ c.loop-contract.invariant.added c.add_contract.ensures.added;
+      grown = grown_on (i * (2 * greatest_volume)) (2 * greatest_volume) ((i + 1) * (2 * greatest_volume)) (omega arith) _ _ _ c.loop-contract.invariant.grown c.add_contract.ensures.grown;
+    }
+
+pub returns-clause-grown : goal.returns-clause-grown
+returns-clause-grown c = λ most small.
+    all_within (most + c.loop-contract.contract-index * (2 * greatest_volume)) (most + length c.args.contracts.now * (2 * greatest_volume)) c.loop-contract.sums (omega arith)
+    (c.loop-contract.invariant.grown most small)

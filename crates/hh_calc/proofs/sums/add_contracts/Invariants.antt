@@ -1,8 +1,10 @@
-use Rattle.std.proofs.Common.{◌+◌, ◌^◌}
-use Rattle.hh_calc.specs.Formulas.{net_of}
-use Rattle.hh_calc.proofs.SumLaws.{AreSums}
+use Rattle.std.proofs.Common.{◌*◌, take}
+use Rattle.hh_calc.specs.Sums.{greatest_volume, with_contracts, AreChanged, AreGrown}
 use Rattle.hh_calc.proofs.sums.add_contracts.Given as goal
 
--- the sums over the contracts so far
+-- the contracts so far are added
 abbrev pub invariant-loop-contract : goal.invariant-loop-contract
-invariant-loop-contract l = AreSums net_of l.accounts l.contracts l.contract-index (10 ^ 7 + 10 ^ 7) l.net
+invariant-loop-contract l = record {
+  added : AreChanged l.accounts (with_contracts (take l.contract-index l.contracts)) l.fn.sums l.sums;
+  grown : AreGrown (l.contract-index * (2 * greatest_volume)) l.fn.sums l.sums;
+}

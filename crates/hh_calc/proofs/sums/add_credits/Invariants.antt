@@ -1,8 +1,10 @@
-use Rattle.std.proofs.Common.{◌^◌}
-use Rattle.hh_calc.specs.Formulas.{credited_of}
-use Rattle.hh_calc.proofs.SumLaws.{AreSums}
+use Rattle.std.proofs.Common.{◌*◌, take}
+use Rattle.hh_calc.specs.Sums.{greatest_credit, with_credits, AreChanged, AreGrown}
 use Rattle.hh_calc.proofs.sums.add_credits.Given as goal
 
--- the sums over the credits so far
+-- the credits so far are added
 abbrev pub invariant-loop-credit : goal.invariant-loop-credit
-invariant-loop-credit l = AreSums credited_of l.accounts l.credits l.credit-index (10 ^ 18) l.credited
+invariant-loop-credit l = record {
+  added : AreChanged l.accounts (with_credits l.weighs (take l.credit-index l.credits)) l.fn.sums l.sums;
+  grown : AreGrown (l.credit-index * greatest_credit) l.fn.sums l.sums;
+}

@@ -1,0 +1,43 @@
+use Rattle.std.proofs.Common.{◌∙◌, ◌+◌, ◌*◌, ◌++◌, [], ap, arith, length, map, take, sym, length-append}
+use Rattle.hh_calc.specs.Formulas.{sums_over, unit_credits}
+use Rattle.hh_calc.specs.Ready.{HasFewSubsidiaries, IsUnitNamed}
+use Rattle.hh_calc.specs.Sums.{greatest_credit, greatest_sum, greatest_unit_sum, greatest_volume}
+use Rattle.hh_calc.proofs.LedgerLaws.{credits_next, none_within, sums_start, units_step}
+use Rattle.hh_calc.proofs.SumLaws.{all_read, all_within}
+use Rattle.hh_calc.proofs.ledger.add_units.Goals as goal
+
+pub loop-unit-init : goal.loop-unit-init
+loop-unit-init c = record {
+  credits = c.requires.none;
+  sums = c.requires.start ∙ sums_start c.args.accounts.now;
+  small = none_within c.args.accounts.now _ _ c.requires.start;
+}
+
+pub add_unit-requires-clause-named : goal.add_unit-requires-clause-named
+add_unit-requires-clause-named c = all_read (IsUnitNamed c.args.accounts.now) c.args.units.now c.loop-unit.unit-index _ c.requires.named (omega arith) c.unit-item.is
+
+pub add_unit-requires-clause-few : goal.add_unit-requires-clause-few
+add_unit-requires-clause-few c = all_read HasFewSubsidiaries c.args.units.now c.loop-unit.unit-index _ c.requires.few (omega arith) c.unit-item.is
+
+pub add_unit-requires-clause-room : goal.add_unit-requires-clause-room
+add_unit-requires-clause-room c =
+    all_within (length c.loop-unit.credits.items * greatest_credit + c.loop-unit.unit-index * greatest_volume) greatest_sum c.loop-unit.sums (omega arith) c.loop-unit.invariant.small
+
+pub loop-unit-preserved : goal.loop-unit-preserved
+loop-unit-preserved c =
+    let units = c.args.units.now in
+    let unit = c.unit-item.result in
+    let i = c.loop-unit.unit-index in
+    let more = c.in_ok-add_unit.ensures.credits in
+    let long = ap length more ∙ length-append c.loop-unit.credits.items (unit_credits unit) in
+    record {
+      credits = more ∙ ap (λ rows. rows ++ unit_credits unit) c.loop-unit.invariant.credits ∙ sym (credits_next units i unit (omega arith) c.unit-item.is);
+      sums = c.in_ok-add_unit.ensures.added (sums_over (take i units) []) c.loop-unit.invariant.sums
+          ∙ (λ j. map (λ a. units_step units i unit (omega arith) c.unit-item.is [] a j) c.args.accounts.now);
+      small = all_within ((length c.loop-unit.credits.items * greatest_credit + i * greatest_volume) + (length (unit_credits unit) * greatest_credit + greatest_volume)) _ _ (omega arith)
+          (c.in_ok-add_unit.ensures.grown (length c.loop-unit.credits.items * greatest_credit + i * greatest_volume) c.loop-unit.invariant.small);
+    }
+
+pub returns-clause-small : goal.returns-clause-small
+returns-clause-small c =
+    all_within (length c.loop-unit.credits.items * greatest_credit + c.loop-unit.unit-index * greatest_volume) greatest_unit_sum c.loop-unit.sums (omega arith) c.loop-unit.invariant.small

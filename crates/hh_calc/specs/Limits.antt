@@ -1,0 +1,44 @@
+-- The limits of a run: energy in ticks, cash in pence.
+use Rattle.std.specs.Prelude.{ℕ, ◌^◌, nat_le, unsigned_abs, ℤ, List, Bool, ◌&&◌, Option, Some, None, if◌then◌else◌}
+use Rattle.std.specs.List.{list_all}
+use Rattle.hh_names.specs.declared.account.Account.{Account}
+use Rattle.hh_calc.specs.declared.result.Figures.{Figures}
+use Rattle.hh_calc.specs.Formulas.{figures, period_sums, residual}
+use Rattle.hh_calc.specs.Terms.{PeriodTerms}
+
+abbrev pub greatest_energy : ℕ
+greatest_energy = 10 ^ 17
+
+abbrev pub greatest_cash : ℕ
+greatest_cash = 10 ^ 12
+
+-- whether the size of an amount is at most so much
+abbrev pub is_at_most : ℕ → ℤ → Bool
+is_at_most most amount = nat_le (unsigned_abs amount) most
+
+-- no figure of an account passes a limit
+abbrev pub are_within : Figures → Bool
+are_within f =
+    is_at_most greatest_energy f.credited && is_at_most greatest_energy f.balancing && is_at_most greatest_energy f.contracts
+    && is_at_most greatest_energy f.imbalance && is_at_most greatest_cash f.charge
+
+-- a value, where a test holds
+abbrev pub kept_where : {A : Type 0} → Bool → A → Option A
+kept_where test value = if test then Some value else None
+
+module _ (p : PeriodTerms) where
+  -- no figure of an account passes a limit, nor does its weight
+  abbrev pub is_account_within : Account → Bool
+  is_account_within a = are_within (figures p a) && nat_le (period_sums p a).weight greatest_energy
+
+  -- nor do those of all these accounts
+  abbrev pub are_accounts_within : List Account → Bool
+  are_accounts_within accounts = list_all is_account_within accounts
+
+  -- nor do those of all accounts of the period
+  abbrev pub are_all_within : Bool
+  are_all_within = are_accounts_within p.accounts
+
+  -- nor does the residual of the period
+  abbrev pub is_within_limits : Bool
+  is_within_limits = are_all_within && is_at_most greatest_cash (residual p)

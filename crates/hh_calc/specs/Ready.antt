@@ -1,0 +1,62 @@
+-- What a period is settled under.
+use Rattle.std.specs.Prelude.{ℕ, ◌≢◌, ◌≤◌, List, length, All, AllPairs, Contains}
+use Rattle.std.specs.List.Sorted.{IsStrictlySortedBy}
+use Rattle.hh_names.specs.declared.account.Account.{Account}
+use Rattle.hh_names.specs.declared.values.Contract.{Contract}
+use Rattle.hh_names.specs.Accounts.{account_cmp}
+use Rattle.hh_calc.specs.declared.data.Subsidiary.{Subsidiary}
+use Rattle.hh_calc.specs.declared.result.CreditRow.{CreditRow}
+use Rattle.hh_calc.specs.Terms.{PeriodTerms, BmUnit}
+
+-- the most subsidiaries that a unit may have
+abbrev pub most_subsidiaries : ℕ
+most_subsidiaries = 799
+
+-- a unit has at most 799 subsidiaries: all accounts of the market but its lead
+abbrev pub HasFewSubsidiaries : BmUnit → Type 0
+HasFewSubsidiaries u = length u.subsidiaries ≤ most_subsidiaries
+
+module _ (accounts : List Account) where
+  -- the accounts rise in account order, so that none stands twice
+  abbrev pub AreAccountsInOrder : Type 0
+  AreAccountsInOrder = IsStrictlySortedBy account_cmp accounts
+
+  -- an account is one of these
+  abbrev pub IsNamed : Account → Type 0
+  IsNamed a = Contains accounts a
+
+  -- so are the accounts of these subsidiaries
+  abbrev pub AreSubsidiariesNamed : List Subsidiary → Type 0
+  AreSubsidiariesNamed = All (λ s. IsNamed s.account)
+
+  -- the lead and the subsidiaries of a unit
+  abbrev pub IsUnitNamed : BmUnit → Type 0
+  IsUnitNamed u = IsNamed u.lead × AreSubsidiariesNamed u.subsidiaries
+
+  -- the seller and the buyer of a contract
+  abbrev pub IsContractNamed : Contract → Type 0
+  IsContractNamed c = IsNamed c.counterparties.seller × IsNamed c.counterparties.buyer
+
+  -- the account of a credit
+  abbrev pub IsCreditNamed : CreditRow → Type 0
+  IsCreditNamed c = IsNamed c.account
+
+module _ (p : PeriodTerms) where
+  abbrev pub AreInOrder : Type 0
+  AreInOrder = AreAccountsInOrder p.accounts
+
+  -- each lead, subsidiary, seller and buyer is one of the accounts
+  abbrev pub AreNamed : Type 0
+  AreNamed = All (IsUnitNamed p.accounts) p.units × All (IsContractNamed p.accounts) p.contracts
+
+  -- no unit stands twice
+  abbrev pub AreUnitsDistinct : Type 0
+  AreUnitsDistinct = AllPairs (λ u v. u.unit ≢ v.unit) p.units
+
+  -- no unit has more subsidiaries than the most
+  abbrev pub AreSubsidiariesFew : Type 0
+  AreSubsidiariesFew = All HasFewSubsidiaries p.units
+
+  -- a period may be settled
+  abbrev pub IsReady : Type 0
+  IsReady = AreInOrder × AreNamed × AreSubsidiariesFew

@@ -1,0 +1,46 @@
+-- What a settled period holds, and what it adds up to.
+use Rattle.std.specs.Prelude.{◌≡◌, ℤ, pos, ◌+ℤ◌, List, map, filter, All, IsPermutation, IsSorted}
+use Rattle.std.specs.declared.cmp.Ordering.{Ordering}
+use Rattle.std.specs.Ordering.{on, then_cmp}
+use Rattle.std.specs.Str.{bytes_eq}
+use Rattle.hh_num.specs.Totals.{total}
+use Rattle.hh_names.specs.Accounts.{account_cmp, bytes_cmp}
+use Rattle.hh_calc.specs.declared.result.AccountRow.{AccountRow}
+use Rattle.hh_calc.specs.declared.result.CreditRow.{CreditRow}
+use Rattle.hh_calc.specs.declared.result.Figures.{Figures}
+use Rattle.hh_calc.specs.Formulas.{all_figures, credits_of, loss_adjusted, residual, residual_shares, AreSharesRounded}
+use Rattle.hh_calc.specs.Ready.{AreUnitsDistinct}
+use Rattle.hh_calc.specs.Terms.{BmUnit, PeriodTerms, Settled}
+
+-- credits in the order of their units' bytes, then of their accounts
+abbrev pub credit_cmp : CreditRow → CreditRow → Ordering
+credit_cmp = then_cmp (on (λ c. c.unit) bytes_cmp) (on (λ c. c.account) account_cmp)
+
+-- the figures that an account's row shows
+abbrev pub figures_of : AccountRow → Figures
+figures_of row = record { account = row.account; credited = row.credited; balancing = row.balancing; contracts = row.contracts; imbalance = row.imbalance; charge = row.charge }
+
+-- the shares that rows show
+abbrev pub shares_shown : List AccountRow → List ℤ
+shares_shown rows = map (λ r. r.share) rows
+
+-- the rows hold the figures and the shares of the accounts in order, the credits are those of the units in order, and the
+-- residual is the period's
+pub record IsSettled (p : PeriodTerms) (s : Settled) : Type 0 where
+  pub rows : map figures_of s.accounts ≡ all_figures p
+  pub shared : shares_shown s.accounts ≡ residual_shares p
+  pub credits : IsPermutation (credits_of p.units) s.credits
+  pub ordered : IsSorted credit_cmp s.credits
+  pub remainder : s.residual ≡ residual p
+
+-- the credits from a unit among these add up to its loss-adjusted volume
+abbrev pub IsUnitCredited : List CreditRow → BmUnit → Type 0
+IsUnitCredited credits u = total (λ c. c.credited) (filter (λ c. bytes_eq c.unit u.unit) credits) ≡ loss_adjusted u
+
+-- What a settled period adds up to: contracts come to zero over the accounts, the credits from each unit to its loss-adjusted
+-- volume (if no unit stands twice), charges and shares together to zero; and each share is its account's quota rounded.
+pub record IsBalanced (p : PeriodTerms) (s : Settled) : Type 0 where
+  pub contracts : total (λ r. r.contracts) s.accounts ≡ pos 0
+  pub credits : AreUnitsDistinct p → All (IsUnitCredited s.credits) p.units
+  pub cash : total (λ r. r.charge +ℤ r.share) s.accounts ≡ pos 0
+  pub quota : AreSharesRounded p (shares_shown s.accounts)

@@ -1,0 +1,104 @@
+//! The credits of a period, and the sums of its accounts, which are made together.
+
+ghost use Rattle.std.specs.Prelude.{◌≡◌, ◌+◌, ◌*◌, ◌++◌, [], length, map, replicate, All, IfOk, OnOk};
+ghost use Rattle.hh_calc.specs.Formulas.{all_sums, credits_of, sums_over, unit_credits};
+ghost use Rattle.hh_calc.specs.Ready.{AreAccountsInOrder, AreInOrder, AreNamed, AreSubsidiariesFew, HasFewSubsidiaries, IsUnitNamed};
+ghost use Rattle.hh_calc.specs.Sums.{greatest_credit, greatest_sum, greatest_unit_sum, greatest_volume, no_sums, with_unit, AreChanged, AreGrown, IsWithin};
+
+use crate::credits::push_credits;
+use crate::data::{PeriodData, UnitData};
+use crate::result::CreditRow;
+use crate::sums::{AccountSums, add_contracts, add_credits, add_to, amounts_of_balancing};
+use hh_names::Account;
+use std::alloc::{AllocError, Global};
+
+/// The credits from the units of a period, in their order, and the sums of its accounts, in account
+/// order.
+#[derive(Drop)]
+pub(crate) struct Ledger {
+    pub credits: Vec<CreditRow>,
+    pub sums: Vec<AccountSums>,
+}
+
+/// Appends the credits from a unit, and adds them and its balancing volume to the sums.
+fn add_unit(
+    accounts: &[Account],
+    unit: &UnitData,
+    credits: &mut Vec<CreditRow>,
+    sums: &mut [AccountSums],
+) -> Result<(), AllocError>
+    requires ordered { AreAccountsInOrder accounts.now }
+    requires named { IsUnitNamed accounts.now unit.now }
+    requires few { HasFewSubsidiaries unit.now }
+    requires each { length sums.old ≡ length accounts.now }
+    requires room { All (IsWithin greatest_sum) sums.old }
+    ensures credits { OnOk result (credits.new.items ≡ credits.old.items ++ unit_credits unit.now) }
+    ensures added { OnOk result (AreChanged accounts.now (with_unit unit.now) sums.old sums.new) }
+    ensures grown { let credits_grow = length (unit_credits unit.now) * greatest_credit in
+        OnOk result (AreGrown (credits_grow + greatest_volume) sums.old sums.new) }
+{
+    let first = credits.len();
+    push_credits(credits, unit)?;
+    add_credits(accounts, &credits[first..], !unit.is_interconnector(), sums);
+    add_to(accounts, &unit.lead(), amounts_of_balancing(unit), sums);
+    Ok(())
+}
+
+/// Appends the credits from units, and adds them and the balancing volumes to sums that have nothing
+/// yet.
+fn add_units(
+    accounts: &[Account],
+    units: &[UnitData],
+    credits: &mut Vec<CreditRow>,
+    sums: &mut [AccountSums],
+) -> Result<(), AllocError>
+    requires ordered { AreAccountsInOrder accounts.now }
+    requires named { All (IsUnitNamed accounts.now) units.now }
+    requires few { All HasFewSubsidiaries units.now }
+    requires none { credits.old.items ≡ [] }
+    requires start { sums.old ≡ replicate (length accounts.now) no_sums }
+    ensures credits { OnOk result (credits.new.items ≡ credits_of units.now) }
+    ensures sums { OnOk result (sums.new ≡ map (sums_over units.now []) accounts.now) }
+    ensures small { OnOk result (All (IsWithin greatest_unit_sum) sums.new) }
+{
+    for unit in units {
+        add_unit(accounts, unit, credits, sums)?;
+    }
+    Ok(())
+}
+
+/// Appends the credits of a period, and adds them, the balancing volumes and the contracts to sums
+/// that have nothing yet.
+fn add_period(
+    period: &PeriodData,
+    credits: &mut Vec<CreditRow>,
+    sums: &mut [AccountSums],
+) -> Result<(), AllocError>
+    requires ordered { AreInOrder period.now }
+    requires named { AreNamed period.now }
+    requires few { AreSubsidiariesFew period.now }
+    requires none { credits.old.items ≡ [] }
+    requires start { sums.old ≡ replicate (length period.now.accounts) no_sums }
+    ensures credits { OnOk result (credits.new.items ≡ credits_of period.now.units) }
+    ensures sums { OnOk result (sums.new ≡ all_sums period.now) }
+    ensures small { OnOk result (All (IsWithin greatest_sum) sums.new) }
+{
+    add_units(period.accounts(), period.units(), credits, sums)?;
+    add_contracts(period.accounts(), period.contracts(), sums);
+    Ok(())
+}
+
+/// The credits of a period and the sums of its accounts.
+pub(crate) fn ledger_of(alloc: Global, period: &PeriodData) -> Result<Ledger, AllocError>
+    requires ordered { AreInOrder period.now }
+    requires named { AreNamed period.now }
+    requires few { AreSubsidiariesFew period.now }
+    ensures credits { IfOk result (λ l. l.credits.items ≡ credits_of period.now.units) }
+    ensures sums { IfOk result (λ l. l.sums.items ≡ all_sums period.now) }
+    ensures small { IfOk result (λ l. All (IsWithin greatest_sum) l.sums.items) }
+{
+    let mut credits = Vec::new(alloc);
+    let mut sums = vec![in alloc; AccountSums::NONE; period.accounts().len()]?;
+    add_period(period, &mut credits, &mut sums)?;
+    Ok(Ledger { credits, sums })
+}
