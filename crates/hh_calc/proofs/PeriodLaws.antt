@@ -22,7 +22,7 @@ use Rattle.hh_calc.specs.declared.result.CreditRow.{CreditRow}
 use Rattle.hh_calc.specs.declared.result.Figures.{Figures}
 use Rattle.hh_calc.specs.Formulas.{contracted, credits_of, figures, lead_credit, loss_adjusted, net_of, of_account, period_sums, residual, subsidiary_credit, unit_credits, weights}
 use Rattle.hh_calc.specs.Ready.{AreInOrder, AreNamed, AreUnitsDistinct, IsContractNamed}
-use Rattle.hh_calc.specs.Settled.{figures_of, shares_shown, IsBalanced, IsSettled, IsUnitCredited}
+use Rattle.hh_calc.specs.Settled.{figures_of, shares_shown, AddsUp, IsSettled, IsUnitCredited}
 use Rattle.hh_calc.specs.Terms.{PeriodTerms, Settled, BmUnit}
 use Rattle.hh_calc.proofs.OrderLaws.{rises}
 use Rattle.hh_calc.proofs.SpreadLaws.{counted, counts_once, total-IsPermutation, total-flat_map}
@@ -122,7 +122,7 @@ some_account (a ∷ accounts) f g differs = omega arith
 
 -- What a settled period adds up to: contracts to zero, the credits from each unit to its loss-adjusted volume, cash to zero;
 -- and its shares are quotas rounded.
-pub adds_up : (p : PeriodTerms) (s : Settled) → AreInOrder p → AreNamed p → IsSettled p s → IsBalanced p s
+pub adds_up : (p : PeriodTerms) (s : Settled) → AreInOrder p → AreNamed p → IsSettled p s → AddsUp p s
 adds_up p s up named settled = record {
   contracts = rows_sum p s settled (λ f. f.contracts) ∙ contracts_sum p up named;
   credits = λ distinct. credits_sum p s distinct settled;

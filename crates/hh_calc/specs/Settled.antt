@@ -39,7 +39,7 @@ IsUnitCredited credits u = total (λ c. c.credited) (filter (λ c. bytes_eq c.un
 
 -- What a settled period adds up to: contracts come to zero over the accounts, the credits from each unit to its loss-adjusted
 -- volume (if no unit stands twice), charges and shares together to zero; and each share is its account's quota rounded.
-pub record IsBalanced (p : PeriodTerms) (s : Settled) : Type 0 where
+pub record AddsUp (p : PeriodTerms) (s : Settled) : Type 0 where
   pub contracts : total (λ r. r.contracts) s.accounts ≡ pos 0
   pub credits : AreUnitsDistinct p → All (IsUnitCredited s.credits) p.units
   pub cash : total (λ r. r.charge +ℤ r.share) s.accounts ≡ pos 0

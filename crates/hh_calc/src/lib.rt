@@ -10,7 +10,7 @@ mod settle;
 mod sums;
 
 pub use data::{PeriodData, Subsidiary, UnitData};
-pub use result::{AccountRow, CalcFault, CreditRow, PeriodResult};
+pub use result::{AccountRow, CalcFault, CreditRow, Figures, PeriodResult};
 pub use settle::settle_period;
 
 #[cfg(test)]

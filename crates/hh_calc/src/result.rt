@@ -23,8 +23,8 @@ pub struct AccountRow {
 
 /// What an account has in a period but for its share of the residual: energy in ticks, cash in
 /// pence.
-#[derive(Clone, Copy)]
-pub(crate) struct Figures {
+#[derive(Clone, Copy, Debug, PartialEq, Eq)]
+pub struct Figures {
     pub account: Account,
     pub credited: Ticks,
     pub balancing: Ticks,

@@ -3,7 +3,9 @@ use Rattle.std.proofs.Common.{◌≡◌, true, List, [], ◌∷◌, ◌++◌, ma
 use Rattle.std.specs.List.{flat_map}
 use Rattle.hh_names.specs.declared.account.Account.{Account}
 use Rattle.hh_calc.specs.declared.result.AccountRow.{AccountRow}
-use Rattle.hh_calc.specs.Formulas.{figures, figures_of, is_within_limits, IsSettled}
+use Rattle.hh_calc.specs.Formulas.{figures}
+use Rattle.hh_calc.specs.Limits.{is_within_limits}
+use Rattle.hh_calc.specs.Settled.{figures_of, IsSettled}
 use Rattle.hh_calc.specs.Terms.{PeriodTerms, Settled}
 use Rattle.hh_period.specs.Outcome.{settled_text}
 use Rattle.hh_period.specs.PeriodText.{account_line, residual_line, settled_lines}

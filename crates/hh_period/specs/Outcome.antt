@@ -6,7 +6,7 @@ use Rattle.hh_names.specs.declared.fault.Fault.{Fault}
 use Rattle.hh_names.specs.declared.fault.Refusal.TheVariants.{BadField, TooLarge}
 use Rattle.hh_names.specs.Faults.{memory_fault, plain_fault, Refusing}
 use Rattle.hh_num.specs.Quantities.{price_value}
-use Rattle.hh_calc.specs.Formulas.{is_within_limits}
+use Rattle.hh_calc.specs.Limits.{is_within_limits}
 use Rattle.hh_calc.specs.Terms.{PeriodTerms}
 use Rattle.hh_texts.specs.PeriodFiles.{period_contract_rows, period_meter_rows}
 use Rattle.hh_period.specs.declared.rejection.Input.{Input}

@@ -5,7 +5,9 @@ use Rattle.hh_num.specs.Fixed.{fixed_text}
 use Rattle.hh_names.specs.declared.account.Account.{Account}
 use Rattle.hh_names.specs.declared.account.Side.{Side}
 use Rattle.hh_names.specs.declared.account.Side.TheVariants.{Consumption, Production}
-use Rattle.hh_calc.specs.Formulas.{Figures, figures, figures_of, residual}
+use Rattle.hh_calc.specs.declared.result.Figures.{Figures}
+use Rattle.hh_calc.specs.Formulas.{figures, residual}
+use Rattle.hh_calc.specs.Settled.{figures_of}
 use Rattle.hh_calc.specs.Terms.{PeriodTerms, Settled}
 
 abbrev pub side_letter : Side → ℕ

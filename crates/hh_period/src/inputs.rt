@@ -1,7 +1,7 @@
 //! One Settlement Period from the texts of its inputs.
 
 ghost use Rattle.std.specs.Prelude.{◌≡◌, ◌≤◌, length, map, Err, IfOk, OnOk, IsErrOf};
-ghost use Rattle.hh_calc.specs.Formulas.{AreInOrder, AreNamed, AreSubsidiariesFew};
+ghost use Rattle.hh_calc.specs.Ready.{AreInOrder, AreNamed, AreSubsidiariesFew};
 ghost use Rattle.hh_devices.specs.Devices.{Failed};
 ghost use Rattle.hh_names.specs.Faults.{Gives, Refuses};
 ghost use Rattle.hh_num.specs.Quantities.{price_value};

@@ -1,7 +1,7 @@
 //! The text of a settled period.
 
 ghost use Rattle.std.specs.Prelude.{◌≡◌, ◌++◌, OnOk};
-ghost use Rattle.hh_calc.specs.Formulas.{figures_of};
+ghost use Rattle.hh_calc.specs.Settled.{figures_of};
 ghost use Rattle.hh_period.specs.PeriodText.{account_line, account_text, figures_text, named, residual_line, settled_lines, side_letter};
 
 use hh_calc::{AccountRow, PeriodResult};

@@ -1,5 +1,5 @@
 use Rattle.std.proofs.Common.{arith, ap, length, ◌<◌}
-use Rattle.hh_calc.specs.Formulas.{figures_of}
+use Rattle.hh_calc.specs.Settled.{figures_of}
 use Rattle.hh_period.specs.PeriodText.{account_line}
 use Rattle.hh_period.proofs.TextFacts.{lines_more}
 use Rattle.hh_period.proofs.period_text.push_period.Goals as goal

@@ -1,6 +1,6 @@
 use Rattle.std.proofs.Common.{◌≡◌, ◌++◌, take}
 use Rattle.std.specs.List.{flat_map}
-use Rattle.hh_calc.specs.Formulas.{figures_of}
+use Rattle.hh_calc.specs.Settled.{figures_of}
 use Rattle.hh_period.specs.PeriodText.{account_line}
 use Rattle.hh_period.proofs.period_text.push_period.Given as goal
 
