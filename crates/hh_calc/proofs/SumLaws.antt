@@ -8,9 +8,8 @@ use Rattle.std.specs.declared.cmp.Ordering.TheVariants.{Less, Equal, Greater}
 use Rattle.std.specs.Cmp.{tied_itself}
 use Rattle.std.proofs.Math.IntN.{+ℤ_idr, +ℤ_assoc}
 use Rattle.std.proofs.lemmas.List.{take_more}
-use Rattle.std.proofs.lemmas.List.Elements.{All-from_recursion, All-set, All-weaker}
+use Rattle.std.proofs.lemmas.List.Elements.{All-from_recursion, All-weaker}
 use Rattle.std.proofs.lemmas.List.Sums.{sum_by-append, sum_by-cons}
-use Rattle.std.proofs.lemmas.Int.{ints}
 use Rattle.hh_num.specs.Totals.{total}
 use Rattle.hh_num.proofs.TotalLaws.{total-append}
 use Rattle.hh_names.specs.declared.account.Account.{Account}
@@ -95,27 +94,6 @@ all_within n m sums le small = All-weaker (IsWithin n) (IsWithin m) (λ s. withi
 -- no growth
 pub not_grown : (n : ℕ) (sums : List AccountSums) → AreGrown n sums sums
 not_grown n sums = λ most small. all_within most (most + n) sums (omega arith) small
-
-unsigned_abs-plus : (x y : ℤ) (n m : ℕ) → unsigned_abs x ≤ n → unsigned_abs y ≤ m → unsigned_abs (x +ℤ y) ≤ n + m
-unsigned_abs-plus x y n m a b = omega (arith, ints)
-
-within_plus : (n m : ℕ) (held x : AccountSums) → IsWithin n held → IsWithin m x → IsWithin (n + m) (sums_plus held x)
-within_plus n m held x h k =
-    let d : held.weight ≤ n = h.weight in
-    let e : x.weight ≤ m = k.weight in
-    record {
-      credited = unsigned_abs-plus held.credited x.credited n m h.credited k.credited;
-      balancing = unsigned_abs-plus held.balancing x.balancing n m h.balancing k.balancing;
-      contracts = unsigned_abs-plus held.contracts x.contracts n m h.contracts k.contracts;
-      weight = omega arith;
-    }
-
--- amounts that are added at a place add their size
-pub grown_at : (sums : List AccountSums) (place : ℕ) (x d : AccountSums) → place < length sums → (m : ℕ) → IsWithin m x
-    → AreGrown m sums (set sums place (sums_plus (get_or sums place d) x))
-grown_at sums place x d inside m h = λ most small.
-    All-set (IsWithin (most + m)) sums place (sums_plus (get_or sums place d) x) (within_plus most m _ x (small place d inside) h)
-    (all_within most (most + m) sums (omega arith) small)
 
 pub total-more : {X : Type 0} (f : X → ℤ) (rows : List X) (i : ℕ) (row : X) → i < length rows → row ≡ get_or rows i row
     → total f (take (i + 1) rows) ≡ total f (take i rows) +ℤ f row
