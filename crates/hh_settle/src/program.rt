@@ -249,3 +249,6 @@ fn write_rejection<S: Sink>(
         Err(AllocError) => write_whole(sink, b"refused 90 Memory\n"),
     }
 }
+
+#[cfg(test)]
+mod tests;
