@@ -45,7 +45,8 @@ impl<R: Files> Opener for RuntimeFiles<'_, R> {
 pub struct FileInputs<O>(pub O);
 
 impl<O: Opener> Inputs for FileInputs<O> {
-    ghost reads_as = { λ inputs path content. ReadsAs (O.opens inputs.0 path) O.File.remaining O.File.failures content };
+    ghost reads_as = { λ inputs path content.
+        ReadsAs (O.opens inputs.0 path) O.File.remaining O.File.failures content };
 
     fn read(&self, alloc: Global, path: &str, most: usize) -> Result<Vec<u8>, InputFault> {
         let mut file = self.0.open(path)?;
@@ -63,9 +64,11 @@ pub fn read_front<S: Source>(
     source: &mut S,
     most: usize,
 ) -> Result<Vec<u8>, InputFault>
-    ensures bytes { IfOk result (λ bytes. IfSome (S.remaining source.old) (λ all. bytes.items ≡ take most all)) }
+    ensures bytes { IfOk result (λ bytes. IfSome (S.remaining source.old)
+        (λ all. bytes.items ≡ take most all)) }
     ensures bounded { IfOk result (λ bytes. vec_len bytes ≤ most) }
-    ensures failed { IsErrOf result InputFault.Unreadable → Failed (S.failures source.old) (S.failures source.new) }
+    ensures failed { IsErrOf result InputFault.Unreadable
+        → Failed (S.failures source.old) (S.failures source.new) }
 {
     let mut bytes = Vec::new(alloc);
     let mut piece = [0u8; PIECE];

@@ -61,6 +61,8 @@ pub trait Inputs {
     ///
     /// `Unreadable` where the file cannot be opened or read, `Memory` where memory was refused.
     fn read(&self, alloc: Global, path: &str, most: usize) -> Result<Vec<u8>, InputFault>
-        ensures bytes { IfOk result (λ bytes. (all : List ℕ) × reads_as self.now path.now (Some all) × (bytes.items ≡ take most all)) }
-        ensures unreadable { IsErrOf result InputFault.Unreadable → reads_as self.now path.now None };
+        ensures bytes { IfOk result (λ bytes. (all : List ℕ)
+            × reads_as self.now path.now (Some all) × (bytes.items ≡ take most all)) }
+        ensures unreadable { IsErrOf result InputFault.Unreadable
+            → reads_as self.now path.now None };
 }

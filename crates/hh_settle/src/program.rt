@@ -99,7 +99,7 @@ pub fn run<R: Env + AllocGlobal, I: Inputs, O: Sink, E: Sink>(
         (course O.taken O.failures out.old out.new) (course E.taken E.failures err.old err.new) }
 
     // The words form no line, or are not text.
-    ensures wrong { result ≡ 2 → IsTold (course E.taken E.failures err.old err.new) }
+    ensures told { result ≡ 2 → IsTold (course E.taken E.failures err.old err.new) }
     ensures untouched { result ≡ 2 → out.new ≡ out.old }
 {
     match arguments(rt) {
@@ -165,8 +165,9 @@ fn perform<I: Inputs, O: Sink>(
     ensures done { OnOk result (Does (I.reads_as inputs.now) (line_of command.entry)
         (O.taken out.old) (O.taken out.new)) }
     ensures well { OnOk result (O.failures out.new ≡ O.failures out.old) }
-    ensures stopped { IfErr result (λ stop. StopsLine (I.reads_as inputs.now) (O.taken out.old) (O.taken out.new)
-        (Failed (O.failures out.old) (O.failures out.new)) (line_of command.entry) stop) }
+    ensures stopped { IfErr result (λ stop. StopsLine (I.reads_as inputs.now)
+        (O.taken out.old) (O.taken out.new) (Failed (O.failures out.old) (O.failures out.new))
+        (line_of command.entry) stop) }
 {
     let given = command.words();
     settle_files(
@@ -194,8 +195,9 @@ fn settle_files<I: Inputs, O: Sink>(
     ensures done { OnOk result (Does (I.reads_as inputs.now)
         (PeriodLine meter.now contracts.now price.now) (O.taken out.old) (O.taken out.new)) }
     ensures well { OnOk result (O.failures out.new ≡ O.failures out.old) }
-    ensures stopped { IfErr result (λ stop. StopsLine (I.reads_as inputs.now) (O.taken out.old) (O.taken out.new)
-        (Failed (O.failures out.old) (O.failures out.new)) (PeriodLine meter.now contracts.now price.now) stop) }
+    ensures stopped { IfErr result (λ stop. StopsLine (I.reads_as inputs.now)
+        (O.taken out.old) (O.taken out.new) (Failed (O.failures out.old) (O.failures out.new))
+        (PeriodLine meter.now contracts.now price.now) stop) }
 {
     let meter = inputs.read(alloc, meter, most)?;
     let contracts = inputs.read(alloc, contracts, most)?;
@@ -242,10 +244,14 @@ fn write_rejection<S: Sink>(
     rejection: Rejection,
 ) -> Result<(), DeviceFailed>
     ensures failed { OnErr result (Failed (S.failures sink.old) (S.failures sink.new)) }
-    ensures told { OnOk result (Tells (course S.taken S.failures sink.old sink.new) (Stop.Refused rejection)) }
+    ensures told { OnOk result (Tells (course S.taken S.failures sink.old sink.new)
+        (Stop.Refused rejection)) }
 {
     match format!(in alloc; "{rejection}\n") {
         Ok(line) => write_whole(sink, line.as_bytes()),
         Err(AllocError) => write_whole(sink, b"refused 90 Memory\n"),
     }
 }
+
+#[cfg(test)]
+mod tests;

@@ -36,7 +36,8 @@ pub struct PeriodWords<'a> {
 impl<'a> Command<'a> {
     /// The words of the command.
     pub fn words(self) -> PeriodWords<'a>
-        ensures { line_of self.entry ≡ PeriodLine result.meter.now result.contracts.now result.price.now }
+        ensures { line_of self.entry
+            ≡ PeriodLine result.meter.now result.contracts.now result.price.now }
     {
         match self {
             Command::Period {
@@ -166,7 +167,8 @@ fn period_of<'a>(given: &ArgMatches<'a>) -> Option<Command<'a>>
 
 /// The text that a subcommand was given under a name.
 fn value_of<'a>(given: &ArgMatches<'a>, name: &str) -> Option<&'a str>
-    ensures { option_map (λ text. text.now) result ≡ first_of name.now (rows_of (found_of given.now)) }
+    ensures { option_map (λ text. text.now) result
+        ≡ first_of name.now (rows_of (found_of given.now)) }
 {
     given.get_str(name)
 }
