@@ -81,8 +81,7 @@ module _ (metered balancing percent : ℤ) (m b p : ℤ) (hm : Holds m metered (
 
   module _ (fixed f : ℤ) (hf : Holds f fixed (10 ^ 7)) where
     pub held_part : Holds (word (word (m -ℤ b) *ℤ p) +ℤ word (f *ℤ pos (10 ^ 7))) (((metered -ℤ balancing) *ℤ percent) +ℤ (fixed *ℤ pos (10 ^ 7))) (3 * 10 ^ 14)
-    held_part =
-        held_plus _ _ _ _ (2 * 10 ^ 14) (10 ^ 14) (held_word _ _ _ held_percentage (omega arith))
+    held_part = held_plus _ _ _ _ (2 * 10 ^ 14) (10 ^ 14) (held_word _ _ _ held_percentage (omega arith))
         (held_word _ _ _ (held_times _ _ _ _ (10 ^ 7) (10 ^ 7) hf (record { is = refl; small = omega arith })) (omega arith))
 
     module _ (tlm t : ℤ) (ht : Holds t tlm (2 * 10 ^ 7)) where

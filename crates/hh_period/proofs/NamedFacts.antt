@@ -118,8 +118,7 @@ leads_among meters contracts =
 -- a unit in force has no subsidiaries
 pub subsidiaries_few : (meters : List PeriodMeterRow) → All (λ u. length u.subsidiaries ≤ 799) (in_force (map bm_unit_entry meters))
 subsidiaries_few meters =
-    let P : BmUnit → Type 0 = λ u. length u.subsidiaries ≤ 799 in
-    all-table bytes_cmp P (map bm_unit_entry meters) (all-values P bm_unit_entry meters (λ k d inside. omega arith))
+    let P : BmUnit → Type 0 = λ u. length u.subsidiaries ≤ 799 in all-table bytes_cmp P (map bm_unit_entry meters) (all-values P bm_unit_entry meters (λ k d inside. omega arith))
 
 -- and so are seller and buyer of each contract in force
 pub counterparties_among : (meters : List PeriodMeterRow) (contracts : List PeriodContractRow)

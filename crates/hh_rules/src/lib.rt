@@ -19,6 +19,7 @@ pub use hh_rows::{
 pub use judge::parts_judge_alike;
 pub use register::Register;
 pub use row_done::RowDone;
+pub use timing::Timing;
 
 #[cfg(test)]
 mod tests;

@@ -9,9 +9,10 @@ use hh_rows::{LeadMinutes, Row, SettlementPeriod};
 use hh_time::{Day, deadline};
 use jiff::tz::TimeZone;
 
-/// What a zone and a moment say of a row.
-#[derive(Clone, Copy)]
-pub(crate) enum Timing {
+/// Whether the date of a row has the row's Settlement Period, and whether the row comes in time for it
+/// (Section P in shape).
+#[derive(Clone, Copy, Debug, PartialEq, Eq)]
+pub enum Timing {
     /// The date lacks the period.
     NoSuchPeriod,
     /// The moment is at the deadline or later.
