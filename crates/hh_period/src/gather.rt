@@ -57,7 +57,8 @@ fn add_counterparties(
     accounts: &mut BTreeSet<Account>,
     rows: &[PeriodContractRow],
 ) -> Result<(), AllocError>
-    ensures { OnOk result (NamesMore accounts.old.keys accounts.new.keys (flat_map seller_and_buyer rows.now)) }
+    ensures { OnOk result (NamesMore accounts.old.keys accounts.new.keys
+        (flat_map seller_and_buyer rows.now)) }
 {
     for row in rows {
         accounts.insert(row.contract.counterparties.seller)?;
@@ -75,7 +76,8 @@ pub(crate) fn contracts_in_force(
 ) -> Result<Vec<Contract>, Fault>
     requires { length rows.now ≤ most_rows }
     ensures accepted { Gives faults (λ _. rows.now) result (accepted_rows rows.now) }
-    ensures contracts { IfOk result (λ all. all.items ≡ in_force (map period_contract_entry rows.now)) }
+    ensures contracts { IfOk result (λ all.
+        all.items ≡ in_force (map period_contract_entry rows.now)) }
 {
     let mut contracts: BTreeMap<Reference, Contract> = BTreeMap::new(alloc);
     for (index, row) in rows.iter().enumerate() {

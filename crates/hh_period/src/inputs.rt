@@ -69,7 +69,8 @@ pub fn period<S: Sink>(
 
     // The device failed in this call, and a beginning of the text went out.
     ensures cut { IsErrOf result PeriodFault.Write
-        → WritesFront (period_outcome meter.now contracts.now price.now) (S.taken out.old) (S.taken out.new) }
+        → WritesFront (period_outcome meter.now contracts.now price.now)
+        (S.taken out.old) (S.taken out.new) }
     ensures failed { IsErrOf result PeriodFault.Write
         → Failed (S.failures out.old) (S.failures out.new) }
 {
@@ -108,7 +109,8 @@ fn accepted_contracts(alloc: Global, rows: &[PeriodContractRow]) -> Result<Vec<C
     requires { length rows.now ≤ most_rows }
     ensures accepted { Gives rejections (λ _. rows.now) result
         (read_from Input.Contracts (accepted_rows rows.now)) }
-    ensures contracts { IfOk result (λ all. all.items ≡ in_force (map period_contract_entry rows.now)) }
+    ensures contracts { IfOk result (λ all.
+        all.items ≡ in_force (map period_contract_entry rows.now)) }
 {
     match contracts_in_force(alloc, rows) {
         Ok(contracts) => Ok(contracts),

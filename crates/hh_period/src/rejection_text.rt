@@ -62,7 +62,8 @@ fn write_number<W: fmt::Write>(
     word: &str,
     number: Option<u32>,
 ) -> fmt::Result
-    ensures { DisplaysOnOk W.write_str_gives f.old result (Some (number_place word.now number)) f.new }
+    ensures { DisplaysOnOk W.write_str_gives f.old result
+        (Some (number_place word.now number)) f.new }
 {
     match number {
         Some(number) => write!(f, "{word}{number}"),
