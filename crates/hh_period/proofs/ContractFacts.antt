@@ -95,7 +95,7 @@ judged rows i row inside is answer e =
     e ∙ sym (judged_before (take i rows) (drop (i + 1) rows) row)
     ∙ ap (λ all. refusal_among all row) (ap (λ rest. take i rows ++ rest) (sym (rest_is rows i row inside is)) ∙ take-append-drop i rows)
 
--- the refusals that counterparties may have are not want of memory
+-- the refusals that counterparties may have are not the refusal of memory
 pub not_memory : (known : Option Counterparties) (own : Counterparties) (refusal : Refusal) (P Q : Type 0) → beside known own ≡ Some refusal → Q → ByRefusal refusal P Q
 not_memory known own refusal P Q e q = go (is_same_account own.seller own.buyer) (is_moved known own) e
   where

@@ -55,7 +55,7 @@ settled_text p = if is_within_limits p then Ok (period_text p) else Err (record 
 abbrev pub period_outcome : List ℕ → List ℕ → List ℕ → Outcome (List ℕ)
 period_outcome meter contracts price = period_input meter contracts price >>= settled_text
 
--- want of memory, which names no input
+-- the refusal of memory, which names no input
 abbrev pub memory_rejection : Rejection
 memory_rejection = record { fault = memory_fault; input = None }
 

@@ -54,7 +54,7 @@ HasFailed device = Failed device.old_failures device.new_failures
 abbrev pub IsTold : Course → Type 0
 IsTold device = HasFailed device ⊎ ((text : List ℕ) × (text ≢ []) × Appends device.old device.new text)
 
--- the line of the stop went out, or that of want of memory, unless the device failed
+-- the line of the stop went out, or that of refused memory, unless the device failed
 abbrev pub Tells : Course → Stop → Type 0
 Tells device s = HasFailed device ⊎ Appends device.old device.new (stop_line s) ⊎ Appends device.old device.new (rejection_line memory_rejection)
 
