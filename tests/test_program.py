@@ -192,8 +192,9 @@ class WrongWords(OfTheProgram):
         self.wrong("period", METER, CONTRACTS, "--help")
 
     def test_words_that_are_not_utf8(self):
-        self.wrong(b"period", b"\xff.csv", CONTRACTS, "50")
-        self.wrong(b"\xff")
+        for words in ((b"period", b"\xff.csv", CONTRACTS, "50"), (b"\xff",)):
+            self.wrong(*words)
+            self.assertIn(b"not text (UTF-8)", call(*words).stderr)
 
 
 class Streams(OfTheProgram):

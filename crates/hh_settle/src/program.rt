@@ -22,10 +22,10 @@ use std::{env, io};
 /// The exit status of a command that was done.
 const DONE: u8 = 0;
 
-/// Of one that was refused, or met a fault of a file or of the output.
+/// The exit status of a command that was refused, or met a fault of a file or of the output.
 const REFUSED: u8 = 1;
 
-/// Of wrong words, or a call for help.
+/// The exit status of wrong words, or of a call for help.
 const WRONG_WORDS: u8 = 2;
 
 /// What is told of words that are not text.
