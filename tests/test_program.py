@@ -194,7 +194,7 @@ class WrongWords(OfTheProgram):
     def test_words_that_are_not_utf8(self):
         for words in ((b"period", b"\xff.csv", CONTRACTS, "50"), (b"\xff",)):
             self.wrong(*words)
-            self.assertIn(b"not text (UTF-8)", call(*words).stderr)
+            self.assertIn(b"not text (UTF-8)", settle(*words)[2])
 
 
 class Streams(OfTheProgram):

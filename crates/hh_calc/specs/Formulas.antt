@@ -2,6 +2,7 @@
 -- formulas and numbers are this office's own. Energy is in ticks, 10^10 to the MWh, cash in pence, positive where the account pays.
 use Rattle.std.specs.Prelude.{ℕ, ◌^◌, unsigned_abs, ℤ, pos, neg_ℤ, ◌+ℤ◌, ◌-ℤ◌, ◌*ℤ◌, List, [], ◌∷◌, ◌++◌, map, filter, not, sum_by, if◌then◌else◌}
 use Rattle.std.specs.List.{flat_map}
+use Rattle.hh_num.specs.Quantities.{hundred_percent}
 use Rattle.hh_num.specs.Rounding.{near}
 use Rattle.hh_num.specs.Totals.{total}
 use Rattle.hh_names.specs.declared.account.Account.{Account}
@@ -14,10 +15,7 @@ use Rattle.hh_calc.specs.declared.result.Figures.{Figures}
 use Rattle.hh_calc.specs.declared.sums.AccountSums.{AccountSums}
 use Rattle.hh_calc.specs.Terms.{PeriodTerms, BmUnit}
 
--- the whole of a volume, as a percentage in its units
-abbrev pub whole_percentage : ℤ
-whole_percentage = pos (10 ^ 7)
-
+-- ticks to the kWh
 abbrev pub ticks_per_kwh : ℤ
 ticks_per_kwh = pos (10 ^ 7)
 
@@ -37,11 +35,11 @@ balanced u = u.reading.balancing *ℤ u.reading.tlm
 -- balancing volume, and its fixed volume
 abbrev pub reallocated : BmUnit → Subsidiary → ℤ
 reallocated u s =
-    ((u.reading.metered -ℤ u.reading.balancing) *ℤ s.reallocation.percent) +ℤ (s.reallocation.fixed *ℤ whole_percentage)
+    ((u.reading.metered -ℤ u.reading.balancing) *ℤ s.reallocation.percent) +ℤ (s.reallocation.fixed *ℤ hundred_percent)
 
 -- what a subsidiary is credited with: that volume, loss-adjusted and rounded
 abbrev pub subsidiary_credit : BmUnit → Subsidiary → ℤ
-subsidiary_credit u s = near (reallocated u s *ℤ u.reading.tlm) whole_percentage
+subsidiary_credit u s = near (reallocated u s *ℤ u.reading.tlm) hundred_percent
 
 -- what the lead account keeps: the exact rest of the loss-adjusted volume
 abbrev pub lead_credit : BmUnit → ℤ
@@ -96,7 +94,7 @@ sums_over units contracts a = record {
   weight = sum_by (weight_of a) (credits_of (weighing units));
 }
 
--- energy that an account neither metered nor traded
+-- the energy that an account was credited with beyond its balancing volume and its net contracts
 abbrev pub imbalance_of : AccountSums → ℤ
 imbalance_of sums = (sums.credited -ℤ sums.balancing) -ℤ sums.contracts
 
@@ -120,14 +118,15 @@ module _ (p : PeriodTerms) where
   abbrev pub period_sums : Account → AccountSums
   period_sums = sums_over p.units p.contracts
 
-  -- its figures
+  -- the figures of an account over the period
   abbrev pub figures : Account → Figures
   figures a = figures_from a (period_sums a) p.price
 
-  -- the sums and the figures of all accounts, in their order
+  -- the sums of all accounts, in their order
   abbrev pub all_sums : List AccountSums
   all_sums = map period_sums p.accounts
 
+  -- the figures of all accounts, in their order
   abbrev pub all_figures : List Figures
   all_figures = map figures p.accounts
 

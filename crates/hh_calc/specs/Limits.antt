@@ -6,9 +6,11 @@ use Rattle.hh_calc.specs.declared.result.Figures.{Figures}
 use Rattle.hh_calc.specs.Formulas.{figures, period_sums, residual}
 use Rattle.hh_calc.specs.Terms.{PeriodTerms}
 
+-- the greatest energy of an account in a period, in size
 abbrev pub greatest_energy : ℕ
 greatest_energy = 10 ^ 17
 
+-- the greatest charge of an account and the greatest residual of a period, in size
 abbrev pub greatest_cash : ℕ
 greatest_cash = 10 ^ 12
 
@@ -31,14 +33,14 @@ module _ (p : PeriodTerms) where
   abbrev pub is_account_within : Account → Bool
   is_account_within a = are_within (figures p a) && nat_le (period_sums p a).weight greatest_energy
 
-  -- nor do those of all these accounts
+  -- no figure and no weight of these accounts passes a limit
   abbrev pub are_accounts_within : List Account → Bool
   are_accounts_within accounts = list_all is_account_within accounts
 
-  -- nor do those of all accounts of the period
+  -- no figure and no weight of the period's accounts passes a limit
   abbrev pub are_all_within : Bool
   are_all_within = are_accounts_within p.accounts
 
-  -- nor does the residual of the period
+  -- no figure, no weight and no residual of the period passes a limit
   abbrev pub is_within_limits : Bool
   is_within_limits = are_all_within && is_at_most greatest_cash (residual p)

@@ -25,19 +25,19 @@ module _ (accounts : List Account) where
   abbrev pub IsNamed : Account → Type 0
   IsNamed a = Contains accounts a
 
-  -- so are the accounts of these subsidiaries
+  -- the accounts of these subsidiaries are some of these
   abbrev pub AreSubsidiariesNamed : List Subsidiary → Type 0
   AreSubsidiariesNamed = All (λ s. IsNamed s.account)
 
-  -- the lead and the subsidiaries of a unit
+  -- the lead account and the subsidiaries of a unit are some of these
   abbrev pub IsUnitNamed : BmUnit → Type 0
   IsUnitNamed u = IsNamed u.lead × AreSubsidiariesNamed u.subsidiaries
 
-  -- the seller and the buyer of a contract
+  -- the seller and the buyer of a contract are some of these
   abbrev pub IsContractNamed : Contract → Type 0
   IsContractNamed c = IsNamed c.counterparties.seller × IsNamed c.counterparties.buyer
 
-  -- the account of a credit
+  -- the account of a credit is one of these
   abbrev pub IsCreditNamed : CreditRow → Type 0
   IsCreditNamed c = IsNamed c.account
 

@@ -30,11 +30,11 @@ abbrev pub credit_amounts : Bool → ℤ → AccountSums
 credit_amounts weighs credited =
     record { credited = credited; balancing = pos 0; contracts = pos 0; weight = if weighs then unsigned_abs credited else 0 }
 
--- what a balancing volume adds
+-- what a balancing volume adds to its account's sums
 abbrev pub balancing_amounts : ℤ → AccountSums
 balancing_amounts volume = record { credited = pos 0; balancing = volume; contracts = pos 0; weight = 0 }
 
--- what a contracted volume adds
+-- what a contracted volume adds to its account's sums
 abbrev pub contract_amounts : ℤ → AccountSums
 contract_amounts volume = record { credited = pos 0; balancing = pos 0; contracts = volume; weight = 0 }
 
@@ -106,11 +106,11 @@ greatest_credit = 10 ^ 18
 abbrev pub greatest_volume : ℕ
 greatest_volume = 2 * 10 ^ 14
 
--- the greatest sum over as many units as memory holds, in ticks
+-- the greatest sum of an account over as many units as memory holds, in ticks
 abbrev pub greatest_unit_sum : ℕ
 greatest_unit_sum = 19 * 10 ^ 36
 
--- and with as many contracts
+-- the greatest sum of an account over as many units and as many contracts, in ticks
 abbrev pub greatest_sum : ℕ
 greatest_sum = 2 * 10 ^ 37
 

@@ -12,7 +12,7 @@ use hh_num::{Ticks, round_div};
 use std::alloc::AllocError;
 
 /// The whole of a volume, as a percentage in its units.
-const WHOLE_PERCENTAGE: i128 = 10_000_000;
+const HUNDRED_PERCENT: i128 = 10_000_000;
 
 /// The loss-adjusted volume of a unit, in ticks (Section T).
 fn loss_adjusted_volume(unit: &UnitData) -> i128
@@ -31,8 +31,8 @@ fn credit_to(unit: &UnitData, subsidiary: &Subsidiary) -> i128
     let reading = unit.reading();
     let volume = i128::from(reading.metered.units()) - i128::from(reading.balancing.units());
     let part = volume * i128::from(subsidiary.reallocation.percent.units())
-        + i128::from(subsidiary.reallocation.fixed.units()) * WHOLE_PERCENTAGE;
-    round_div(part * i128::from(reading.tlm.units()), WHOLE_PERCENTAGE)
+        + i128::from(subsidiary.reallocation.fixed.units()) * HUNDRED_PERCENT;
+    round_div(part * i128::from(reading.tlm.units()), HUNDRED_PERCENT)
 }
 
 /// Appends the credits from a unit: to each subsidiary, and the exact rest to the lead account.

@@ -45,6 +45,10 @@ multipliers = not_negative 7 20_000_000
 abbrev pub percentages : Measure
 percentages = not_negative 5 10_000_000
 
+-- 100 percent
+abbrev pub hundred_percent : ℤ
+hundred_percent = percentages.most
+
 -- the number of units that a text writes, in the grammar of decimals and within the quantity's range
 abbrev pub value_in : Measure → List ℕ → Option ℤ
 value_in measure = fixed_between measure.decimals measure.least measure.most

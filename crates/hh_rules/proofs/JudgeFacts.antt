@@ -18,7 +18,8 @@ use Rattle.hh_rules.specs.declared.timing.Timing.{Timing}
 use Rattle.hh_rules.specs.Effects.{HasRoomFor}
 use Rattle.hh_rules.specs.Lateness.{Timetable, accepted_at, comes_in_time, has_its_period, is_in_time, lacks_period, timing_by, timing_of}
 use Rattle.hh_rules.specs.Percents.{percent_of_others}
-use Rattle.hh_rules.specs.Refusals.{Standing, contract_refusals, hundred_percent, meter_refusals, most_parties, most_units, party_refusals, price_refusals, reallocation_refusals, refusals_of, unit_refusals}
+use Rattle.hh_num.specs.Quantities.{hundred_percent}
+use Rattle.hh_rules.specs.Refusals.{Standing, contract_refusals, meter_refusals, most_parties, most_units, party_refusals, price_refusals, reallocation_refusals, refusals_of, unit_refusals}
 
 -- none of the conditions of a list is met
 abbrev NoneMet : List (Refusal × Bool) → Type 0

@@ -19,7 +19,8 @@ use Rattle.hh_rules.specs.declared.timing.Timing.{Timing}
 use Rattle.hh_rules.specs.History.{Registered}
 use Rattle.hh_rules.specs.Lateness.{accepted_at, comes_in_time, lacks_period, timing_of}
 use Rattle.hh_rules.specs.Percents.{percent_of_others}
-use Rattle.hh_rules.specs.Refusals.{Standing, is_some_that, is_unit_moved, most_parties, most_units, hundred_percent, refusals_of}
+use Rattle.hh_num.specs.Quantities.{hundred_percent}
+use Rattle.hh_rules.specs.Refusals.{Standing, is_some_that, is_unit_moved, most_parties, most_units, refusals_of}
 use Rattle.hh_rules.specs.RegisterView.{AgreesOn, PartsJudgeAlike, reallocations_at, timetable_of}
 
 both_tests : (a b : Bool) (x : ℤ) → cond (a && b) x (pos 0) ≡ cond a (cond b x (pos 0)) (pos 0)

@@ -18,7 +18,8 @@ use Rattle.hh_rules.specs.Entries.{party_entry, unit_entry, reference_entry, met
 use Rattle.hh_rules.specs.History.{History, Registered, registered_in}
 use Rattle.hh_rules.specs.Lateness.{Timetable, Accepted}
 use Rattle.hh_rules.specs.Percents.{percent_of_others}
-use Rattle.hh_rules.specs.Refusals.{Standing, hundred_percent, most_parties, most_units, whole_standing}
+use Rattle.hh_num.specs.Quantities.{hundred_percent}
+use Rattle.hh_rules.specs.Refusals.{Standing, most_parties, most_units, whole_standing}
 
 -- what becomes of an accepted row that is in time or not
 abbrev pub row_done : Bool → RowDone

@@ -1,6 +1,7 @@
 -- Why a row is refused: the refusals of each kind of row with their conditions, in the order of their numbers.
 use Rattle.std.specs.Prelude.{ℕ, ◌+ℤ◌, ℤ, pos, nat_le, int_lt, List, [], ◌∷◌, length, Bool, true, false, not, ◌&&◌, ◌||◌, Option, Some, None, is_none}
 use Rattle.std.specs.FinMap.{find}
+use Rattle.hh_num.specs.Quantities.{hundred_percent}
 use Rattle.hh_names.specs.declared.fault.Refusal.{Refusal}
 use Rattle.hh_names.specs.declared.fault.Refusal.TheVariants as refusal
 use Rattle.hh_names.specs.Accounts.{bytes_cmp, is_same_account}
@@ -37,10 +38,6 @@ most_parties = 400
 -- how many units there may be
 abbrev pub most_units : ℕ
 most_units = 2000
-
--- 100 percent, in 10^-5 percent
-abbrev pub hundred_percent : ℤ
-hundred_percent = pos 10_000_000
 
 -- there is a value, and it passes the test
 abbrev pub is_some_that : {X : Type 0} → (X → Bool) → Option X → Bool
