@@ -1,4 +1,5 @@
 pub mod FixedFacts
 pub mod GrammarFacts
 pub mod RoundingFacts
+pub mod SizeLaws
 pub mod TotalLaws

@@ -1,23 +1,10 @@
 -- That `near` is nearest, and that no other number is.
-use Rattle.std.proofs.Common.{◌≡◌, ℕ, zero, suc, ◌+◌, ◌-◌, ◌*◌, ◌<◌, ◌≤◌, ℤ, pos, negsuc, neg_ℤ, ◌-ℤ◌, ◌*ℤ◌, ◌<ℤ◌, unsigned_abs, refl, sym, ap, ◌∙◌, arith}
+use Rattle.std.proofs.Common.{◌≡◌, ℕ, suc, ◌+◌, ◌*◌, ◌<◌, ◌≤◌, ℤ, pos, negsuc, neg_ℤ, ◌-ℤ◌, ◌*ℤ◌, ◌<ℤ◌, unsigned_abs, sym, ap, ◌∙◌, arith}
 use Rattle.std.proofs.Math.IntN.{neg_ℤ-neg_ℤ, neg_ℤ-+ℤ}
 use Rattle.std.proofs.Math.Nat.{le-div_iff_mul-le}
 use Rattle.std.proofs.lemmas.Int.{ints}
 use Rattle.hh_num.specs.Rounding.{doubled_distance, IsNear, near_part, near}
-
-unsigned_abs-neg : (z : ℤ) → unsigned_abs (neg_ℤ z) ≡ unsigned_abs z
-unsigned_abs-neg (pos zero) = refl
-unsigned_abs-neg (pos (suc n)) = refl
-unsigned_abs-neg (negsuc n) = refl
-
-unsigned_abs-sub : (a b : ℕ) → unsigned_abs (pos a -ℤ pos b) ≡ (a - b) + (b - a)
-unsigned_abs-sub a zero = omega arith
-unsigned_abs-sub a (suc b) = grind arith
-
-neg-mul : (r : ℤ) (b : ℕ) → neg_ℤ r *ℤ pos b ≡ neg_ℤ (r *ℤ pos b)
-neg-mul (pos zero) b = let e : 0 * b ≡ 0 = omega arith in rw e refl
-neg-mul (pos (suc n)) b = refl
-neg-mul (negsuc n) b = sym (neg_ℤ-neg_ℤ (pos (suc n * b)))
+use Rattle.hh_num.proofs.SizeLaws.{unsigned_abs-neg, unsigned_abs-sub, neg-mul}
 
 -- both signs turned, the distance is the same
 doubled_distance-neg : (n r : ℤ) (b : ℕ) → doubled_distance (neg_ℤ n) (pos b) (neg_ℤ r) ≡ doubled_distance n (pos b) r

@@ -1,5 +1,5 @@
 -- Each share is its quota rounded.
-use Rattle.std.proofs.Common.{◌≡◌, ℕ, zero, suc, ◌+◌, ◌-◌, ◌*◌, ◌<◌, ◌≤◌, List, [], ◌∷◌, map, refl, sym, ap, ◌∙◌, subst, Bool, true, false, cond, arith}
+use Rattle.std.proofs.Common.{◌≡◌, ℕ, zero, suc, ◌+◌, ◌*◌, ◌<◌, ◌≤◌, List, [], ◌∷◌, map, refl, sym, ap, ◌∙◌, subst, Bool, true, false, cond, arith}
 use Rattle.std.specs.Prelude.{nat_lt, ◌==◌, ◌&&◌, ◌||◌, sum, count_by, All, ℤ, pos, negsuc, neg_ℤ, unsigned_abs, ◌-ℤ◌, ◌*ℤ◌}
 use Rattle.std.specs.List.{enumerate_from, zip}
 use Rattle.std.proofs.lemmas.List.Sums.{sum_by-le-sum_by}
@@ -8,6 +8,7 @@ use Rattle.std.proofs.lemmas.Bool.{le-ltb}
 use Rattle.std.proofs.Math.Nat.{mul_comm, add-mul, div-add-mod, mod-lt}
 use Rattle.std.proofs.Math.IntN.{neg_ℤ-+ℤ, negsuc-*ℤ-pos}
 use Rattle.hh_tables.proofs.TableLaws.{false_is_not_true}
+use Rattle.hh_num.proofs.SizeLaws.{unsigned_abs-neg, unsigned_abs-sub, neg-mul}
 use Rattle.hh_share.specs.Shares.{lower_quota, remainder, leftover, comes_before, rank, share_size, effective, shares, share_of, IsQuotaRounded, AreQuotasRounded}
 use Rattle.hh_share.proofs.CountLaws.{count_by-map, sum_by-enumerate}
 use Rattle.hh_share.proofs.SumLaws.{length-effective, length-shares, effective_positive, some_over, leftover_few, gets_more}
@@ -65,19 +66,6 @@ module _ (size : ℕ) (ws : List ℕ) (positive : 0 < sum ws) where
       ] refl
 
 -- distances of products, and that turning both signs leaves them
-unsigned_abs-neg : (z : ℤ) → unsigned_abs (neg_ℤ z) ≡ unsigned_abs z
-unsigned_abs-neg (pos zero) = refl
-unsigned_abs-neg (pos (suc n)) = refl
-unsigned_abs-neg (negsuc n) = refl
-
-unsigned_abs-sub : (a b : ℕ) → unsigned_abs (pos a -ℤ pos b) ≡ (a - b) + (b - a)
-unsigned_abs-sub a zero = omega arith
-unsigned_abs-sub a (suc b) = grind arith
-
-neg-mul : (n b : ℕ) → neg_ℤ (pos n) *ℤ pos b ≡ neg_ℤ (pos n *ℤ pos b)
-neg-mul zero b = let e : 0 * b ≡ 0 = omega arith in rw e refl
-neg-mul (suc n) b = refl
-
 distance : (a w n m : ℕ) → a * w < n * m + m → n * m < a * w + m → unsigned_abs ((pos a *ℤ pos w) -ℤ (pos n *ℤ pos m)) < m
 distance a w n m below above = rw (unsigned_abs-sub (a * w) (n * m)) (omega arith)
 
@@ -85,7 +73,7 @@ distance a w n m below above = rw (unsigned_abs-sub (a * w) (n * m)) (omega arit
 distance-neg : (a w n m : ℕ) → unsigned_abs ((negsuc a *ℤ pos w) -ℤ (neg_ℤ (pos n) *ℤ pos m)) ≡ unsigned_abs ((pos (suc a) *ℤ pos w) -ℤ (pos n *ℤ pos m))
 distance-neg a w n m =
     ap (λ z. unsigned_abs (z -ℤ (neg_ℤ (pos n) *ℤ pos m))) (negsuc-*ℤ-pos a w)
-    ∙ ap (λ z. unsigned_abs (neg_ℤ (pos (suc a * w)) -ℤ z)) (neg-mul n m)
+    ∙ ap (λ z. unsigned_abs (neg_ℤ (pos (suc a * w)) -ℤ z)) (neg-mul (pos n) m)
     ∙ ap unsigned_abs (sym (neg_ℤ-+ℤ (pos (suc a * w)) (neg_ℤ (pos n *ℤ pos m))))
     ∙ unsigned_abs-neg ((pos (suc a) *ℤ pos w) -ℤ (pos n *ℤ pos m))
 
