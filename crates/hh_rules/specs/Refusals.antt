@@ -1,5 +1,5 @@
 -- Why a row is refused: the refusals of each kind of row with their conditions, in the order of their numbers.
-use Rattle.std.specs.Prelude.{ℕ, ◌+ℤ◌, ℤ, pos, nat_le, int_lt, List, [], ◌∷◌, length, Bool, true, false, not, ◌&&◌, ◌||◌, Option, Some, None, is_none}
+use Rattle.std.specs.Prelude.{ℕ, ◌+ℤ◌, nat_le, int_lt, List, [], ◌∷◌, length, Bool, true, false, not, ◌&&◌, ◌||◌, Option, Some, None, is_none}
 use Rattle.std.specs.FinMap.{find}
 use Rattle.hh_num.specs.Quantities.{hundred_percent}
 use Rattle.hh_names.specs.declared.fault.Refusal.{Refusal}

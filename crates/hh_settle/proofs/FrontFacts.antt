@@ -1,12 +1,12 @@
 -- The front of a file that has more bytes than a file may have tells all that the whole file does.
-use Rattle.std.proofs.Common.{◌≡◌, ◌<◌, ◌≤◌, ℕ, List, length, take, Result, Ok, Err, cond, refl, sym, ap, ◌∙◌, arith, Bool, true, false, ltb}
+use Rattle.std.proofs.Common.{◌≡◌, ◌<◌, ℕ, List, length, take, Result, Ok, Err, cond, refl, sym, ap, ◌∙◌, arith, Bool, true, false, ltb}
 use Rattle.std.proofs.lemmas.Bool.{lt-ltb, ltb-false, ltb-true}
 use Rattle.std.proofs.lemmas.List.{length-take-le, take_all}
 use Rattle.hh_names.specs.declared.fault.Fault.{Fault}
 use Rattle.hh_names.specs.declared.fault.Refusal.TheVariants.{FileTooLarge}
 use Rattle.hh_names.specs.Faults.{plain_fault}
 use Rattle.hh_num.specs.Quantities.{price_value}
-use Rattle.hh_texts.specs.PeriodFiles.{period_contract_header, period_contract_row, period_contract_rows, period_meter_header, period_meter_row, period_meter_rows}
+use Rattle.hh_texts.specs.PeriodFiles.{period_contract_header, period_contract_row, period_meter_header, period_meter_row}
 use Rattle.hh_texts.specs.Records.{records_of}
 use Rattle.hh_texts.specs.Rows.{most_bytes, rows_of, rows_under}
 use Rattle.hh_texts.specs.declared.period_contracts.PeriodContractRow.{PeriodContractRow}

@@ -1,4 +1,4 @@
-use Rattle.std.proofs.Common.{inl, inr}
+use Rattle.std.proofs.Common.{inr}
 use Rattle.std.specs.Fmt.{digits}
 use Rattle.hh_settle.proofs.ResultFacts.{OnOk-map}
 use Rattle.hh_settle.proofs.program.write_rejection.Goals as goal
