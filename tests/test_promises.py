@@ -1,0 +1,67 @@
+"""docs/promises.md: each clause that a row names stands in the contract of a function that it names."""
+import functools
+import re
+import unittest
+
+from programs import HOME
+
+PAGE = HOME / "docs" / "promises.md"
+NAME = re.compile(r"`([^`]+)`")
+SECTION = re.compile(r"(?m)^## .*\(`(hh_\w+)`\)$")
+CONTRACT = re.compile(r"\bfn (\w+)\b(.*?)(?:\{\}?$|;$)", re.MULTILINE | re.DOTALL)
+CLAUSE = re.compile(r"\bensures (\w+) \{")
+
+
+def sections_of(text):
+    """The crate of each section that has one, and the section's text."""
+    parts = SECTION.split(text)[1:]
+    return [(crate, re.split(r"(?m)^## ", body)[0]) for crate, body in zip(parts[::2], parts[1::2])]
+
+
+def rows_of(section):
+    """The heads of a section's tables, and the cells of each row under them."""
+    heads = None
+    for line in section.split("\n"):
+        cells = [cell.strip() for cell in line.strip("|").split(" | ")]
+        if not line.startswith("|"):
+            heads = None
+        elif heads is None:
+            heads = [head.strip() for head in line.strip("|").split("|")]
+        elif not line.startswith("|-"):
+            yield heads, cells
+
+
+@functools.cache
+def contracts_of(crate):
+    """The clauses of the functions of each name in a crate."""
+    found = {}
+    for file in (HOME / "crates" / crate / "src").glob("**/*.rt"):
+        for name, contract in CONTRACT.findall(file.read_text(encoding="utf-8")):
+            found.setdefault(name, set()).update(CLAUSE.findall(contract))
+    return found
+
+
+class Promises(unittest.TestCase):
+    def test_each_clause_is_in_a_contract(self):
+        asked = 0
+        for crate, section in sections_of(PAGE.read_text(encoding="utf-8")):
+            contracts = contracts_of(crate)
+            for heads, cells in rows_of(section):
+                with self.subTest(f"{crate}: {cells[0]}"):
+                    asked += self.check_row(contracts, dict(zip(heads, cells)))
+        self.assertGreater(asked, 60)
+
+    def check_row(self, contracts, row):
+        """Asks for the row's functions and clauses, and answers how many clauses there are."""
+        functions = [name.split("::")[-1] for name in NAME.findall(row.get("Function", "")) if "::" in name or name in contracts]
+        for name in functions:
+            self.assertIn(name, contracts)
+        clauses = [name for name in NAME.findall(row.get("Clause", "")) if name.islower()]
+        known = set().union(*(contracts[name] for name in functions or contracts))
+        for clause in clauses:
+            self.assertIn(clause, known)
+        return len(clauses)
+
+
+if __name__ == "__main__":
+    unittest.main()
