@@ -332,21 +332,36 @@ fn counterparties(seller: &[u8], buyer: &[u8]) -> Option<Counterparties> {
     })
 }
 
+/// What a reference has that is known to be sold by GENCO-P to SUPCO-C, or that is not known.
+fn reference(is_known: bool) -> Option<Counterparties> {
+    if is_known {
+        counterparties(b"GENCO-P", b"SUPCO-C")
+    } else {
+        None
+    }
+}
+
+/// The number by which a row with these accounts is refused beside its reference, 0 where it is not.
+fn refused(seller: &[u8], buyer: &[u8], is_known: bool) -> Option<u8> {
+    let row = counterparties(seller, buyer)?;
+    match row.refusal_beside(reference(is_known)) {
+        Some(refusal) => Some(refusal.number()),
+        None => Some(0),
+    }
+}
+
 #[test]
 fn refuses_counterparties(rt: HostRuntime) -> Result<(), Fail> {
-    let known = counterparties(b"GENCO-P", b"SUPCO-C");
-    let cases: [(&[u8], &[u8], Option<Counterparties>, Option<Refusal>); 6] = [
-        (b"GENCO-P", b"SUPCO-C", None, None),
-        (b"GENCO-P", b"SUPCO-C", known, None),
-        (b"GENCO-P", b"GENCO-P", None, Some(Refusal::SameAccount)),
-        (b"GENCO-P", b"GENCO-P", known, Some(Refusal::SameAccount)),
-        (b"GENCO-P", b"SUPCO-P", known, Some(Refusal::ReferenceMoved)),
-        (b"SUPCO-C", b"GENCO-P", known, Some(Refusal::ReferenceMoved)),
+    let cases: [(&[u8], &[u8], bool, u8); 6] = [
+        (b"GENCO-P", b"SUPCO-C", false, 0),
+        (b"GENCO-P", b"SUPCO-C", true, 0),
+        (b"GENCO-P", b"GENCO-P", false, 35),
+        (b"GENCO-P", b"GENCO-P", true, 35),
+        (b"GENCO-P", b"SUPCO-P", true, 36),
+        (b"SUPCO-C", b"GENCO-P", true, 36),
     ];
-    for (seller, buyer, known, refusal) in cases {
-        let row = counterparties(seller, buyer);
-        assert!(rt; row.is_some());
-        assert_eq!(rt; row.and_then(|row| row.refusal_beside(known)), refusal);
+    for (seller, buyer, is_known, number) in cases {
+        assert_eq!(rt; refused(seller, buyer, is_known), Some(number));
     }
     Ok(())
 }

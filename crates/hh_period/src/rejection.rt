@@ -14,7 +14,7 @@ pub enum Input {
     Price,
 }
 
-/// A refusal, with the input that it names. Want of memory and figures past a limit name none.
+/// A refusal, with the input that it names. Refused memory and figures past a limit name none.
 #[derive(Clone, Copy, Debug, PartialEq, Eq)]
 pub struct Rejection {
     pub fault: Fault,
