@@ -1,4 +1,4 @@
--- A sink round a writer of std.
+-- A sink round any writer.
 use Rattle.std.specs.Prelude.{ℕ}
 use Rattle.hh_devices.specs.declared.stream_sink.StreamSink.{StreamSink}
 

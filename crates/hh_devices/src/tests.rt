@@ -1,6 +1,6 @@
 //! What no clause says: that each call succeeds, and what the words of the clauses come to.
 
-ghost use Rattle.std.specs.Prelude.{◌≤◌, IfOk};
+ghost use Rattle.std.specs.Prelude.{◌≡◌, ◌≤◌, min, length, Ok, None, IfOk};
 
 use super::*;
 use std::io::{self, Cursor, ErrorKind, Read, Write};
@@ -132,5 +132,39 @@ fn failing_streams_are_counted(rt: HostRuntime) -> Result<(), Fail> {
     assert_eq!(rt; source.read(&mut buffer), Ok(3));
     assert_eq!(rt; source.failures(), 1);
     assert_eq!(rt; source.into_inner().calls, 3);
+    Ok(())
+}
+
+/// A writer of which all is known: it takes at most three bytes a call.
+#[derive(Drop)]
+struct Slow {
+    calls: u8,
+}
+
+impl Writer for Slow {
+    ghost contents = { λ _. None };
+
+    ghost writes = { λ _ bytes result _. result ≡ Ok (min (length bytes) 3) };
+
+    fn write_some(&mut self, bytes: &[u8]) -> Result<usize, DeviceFailed> {
+        self.calls = self.calls.saturating_add(1);
+        Ok(bytes.len().min(3))
+    }
+}
+
+/// What is known of a writer is known of the sink round it.
+fn slow_write(sink: &mut StreamSink<Slow>, bytes: &[u8]) -> Result<usize, DeviceFailed>
+    ensures { result ≡ Ok (min (length bytes.now) 3) }
+{
+    sink.write(bytes)
+}
+
+#[test]
+fn known_writers_give_known_sinks(rt: HostRuntime) -> Result<(), Fail> {
+    let mut sink = StreamSink::new(Slow { calls: 0 });
+    assert_eq!(rt; slow_write(&mut sink, b"abcdef"), Ok(3));
+    assert_eq!(rt; slow_write(&mut sink, b"de"), Ok(2));
+    assert_eq!(rt; sink.failures(), 0);
+    assert_eq!(rt; sink.into_inner().calls, 2);
     Ok(())
 }

@@ -13,7 +13,7 @@ pub data Line : Type 0 where
 
 -- a command's values
 abbrev pub line_of : Command → Line
-line_of (Period meter contracts price) = PeriodLine meter.now contracts.now price.now
+line_of (Period words) = PeriodLine words.meter.now words.contracts.now words.price.now
 
 -- `period` needs its three values
 abbrev pub period_line : Option Text → Option Text → Option Text → Option Line

@@ -4,11 +4,11 @@ ghost use Rattle.std.specs.Prelude.{◌≡◌, ◌≤◌, ◌<◌, IfErr, OnErr,
 ghost use Rattle.clap.specs.Words.{Text};
 ghost use Rattle.hh_devices.specs.Devices.{Failed};
 ghost use Rattle.hh_period.specs.Outcome.{memory_rejection};
-ghost use Rattle.hh_settle.specs.Lines.{PeriodLine, line_of, line_value};
+ghost use Rattle.hh_settle.specs.Lines.{line_of, line_value};
 ghost use Rattle.hh_settle.specs.Stops.{course, Does, DoesWords, IsTold, Stops, StopsLine, Tells};
 ghost use Rattle.hh_texts.specs.Rows.{most_bytes};
 
-use crate::words::{Command, USAGE, WordsFault, read_words};
+use crate::words::{Command, PeriodWords, USAGE, WordsFault, read_words};
 use hh_devices::{DeviceFailed, Sink, write_whole};
 use hh_inputs::{InputFault, Inputs};
 use hh_names::Refusal;
@@ -29,8 +29,7 @@ const REFUSED: u8 = 1;
 const WRONG_WORDS: u8 = 2;
 
 /// What is told of words that are not text.
-const NOT_TEXT: &str =
-    "words that are not text (UTF-8)\nusage: settle period METER CONTRACTS PRICE\n";
+const NOT_TEXT: &str = "words that are not text (UTF-8)\n";
 
 /// The most bytes that are read of a file: one more than a file may have, so that a larger one is
 /// told, and an endless one ends.
@@ -169,39 +168,29 @@ fn perform<I: Inputs, O: Sink>(
         (O.taken out.old) (O.taken out.new) (Failed (O.failures out.old) (O.failures out.new))
         (line_of command.entry) stop) }
 {
-    let given = command.words();
-    settle_files(
-        alloc,
-        inputs,
-        MOST_READ,
-        given.meter,
-        given.contracts,
-        given.price,
-        out,
-    )
+    let words = command.words();
+    settle_files(alloc, inputs, MOST_READ, words, out)
 }
 
-/// Settles one period from the files of two paths and a price, of so many bytes of each file.
+/// Does what `period` is given, by so many bytes of each file.
 fn settle_files<I: Inputs, O: Sink>(
     alloc: Global,
     inputs: &I,
     most: usize,
-    meter: &str,
-    contracts: &str,
-    price: &str,
+    words: PeriodWords<'_>,
     out: &mut O,
 ) -> Result<(), Stop>
     requires { most_bytes < most }
     ensures done { OnOk result (Does (I.reads_as inputs.now)
-        (PeriodLine meter.now contracts.now price.now) (O.taken out.old) (O.taken out.new)) }
+        (line_of (Command.Period words.entry)) (O.taken out.old) (O.taken out.new)) }
     ensures well { OnOk result (O.failures out.new ≡ O.failures out.old) }
     ensures stopped { IfErr result (λ stop. StopsLine (I.reads_as inputs.now)
         (O.taken out.old) (O.taken out.new) (Failed (O.failures out.old) (O.failures out.new))
-        (PeriodLine meter.now contracts.now price.now) stop) }
+        (line_of (Command.Period words.entry)) stop) }
 {
-    let meter = inputs.read(alloc, meter, most)?;
-    let contracts = inputs.read(alloc, contracts, most)?;
-    period(alloc, &meter, &contracts, price.as_bytes(), out)?;
+    let meter = inputs.read(alloc, words.meter, most)?;
+    let contracts = inputs.read(alloc, words.contracts, most)?;
+    period(alloc, &meter, &contracts, words.price.as_bytes(), out)?;
     Ok(())
 }
 

@@ -5,7 +5,8 @@ ghost use Rattle.clap.specs.Words.{app_of, rule_of, found_of, rows_of, first_of,
 ghost use Rattle.clap.specs.declared.builder.command.Command.TheViews.{out-Command};
 ghost use Rattle.clap.specs.declared.error.kind.ErrorKind.TheVariants.{OutOfMemory};
 ghost use Rattle.hh_settle.specs.Grammar.{positional, period_app, settle_app};
-ghost use Rattle.hh_settle.specs.Lines.{PeriodLine, line_of, line_value, given_line, given_period};
+ghost use Rattle.hh_settle.specs.declared.words.Command.TheVariants.{Period};
+ghost use Rattle.hh_settle.specs.Lines.{line_of, line_value, given_line, given_period};
 
 use clap::error::ErrorKind;
 use clap::{Arg, ArgAction, ArgMatches, Command as Grammar};
@@ -14,15 +15,11 @@ use std::alloc::{AllocError, Global};
 /// How the program is used, in short.
 pub const USAGE: &str = "usage: settle period METER CONTRACTS PRICE\n";
 
-/// What the program is to do. The texts are as they were given.
+/// What the program is to do.
 #[derive(Clone, Copy, Debug, PartialEq, Eq)]
 pub enum Command<'a> {
     /// Settles one period from a file of meters, a file of contracts and a price.
-    Period {
-        meter: &'a str,
-        contracts: &'a str,
-        price: &'a str,
-    },
+    Period(PeriodWords<'a>),
 }
 
 /// The words of `period`, as they were given.
@@ -36,19 +33,10 @@ pub struct PeriodWords<'a> {
 impl<'a> Command<'a> {
     /// The words of the command.
     pub fn words(self) -> PeriodWords<'a>
-        ensures { line_of self.entry
-            ≡ PeriodLine result.meter.now result.contracts.now result.price.now }
+        ensures { line_of self.entry ≡ line_of (Period result) }
     {
         match self {
-            Command::Period {
-                meter,
-                contracts,
-                price,
-            } => PeriodWords {
-                meter,
-                contracts,
-                price,
-            },
+            Command::Period(words) => words,
         }
     }
 }
@@ -158,11 +146,11 @@ fn command_of<'a>(matches: &ArgMatches<'a>) -> Option<Command<'a>>
 fn period_of<'a>(given: &ArgMatches<'a>) -> Option<Command<'a>>
     ensures { option_map line_of result ≡ given_period (rows_of (found_of given.now)) }
 {
-    Some(Command::Period {
+    Some(Command::Period(PeriodWords {
         meter: value_of(given, "METER")?,
         contracts: value_of(given, "CONTRACTS")?,
         price: value_of(given, "PRICE")?,
-    })
+    }))
 }
 
 /// The text that a subcommand was given under a name.

@@ -13,7 +13,7 @@ pub(crate) fn line(alloc: Global, words: &[&str]) -> Result<Vec<String>, AllocEr
 fn price_of(alloc: Global, words: &[&str]) -> Result<String, AllocError> {
     let words = line(alloc, words)?;
     match read_words(alloc, &words) {
-        Ok(Command::Period { price, .. }) => String::from_str(alloc, price),
+        Ok(Command::Period(words)) => String::from_str(alloc, words.price),
         Err(WordsFault::Wrong(_)) => String::from_str(alloc, "wrong"),
         Err(WordsFault::Memory) => String::from_str(alloc, "memory"),
     }
@@ -28,11 +28,11 @@ fn takes_three_words(rt: HostRuntime) -> Result<(), Fail> {
     let Ok(command) = read_words(rt.alloc(), &words) else {
         panic!(&rt; "no command");
     };
-    let expected = Command::Period {
+    let expected = Command::Period(PeriodWords {
         meter: "m.csv",
         contracts: "c.csv",
         price: "-5.00000",
-    };
+    });
     assert_eq!(&rt; command, expected);
     Ok(())
 }
