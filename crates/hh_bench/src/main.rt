@@ -53,6 +53,3 @@ fn words_of<R: Env + AllocGlobal>(rt: &R) -> Result<Vec<String>, Stop> {
         Err(_) => Err(Stop::Words),
     }
 }
-
-#[cfg(test)]
-mod tests;
