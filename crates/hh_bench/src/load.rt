@@ -26,8 +26,8 @@ impl Counts {
     /// Counts one row more. `Err` only where memory was refused.
     fn add(&mut self, judged: Result<RowDone, Fault>) -> Result<(), Stop> {
         match judged {
-            Ok(RowDone::Applied) => self.applied = self.applied.saturating_add(1),
-            Ok(RowDone::Late) => self.late = self.late.saturating_add(1),
+            Ok(RowDone::Applied { .. }) => self.applied = self.applied.saturating_add(1),
+            Ok(RowDone::Late { .. }) => self.late = self.late.saturating_add(1),
             Err(fault) if fault.refusal == Refusal::Memory => return Err(Stop::no_memory()),
             Err(_) => self.refused = self.refused.saturating_add(1),
         }

@@ -31,7 +31,7 @@ entries_of-append entry (x ∷ history) a =
     ap (cons_option (entry x.row)) (entries_of-append entry history a) ∙ cons_option-append (entry x.row) (entries_of entry history) (option_to_list (entry a.row))
 
 -- the rows of a history with one more that pass a test
-filter-append : {X : Type 0} (test : X → Bool) (xs : List X) (x : X) → filter test (xs ++ x ∷ []) ≡ cond (test x) (filter test xs ++ x ∷ []) (filter test xs)
+pub filter-append : {X : Type 0} (test : X → Bool) (xs : List X) (x : X) → filter test (xs ++ x ∷ []) ≡ cond (test x) (filter test xs ++ x ∷ []) (filter test xs)
 filter-append test [] x = refl
 filter-append test (y ∷ xs) x =
     ap (λ zs. cond (test y) (y ∷ zs) zs) (filter-append test xs x)

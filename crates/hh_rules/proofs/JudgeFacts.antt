@@ -9,9 +9,10 @@ use Rattle.std.specs.List.{list_all}
 use Rattle.std.proofs.lemmas.Option.{same_Some}
 use Rattle.hh_tables.proofs.TableLaws.{false_is_not_true}
 use Rattle.hh_names.specs.Accounts.{bytes_cmp}
-use Rattle.hh_names.specs.Faults.{first_met, refusal_number, IsLeast}
+use Rattle.hh_names.specs.Faults.{ByRefusal, first_met, refusal_number, IsLeast}
 use Rattle.hh_names.specs.declared.fault.Fault.{Fault}
 use Rattle.hh_names.specs.declared.fault.Refusal.{Refusal}
+use Rattle.hh_names.specs.declared.fault.Refusal.TheVariants as refusal
 use Rattle.hh_rows.specs.declared.rows.Row.{Row}
 use Rattle.hh_rows.specs.declared.rows.Row.TheVariants as row
 use Rattle.hh_rules.specs.declared.timing.Timing.{Timing}
@@ -130,3 +131,31 @@ none_is_least (r ∷ rs) least none = (λ met. absurd (false_is_not_true (sym no
 pub least_of_none : {X : Type 0} (rs : List (Refusal × Bool)) → first_met rs ≡ None → (r : Result X Fault) → IfErr r (λ fault. IsLeast fault.refusal rs)
 least_of_none rs none (Ok x) = tt
 least_of_none rs none (Err fault) = none_is_least rs fault.refusal (none_met rs none)
+
+-- no row is refused by memory's refusal
+abbrev is_rows : Refusal → Bool
+is_rows refusal.Memory = false
+is_rows _ = true
+
+all_of_rows : (standing : Standing) (timing : Timing) (r : Row) → list_all (λ c. is_rows c.0) (refusals_of standing timing r) ≡ true
+all_of_rows standing timing (row.Party r) = refl
+all_of_rows standing timing (row.Unit r) = refl
+all_of_rows standing timing (row.Meter r) = refl
+all_of_rows standing timing (row.Price r) = refl
+all_of_rows standing timing (row.Contract r) = refl
+all_of_rows standing timing (row.Reallocation r) = refl
+
+first_of_rows : (rs : List (Refusal × Bool)) (why : Refusal) → list_all (λ c. is_rows c.0) rs ≡ true → first_met rs ≡ Some why → is_rows why ≡ true
+first_of_rows [] why all is = cc
+first_of_rows (r ∷ rs) why all is =
+    let halves = and_parts (is_rows r.0) (list_all (λ c. is_rows c.0) rs) all in
+    elim r.1 as (λ b. (if b then Some r.0 else first_met rs) ≡ Some why → is_rows why ≡ true) [
+      | true ↦ λ e. subst (λ x. is_rows x ≡ true) (same_Some r.0 why e) halves.0
+      | false ↦ λ e. first_of_rows rs why halves.1 e
+    ] is
+
+by_rows : (why : Refusal) (P Q : Type 0) → is_rows why ≡ true → Q → ByRefusal why P Q
+by_rows why P Q = elim why as (λ why. is_rows why ≡ true → Q → ByRefusal why P Q) [ refusal.Memory ↦ λ e q. absurd (false_is_not_true e) | _ ↦ λ e q. q ]
+
+pub by_row_refusal : (standing : Standing) (timing : Timing) (r : Row) (why : Refusal) (P Q : Type 0) → first_met (refusals_of standing timing r) ≡ Some why → Q → ByRefusal why P Q
+by_row_refusal standing timing r why P Q is = by_rows why P Q (first_of_rows (refusals_of standing timing r) why (all_of_rows standing timing r) is)

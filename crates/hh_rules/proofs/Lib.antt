@@ -1,4 +1,6 @@
 mod Examples
+mod FileLaws
+mod FilterFacts
 pub mod HistoryLaws
 mod JudgeFacts
 mod PercentFacts

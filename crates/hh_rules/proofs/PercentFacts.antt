@@ -3,7 +3,7 @@ use Rattle.std.proofs.Common.{◌≡◌, refl, sym, ap, subst, ◌∙◌, cond, 
 use Rattle.std.specs.Prelude.{ℤ, pos, ◌+ℤ◌, ◌≤ℤ◌, ◌&&◌, not, Option, Some, None, Result, Ok, Err, OnOk, OnErr, T, unwrap_or}
 use Rattle.std.specs.Cmp.{eq_by_cmp_equiv}
 use Rattle.std.specs.FinMap.{find, put, is_sorted}
-use Rattle.std.specs.FinMap.Entries.{find-put}
+use Rattle.std.specs.FinMap.Entries.{find-put, is_sorted-put}
 use Rattle.std.specs.Ordering.{eq_by_cmp, is_eq, ordering_then}
 use Rattle.std.specs.declared.cmp.Ordering.{Ordering}
 use Rattle.std.specs.declared.cmp.Ordering.TheVariants.{Less, Equal, Greater}
@@ -18,6 +18,7 @@ use Rattle.hh_rows.specs.declared.keys.UnitPeriod.{UnitPeriod}
 use Rattle.hh_rows.specs.declared.keys.ReallocationKey.{ReallocationKey}
 use Rattle.hh_names.specs.declared.values.Reallocation.{Reallocation}
 use Rattle.hh_rules.specs.Percents.{SumsPercents, is_of_other, percent_at, percent_in, percent_of_others}
+use Rattle.hh_rules.proofs.FilterFacts.{rising_of}
 use Rattle.hh_rules.proofs.SumFacts.{part_of, total-put-part, total-others, total-some, all-put}
 
 abbrev same_unit_period : UnitPeriod → UnitPeriod → Bool
@@ -113,6 +114,7 @@ module _ (key : ReallocationKey) where
                 ∙ (eq_by_cmp_equiv unit_period_total).symm at e.0.unit_period))
             | false ↦ λ apart. before.sums at ∙ sym (percent_elsewhere at ((eq_by_cmp_equiv unit_period_total).symm key.unit_period at ∙ apart))
           ] refl;
+      rising = rising_of reallocation_key_cmp (put reallocation_key_cmp key v es) (is_sorted-put reallocation_key_cmp reallocation_key_total key v es (sorted es h));
       none_negative = all-put reallocation_key_total key (λ w. pos 0 ≤ℤ w.percent) v es positive before.none_negative;
     }
 

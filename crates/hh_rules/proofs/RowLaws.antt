@@ -80,28 +80,28 @@ module _ {K V : Type 0} {R : K → K → Ordering} (o : IsTotalOrder R) where
       ∙ ap (λ b. cond b (Some value) (find R key table)) ((eq_by_cmp_equiv o).refl key)
 
 -- what became of a row tells whether it was in time
-late_is : (in_time : Bool) (done : RowDone) → done ≡ row_done in_time → done ≡ Late → in_time ≡ false
-late_is true done is late = cc
-late_is false done is late = refl
+late_is : (in_time first fixes : Bool) (done : RowDone) → done ≡ row_done in_time first → done ≡ Late fixes → in_time ≡ false
+late_is true first fixes done is late = cc
+late_is false first fixes done is late = refl
 
-applied_is : (in_time : Bool) (done : RowDone) → done ≡ row_done in_time → done ≡ Applied → in_time ≡ true
-applied_is true done is applied = refl
-applied_is false done is applied = cc
+applied_is : (in_time first fixes : Bool) (done : RowDone) → done ≡ row_done in_time first → done ≡ Applied fixes → in_time ≡ true
+applied_is true first fixes done is applied = refl
+applied_is false first fixes done is applied = cc
 
 -- an accepted row has the effects of one more row
 pub one_more_row : (timetable : Timetable) (a : Accepted) (old new : Standing) (done : RowDone)
-    → new ≡ standing_with (is_in_time timetable a) a.row old → done ≡ row_done (is_in_time timetable a) → IsOneMoreRow timetable a old new done
-one_more_row timetable a old new done changed became =
+    → new ≡ standing_with (is_in_time timetable a) a.row old → (first : Bool) → done ≡ row_done (is_in_time timetable a) first → IsOneMoreRow timetable a old new done
+one_more_row timetable a old new done changed first became =
     let in_time : Bool = is_in_time timetable a in
     let tables : new.tables ≡ with_row in_time a.row old.tables = ap (λ s. s.tables) changed in
     record {
-      late = λ late. subst (KeepsRowsInForce old.tables) (sym tables) (keeps_rows_in_force timetable a.moment old.tables a.row (late_is in_time done became late));
+      late = λ fixes late. subst (KeepsRowsInForce old.tables) (sym tables) (keeps_rows_in_force timetable a.moment old.tables a.row (late_is in_time first fixes done became late));
       meter = λ r is. replaced unit_period_total r.key r.reading _ _ (ap (λ t. t.meters) tables ∙ ap (λ x. (with_row in_time x old.tables).meters) is);
       price = λ r is. replaced settlement_period_total r.at r.price _ _ (ap (λ t. t.prices) tables ∙ ap (λ x. (with_row in_time x old.tables).prices) is);
-      contract = λ r is applied. replaced contract_key_total r.key r.contract.volume _ _
-          (ap (λ t. t.contracts) tables ∙ (λ i. (with_row (applied_is in_time done became applied i) (is i) old.tables).contracts));
-      reallocation = λ r is applied. replaced reallocation_key_total r.key r.reallocation _ _
-          (ap (λ t. t.reallocations) tables ∙ (λ i. (with_row (applied_is in_time done became applied i) (is i) old.tables).reallocations));
+      contract = λ r is fixes applied. replaced contract_key_total r.key r.contract.volume _ _
+          (ap (λ t. t.contracts) tables ∙ (λ i. (with_row (applied_is in_time first fixes done became applied i) (is i) old.tables).contracts));
+      reallocation = λ r is fixes applied. replaced reallocation_key_total r.key r.reallocation _ _
+          (ap (λ t. t.reallocations) tables ∙ (λ i. (with_row (applied_is in_time first fixes done became applied i) (is i) old.tables).reallocations));
       fixes = λ r is unknown. ap (λ t. find bytes_cmp r.key.reference t.references) tables
           ∙ ap (λ x. find bytes_cmp r.key.reference (with_row in_time x old.tables).references) is
           ∙ found-put_new bytes_total r.key.reference r.contract.counterparties old.tables.references unknown;

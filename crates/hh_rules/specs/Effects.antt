@@ -1,5 +1,5 @@
 -- What an accepted row changes.
-use Rattle.std.specs.Prelude.{◌≡◌, ℕ, ◌+◌, ◌<◌, ◌≤ℤ◌, ◌+ℤ◌, List, [], ◌∷◌, ◌++◌, Bool, true, Option, Some, None, is_some, if◌then◌else◌}
+use Rattle.std.specs.Prelude.{◌≡◌, ℕ, ◌+◌, ◌<◌, ◌≤ℤ◌, ◌+ℤ◌, List, [], ◌∷◌, ◌++◌, Bool, true, false, Option, Some, None, is_none, is_some, if◌then◌else◌}
 use Rattle.std.specs.declared.cmp.Ordering.{Ordering}
 use Rattle.std.specs.FinMap.{find, put}
 use Rattle.std.specs.Ordering.{eq_by_cmp}
@@ -21,9 +21,14 @@ use Rattle.hh_rules.specs.Percents.{percent_of_others}
 use Rattle.hh_num.specs.Quantities.{hundred_percent}
 use Rattle.hh_rules.specs.Refusals.{Standing, most_parties, most_units, whole_standing}
 
--- what becomes of an accepted row that is in time or not
-abbrev pub row_done : Bool → RowDone
-row_done in_time = if in_time then Applied else Late
+-- whether a row is the first of its reference, whose seller and buyer it fixes
+abbrev pub fixes_reference : Registered → Row → Bool
+fixes_reference tables (row.Contract r) = is_none (find bytes_cmp r.key.reference tables.references)
+fixes_reference tables _ = false
+
+-- what becomes of an accepted row that is in time or not, and that fixes its reference or not
+abbrev pub row_done : Bool → Bool → RowDone
+row_done in_time fixes = if in_time then Applied fixes else Late fixes
 
 -- the table with an entry, if there is one, in the place of its key's
 abbrev pub put_entry : {K V : Type 0} → (K → K → Ordering) → Option (K × V) → Table K V → Table K V
@@ -98,15 +103,15 @@ KeepsReferences old new = (reference : List ℕ) → is_some (find bytes_cmp ref
 -- what follows of an accepted row, and of what became of it
 pub record IsOneMoreRow (timetable : Timetable) (a : Accepted) (old new : Standing) (done : RowDone) : Type 0 where
   -- a late row changes no row in force
-  pub late : done ≡ Late → KeepsRowsInForce old.tables new.tables
+  pub late : (fixes : Bool) → done ≡ Late fixes → KeepsRowsInForce old.tables new.tables
   -- a row in time replaces exactly the row of its key; readings and prices are never late
   pub meter : (r : MeterRow) → a.row ≡ row.Meter r
       → ReplacesRowOf unit_period_cmp r.key r.reading old.tables.meters new.tables.meters
   pub price : (r : PriceRow) → a.row ≡ row.Price r
       → ReplacesRowOf settlement_period_cmp r.at r.price old.tables.prices new.tables.prices
-  pub contract : (r : ContractRow) → a.row ≡ row.Contract r → done ≡ Applied
+  pub contract : (r : ContractRow) → a.row ≡ row.Contract r → (fixes : Bool) → done ≡ Applied fixes
       → ReplacesRowOf contract_key_cmp r.key r.contract.volume old.tables.contracts new.tables.contracts
-  pub reallocation : (r : ReallocationRow) → a.row ≡ row.Reallocation r → done ≡ Applied
+  pub reallocation : (r : ReallocationRow) → a.row ≡ row.Reallocation r → (fixes : Bool) → done ≡ Applied fixes
       → ReplacesRowOf reallocation_key_cmp r.key r.reallocation old.tables.reallocations new.tables.reallocations
   -- the first row of a reference fixes its seller and buyer, also where it is late, and no row moves them
   pub fixes : (r : ContractRow) → a.row ≡ row.Contract r → find bytes_cmp r.key.reference old.tables.references ≡ None

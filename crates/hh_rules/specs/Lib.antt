@@ -1,5 +1,6 @@
 pub mod Effects
 pub mod Entries
+pub mod FileRows
 pub mod History
 pub mod Lateness
 pub mod Percents

@@ -3,10 +3,10 @@ use Rattle.std.specs.Prelude.{◌≡◌, ℤ, pos, ◌≤ℤ◌, Bool, not, ◌&
 use Rattle.std.specs.FinMap.{find}
 use Rattle.std.specs.List.{AllByRecursion}
 use Rattle.std.specs.Ordering.{eq_by_cmp}
-use Rattle.hh_tables.specs.Tables.{Table}
+use Rattle.hh_tables.specs.Tables.{Table, IsTable}
 use Rattle.hh_num.specs.Totals.{total}
 use Rattle.hh_names.specs.Accounts.{is_same_account}
-use Rattle.hh_rows.specs.Keys.{unit_period_cmp}
+use Rattle.hh_rows.specs.Keys.{reallocation_key_cmp, unit_period_cmp}
 use Rattle.hh_rows.specs.declared.keys.UnitPeriod.{UnitPeriod}
 use Rattle.hh_rows.specs.declared.keys.ReallocationKey.{ReallocationKey}
 use Rattle.hh_names.specs.declared.values.Reallocation.{Reallocation}
@@ -25,9 +25,10 @@ abbrev pub percent_of_others : ReallocationKey → Table ReallocationKey Realloc
 percent_of_others key reallocations =
     total (λ e. if is_of_other key e.0 then e.1.percent else pos 0) reallocations
 
--- a table of percentages that has them all, none of the reallocations being negative
+-- a table of percentages that has them all, none of the reallocations being negative, and their keys rising
 pub record SumsPercents (percents : Table UnitPeriod ℤ) (reallocations : Table ReallocationKey Reallocation) : Type 0 where
   pub sums : (at : UnitPeriod) → unwrap_or (find unit_period_cmp at percents) (pos 0) ≡ percent_at reallocations at
+  pub rising : IsTable reallocation_key_cmp reallocations
   pub none_negative : AllByRecursion (λ e. pos 0 ≤ℤ e.1.percent) reallocations
 
 -- the percentage of a reallocation, 0 where there is none

@@ -1,26 +1,29 @@
 -- What contracts see of a register in memory, and when a part of one serves for some rows.
-use Rattle.std.specs.Prelude.{◌≡◌, ℕ, ℤ, List, [], filter, All, Bool, Option, Some, None, Result, Ok, Err}
-use Rattle.std.specs.FinMap.{find}
+use Rattle.std.specs.Prelude.{◌≡◌, ℕ, ℤ, List, [], ◌∷◌, filter, All, Bool, true, Option, Some, None, Result, Ok, Err, if◌then◌else◌}
+use Rattle.std.specs.FinMap.{find, put}
 use Rattle.std.specs.Ordering.{eq_by_cmp}
 use Rattle.jiff.specs.declared.tz.timezone.TimeZone.{TimeZone}
 use Rattle.jiff.specs.Words.{plain_zone}
-use Rattle.hh_tables.specs.Tables.{Table}
-use Rattle.hh_time.specs.Zone.{midnight_in}
+use Rattle.hh_tables.specs.Tables.{Table, IsTable}
+use Rattle.hh_time.specs.declared.day.Day.{Day}
+use Rattle.hh_time.specs.Zone.{count_in, midnight_in}
 use Rattle.hh_names.specs.Accounts.{bytes_cmp}
 use Rattle.hh_names.specs.Faults.{first_met, plain_fault, IsLeast}
 use Rattle.hh_names.specs.declared.fault.Fault.{Fault}
 use Rattle.hh_names.specs.declared.fault.Refusal.{Refusal}
-use Rattle.hh_rows.specs.Keys.{unit_period_cmp}
+use Rattle.hh_names.specs.declared.fault.Refusal.TheVariants.{OverHundred}
+use Rattle.hh_rows.specs.Keys.{contract_key_cmp, reallocation_key_cmp, settlement_period_cmp, unit_period_cmp}
 use Rattle.hh_rows.specs.declared.keys.UnitPeriod.{UnitPeriod}
 use Rattle.hh_rows.specs.declared.keys.ReallocationKey.{ReallocationKey}
+use Rattle.hh_names.specs.declared.values.Counterparties.{Counterparties}
 use Rattle.hh_names.specs.declared.values.Reallocation.{Reallocation}
 use Rattle.hh_rows.specs.declared.rows.Row.{Row}
 use Rattle.hh_rows.specs.declared.rows.Row.TheVariants as row
 use Rattle.hh_rules.specs.declared.row_done.RowDone.{RowDone}
-use Rattle.hh_rules.specs.Effects.{IsOneMoreRow, row_done, standing_with}
+use Rattle.hh_rules.specs.Effects.{IsOneMoreRow, fixes_reference, row_done, standing_with, with_row}
 use Rattle.hh_rules.specs.History.{Registered}
 use Rattle.hh_rules.specs.Lateness.{Timetable, accepted_at, is_in_time, timing_of}
-use Rattle.hh_rules.specs.Refusals.{Standing, refusals_of}
+use Rattle.hh_rules.specs.Refusals.{Standing, passes_hundred, refusals_of}
 
 -- what rows are judged by, and the minutes by which notifications close before their period
 pub record RegisterView : Type 0 where
@@ -38,6 +41,12 @@ empty_register lead_minutes = record {
   };
 }
 
+-- the register that counts so many parties and units, and holds none of them
+abbrev pub empty_part : ℕ → ℕ → ℕ → RegisterView
+empty_part lead_minutes party_count unit_count = record (empty_register lead_minutes) {
+  standing = record (empty_register lead_minutes).standing { party_count = party_count; unit_count = unit_count };
+}
+
 -- what is registered and in force in a register
 abbrev pub tables_in : RegisterView → Registered
 tables_in register = register.standing.tables
@@ -45,6 +54,12 @@ tables_in register = register.standing.tables
 -- when local midnights fall in a zone, and so many minutes before a period
 abbrev pub timetable_in : TimeZone → ℕ → Timetable
 timetable_in zone lead_minutes = record { midnight = midnight_in (plain_zone zone); lead_minutes = lead_minutes }
+
+-- a Settlement Day that is kept, if one is, is one of the zone's
+abbrev pub IsKeptIn : TimeZone → Option Day → Type 0
+IsKeptIn zone None = Unit {0}
+IsKeptIn zone (Some day) =
+    (day.start ≡ midnight_in (plain_zone zone) day.date) × (count_in (plain_zone zone) day.date ≡ Some day.count)
 
 -- the timetable by which a register judges rows
 abbrev pub timetable_of : TimeZone → RegisterView → Timetable
@@ -58,6 +73,25 @@ judged (Some r) = Err (plain_fault r)
 -- the register after one more row that is in time or not
 abbrev pub after_row : Bool → Row → RegisterView → RegisterView
 after_row in_time r register = record register { standing = standing_with in_time r register.standing }
+
+-- the register with other tables
+abbrev pub with_tables : Registered → RegisterView → RegisterView
+with_tables tables register = record register { standing = record register.standing { tables = tables } }
+
+-- the register with a row that it holds
+abbrev pub holding : Row → RegisterView → RegisterView
+holding r register = with_tables (with_row true r (tables_in register)) register
+
+-- the register with a reference that it holds
+abbrev pub holding_reference : List ℕ → Counterparties → RegisterView → RegisterView
+holding_reference reference counterparties register =
+    with_tables (record (tables_in register) { references = put bytes_cmp reference counterparties (tables_in register).references }) register
+
+-- the answer to a row that a register is to hold: more than 100 percent of a unit can't be in force
+abbrev pub held_row : Row → RegisterView → Result (Unit {0}) Fault
+held_row (row.Reallocation r) register =
+    if passes_hundred register.standing r then Err (plain_fault OverHundred) else Ok tt
+held_row _ register = Ok tt
 
 -- of a row that comes to a register at a moment
 module _ (zone : TimeZone) (register : RegisterView) (moment : ℤ) (r : Row) where
@@ -95,7 +129,7 @@ module _ (zone : TimeZone) (register : RegisterView) (moment : ℤ) (r : Row) wh
 
   -- what becomes of the row, if it is accepted
   abbrev pub done_at : RowDone
-  done_at = row_done in_time_at
+  done_at = row_done in_time_at (fixes_reference (tables_in register) r)
 
   -- the register after the row, if it is accepted
   abbrev pub register_after : RegisterView
@@ -123,31 +157,43 @@ abbrev pub AgreesOnReference : Registered → Registered → List ℕ → Type 0
 AgreesOnReference whole part reference =
     find bytes_cmp reference part.references ≡ find bytes_cmp reference whole.references
 
--- the part has of the whole what a row is judged by
+-- the part has of the whole what a row is judged by, and the row in force of its key
 abbrev pub AgreesOn : Registered → Registered → Row → Type 0
 AgreesOn whole part (row.Party r) = AgreesOnParty whole part r.party
 AgreesOn whole part (row.Unit r) =
     AgreesOnParty whole part r.registration.lead.party × AgreesOnUnit whole part r.unit
-AgreesOn whole part (row.Meter r) = AgreesOnUnit whole part r.key.unit
-AgreesOn whole part (row.Price r) = Unit {0}
+AgreesOn whole part (row.Meter r) =
+    AgreesOnUnit whole part r.key.unit
+    × (find unit_period_cmp r.key part.meters ≡ find unit_period_cmp r.key whole.meters)
+AgreesOn whole part (row.Price r) =
+    find settlement_period_cmp r.at part.prices ≡ find settlement_period_cmp r.at whole.prices
 AgreesOn whole part (row.Contract r) =
     AgreesOnParty whole part r.contract.counterparties.seller.party
     × AgreesOnParty whole part r.contract.counterparties.buyer.party
     × AgreesOnReference whole part r.key.reference
+    × (find contract_key_cmp r.key part.contracts ≡ find contract_key_cmp r.key whole.contracts)
 AgreesOn whole part (row.Reallocation r) =
     AgreesOnParty whole part r.key.account.party
     × AgreesOnUnit whole part r.key.unit_period.unit
     × (reallocations_at part r.key.unit_period ≡ reallocations_at whole r.key.unit_period)
 
 -- a part that serves for some rows closes notifications when the whole does, counts all parties and units, and has what
--- the rows are judged by
+-- the rows are judged by, and the rows in force of their keys
 pub record ServesFor (rows : List Row) (whole part : RegisterView) : Type 0 where
+  pub rising : IsTable reallocation_key_cmp (tables_in whole).reallocations
+  pub part_rising : IsTable reallocation_key_cmp (tables_in part).reallocations
   pub lead_minutes : part.lead_minutes ≡ whole.lead_minutes
   pub parties : part.standing.party_count ≡ whole.standing.party_count
   pub units : part.standing.unit_count ≡ whole.standing.unit_count
   pub agrees : All (AgreesOn whole.standing.tables part.standing.tables) rows
 
--- judged by a part that serves for it, each row is refused for the whole's reason, or for none
-abbrev pub PartsJudgeAlike : Type 0
-PartsJudgeAlike = (zone : TimeZone) (moment : ℤ) (rows : List Row) (whole part : RegisterView) → ServesFor rows whole part
-    → All (λ r. refusal_at zone part moment r ≡ refusal_at zone whole moment r) rows
+-- the answer to a row is the whole's, of whatever whole the register serves for the row
+abbrev pub JudgesAsWhole : TimeZone → RegisterView → ℤ → Row → Result (Unit {0}) Fault → Type 0
+JudgesAsWhole zone register moment r answer =
+    (whole : RegisterView) (rows : List Row) → ServesFor (r ∷ rows) whole register → answer ≡ judged_at zone whole moment r
+
+-- after a row that both accept, a part that serves for it and for more rows serves for those
+abbrev pub ServesAfter : TimeZone → RegisterView → ℤ → Row → RegisterView → Type 0
+ServesAfter zone old moment r new =
+    (whole : RegisterView) (rows : List Row) → ServesFor (r ∷ rows) whole old
+    → ServesFor rows (register_after zone whole moment r) new

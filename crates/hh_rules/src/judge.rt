@@ -5,13 +5,14 @@ ghost use Rattle.hh_names.specs.declared.fault.Refusal.TheVariants.{ShrinksRange
 ghost use Rattle.hh_names.specs.Faults.{first_met};
 ghost use Rattle.hh_rows.specs.DateRanges.{is_inside};
 ghost use Rattle.hh_rules.specs.Effects.{HasRoomFor};
-ghost use Rattle.hh_rules.specs.RegisterView.{judged_at, refusal_at, IsLeastFault, IsLeastRefusal, IsRefusedFor, PartsJudgeAlike, TellsInTime};
+ghost use Rattle.hh_rules.specs.RegisterView.{judged_at, refusal_at, IsKeptIn, IsLeastFault, IsLeastRefusal, IsRefusedFor, JudgesAsWhole, TellsInTime};
 ghost use Rattle.hh_rules.specs.Refusals.{contract_refusals, is_unit_moved, meter_refusals, party_refusals, passes_hundred, price_refusals, reallocation_refusals, refusals_of, unit_refusals};
 
 use crate::register::Register;
 use crate::timing::Timing;
 use hh_names::{Fault, Refusal};
 use hh_rows::{ContractRow, MeterRow, PartyRow, ReallocationRow, Row, UnitRegistration, UnitRow};
+use hh_time::Day;
 use jiff::tz::TimeZone;
 
 /// How many parties there may be.
@@ -29,22 +30,33 @@ impl Register {
     pub fn check_row(&self, zone: &TimeZone<'_>, moment: i64, row: &Row) -> Result<(), Fault>
         ensures answer { result ≡ judged_at zone.now self.now moment row.now }
         ensures least { IfErr result (IsLeastFault zone.now self.now moment row.now) }
+        ensures part { JudgesAsWhole zone.now self.now moment row.now result }
     {
-        match self.judge(zone, moment, row) {
+        let mut last = None;
+        match self.judge(&mut last, zone, moment, row) {
             Ok(_) => Ok(()),
             Err(refusal) => Err(Fault::of(refusal)),
         }
     }
 
     /// Whether a row that comes at a moment is in time, where it would be accepted; or why it would not.
-    pub(crate) fn judge(&self, zone: &TimeZone<'_>, moment: i64, row: &Row) -> Result<bool, Refusal>
+    /// The Settlement Day that was asked for last is kept.
+    pub(crate) fn judge(
+        &self,
+        last: &mut Option<Day>,
+        zone: &TimeZone<'_>,
+        moment: i64,
+        row: &Row,
+    ) -> Result<bool, Refusal>
+        requires { IsKeptIn zone.now last.old }
+        ensures kept { IsKeptIn zone.now last.new }
         ensures accepted { OnOk result (refusal_at zone.now self.now moment row.now ≡ None) }
         ensures in_time { IfOk result (TellsInTime zone.now self.now moment row.now) }
         ensures room { IfOk result (λ in_time. HasRoomFor in_time row.now self.now.standing) }
         ensures refused { IfErr result (IsRefusedFor zone.now self.now moment row.now) }
         ensures least { IfErr result (IsLeastRefusal zone.now self.now moment row.now) }
     {
-        let timing = self.timing_of(zone, moment, row);
+        let timing = self.timing_of(last, zone, moment, row);
         match self.refusal_of(timing, row) {
             Some(refusal) => Err(refusal),
             None => Ok(timing.comes_in_time()),
@@ -158,7 +170,7 @@ impl Register {
     }
 
     /// Whether with the row more than 100 percent would be in force.
-    fn passes_hundred(&self, row: &ReallocationRow) -> bool
+    pub(crate) fn passes_hundred(&self, row: &ReallocationRow) -> bool
         ensures { result ≡ passes_hundred self.now.standing row.now }
     {
         HUNDRED_PERCENT < self.percent_of_others(&row.key) + row.reallocation.percent.units()
@@ -190,11 +202,3 @@ fn refusal_of_price(timing: Timing) -> Option<Refusal>
         None
     }
 }
-
-/// That a part of a register serves for some rows: with the whole's lead minutes, its counts of parties
-/// and units, and what it has of the parties, units, references and reallocations that a row names, the
-/// part refuses the row as the whole does, or accepts it (profile).
-#[tactic(auto, using(crate::proofs::ServingLaws::parts_judge_alike))]
-pub fn parts_judge_alike()
-    ensures { PartsJudgeAlike }
-{}

@@ -2,11 +2,14 @@
 //! accepted or refused. The names and rows that it speaks of are handed on.
 #![tactic(auto)]
 
+mod file_rows;
+mod hold;
 mod judge;
 mod register;
 mod row_done;
 mod timing;
 
+pub use file_rows::{FileRows, FixedReference};
 pub use hh_names::{
     AccessKey, Account, Contract, Counterparties, Fault, FileName, OperatorKey, PartyId,
     PeriodNumber, Reading, Reallocation, Reference, Refusal, Side, UnitId, read_yes_no,
@@ -16,7 +19,6 @@ pub use hh_rows::{
     PartyRow, PriceRow, ReallocationKey, ReallocationRow, Row, Settings, SettlementPeriod,
     UnitPeriod, UnitRegistration, UnitRow,
 };
-pub use judge::parts_judge_alike;
 pub use register::Register;
 pub use row_done::RowDone;
 pub use timing::Timing;

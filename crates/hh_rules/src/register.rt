@@ -8,9 +8,9 @@ ghost use Rattle.hh_rows.specs.Keys.{contract_key_cmp, reallocation_key_cmp, set
 ghost use Rattle.hh_rows.specs.declared.rows.Row.TheVariants as rows;
 ghost use Rattle.hh_names.specs.Accounts.{bytes_cmp};
 ghost use Rattle.hh_names.specs.Faults.{faults, Gives};
-ghost use Rattle.hh_rules.specs.Effects.{HasRoomFor};
+ghost use Rattle.hh_rules.specs.Effects.{HasRoomFor, fixes_reference, row_done};
 ghost use Rattle.hh_rules.specs.Percents.{percent_in, percent_of_others};
-ghost use Rattle.hh_rules.specs.RegisterView.{after_row, done_at, empty_register, judged_at, register_after, tables_in, AddsOneRow, IsLeastFault};
+ghost use Rattle.hh_rules.specs.RegisterView.{after_row, done_at, empty_part, empty_register, holding, holding_reference, judged_at, register_after, tables_in, AddsOneRow, IsLeastFault, JudgesAsWhole, ServesAfter};
 
 use crate::row_done::RowDone;
 use hh_names::{Counterparties, Fault, PartyId, Reading, Reallocation, Reference, UnitId};
@@ -73,10 +73,23 @@ impl Register {
     pub fn new(alloc: Global, lead_minutes: LeadMinutes) -> Register
         ensures { result ≡ empty_register lead_minutes }
     {
+        Register::part(alloc, lead_minutes, 0, 0)
+    }
+
+    /// The register of a part, that counts so many parties and units in all and holds none of them yet.
+    /// Takes no memory.
+    pub fn part(
+        alloc: Global,
+        lead_minutes: LeadMinutes,
+        party_count: u32,
+        unit_count: u32,
+    ) -> Register
+        ensures { result ≡ empty_part lead_minutes party_count unit_count }
+    {
         Register {
             lead_minutes,
-            party_count: 0,
-            unit_count: 0,
+            party_count,
+            unit_count,
             parties: TreeTable::new(alloc),
             units: TreeTable::new(alloc),
             references: TreeTable::new(alloc),
@@ -176,13 +189,37 @@ impl Register {
         ensures done { IfOk result (λ done. done ≡ done_at zone.now self.old moment row) }
         ensures one_more_row { IfOk result (AddsOneRow zone.now self.old moment row self.new) }
         ensures unchanged { OnErr result (self.new ≡ self.old) }
+        ensures serves { OnOk result (ServesAfter zone.now self.old moment row self.new) }
     {
-        let in_time = match self.judge(zone, moment, &row) {
+        let mut last = None;
+        let in_time = match self.judge(&mut last, zone, moment, &row) {
             Ok(in_time) => in_time,
             Err(refusal) => return Err(Fault::of(refusal)),
         };
+        Ok(self.accept(in_time, row)?)
+    }
+
+    /// Changes what an accepted row changes, and says what became of it.
+    pub(crate) fn accept(&mut self, in_time: bool, row: Row) -> Result<RowDone, AllocError>
+        requires { HasRoomFor in_time row self.old.standing }
+        ensures ok { OnOk result (self.new ≡ after_row in_time row self.old) }
+        ensures done { IfOk result (λ done.
+            done ≡ row_done in_time (fixes_reference (tables_in self.old) row)) }
+        ensures err { OnErr result (self.new ≡ self.old) }
+    {
+        let fixes_reference = self.fixes_reference(&row);
         self.put_row(in_time, row)?;
-        Ok(RowDone::of(in_time))
+        Ok(RowDone::of(in_time, fixes_reference))
+    }
+
+    /// Whether a row is the first of its reference, whose seller and buyer it fixes.
+    fn fixes_reference(&self, row: &Row) -> bool
+        ensures { result ≡ fixes_reference (tables_in self.now) row.now }
+    {
+        match row {
+            Row::Contract(row) => self.reference(&row.key.reference).is_none(),
+            _ => false,
+        }
     }
 
     /// The percentage of the key's unit, in 10^-5 percent, that is in force in the key's Settlement
@@ -241,8 +278,37 @@ impl Register {
         Ok(())
     }
 
+    /// Holds a party, without counting it.
+    pub(crate) fn hold_party(&mut self, row: PartyRow) -> Result<(), AllocError>
+        ensures ok { OnOk result (self.new ≡ holding (rows.Party row) self.old) }
+        ensures err { OnErr result (self.new ≡ self.old) }
+    {
+        self.parties.put(row.party, row.registration)
+    }
+
+    /// Holds a unit, without counting it.
+    pub(crate) fn hold_unit(&mut self, row: UnitRow) -> Result<(), AllocError>
+        ensures ok { OnOk result (self.new ≡ holding (rows.Unit row) self.old) }
+        ensures err { OnErr result (self.new ≡ self.old) }
+    {
+        self.units.put(row.unit, row.registration)
+    }
+
+    /// Holds the seller and the buyer of a reference, in the place of those that it held. `Err` only
+    /// where memory is refused: the register is then as it was.
+    pub fn hold_reference(
+        &mut self,
+        reference: Reference,
+        counterparties: Counterparties,
+    ) -> Result<(), AllocError>
+        ensures ok { OnOk result (self.new ≡ holding_reference reference counterparties self.old) }
+        ensures err { OnErr result (self.new ≡ self.old) }
+    {
+        self.references.put(reference, counterparties)
+    }
+
     /// Takes a reading in the place of its key's.
-    fn put_meter(&mut self, row: MeterRow) -> Result<(), AllocError>
+    pub(crate) fn put_meter(&mut self, row: MeterRow) -> Result<(), AllocError>
         ensures ok { OnOk result (self.new ≡ after_row true (rows.Meter row) self.old) }
         ensures err { OnErr result (self.new ≡ self.old) }
     {
@@ -250,7 +316,7 @@ impl Register {
     }
 
     /// Takes a price in the place of its Settlement Period's.
-    fn put_price(&mut self, row: PriceRow) -> Result<(), AllocError>
+    pub(crate) fn put_price(&mut self, row: PriceRow) -> Result<(), AllocError>
         ensures ok { OnOk result (self.new ≡ after_row true (rows.Price row) self.old) }
         ensures err { OnErr result (self.new ≡ self.old) }
     {
@@ -258,7 +324,7 @@ impl Register {
     }
 
     /// Fixes a new reference, and takes a contract that is in time in the place of its key's.
-    fn put_contract(&mut self, in_time: bool, row: ContractRow) -> Result<(), AllocError>
+    pub(crate) fn put_contract(&mut self, in_time: bool, row: ContractRow) -> Result<(), AllocError>
         ensures ok { OnOk result (self.new ≡ after_row in_time (rows.Contract row) self.old) }
         ensures err { OnErr result (self.new ≡ self.old) }
     {
@@ -275,7 +341,11 @@ impl Register {
     }
 
     /// Takes a reallocation in the place of its key's, if it is in time.
-    fn put_reallocation(&mut self, in_time: bool, row: ReallocationRow) -> Result<(), AllocError>
+    pub(crate) fn put_reallocation(
+        &mut self,
+        in_time: bool,
+        row: ReallocationRow,
+    ) -> Result<(), AllocError>
         requires { HasRoomFor in_time (rows.Reallocation row) self.old.standing }
         ensures ok { OnOk result (self.new ≡ after_row in_time (rows.Reallocation row) self.old) }
         ensures err { OnErr result (self.new ≡ self.old) }

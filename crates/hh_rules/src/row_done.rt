@@ -7,21 +7,26 @@ ghost use Rattle.hh_rules.specs.Effects.{row_done};
 #[derive(Clone, Copy, Debug, PartialEq, Eq)]
 pub enum RowDone {
     /// The row counts.
-    Applied,
-    /// The row came at its deadline or later: it has no effect on its Settlement Period, but may have
-    /// fixed its reference.
-    Late,
+    Applied {
+        /// Whether the row is the first of its reference, whose seller and buyer it fixes.
+        fixes_reference: bool,
+    },
+    /// The row came at its deadline or later: it has no effect on its Settlement Period.
+    Late {
+        /// Whether the row is the first of its reference, whose seller and buyer it fixes.
+        fixes_reference: bool,
+    },
 }
 
 impl RowDone {
-    /// What becomes of an accepted row that is in time or not.
-    pub(crate) fn of(in_time: bool) -> RowDone
-        ensures { result ≡ row_done in_time }
+    /// What becomes of an accepted row that is in time or not, and fixes its reference or not.
+    pub(crate) fn of(in_time: bool, fixes_reference: bool) -> RowDone
+        ensures { result ≡ row_done in_time fixes_reference }
     {
         if in_time {
-            RowDone::Applied
+            RowDone::Applied { fixes_reference }
         } else {
-            RowDone::Late
+            RowDone::Late { fixes_reference }
         }
     }
 }

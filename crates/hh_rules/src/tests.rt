@@ -118,8 +118,8 @@ fn reallocation_row(account: &[u8], percent: i64) -> Option<Row> {
 
 fn number_of(answer: Result<RowDone, Fault>) -> u8 {
     match answer {
-        Ok(RowDone::Applied) => APPLIED,
-        Ok(RowDone::Late) => LATE,
+        Ok(RowDone::Applied { .. }) => APPLIED,
+        Ok(RowDone::Late { .. }) => LATE,
         Err(fault) => fault.refusal.number(),
     }
 }
@@ -388,5 +388,110 @@ fn no_party_401_and_no_unit_2001(rt: HostRuntime) -> Result<(), Fail> {
         Some(APPLIED)
     );
     assert_eq!(rt; becomes(&mut register, &zone, (2000, 2002), true), Some(42));
+    Ok(())
+}
+
+/// The register of a part that serves for the rows of files in the market of the fixture.
+fn part(alloc: Global) -> Option<Register> {
+    let mut register = Register::part(alloc, LeadMinutes::default(), 2, 2);
+    let rows = [
+        party_row(b"GENCO", b"2024-01-01"),
+        party_row(b"SUPCO", b"2024-01-01"),
+        unit_row(b"G1", b"GENCO-P", b"2024-01-01"),
+        unit_row(b"S1", b"SUPCO-C", b"2024-01-01"),
+        meter_row(b"G1", b"2024-07-01", 1),
+        price_row(b"2024-07-01", 1, 5_000_000),
+        reallocation_row(b"SUPCO-P", 6_000_000),
+    ];
+    for row in rows {
+        register.hold_row(row?).ok()?;
+    }
+    let counterparties = Counterparties {
+        seller: Account::read(b"GENCO-P")?,
+        buyer: Account::read(b"SUPCO-C")?,
+    };
+    register
+        .hold_reference(Reference::read(b"C1")?, counterparties)
+        .ok()?;
+    Some(register)
+}
+
+#[test]
+fn a_part_holds_rows(rt: HostRuntime) -> Result<(), Fail> {
+    let Some(mut register) = part(rt.alloc()) else {
+        panic!(&rt; "each row is held");
+    };
+    assert_eq!(rt; finds_all(&register), Some(true));
+    assert_eq!(rt; register.party_count(), 2);
+    assert_eq!(rt; register.unit_count(), 2);
+    let Some(too_much) = reallocation_row(b"SUPCO-C", 4_000_001) else {
+        panic!(&rt; "there is such a row");
+    };
+    assert_eq!(rt;
+        register.hold_row(too_much),
+        Err(Fault::of(Refusal::OverHundred))
+    );
+    let Some(enough) = reallocation_row(b"SUPCO-C", 4_000_000) else {
+        panic!(&rt; "there is such a row");
+    };
+    assert_eq!(rt; register.hold_row(enough), Ok(()));
+    Ok(())
+}
+
+/// How many rows of a file are in time and late, and how many references they fix; or the fault's
+/// number and row.
+fn judged(alloc: Global, moment: i64, rows: &[Option<Row>]) -> Option<(usize, u32, usize)> {
+    let mut file = Vec::new(alloc);
+    for row in rows {
+        file.push((*row)?).ok()?;
+    }
+    if file.len() > 20_000 {
+        return None;
+    }
+    match part(alloc)?.judge_file(alloc, &london(), moment, &file) {
+        Ok(file) => Some((file.rows().len(), file.late(), file.references().len())),
+        Err(fault) => Some((usize::from(fault.refusal.number()), fault.row?, 0)),
+    }
+}
+
+#[test]
+fn judges_the_rows_of_a_file(rt: HostRuntime) -> Result<(), Fail> {
+    let rows = [
+        contract_row(b"C1", b"GENCO-P", b"SUPCO-C", 97_000),
+        contract_row(b"C9", b"GENCO-P", b"SUPCO-C", 1000),
+        contract_row(b"C9", b"GENCO-P", b"SUPCO-C", 2000),
+    ];
+    assert_eq!(rt; judged(rt.alloc(), MOMENT, &rows), Some((3, 0, 1)));
+    assert_eq!(rt; judged(rt.alloc(), 1_719_784_800, &rows), Some((0, 3, 1)));
+    let turned = [
+        contract_row(b"C9", b"GENCO-P", b"SUPCO-C", 1000),
+        contract_row(b"C1", b"GENCO-P", b"SUPCO-C", 97_000),
+        contract_row(b"C9", b"SUPCO-C", b"GENCO-P", 1000),
+    ];
+    assert_eq!(rt; judged(rt.alloc(), MOMENT, &turned), Some((36, 3, 0)));
+    assert_eq!(rt; judged(rt.alloc(), MOMENT, &[]), Some((0, 0, 0)));
+    Ok(())
+}
+
+/// What the rows of a new reference tell, the first late and the second in time.
+fn told(alloc: Global) -> Option<(Result<RowDone, Fault>, Result<RowDone, Fault>)> {
+    let zone = london();
+    let mut register = fixture(alloc, &zone)?;
+    let first = contract_row(b"C9", b"GENCO-P", b"SUPCO-C", 1000)?;
+    let second = contract_row(b"C9", b"GENCO-P", b"SUPCO-C", 2000)?;
+    let late = register.apply_row(&zone, 1_719_784_800, first);
+    let in_time = register.apply_row(&zone, MOMENT, second);
+    Some((late, in_time))
+}
+
+#[test]
+fn the_first_row_of_a_reference_is_told(rt: HostRuntime) -> Result<(), Fail> {
+    let first = RowDone::Late {
+        fixes_reference: true,
+    };
+    let second = RowDone::Applied {
+        fixes_reference: false,
+    };
+    assert_eq!(rt; told(rt.alloc()), Some((Ok(first), Ok(second))));
     Ok(())
 }

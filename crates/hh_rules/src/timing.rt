@@ -1,12 +1,14 @@
 //! Whether a row's Settlement Period is there, and whether the row comes in time for it.
 
-ghost use Rattle.std.specs.Prelude.{◌≡◌, true, not};
+ghost use Rattle.std.specs.Prelude.{◌≡◌, true, not, Some, None, IfNone, IfSome};
+ghost use Rattle.jiff.specs.Words.{plain_zone};
+ghost use Rattle.hh_time.specs.Zone.{count_in, midnight_in};
 ghost use Rattle.hh_rules.specs.Lateness.{accepted_at, comes_in_time, lacks_period, notification_timing, timing_by, timing_of};
-ghost use Rattle.hh_rules.specs.RegisterView.{timetable_in, timetable_of};
+ghost use Rattle.hh_rules.specs.RegisterView.{timetable_in, timetable_of, IsKeptIn};
 
 use crate::register::Register;
 use hh_rows::{LeadMinutes, Row, SettlementPeriod};
-use hh_time::{Day, deadline};
+use hh_time::{Day, SettlementDate, deadline};
 use jiff::tz::TimeZone;
 
 /// Whether the date of a row has the row's Settlement Period, and whether the row comes in time for it
@@ -49,23 +51,30 @@ impl Timing {
 
 impl Register {
     /// The timing of a row that comes at a moment, in seconds since 1970-01-01T00:00:00Z. Rows of
-    /// parties and units have no period, and only contracts and reallocations are ever late.
-    pub(crate) fn timing_of(&self, zone: &TimeZone<'_>, moment: i64, row: &Row) -> Timing
-        ensures { result ≡ timing_of (timetable_of zone.now self.now) (accepted_at moment row.now) }
+    /// parties and units have no period, and only contracts and reallocations are ever late. The
+    /// Settlement Day that was asked for last is kept.
+    pub(crate) fn timing_of(
+        &self,
+        last: &mut Option<Day>,
+        zone: &TimeZone<'_>,
+        moment: i64,
+        row: &Row,
+    ) -> Timing
+        requires { IsKeptIn zone.now last.old }
+        ensures timing { result ≡ timing_of (timetable_of zone.now self.now)
+            (accepted_at moment row.now) }
+        ensures kept { IsKeptIn zone.now last.new }
     {
-        let lead_minutes = self.lead_minutes();
+        let lead = self.lead_minutes();
         match row {
             Row::Party(_) | Row::Unit(_) => Timing::InTime,
             Row::Meter(row) => notification_timing(
-                row.key.at,
-                zone,
-                lead_minutes,
-                moment,
+                last, row.key.at, zone, lead, moment,
             ).never_late(),
-            Row::Price(row) => notification_timing(row.at, zone, lead_minutes, moment).never_late(),
-            Row::Contract(row) => notification_timing(row.key.at, zone, lead_minutes, moment),
+            Row::Price(row) => notification_timing(last, row.at, zone, lead, moment).never_late(),
+            Row::Contract(row) => notification_timing(last, row.key.at, zone, lead, moment),
             Row::Reallocation(row) => {
-                notification_timing(row.key.unit_period.at, zone, lead_minutes, moment)
+                notification_timing(last, row.key.unit_period.at, zone, lead, moment)
             }
         }
     }
@@ -74,15 +83,18 @@ impl Register {
 /// The timing of a row of contracts or reallocations for a Settlement Period, where it comes at a
 /// moment, in seconds since 1970-01-01T00:00:00Z (Section P in shape; the deadline is profile).
 fn notification_timing(
+    last: &mut Option<Day>,
     at: SettlementPeriod,
     zone: &TimeZone<'_>,
     lead_minutes: LeadMinutes,
     moment: i64,
 ) -> Timing
-    ensures { result ≡ notification_timing (timetable_in zone.now lead_minutes) moment at }
+    requires { IsKeptIn zone.now last.old }
+    ensures timing { result ≡ notification_timing (timetable_in zone.now lead_minutes) moment at }
+    ensures kept { IsKeptIn zone.now last.new }
 {
     let number = at.period.number();
-    match Day::of(at.date, zone) {
+    match day_again(last, at.date, zone) {
         Some(day) if day.has_period(number) => {
             if moment < deadline(&day, number, lead_minutes.minutes()) {
                 Timing::InTime
@@ -92,4 +104,24 @@ fn notification_timing(
         }
         _ => Timing::NoSuchPeriod,
     }
+}
+
+/// The Settlement Day of a date in a zone, if it has one. The one that was asked for last is kept:
+/// mostly the rows of a file name one date, and midnights are dear.
+fn day_again(last: &mut Option<Day>, date: SettlementDate, zone: &TimeZone<'_>) -> Option<Day>
+    requires { IsKeptIn zone.now last.old }
+    ensures date { IfSome result (λ day. day.date ≡ date) }
+    ensures start { IfSome result (λ day. day.start ≡ midnight_in (plain_zone zone.now) date) }
+    ensures count { IfSome result (λ day. count_in (plain_zone zone.now) date ≡ Some day.count) }
+    ensures odd { IfNone result (count_in (plain_zone zone.now) date ≡ None) }
+    ensures kept { IsKeptIn zone.now last.new }
+{
+    let is_known = match *last {
+        Some(day) => day.date == date,
+        None => false,
+    };
+    if !is_known {
+        *last = Day::of(date, zone);
+    }
+    *last
 }

@@ -1,0 +1,114 @@
+-- What becomes of the rows of a file: each sees those before it.
+use Rattle.std.specs.Prelude.{◌≡◌, ℕ, ◌+◌, ℤ, List, [], ◌∷◌, ◌++◌, map, filter, length, not, Bool, option_to_list, Option, Some, None, Result, Ok, Err, if◌then◌else◌}
+use Rattle.std.specs.List.{cons_option}
+use Rattle.jiff.specs.declared.tz.timezone.TimeZone.{TimeZone}
+use Rattle.hh_names.specs.Faults.{faults, first_met, row_fault, Gives}
+use Rattle.hh_names.specs.declared.fault.Fault.{Fault}
+use Rattle.hh_names.specs.declared.fault.Refusal.{Refusal}
+use Rattle.hh_names.specs.declared.values.Counterparties.{Counterparties}
+use Rattle.hh_rows.specs.declared.rows.Row.{Row}
+use Rattle.hh_rules.specs.declared.row_done.RowDone.{RowDone}
+use Rattle.hh_rules.specs.declared.row_done.RowDone.TheVariants.{Applied, Late}
+use Rattle.hh_rules.specs.Effects.{fixes_reference}
+use Rattle.hh_rules.specs.Entries.{reference_entry}
+use Rattle.hh_rules.specs.History.{History, registered_in}
+use Rattle.hh_rules.specs.Lateness.{Timetable, Accepted, accepted_at, is_in_time, timing_of}
+use Rattle.hh_rules.specs.Refusals.{refusals_of, whole_standing}
+use Rattle.hh_rules.specs.RegisterView.{RegisterView, ServesFor, refusal_at, timetable_of}
+
+-- rows that come at one moment
+abbrev pub coming_at : ℤ → List Row → History
+coming_at moment rows = map (accepted_at moment) rows
+
+-- a reference with its seller and buyer, where a row fixes them
+abbrev pub fixed_by : Bool → Option (List ℕ × Counterparties) → Option (List ℕ × Counterparties)
+fixed_by fixes entry = if fixes then entry else None
+
+module _ (timetable : Timetable) where
+  -- why a row is refused after a history, if it is
+  abbrev pub refusal_after : History → Accepted → Option Refusal
+  refusal_after history a =
+      first_met (refusals_of (whole_standing (registered_in timetable history)) (timing_of timetable a) a.row)
+
+  -- the first of the rows that is refused after a history and the rows before it, with its number from n on
+  abbrev pub first_fault : History → ℕ → List Accepted → Option Fault
+  first_fault history n [] = None
+  first_fault history n (a ∷ rows) = elim (refusal_after history a) [
+    | Some why ↦ Some (row_fault why n)
+    | None ↦ first_fault (history ++ a ∷ []) (n + 1) rows
+  ]
+
+  -- the references that the rows fix after a history: each is fixed by its first row
+  abbrev pub fixed_references : History → List Accepted → List (List ℕ × Counterparties)
+  fixed_references history [] = []
+  fixed_references history (a ∷ rows) =
+      cons_option (fixed_by (fixes_reference (registered_in timetable history) a.row) (reference_entry a.row))
+      (fixed_references (history ++ a ∷ []) rows)
+
+  -- how many of the rows are late
+  abbrev pub late_count : List Accepted → ℕ
+  late_count rows = length (filter (λ a. not (is_in_time timetable a)) rows)
+
+  -- the rows that are not late
+  abbrev pub timely_rows : List Accepted → List Row
+  timely_rows rows = map (λ a. a.row) (filter (is_in_time timetable) rows)
+
+-- the rows of an accepted file that are not late, how many are late, and the references that they fix
+pub record FileRowsView : Type 0 where
+  pub rows : List Row
+  pub late : ℕ
+  pub references : List (List ℕ × Counterparties)
+
+-- no rows
+abbrev pub no_rows : FileRowsView
+no_rows = record { rows = []; late = 0; references = [] }
+
+-- with the reference that a row fixes, if it fixes one
+abbrev pub with_fixed : Bool → Row → FileRowsView → FileRowsView
+with_fixed fixes r file =
+    record file { references = file.references ++ option_to_list (fixed_by fixes (reference_entry r)) }
+
+-- with one more row, and what became of it
+abbrev pub with_done : Row → RowDone → FileRowsView → FileRowsView
+with_done r (Applied fixes) file = with_fixed fixes r (record file { rows = file.rows ++ r ∷ [] })
+with_done r (Late fixes) file = with_fixed fixes r (record file { late = file.late + 1 })
+
+-- what an accepted file's rows come to after a history
+abbrev pub file_rows : Timetable → History → List Accepted → FileRowsView
+file_rows timetable history rows = record {
+  rows = timely_rows timetable rows;
+  late = late_count timetable rows;
+  references = fixed_references timetable history rows;
+}
+
+-- the rows of a file after a history, or the fault of the first that is refused
+abbrev pub judged_file : Timetable → History → List Accepted → Result FileRowsView Fault
+judged_file timetable history rows = elim (first_fault timetable history 1 rows) [
+  | Some fault ↦ Err fault
+  | None ↦ Ok (file_rows timetable history rows)
+]
+
+-- a register that has everything that a history put into it
+abbrev pub register_of : Timetable → History → RegisterView
+register_of timetable history =
+    record { lead_minutes = timetable.lead_minutes; standing = whole_standing (registered_in timetable history) }
+
+-- the register serves for the rows after this history
+abbrev pub ServesAfterHistory : TimeZone → RegisterView → List Row → History → Type 0
+ServesAfterHistory zone register rows history =
+    ServesFor rows (register_of (timetable_of zone register) history) register
+
+-- the answer to a file's rows is that of looking back over the history, whatever history the register serves for
+abbrev pub JudgesFile : TimeZone → RegisterView → ℤ → List Row → Result FileRowsView Fault → Type 0
+JudgesFile zone register moment rows answer =
+    (history : History) → ServesAfterHistory zone register rows history
+    → Gives faults (λ file. file) answer (judged_file (timetable_of zone register) history (coming_at moment rows))
+
+-- the answer to a row of this number in its file
+abbrev pub judged_row : ℕ → Option Refusal → Result (Unit {0}) Fault
+judged_row number None = Ok tt
+judged_row number (Some why) = Err (row_fault why number)
+
+-- the same, of a row that comes to a register at a moment
+abbrev pub judged_row_at : TimeZone → RegisterView → ℤ → ℕ → Row → Result (Unit {0}) Fault
+judged_row_at zone register moment number r = judged_row number (refusal_at zone register moment r)
