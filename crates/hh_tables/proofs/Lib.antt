@@ -1,2 +1,5 @@
+pub mod MergeLaws
+pub mod RowLaws
+pub mod SearchLaws
 pub mod TableFacts
 pub mod TableLaws

@@ -1,0 +1,158 @@
+//! Tables in memory, kept as lists of rows in the order of their keys.
+
+ghost use Rattle.std.specs.Prelude.{◌≡◌, ◌≤◌, ◌++◌, [], length, IfOk, OnOk};
+ghost use Rattle.std.specs.FinMap.{find, put};
+ghost use Rattle.std.specs.List.{prefix_len};
+ghost use Rattle.std.specs.List.Sorted.{IsSortedByKey, IsStableByKey};
+ghost use Rattle.hh_tables.specs.Merges.{is_up_to, AreUpTo};
+ghost use Rattle.hh_tables.specs.Tables.{IsTable, put_all};
+
+use std::alloc::{AllocError, Global};
+use std::marker::Model;
+
+/// Rows of columns under keys, at most one under each, made anew for each lot of rows that is put into
+/// them. Contracts see the list of the rows, in the order of their keys.
+#[derive(Drop)]
+pub struct ListTable<K: Ord, V> {
+    rows: Vec<(K, V)>,
+}
+
+impl<K: Ord, V> Model for ListTable<K, V> {
+    ghost use Rattle.std.specs.Prelude.{List};
+    ghost use Rattle.hh_tables.specs.Tables.{IsTable};
+
+    ghost Value = { List (K × V) };
+
+    ghost view = { λ t. t.rows.items };
+
+    ghost invariant = { λ t. IsTable K.cmp t.rows.items };
+}
+
+impl<K: Ord + Copy, V: Copy> ListTable<K, V> {
+    /// The table without rows. Takes no memory.
+    pub fn new(alloc: Global) -> Self
+        ensures { result ≡ [] }
+    {
+        ListTable {
+            rows: Vec::new(alloc),
+        }
+    }
+
+    /// How many rows there are.
+    pub fn len(&self) -> usize
+        ensures { result ≡ length self.now }
+    {
+        self.rows.len()
+    }
+
+    /// The rows, in the order of their keys.
+    pub fn rows(&self) -> &[(K, V)]
+        ensures { result.now ≡ self.now }
+    {
+        &self.rows
+    }
+
+    /// The columns of the row under a key, if there is one.
+    pub fn get(&self, key: &K) -> Option<V>
+        ensures value { result ≡ find K.cmp key.now self.now }
+        ensures rising { IsTable K.cmp self.now }
+    {
+        match self.rows.binary_search_by_key(key, |row| row.0) {
+            Ok(place) => Some(self.rows[place].1),
+            Err(_) => None,
+        }
+    }
+
+    /// A new table: this one, with rows in the place of those of their keys. Of several rows of one key
+    /// the last counts. `Err` only where memory is refused.
+    pub fn with_rows(&self, alloc: Global, rows: &[(K, V)]) -> Result<ListTable<K, V>, AllocError>
+        ensures { IfOk result (λ table. table ≡ put_all K.cmp rows.now self.now) }
+    {
+        let sorted = in_order_of_keys(alloc, rows)?;
+        let rows = merged(alloc, &self.rows, &sorted)?;
+        Ok(ListTable { rows })
+    }
+}
+
+/// Rows in the order of their keys, those of one key in the order in which they came.
+fn in_order_of_keys<K: Ord + Copy, V: Copy>(
+    alloc: Global,
+    rows: &[(K, V)],
+) -> Result<Vec<(K, V)>, AllocError>
+    ensures sorted { IfOk result (λ sorted. IsSortedByKey (λ row. row.0) K.cmp sorted.items) }
+    ensures stable { IfOk result (λ sorted.
+        IsStableByKey (λ row. row.0) K.cmp rows.now sorted.items) }
+{
+    let mut sorted = Vec::from_slice(alloc, rows)?;
+    sorted.sort_by_key(|row| row.0)?;
+    Ok(sorted)
+}
+
+/// The rows of a table with rows put into it that stand in the order of their keys.
+fn merged<K: Ord + Copy, V: Copy>(
+    alloc: Global,
+    table: &[(K, V)],
+    rows: &[(K, V)],
+) -> Result<Vec<(K, V)>, AllocError>
+    requires rising { IsTable K.cmp table.now }
+    requires sorted { IsSortedByKey (λ row. row.0) K.cmp rows.now }
+    ensures { IfOk result (λ all. all.items ≡ put_all K.cmp rows.now table.now) }
+{
+    let mut merged = Vec::with_capacity(alloc, table.len().saturating_add(rows.len()))?;
+    let mut rest = table;
+    for row in rows {
+        rest = put_next(&mut merged, rest, *row)?;
+    }
+    merged.extend_from_slice(rest)?;
+    Ok(merged)
+}
+
+/// Takes over the rest of a table up to the key of a row, puts the row at the end, and answers what is
+/// left of the rest.
+fn put_next<'a, K: Ord + Copy, V: Copy>(
+    merged: &mut Vec<(K, V)>,
+    rest: &'a [(K, V)],
+    row: (K, V),
+) -> Result<&'a [(K, V)], AllocError>
+    requires rising { IsTable K.cmp (merged.old.items ++ rest.now) }
+    requires reached { AreUpTo K.cmp row.0 merged.old.items }
+    ensures rows { IfOk result (λ left. merged.new.items ++ left.now
+        ≡ put K.cmp row.0 row.1 (merged.old.items ++ rest.entry.now)) }
+    ensures reached { OnOk result (AreUpTo K.cmp row.0 merged.new.items) }
+{
+    let count = count_up_to(rest, &row.0);
+    let (low, high) = rest.split_at(count);
+    merged.extend_from_slice(low)?;
+    put_last(merged, row)?;
+    Ok(high)
+}
+
+/// How many rows stand before the first whose key is above this one.
+fn count_up_to<K: Ord + Copy, V: Copy>(rows: &[(K, V)], key: &K) -> usize
+    ensures count { result ≡ prefix_len (is_up_to K.cmp key.now) rows.now }
+    ensures within { result ≤ length rows.now }
+{
+    for (count, row) in rows.iter().enumerate() {
+        if row.0.cmp(key).is_gt() {
+            return count;
+        }
+    }
+    rows.len()
+}
+
+/// Puts a row into rows whose keys are not above its own.
+fn put_last<K: Ord + Copy, V: Copy>(rows: &mut Vec<(K, V)>, row: (K, V)) -> Result<(), AllocError>
+    requires rising { IsTable K.cmp rows.old.items }
+    requires reached { AreUpTo K.cmp row.0 rows.old.items }
+    ensures { OnOk result (rows.new.items ≡ put K.cmp row.0 row.1 rows.old.items) }
+{
+    if let Some(last) = rows.pop() {
+        if last.0.cmp(&row.0).is_eq() {
+            rows.push((last.0, row.1))?;
+            return Ok(());
+        }
+        rows.push(last)?;
+    }
+    rows.push(row)?;
+    Ok(())
+}
