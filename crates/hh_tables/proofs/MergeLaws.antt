@@ -1,6 +1,6 @@
 -- The merge: a row whose key is between those of two lists that make up a table goes to the end of the first.
-use Rattle.std.proofs.Common.{◌≡◌, ℕ, zero, suc, ◌+◌, ◌<◌, ◌≤◌, List, [], ◌∷◌, ◌++◌, length, get_or, take, drop, Bool, true, false, cond, refl, sym, ap, subst, ◌∙◌, Ordering, arith, inl, inr, one-add}
-use Rattle.std.specs.Prelude.{◌&&◌, T, IsTrue}
+use Rattle.std.proofs.Common.{◌≡◌, ℕ, zero, suc, ◌+◌, ◌<◌, ◌≤◌, List, [], ◌∷◌, ◌++◌, length, get_or, take, drop, Bool, true, false, cond, refl, sym, ap, subst, ◌∙◌, Ordering, arith, one-add}
+use Rattle.std.specs.Prelude.{T, IsTrue}
 use Rattle.std.specs.Cmp.{IsTotalOrder, alike_right, tied_back, tied_itself, upto}
 use Rattle.std.specs.FinMap.{put, is_sorted}
 use Rattle.std.specs.FinMap.Entries.{below_all, by_order}
@@ -10,7 +10,6 @@ use Rattle.std.specs.Ordering.{is_eq, is_gt, is_le, is_lt, ordering_reverse}
 use Rattle.std.specs.declared.cmp.Ordering.TheVariants.{Less, Equal, Greater}
 use Rattle.std.proofs.lemmas.List.{append_assoc, get_or_read, take_more}
 use Rattle.std.proofs.lemmas.List.Sums.{prefix_len_is}
-use Rattle.std.proofs.lemmas.Bool.{cases_lt}
 use Rattle.std.proofs.lemmas.List.Sorted.{ranks_by, sorted_far}
 use Rattle.hh_tables.specs.Merges.{is_up_to, AreUpTo}
 use Rattle.hh_tables.specs.Tables.{IsTable, put_all}
@@ -105,15 +104,6 @@ module _ {K V : Type 0} (R : K → K → Ordering) where
   -- no key of merged rows is above those of the rows that are still to come
   abbrev pub AreReached : List (K × V) → ℕ → List (K × V) → Type 0
   AreReached rows i merged = (j : ℕ) (d : K × V) → i ≤ j → j < length rows → AreUpTo R (get_or rows j d).0 merged
-
-  pub first_more : (key : K) (rows : List (K × V)) (count : ℕ) (row : K × V) → count < length rows → row ≡ get_or rows count row → is_gt (R row.0 key) ≡ false
-      → AreFirstUpTo key rows count → AreFirstUpTo key rows (count + 1)
-  first_more key rows count row inside at le before k d lt = elim (cases_lt k count) [
-    | inl here ↦ before k d here
-    | inr past ↦
-        let same : k ≡ count = omega arith in
-        ap (λ n. is_up_to R key (get_or rows n d)) same ∙ ap (is_up_to R key) (sym (get_or_read rows count row inside at d)) ∙ true_from _ (up_to_this _ le)
-  ]
 
   pub first_above : (key : K) (rows : List (K × V)) (count : ℕ) (row : K × V) → count < length rows → row ≡ get_or rows count row → is_gt (R row.0 key) ≡ true
       → AreFirstUpTo key rows count → count ≡ prefix_len (is_up_to R key) rows

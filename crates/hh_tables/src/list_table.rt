@@ -1,6 +1,7 @@
 //! Tables in memory, kept as lists of rows in the order of their keys.
 
-ghost use Rattle.std.specs.Prelude.{◌≡◌, ◌≤◌, ◌++◌, [], length, IfOk, OnOk};
+ghost use Rattle.std.specs.Prelude.{◌≡◌, ◌≤◌, ◌++◌, [], length, IfOk, OnErr, OnOk};
+ghost use Rattle.std.specs.Option.{option_copied};
 ghost use Rattle.std.specs.FinMap.{find, put};
 ghost use Rattle.std.specs.List.{prefix_len};
 ghost use Rattle.std.specs.List.Sorted.{IsSortedByKey, IsStableByKey};
@@ -28,7 +29,7 @@ impl<K: Ord, V> Model for ListTable<K, V> {
     ghost invariant = { λ t. IsTable K.cmp t.rows.items };
 }
 
-impl<K: Ord + Copy, V: Copy> ListTable<K, V> {
+impl<K: Ord + Copy, V> ListTable<K, V> {
     /// The table without rows. Takes no memory.
     pub fn new(alloc: Global) -> Self
         ensures { result ≡ [] }
@@ -52,15 +53,40 @@ impl<K: Ord + Copy, V: Copy> ListTable<K, V> {
         &self.rows
     }
 
+    /// The columns of the row under a key, if there is one, where they lie.
+    pub fn find(&self, key: &K) -> Option<&V>
+        ensures value { option_copied result ≡ find K.cmp key.now self.now }
+        ensures rising { IsTable K.cmp self.now }
+    {
+        match self.rows.binary_search_by_key(key, |row| row.0) {
+            Ok(place) => Some(&self.rows[place].1),
+            Err(_) => None,
+        }
+    }
+}
+
+impl<K: Ord + Copy, V: Drop> ListTable<K, V> {
+    /// Puts a row into the table, in the place of the one under its key if there is one. `Err` only where
+    /// memory is refused: the table is then as it was.
+    pub fn put_row(&mut self, key: K, value: V) -> Result<(), AllocError>
+        ensures ok { OnOk result (self.new ≡ put K.cmp key value self.old) }
+        ensures err { OnErr result (self.new ≡ self.old) }
+    {
+        match self.rows.binary_search_by_key(&key, |row| row.0) {
+            Ok(place) => self.rows[place].1 = value,
+            Err(place) => self.rows.insert(place, (key, value))?,
+        }
+        Ok(())
+    }
+}
+
+impl<K: Ord + Copy, V: Copy> ListTable<K, V> {
     /// The columns of the row under a key, if there is one.
     pub fn get(&self, key: &K) -> Option<V>
         ensures value { result ≡ find K.cmp key.now self.now }
         ensures rising { IsTable K.cmp self.now }
     {
-        match self.rows.binary_search_by_key(key, |row| row.0) {
-            Ok(place) => Some(self.rows[place].1),
-            Err(_) => None,
-        }
+        self.find(key).copied()
     }
 
     /// A new table: this one, with rows in the place of those of their keys. Of several rows of one key

@@ -56,3 +56,29 @@ fn no_rows_leave_tables(rt: HostRuntime) -> Result<(), Fail> {
     assert_eq!(rt; still_one.rows(), [(2024, true)].as_slice());
     Ok(())
 }
+
+#[test]
+fn finds_what_owns_memory(rt: HostRuntime) -> Result<(), Fail> {
+    let mut table: ListTable<u8, String> = ListTable::new(rt.alloc());
+    assert!(rt; table.find(&2).is_none());
+    assert!(rt;
+        table
+            .put_row(2, String::from_str(rt.alloc(), "two")?)
+            .is_ok()
+    );
+    assert!(rt;
+        table
+            .put_row(1, String::from_str(rt.alloc(), "one")?)
+            .is_ok()
+    );
+    assert!(rt;
+        table
+            .put_row(2, String::from_str(rt.alloc(), "again")?)
+            .is_ok()
+    );
+    assert_eq!(rt; table.len(), 2);
+    let two = table.find(&2).ok_or("two")?;
+    assert_eq!(rt; two.as_str(), "again");
+    assert!(rt; table.find(&3).is_none());
+    Ok(())
+}

@@ -1,4 +1,4 @@
-use Rattle.std.proofs.Common.{◌≡◌, ◌++◌, ◌∷◌, [], length, true, false, ap, ◌∙◌, sym, rules, arith}
+use Rattle.std.proofs.Common.{◌≡◌, ◌++◌, ◌∷◌, [], length, true, false, ap, ◌∙◌, rules, arith}
 use Rattle.std.specs.Ordering.{is_eq}
 use Rattle.hh_tables.proofs.MergeLaws.{put_behind, put_first, put_in_place}
 use Rattle.hh_tables.proofs.list_table.put_last.Goals as goal

@@ -1,5 +1,5 @@
-use Rattle.std.proofs.Common.{ap, sym, subst, ◌∙◌}
-use Rattle.hh_tables.specs.Tables.{IsTable, put_all}
+use Rattle.std.proofs.Common.{sym, subst, ◌∙◌}
+use Rattle.hh_tables.specs.Tables.{IsTable}
 use Rattle.hh_tables.proofs.MergeLaws.{put_all_is_table, put_all_lent}
 use Rattle.hh_tables.proofs.list_table.ListTable.with_rows.Goals as goal
 

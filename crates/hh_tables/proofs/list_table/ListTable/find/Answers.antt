@@ -1,7 +1,7 @@
 use Rattle.std.proofs.Common.{rules}
 use Rattle.std.proofs.lemmas.List.Sorted.{answers_always}
 use Rattle.hh_tables.proofs.SearchLaws.{found_in, missed_in}
-use Rattle.hh_tables.proofs.list_table.ListTable.get.Goals as goal
+use Rattle.hh_tables.proofs.list_table.ListTable.find.Goals as goal
 
 pub returns-in-Ok-clause-value : goal.returns-in-Ok-clause-value
 returns-in-Ok-clause-value g c =
