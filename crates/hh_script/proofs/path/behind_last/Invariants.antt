@@ -1,0 +1,9 @@
+use Rattle.std.proofs.Common.{◌≡◌, ℕ, ◌-◌, ◌<◌, ◌≤◌, get_or}
+use Rattle.hh_script.proofs.path.behind_last.Given as goal
+
+abbrev pub invariant-loop-place : goal.invariant-loop-place
+invariant-loop-place l = record {
+  inside : l.start ≤ l.place;
+  later : (k : ℕ) → l.start ≤ k → k < l.place → get_or l.text k 0 ≡ l.byte → ⊥;
+  last : 0 < l.start → get_or l.text (l.start - 1) 0 ≡ l.byte;
+}

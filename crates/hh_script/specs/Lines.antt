@@ -1,0 +1,76 @@
+-- The lines of a script: their words, and what they ask for.
+use Rattle.std.specs.Prelude.{ℕ, ℤ, ◌==◌, List, [], ◌∷◌, Option, Some, None, option_map, codes, bytes_eq, if◌then◌else◌}
+use Rattle.std.specs.List.{after_last, slice_split}
+use Rattle.std.specs.Str.{is_utf8}
+use Rattle.hh_num.specs.Fixed.{fixed_value, fits_i64, kept_if}
+use Rattle.hh_names.specs.Words.{access_key_value, is_file_name_byte, operator_key_value, word_value}
+use Rattle.hh_rows.specs.Kinds.{kind_value}
+use Rattle.hh_rows.specs.declared.file_kind.FileKind.{FileKind}
+use Rattle.hh_script.specs.declared.load.LoadLine.{LoadLine}
+use Rattle.hh_script.specs.declared.script_line.ScriptLine.{ScriptLine}
+use Rattle.hh_script.specs.declared.script_line.ScriptLine.TheVariants as line
+
+-- the words of a line, parted by single blanks
+abbrev pub words_of : List ℕ → List (List ℕ)
+words_of text = slice_split (λ b. b == 32) text
+
+-- a moment: a whole number of seconds
+abbrev pub moment_value : List ℕ → Option ℤ
+moment_value word = kept_if fits_i64 (fixed_value 0 word)
+
+-- the first of two values that is there
+abbrev pub either : {A : Type 0} → Option A → Option A → Option A
+either (Some x) other = Some x
+either None other = other
+
+-- a key that is shown: the operator's or a party's
+unfoldable pub shown_key_value : List ℕ → Option (List ℕ)
+shown_key_value word = either (operator_key_value word) (access_key_value word)
+
+-- the name of what lies at a path: what follows the last `/`
+unfoldable pub path_name : List ℕ → Option (List ℕ)
+path_name path = word_value is_file_name_byte 1 64 (after_last (λ b. b == 47) path)
+
+-- the path that a text is
+abbrev pub path_value : List ℕ → Option (List ℕ)
+path_value word = if is_utf8 word then Some word else None
+
+-- a file to be loaded: when, by whom, of which kind, where it lies, and the name by which it is registered
+pub record Load : Type 0 where
+  pub moment : ℤ
+  pub key : List ℕ
+  pub kind : FileKind
+  pub path : List ℕ
+  pub name : List ℕ
+
+-- what a line asks for
+pub data Line : Type 0 where
+  LoadFile : Load → Line
+
+-- the values of a line that was read
+abbrev pub load_of : LoadLine → Load
+load_of l = record { moment = l.moment; key = l.key.now; kind = l.kind; path = l.path.now; name = l.name.now }
+
+abbrev pub line_of : ScriptLine → Line
+line_of (line.Load l) = LoadFile (load_of l)
+
+-- the values of a load, if all are there
+abbrev pub load_from : Option ℤ → Option (List ℕ) → Option FileKind → Option (List ℕ) → Option (List ℕ) → Option Load
+load_from (Some moment) (Some key) (Some kind) (Some path) (Some name) =
+    Some (record { moment = moment; key = key; kind = kind; path = path; name = name })
+load_from _ _ _ _ _ = None
+
+-- SECONDS KEY KIND PATH
+abbrev pub load_value : List (List ℕ) → Option Load
+load_value (moment ∷ key ∷ kind ∷ path ∷ []) =
+    load_from (moment_value moment) (shown_key_value key) (kind_value kind) (path_value path) (path_name path)
+load_value _ = None
+
+-- a line by its first word
+abbrev pub line_of_words : List (List ℕ) → Option Line
+line_of_words [] = None
+line_of_words (command ∷ words) = if bytes_eq command (codes "load") then option_map LoadFile (load_value words) else None
+
+-- what a line asks for, if it has a form
+unfoldable pub line_value : List ℕ → Option Line
+line_value text = line_of_words (words_of text)

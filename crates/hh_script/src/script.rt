@@ -1,0 +1,80 @@
+//! Scripts, read whole before a line of them is run.
+
+ghost use Rattle.std.specs.Prelude.{◌≡◌, ◌<◌, ◌∷◌, Some, length, map, IfErr, IfOk};
+ghost use Rattle.hh_script.specs.Lines.{line_of};
+ghost use Rattle.hh_script.specs.Script.{lines_of, script_value};
+ghost use Rattle.hh_script.specs.Faults.{IsFaultOf};
+
+use crate::script_line::ScriptLine;
+use crate::words::place_of;
+use std::alloc::{AllocError, AllocFailed, Global};
+
+/// Why a script is not read.
+#[derive(Clone, Copy, Debug, PartialEq, Eq)]
+pub enum ScriptFault {
+    /// The first line that is off its form, numbered from 1.
+    Off { line: usize },
+    /// Memory was refused.
+    Memory,
+}
+
+impl From<AllocError> for ScriptFault {
+    ghost use Rattle.hh_script.specs.declared.script.ScriptFault.TheVariants.{Memory};
+
+    ghost from_gives = { λ _ fault. fault ≡ Memory };
+
+    fn from(_error: AllocError) -> ScriptFault {
+        ScriptFault::Memory
+    }
+}
+
+impl<T: Drop> From<AllocFailed<T>> for ScriptFault {
+    ghost use Rattle.hh_script.specs.declared.script.ScriptFault.TheVariants.{Memory};
+
+    ghost from_gives = { λ _ fault. fault ≡ Memory };
+
+    fn from(_failed: AllocFailed<T>) -> ScriptFault {
+        ScriptFault::Memory
+    }
+}
+
+/// The lines of a script (profile): one command a line, its words parted by single blanks, each line
+/// ended by LF, the last perhaps not. A script of no bytes has no lines.
+///
+/// # Errors
+///
+/// `Off` with the number of the first line that is off its form or has a word off its grammar; an empty
+/// line is off its form. `Memory` may come in the place of any answer.
+pub fn read_script<'a>(alloc: Global, bytes: &'a [u8]) -> Result<Vec<ScriptLine<'a>>, ScriptFault>
+    ensures lines { IfOk result (λ lines.
+        script_value bytes.entry.now ≡ Some (map line_of lines.items)) }
+    ensures off { IfErr result (IsFaultOf bytes.entry.now) }
+{
+    let mut lines = Vec::new(alloc);
+    let mut rest = bytes;
+    while !rest.is_empty() {
+        let (line, more) = split_line(rest);
+        match ScriptLine::read(line) {
+            Some(line) => lines.push(line)?,
+            None => {
+                return Err(ScriptFault::Off {
+                    line: lines.len() + 1,
+                });
+            }
+        }
+        rest = more;
+    }
+    Ok(lines)
+}
+
+/// The first line of some bytes, and what follows it.
+fn split_line(bytes: &[u8]) -> (&[u8], &[u8])
+    requires { 0 < length bytes.now }
+    ensures lines { lines_of bytes.now ≡ result.0.now ∷ lines_of result.1.now }
+    ensures shorter { length result.1.now < length bytes.now }
+{
+    match place_of(bytes, b'\n') {
+        Some(end) => (&bytes[..end], &bytes[end + 1..]),
+        None => (bytes, &bytes[bytes.len()..]),
+    }
+}
