@@ -8,7 +8,7 @@ use Rattle.std.proofs.lemmas.List.{take_all}
 use Rattle.std.proofs.lemmas.List.Splits.{slice_split_first, slice_split_none}
 use Rattle.std.proofs.lemmas.List.Sums.{fails_before_first, suffix_len_is}
 use Rattle.std.proofs.lemmas.Str.{IsUtf8-from_is_utf8, is_utf8-from_IsUtf8}
-use Rattle.hh_script.specs.Lines.{path_value}
+use Rattle.hh_script.specs.Steps.{path_value}
 
 -- all that stands behind a place
 pub the_rest : (n : ℕ) (text : List ℕ) → take (length text - n) (drop n text) ≡ drop n text
@@ -29,9 +29,6 @@ module _ (p : ℕ → Bool) (text : List ℕ) where
             subst (λ n. (n < length text) × (slice_split p text ≡ take n text ∷ slice_split p (drop (n + 1) text))) (sym there) (inside, slice_split_first p text 0 inside)
         | false ↦ λ t same. cc
       ] refl is
-
-  pub cut_inside : (end : ℕ) → Some end ≡ position p text → end < length text
-  cut_inside end is = (cut end is).0
 
   pub cut_parts : (end : ℕ) → Some end ≡ position p text → slice_split p text ≡ take end text ∷ slice_split p (take (length text - (end + 1)) (drop (end + 1) text))
   cut_parts end is = (cut end is).1 ∙ ap (λ rest. take end text ∷ slice_split p rest) (sym (the_rest (end + 1) text))

@@ -4,7 +4,7 @@ use Rattle.std.specs.Prelude.{◌==◌, position, is_none}
 use Rattle.std.specs.List.{onto_first, position_from, slice_split}
 use Rattle.std.proofs.lemmas.List.{append-nil, append_assoc, drop_all, length_push, map-append}
 use Rattle.std.proofs.lemmas.Bool.Decides.{nat_tests}
-use Rattle.hh_script.specs.Lines.{line_of, line_value}
+use Rattle.hh_script.specs.Steps.{step_of, step_value}
 use Rattle.hh_script.specs.declared.script_line.ScriptLine.{ScriptLine}
 use Rattle.hh_script.specs.Script.{all_values, but_empty_last, first_off, is_off, lines_of, onto, script_value, unless_empty}
 use Rattle.hh_script.proofs.LineFacts.{cut_parts, the_rest, uncut}
@@ -49,52 +49,15 @@ abbrev pub all_behind : {A : Type 0} → List A → Option (List A) → Option (
 all_behind front None = None
 all_behind front (Some xs) = Some (front ++ xs)
 
-all_behind-onto : {A : Type 0} (front : List A) (x : A) (others : Option (List A)) → all_behind front (onto (Some x) others) ≡ all_behind (front ++ x ∷ []) others
-all_behind-onto front x None = refl
-all_behind-onto front x (Some xs) = ap Some (sym (append_assoc front (x ∷ []) xs))
-
 -- What is read so far, and what the rest has.
 pub record IsReadTo (bytes rest : List ℕ) (lines : List ScriptLine) : Type 0 where
-  pub values : script_value bytes ≡ all_behind (map line_of lines) (script_value rest)
+  pub values : script_value bytes ≡ all_behind (map step_of lines) (script_value rest)
   pub off : first_off bytes ≡ position_from is_off (length lines + 1) (lines_of rest)
 
-all_behind-none : {A : Type 0} (others : Option (List A)) → others ≡ all_behind [] others
-all_behind-none None = refl
-all_behind-none (Some xs) = refl
-
-pub read_none : (bytes : List ℕ) (lines : List ScriptLine) → lines ≡ [] → IsReadTo bytes bytes lines
-read_none bytes lines none = record {
-  values = all_behind-none (script_value bytes) ∙ ap (λ l. all_behind (map line_of l) (script_value bytes)) (sym none);
-  off = ap (λ l. position_from is_off (length l + 1) (lines_of bytes)) (sym none);
-}
-
-module _ (bytes rest : List ℕ) (lines : List ScriptLine) (so_far : IsReadTo bytes rest lines) where
-  -- one line more
-  pub read_more : (text more : List ℕ) (line : ScriptLine) (now : List ScriptLine) → lines_of rest ≡ text ∷ lines_of more → Some (line_of line) ≡ line_value text
-      → now ≡ lines ++ line ∷ [] → IsReadTo bytes more now
-  read_more text more line now is value last = record {
-    values = so_far.values ∙ ap (λ ls. all_behind (map line_of lines) (all_values line_value ls)) is
-        ∙ ap (λ v. all_behind (map line_of lines) (onto v (script_value more))) (sym value)
-        ∙ all_behind-onto (map line_of lines) (line_of line) (script_value more)
-        ∙ ap (λ ls. all_behind ls (script_value more)) (sym (map-append line_of lines (line ∷ [])) ∙ ap (map line_of) (sym last));
-    off = so_far.off ∙ ap (position_from is_off (length lines + 1)) is
-        ∙ ap (λ v. cond (is_none v) (Some (length lines + 1)) (position_from is_off (length lines + 1 + 1) (lines_of more))) (sym value)
-        ∙ ap (λ n. position_from is_off (n + 1) (lines_of more)) (sym (ap length last ∙ length_push lines line));
-  }
-
-  -- a line that is off
-  pub off_here : (text more : List ℕ) → lines_of rest ≡ text ∷ lines_of more → None ≡ line_value text
-      → (script_value bytes ≡ None) × (first_off bytes ≡ Some (length lines + 1))
-  off_here text more is none = (
-    so_far.values ∙ ap (λ ls. all_behind (map line_of lines) (all_values line_value ls)) is ∙ ap (λ v. all_behind (map line_of lines) (onto v (script_value more))) (sym none),
-    so_far.off ∙ ap (position_from is_off (length lines + 1)) is
-        ∙ ap (λ v. cond (is_none v) (Some (length lines + 1)) (position_from is_off (length lines + 1 + 1) (lines_of more))) (sym none),
-  )
-
-  -- and the end
-  pub read_all : rest ≡ [] → script_value bytes ≡ Some (map line_of lines)
-  read_all none =
-      so_far.values ∙ ap (λ ls. all_behind (map line_of lines) (all_values line_value ls)) (no_lines rest none) ∙ ap Some (append-nil (map line_of lines))
+-- At the end all is read.
+pub read_all : (bytes rest : List ℕ) (lines : List ScriptLine) → IsReadTo bytes rest lines → rest ≡ [] → script_value bytes ≡ Some (map step_of lines)
+read_all bytes rest lines so_far none =
+    so_far.values ∙ ap (λ ls. all_behind (map step_of lines) (all_values step_value ls)) (no_lines rest none) ∙ ap Some (append-nil (map step_of lines))
 
 -- a list that is empty by its test
 pub nothing_left : (rest : List ℕ) (b : Bool) → b ≡ (length rest == 0) → b ≡ true → rest ≡ []

@@ -1,7 +1,7 @@
 -- A script: its lines, and the first that is off its form.
 use Rattle.std.specs.Prelude.{ℕ, ◌==◌, List, [], ◌∷◌, Bool, Option, Some, None, is_none}
 use Rattle.std.specs.List.{position_from, slice_split}
-use Rattle.hh_script.specs.Lines.{Line, line_value}
+use Rattle.hh_script.specs.Steps.{Step, step_value}
 
 -- a text, if it is not empty
 abbrev pub unless_empty : List ℕ → List (List ℕ)
@@ -28,13 +28,13 @@ abbrev pub all_values : {A B : Type 0} → (A → Option B) → List A → Optio
 all_values value [] = Some []
 all_values value (x ∷ xs) = onto (value x) (all_values value xs)
 
--- what the lines of a script ask for, if each has a form
-abbrev pub script_value : List ℕ → Option (List Line)
-script_value bytes = all_values line_value (lines_of bytes)
+-- the steps of a script, if each line has a form
+abbrev pub script_value : List ℕ → Option (List Step)
+script_value bytes = all_values step_value (lines_of bytes)
 
 -- whether a line is off its form
 abbrev pub is_off : List ℕ → Bool
-is_off line = is_none (line_value line)
+is_off line = is_none (step_value line)
 
 -- the number of the first line that is off its form, from 1
 abbrev pub first_off : List ℕ → Option ℕ

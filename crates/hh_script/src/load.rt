@@ -2,7 +2,7 @@
 
 ghost use Rattle.std.specs.Prelude.{◌≡◌, option_map};
 ghost use Rattle.hh_rows.specs.Kinds.{kind_value};
-ghost use Rattle.hh_script.specs.Lines.{load_from, load_of, load_value, moment_value, path_name, path_value, shown_key_value, words_of};
+ghost use Rattle.hh_script.specs.Steps.{load_from, load_of, load_value, moment_value, path_name, path_value, shown_key_value, words_of};
 
 use crate::path::{read_path, read_path_name};
 use crate::words::{only_word, read_shown_key, split_word};

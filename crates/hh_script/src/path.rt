@@ -3,7 +3,7 @@
 ghost use Rattle.std.specs.Prelude.{◌≡◌, ◌==◌};
 ghost use Rattle.std.specs.List.{after_last};
 ghost use Rattle.std.specs.Option.{option_copied};
-ghost use Rattle.hh_script.specs.Lines.{path_name, path_value};
+ghost use Rattle.hh_script.specs.Steps.{path_name, path_value};
 
 use hh_names::FileName;
 
@@ -18,7 +18,7 @@ pub(crate) fn read_path(word: &[u8]) -> Option<&str>
 }
 
 /// The name of what lies at a path, if what follows the last `/` is one.
-#[tactic(auto, unfolding(crate::specs::Lines::path_name))]
+#[tactic(auto, unfolding(crate::specs::Steps::path_name))]
 pub(crate) fn read_path_name(path: &[u8]) -> Option<&[u8]>
     ensures { option_copied result ≡ path_name path.now }
 {

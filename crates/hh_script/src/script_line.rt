@@ -1,7 +1,7 @@
 //! The lines of a script, of which there are several kinds.
 
 ghost use Rattle.std.specs.Prelude.{◌≡◌, option_map};
-ghost use Rattle.hh_script.specs.Lines.{line_of, line_value};
+ghost use Rattle.hh_script.specs.Steps.{step_of, step_value};
 
 use crate::load::LoadLine;
 use crate::words::split_word;
@@ -14,9 +14,9 @@ pub enum ScriptLine<'a> {
 
 impl<'a> ScriptLine<'a> {
     /// What a line asks for, if it has a form: its first word says which.
-    #[tactic(auto, unfolding(crate::specs::Lines::line_value))]
+    #[tactic(auto, unfolding(crate::specs::Steps::step_value))]
     pub(crate) fn read(line: &'a [u8]) -> Option<ScriptLine<'a>>
-        ensures { option_map line_of result ≡ line_value line.entry.now }
+        ensures { option_map step_of result ≡ step_value line.entry.now }
     {
         let (command, words) = split_word(line)?;
         if command == b"load".as_slice() {

@@ -1,4 +1,4 @@
--- The lines of a script: their words, and what they ask for.
+-- The steps of a script: what its lines ask for by their words.
 use Rattle.std.specs.Prelude.{ℕ, ℤ, ◌==◌, List, [], ◌∷◌, Option, Some, None, option_map, codes, bytes_eq, if◌then◌else◌}
 use Rattle.std.specs.List.{after_last, slice_split}
 use Rattle.std.specs.Str.{is_utf8}
@@ -43,16 +43,17 @@ pub record Load : Type 0 where
   pub path : List ℕ
   pub name : List ℕ
 
--- what a line asks for
-pub data Line : Type 0 where
-  LoadFile : Load → Line
+-- a step of a script
+pub data Step : Type 0 where
+  LoadFile : Load → Step
 
--- the values of a line that was read
+-- the load that a line says
 abbrev pub load_of : LoadLine → Load
 load_of l = record { moment = l.moment; key = l.key.now; kind = l.kind; path = l.path.now; name = l.name.now }
 
-abbrev pub line_of : ScriptLine → Line
-line_of (line.Load l) = LoadFile (load_of l)
+-- the step that a line says
+abbrev pub step_of : ScriptLine → Step
+step_of (line.Load l) = LoadFile (load_of l)
 
 -- the values of a load, if all are there
 abbrev pub load_from : Option ℤ → Option (List ℕ) → Option FileKind → Option (List ℕ) → Option (List ℕ) → Option Load
@@ -66,11 +67,11 @@ load_value (moment ∷ key ∷ kind ∷ path ∷ []) =
     load_from (moment_value moment) (shown_key_value key) (kind_value kind) (path_value path) (path_name path)
 load_value _ = None
 
--- a line by its first word
-abbrev pub line_of_words : List (List ℕ) → Option Line
-line_of_words [] = None
-line_of_words (command ∷ words) = if bytes_eq command (codes "load") then option_map LoadFile (load_value words) else None
+-- the step that words ask for: the first says of which kind
+abbrev pub step_of_words : List (List ℕ) → Option Step
+step_of_words [] = None
+step_of_words (command ∷ words) = if bytes_eq command (codes "load") then option_map LoadFile (load_value words) else None
 
--- what a line asks for, if it has a form
-unfoldable pub line_value : List ℕ → Option Line
-line_value text = line_of_words (words_of text)
+-- the step that a line asks for, if it has a form
+unfoldable pub step_value : List ℕ → Option Step
+step_value text = step_of_words (words_of text)
