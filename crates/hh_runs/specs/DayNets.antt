@@ -1,0 +1,24 @@
+-- What accounts pay over a Settlement Day in all, and what differs between two settlements of one day.
+use Rattle.std.specs.Prelude.{ℤ, pos, ◌-ℤ◌, not, ◌++◌, map, filter, unwrap_or}
+use Rattle.std.specs.FinMap.{find}
+use Rattle.std.specs.Ordering.{int_eq}
+use Rattle.hh_tables.specs.Tables.{Table, in_key_order}
+use Rattle.hh_names.specs.declared.account.Account.{Account}
+use Rattle.hh_names.specs.Accounts.{account_cmp}
+
+-- the pence that each account pays over a day, negative where it is paid
+abbrev pub DayNets : Type 0
+DayNets = Table Account ℤ
+
+-- the day net of an account; 0 stands for an account that is not there
+abbrev pub day_net_of : DayNets → Account → ℤ
+day_net_of nets a = unwrap_or (find account_cmp a nets) (pos 0)
+
+-- the new net of an account less its old one
+abbrev pub net_change : DayNets → DayNets → Account → ℤ
+net_change old new a = day_net_of new a -ℤ day_net_of old a
+
+-- the accounts of either day in their order, each with its new net less its old, where that is not 0
+abbrev pub differences : DayNets → DayNets → DayNets
+differences old new =
+    filter (λ e. not (int_eq e.1 (pos 0))) (in_key_order account_cmp (map (λ e. (e.0, net_change old new e.0)) (new ++ old)))

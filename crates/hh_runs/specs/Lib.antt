@@ -1,0 +1,3 @@
+pub mod DayNets
+pub mod NextRun
+pub mod RunKinds
