@@ -1,0 +1,4 @@
+mod Examples
+mod KeyLaws
+mod LoadLaws
+pub mod ReachLaws

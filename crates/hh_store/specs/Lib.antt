@@ -1,0 +1,9 @@
+pub mod Changes
+pub mod Content
+pub mod DaySettlement
+pub mod PeriodSettlement
+pub mod Reads
+pub mod Runs
+pub mod States
+pub mod Steps
+pub mod StoreFaults

@@ -1,0 +1,56 @@
+//! Accepted files.
+
+ghost use Rattle.std.specs.Prelude.{◌≡◌};
+
+use std::marker::Model;
+
+/// What is kept of an accepted file, so that a repeat of it gets the same reply (profile).
+#[derive(Debug, Drop)]
+pub struct KeptFile {
+    body: Vec<u8>,
+    applied: u32,
+    late: u32,
+}
+
+impl Model for KeptFile {
+    ghost use Rattle.hh_store.specs.States.{AcceptedFile};
+
+    ghost Value = { AcceptedFile };
+
+    ghost view = { λ f. record { body = f.body.items; applied = f.applied; late = f.late } };
+}
+
+impl KeptFile {
+    /// A file of these bytes, so many of whose rows were applied and so many of which came late.
+    pub fn new(body: Vec<u8>, applied: u32, late: u32) -> KeptFile
+        ensures { result ≡ record { body = body.items; applied = applied; late = late } }
+    {
+        KeptFile {
+            body,
+            applied,
+            late,
+        }
+    }
+
+    /// The file's bytes.
+    pub fn body(&self) -> &[u8]
+        ensures { result.now ≡ self.now.body }
+    {
+        &self.body
+    }
+
+    /// How many rows were applied: all but the late ones.
+    pub fn applied(&self) -> u32
+        ensures { result ≡ self.now.applied }
+    {
+        self.applied
+    }
+
+    /// How many rows came late: those of contracts or reallocations at their deadline or after it
+    /// (Section P in shape; the deadline is profile).
+    pub fn late(&self) -> u32
+        ensures { result ≡ self.now.late }
+    {
+        self.late
+    }
+}

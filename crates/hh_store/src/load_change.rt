@@ -1,0 +1,102 @@
+//! What an accepted file changes in the tables.
+
+ghost use Rattle.std.specs.Prelude.{◌≡◌};
+ghost use Rattle.hh_store.specs.Changes.{LoadEffect};
+
+use crate::kept_file::KeptFile;
+use hh_names::{Counterparties, FileName, Reference};
+use hh_rows::{FileKind, Row};
+use std::marker::Model;
+
+/// What is written into the tables for an accepted file (profile): the file with the counts of its
+/// reply, its rows that are not late, and the references that it fixes, both in the file's order.
+#[derive(Debug, Drop)]
+pub struct LoadChange {
+    kind: FileKind,
+    name: FileName,
+    file: KeptFile,
+    rows: Vec<Row>,
+    references: Vec<(Reference, Counterparties)>,
+}
+
+impl Model for LoadChange {
+    ghost use Rattle.hh_store.specs.Changes.{LoadWrites};
+
+    ghost Value = { LoadWrites };
+
+    ghost view = { λ c. record {
+      key = record { kind = c.kind; name = c.name };
+      file = c.file;
+      rows = c.rows.items;
+      references = c.references.items;
+    } };
+}
+
+impl LoadChange {
+    /// What is written for a file of this kind and name with these rows in time and new references.
+    pub fn new(
+        kind: FileKind,
+        name: FileName,
+        file: KeptFile,
+        rows: Vec<Row>,
+        references: Vec<(Reference, Counterparties)>,
+    ) -> LoadChange
+        ensures { result ≡ record {
+          key = record { kind = kind; name = name };
+          file = file;
+          rows = rows.items;
+          references = references.items;
+        } }
+    {
+        LoadChange {
+            kind,
+            name,
+            file,
+            rows,
+            references,
+        }
+    }
+
+    /// The file's kind.
+    pub fn kind(&self) -> FileKind
+        ensures { result ≡ self.now.key.kind }
+    {
+        self.kind
+    }
+
+    /// The name under which the file is kept.
+    pub fn name(&self) -> FileName
+        ensures { result ≡ self.now.key.name }
+    {
+        self.name
+    }
+
+    /// The file with the counts of its reply.
+    pub fn file(&self) -> &KeptFile
+        ensures { result.now ≡ self.now.file }
+    {
+        &self.file
+    }
+
+    /// The rows that are not late, in the order of the file.
+    pub fn rows(&self) -> &[Row]
+        ensures { result.now ≡ self.now.rows }
+    {
+        &self.rows
+    }
+
+    /// The references that the file fixes, with their sellers and buyers, in the order of the file.
+    pub fn references(&self) -> &[(Reference, Counterparties)]
+        ensures { result.now ≡ self.now.references }
+    {
+        &self.references
+    }
+}
+
+/// That what is written for an accepted file makes the tables those of the machine after it: in each
+/// state that the machine reaches, and for each file that it accepts there, the tables before with
+/// what the file writes are the tables of the state after it (profile).
+#[tactic(auto, using(crate::proofs::ReachLaws::load_effect))]
+pub fn load_effect()
+    ensures { LoadEffect }
+{}

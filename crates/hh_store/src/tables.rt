@@ -1,0 +1,80 @@
+//! The tables of an office, however they are kept.
+
+ghost use Rattle.std.specs.Prelude.{◌≡◌, IfOk, OnOk, OnErr};
+ghost use Rattle.hh_time.specs.Days.{Midnights};
+ghost use Rattle.hh_rules.specs.RegisterView.{ServesFor};
+ghost use Rattle.hh_store.specs.Changes.{IsLoadFrom, effect_of_load};
+ghost use Rattle.hh_store.specs.Content.{Content};
+ghost use Rattle.hh_store.specs.Reads.{contracts_in, file_in, is_key_known, party_in, reference_in, unit_in, whole_register};
+
+use crate::kept_file::KeptFile;
+use crate::load_change::LoadChange;
+use crate::store_fault::StoreFault;
+use hh_names::{Account, Counterparties, FileName, PartyId, Reference, UnitId};
+use hh_rows::{ContractRow, FileKind, PartyRegistration, Row, Settings, UnitRegistration};
+use hh_rules::Register;
+use hh_time::SettlementDate;
+
+/// The tables of an office. A call that reads leaves them as they are, and so does one that fails.
+/// `Memory` is answered where memory was refused, `Store` where the store refuses for another cause
+/// or holds what no office wrote.
+pub trait Tables {
+    /// What the tables contain.
+    ghost content: { Self → Content };
+
+    /// The settings that the office was made with.
+    fn settings(&mut self) -> Result<Settings, StoreFault>
+        ensures value { IfOk result (λ settings. settings ≡ (content self.old).settings) }
+        ensures same { content self.new ≡ content self.old };
+
+    /// What is registered of a party, if it is registered (profile).
+    fn party(&mut self, party: &PartyId) -> Result<Option<PartyRegistration>, StoreFault>
+        ensures value { IfOk result (λ found. found ≡ party_in (content self.old) party.now) }
+        ensures same { content self.new ≡ content self.old };
+
+    /// What is registered of a unit, if it is registered (profile).
+    fn unit(&mut self, unit: &UnitId) -> Result<Option<UnitRegistration>, StoreFault>
+        ensures value { IfOk result (λ found. found ≡ unit_in (content self.old) unit.now) }
+        ensures same { content self.new ≡ content self.old };
+
+    /// The seller and the buyer of a reference, which its first accepted row fixed, if there was
+    /// one (Section P in shape).
+    fn reference(&mut self, reference: &Reference) -> Result<Option<Counterparties>, StoreFault>
+        ensures value { IfOk result (λ found.
+            found ≡ reference_in (content self.old) reference.now) }
+        ensures same { content self.new ≡ content self.old };
+
+    /// Whether a registered party has the key (profile).
+    fn key_known(&mut self, key: &[u8]) -> Result<bool, StoreFault>
+        ensures value { IfOk result (λ known. known ≡ is_key_known (content self.old) key.now) }
+        ensures same { content self.new ≡ content self.old };
+
+    /// The accepted file of a kind and name, if there is one (profile).
+    fn file(&mut self, kind: FileKind, name: &FileName) -> Result<Option<KeptFile>, StoreFault>
+        ensures value { IfOk result (λ found. found ≡ file_in (content self.old) kind name.now) }
+        ensures same { content self.new ≡ content self.old };
+
+    /// A register that judges these rows, and is changed by them, as one of everything that is
+    /// registered and in force would (profile).
+    fn register(&mut self, rows: &[Row]) -> Result<Register, StoreFault>
+        ensures serves { IfOk result (ServesFor rows.now (whole_register (content self.old))) }
+        ensures same { content self.new ≡ content self.old };
+
+    /// The rows of contracts that are in force on a date and name an account, by Settlement Period,
+    /// then by the bytes of their references (Section P in shape).
+    fn contracts(
+        &mut self,
+        account: &Account,
+        date: SettlementDate,
+    ) -> Result<Vec<ContractRow>, StoreFault>
+        ensures value { IfOk result (λ rows.
+            rows.items ≡ contracts_in (content self.old) account.now date) }
+        ensures same { content self.new ≡ content self.old };
+
+    /// Writes what an accepted file changes, whole or not at all. Of a change that the machine does
+    /// not make, no more is promised than that a failure leaves the tables as they were (profile).
+    fn apply_load(&mut self, change: LoadChange) -> Result<(), StoreFault>
+        ensures ok { (midnight : Midnights) → IsLoadFrom midnight (content self.old) change
+            → OnOk result (content self.new ≡ effect_of_load change (content self.old)) }
+        ensures err { OnErr result (content self.new ≡ content self.old) };
+}
