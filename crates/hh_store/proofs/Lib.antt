@@ -2,3 +2,4 @@ mod Examples
 mod KeyLaws
 mod LoadLaws
 pub mod ReachLaws
+pub mod ReadLaws

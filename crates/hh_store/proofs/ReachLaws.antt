@@ -1,5 +1,5 @@
 -- What holds of the states that the machine reaches, and that a load leaves the tables of the runs as they are.
-use Rattle.std.proofs.Common.{◌≡◌, ℕ, ◌+◌, ◌≤◌, List, [], ◌∷◌, ◌++◌, map, length, refl, ap, Bool, true, false, cond, Option, Some, None, arith, length-append}
+use Rattle.std.proofs.Common.{◌≡◌, ℕ, ◌+◌, ◌≤◌, List, [], ◌∷◌, ◌++◌, map, length, refl, sym, ap, ◌∙◌, Bool, true, false, cond, Option, Some, None, arith, length-append}
 use Rattle.std.specs.Prelude.{filter, ◌==◌}
 use Rattle.std.specs.List.{flat_map}
 use Rattle.std.proofs.lemmas.List.{take-append-le}
@@ -10,13 +10,13 @@ use Rattle.hh_rules.specs.History.{History, registered_in}
 use Rattle.hh_rules.specs.Lateness.{Timetable}
 use Rattle.hh_runs.specs.DayNets.{differences}
 use Rattle.hh_runs.specs.declared.summary.Summary.{Summary}
-use Rattle.hh_store.specs.Changes.{LoadEffect}
-use Rattle.hh_store.specs.Content.{credit_entries, credit_key_cmp, posting_entries, posting_key_cmp, result_entries, result_key_cmp}
+use Rattle.hh_store.specs.Changes.{LoadEffect, StandsFor, effect_of_load, load_writes}
+use Rattle.hh_store.specs.Content.{Content, credit_entries, credit_key_cmp, posting_entries, posting_key_cmp, result_entries, result_key_cmp}
 use Rattle.hh_store.specs.DaySettlement.{day_nets, settled_day}
 use Rattle.hh_store.specs.PeriodSettlement.{accounts_on}
 use Rattle.hh_store.specs.Runs.{Run, RunKey, last_of, nets_of, periods_of, postings_after, run_key_cmp, runs_of_date, seen_by, settled_by, summary_after, with_former}
 use Rattle.hh_store.specs.States.{State}
-use Rattle.hh_store.specs.Steps.{IsReached, at_first, by_load, by_run, kept_file, new_run, rows_coming, timetable_at}
+use Rattle.hh_store.specs.Steps.{CanLoad, IsReached, Load, after_load, at_first, by_load, by_run, kept_file, new_run, rows_coming, timetable_at}
 use Rattle.hh_store.proofs.KeyLaws.{exact_file_keys, file_key_total}
 use Rattle.hh_store.proofs.LoadLaws.{in_key_order-append, load_register}
 
@@ -106,7 +106,7 @@ module _ (timetable : Timetable) (history more : History) where
   all_postings_same [] h = refl
   all_postings_same (r ∷ pairs) h = λ i. posting_entries r.1.key (postings_same r.0 r.1 h.0 h.1 i) ++ all_postings_same pairs h.2 i
 
--- What an accepted load writes is what the tables of the state after it have new.
+-- what an accepted load writes is what the tables of the state after it have new
 pub load_effect : LoadEffect
 load_effect midnight s load reached can =
     let timetable : Timetable = timetable_at midnight s in
@@ -122,3 +122,11 @@ load_effect midnight s load reached can =
       credits = in_key_order credit_key_cmp (credits_same timetable s.history more s.runs within i);
       postings = in_key_order posting_key_cmp (all_postings_same timetable s.history more (with_former [] s.runs) pairs i);
     }
+
+-- tables that stand for a state stand, with what an accepted load writes, for the state after it
+pub stands_after_load : (midnight : Midnights) (content : Content) (s : State) (load : Load) → StandsFor midnight content s → CanLoad midnight s load
+    → StandsFor midnight (effect_of_load (load_writes midnight s load) content) (after_load midnight s load)
+stands_after_load midnight content s load stands can = (
+  by_load s load stands.0 can,
+  ap (effect_of_load (load_writes midnight s load)) stands.1 ∙ sym (load_effect midnight s load stands.0 can),
+)

@@ -1,6 +1,7 @@
 -- What the settlement machine does with a file and with a run: when it accepts them, and the state after it.
 use Rattle.std.specs.Prelude.{◌≡◌, ℕ, ◌+◌, ◌-◌, ℤ, List, [], ◌∷◌, ◌++◌, map, length, count_by, not, if◌then◌else◌, Option, Some, None, option_map}
 use Rattle.std.specs.FinMap.{find}
+use Rattle.std.specs.Option.{option_or}
 use Rattle.hh_time.specs.Days.{Midnights, is_over, period_count}
 use Rattle.hh_names.specs.declared.fault.Fault.{Fault}
 use Rattle.hh_names.specs.declared.fault.Refusal.{Refusal}
@@ -37,21 +38,13 @@ abbrev pub refusal_after : Timetable → History → Accepted → Option Refusal
 refusal_after timetable history a =
     first_met (refusals_of (whole_standing (registered_in timetable history)) (timing_of timetable a) a.row)
 
--- the first that there is
-abbrev pub first_there : {X : Type 0} → List (Option X) → Option X
-first_there [] = None
-first_there (None ∷ os) = first_there os
-first_there (Some x ∷ os) = Some x
-
 -- The fault of the first row that is refused, where rows come after a history and are numbered from this number on. Each row
 -- is judged after those before it.
 abbrev pub first_row_fault : Timetable → History → ℕ → List Accepted → Option Fault
 first_row_fault timetable history number [] = None
 first_row_fault timetable history number (a ∷ rows) =
-    first_there (
-    option_map (λ why. row_fault why number) (refusal_after timetable history a)
-    ∷ first_row_fault timetable (history ++ a ∷ []) (number + 1) rows
-    ∷ [])
+    option_or (option_map (λ why. row_fault why number) (refusal_after timetable history a))
+    (first_row_fault timetable (history ++ a ∷ []) (number + 1) rows)
 
 -- how many of these rows are late
 abbrev pub late_count : Timetable → List Accepted → ℕ
@@ -62,6 +55,11 @@ abbrev pub kept_file : Timetable → Load → AcceptedFile
 kept_file timetable load =
     let late : ℕ = late_count timetable (rows_coming load) in
     record { body = load.body; applied = length load.rows - late; late = late }
+
+-- the first that there is
+abbrev pub first_there : {X : Type 0} → List (Option X) → Option X
+first_there [] = None
+first_there (o ∷ os) = option_or o (first_there os)
 
 -- a refusal of a Settlement Period
 abbrev pub period_fault : Refusal → SettlementPeriod → Fault
