@@ -17,7 +17,7 @@ abbrev pub from_one_to : ℕ → List ℕ
 from_one_to zero = []
 from_one_to (suc n) = from_one_to n ++ suc n ∷ []
 
--- the first Settlement Periods of a date, so many
+-- so many Settlement Periods of a date, from the first on
 abbrev pub periods_on : ℕ → ℕ → List SettlementPeriod
 periods_on date count = map (λ p. record { date = date; period = p }) (from_one_to count)
 
@@ -30,21 +30,20 @@ module _ (tables : Registered) where
   abbrev pub unit_periods_at : SettlementPeriod → List UnitPeriod
   unit_periods_at at = map (λ e. record { unit = e.0; at = at }) (units_on tables at.date)
 
-  -- of these Settlement Periods, which are a date's
   module _ (periods : List SettlementPeriod) where
-    -- each of them with its settlement
+    -- these Settlement Periods with their settlements
     abbrev pub settled_day : List (SettlementPeriod × Settled)
     settled_day = map settled_at periods
 
-    -- the first that has no price
+    -- the first of these Settlement Periods that has no price
     abbrev pub missing_price : Option SettlementPeriod
     missing_price = find (λ at. is_none (price_of tables at)) periods
 
-    -- the first unit of the first of them that has a unit without a reading
+    -- the first of these Settlement Periods in which a unit has no reading, with the first such unit
     abbrev pub missing_meter : Option UnitPeriod
     missing_meter = find (λ key. is_none (reading_of tables key)) (flat_map unit_periods_at periods)
 
-    -- the first that passes a limit of settlement
+    -- the first of these Settlement Periods that passes a limit of settlement
     abbrev pub too_large : Option SettlementPeriod
     too_large = find (λ at. not (is_within_limits (terms_at tables at))) periods
 
@@ -56,6 +55,6 @@ period_net a s = total (λ r. of_account a r.account (r.charge +ℤ r.share)) s.
 abbrev pub day_net : List (SettlementPeriod × Settled) → Account → ℤ
 day_net day a = total (λ q. period_net a q.1) day
 
--- the day nets of these accounts
+-- the day nets of these accounts, from the settled periods of a day
 abbrev pub day_nets : List (SettlementPeriod × Settled) → List Account → DayNets
 day_nets day accounts = map (λ a. (a, day_net day a)) accounts

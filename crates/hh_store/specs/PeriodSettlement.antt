@@ -57,11 +57,11 @@ module _ (tables : Registered) where
       (find bytes_cmp e.0.reference tables.references)
 
   module _ (at : SettlementPeriod) where
-    -- the rows of contracts that are in force in the Settlement Period, in the order of their references
+    -- the rows of contracts that are in force in a Settlement Period, in the order of their references
     abbrev pub rows_in_force : List ContractRow
     rows_in_force = filter_map row_in_force (filter (λ e. eq_by_cmp settlement_period_cmp e.0.at at) tables.contracts)
 
-    -- what a unit is settled from with its reading
+    -- what a unit is settled from, with this reading
     abbrev pub unit_with : List ℕ × UnitRegistration → Reading → BmUnit
     unit_with e reading = bm_unit e.0 e.1.lead e.1.interconnector reading (subsidiaries_of (record { unit = e.0; at = at }))
 
@@ -69,8 +69,8 @@ module _ (tables : Registered) where
     abbrev pub unit_at : List ℕ × UnitRegistration → Option BmUnit
     unit_at e = option_map (unit_with e) (reading_of (record { unit = e.0; at = at }))
 
-    -- What the Settlement Period is settled from. Where the price or a reading is missing no run is made: here the price counts
-    -- as 0 then, and the unit is left out.
+    -- What a Settlement Period is settled from. No run is made where a price or a reading is missing: the price counts as 0 here
+    -- then, and the unit is left out.
     abbrev pub terms_at : PeriodTerms
     terms_at =
         period_terms (accounts_on at.date) (filter_map unit_at (units_on at.date)) (map (λ r. r.contract) rows_in_force)

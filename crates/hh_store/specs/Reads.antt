@@ -18,13 +18,13 @@ use Rattle.hh_store.specs.DaySettlement.{periods_on}
 use Rattle.hh_store.specs.PeriodSettlement.{rows_in_force}
 use Rattle.hh_store.specs.States.{AcceptedFile, file_key_cmp}
 
--- the seller or the buyer of a contract is this account
-abbrev pub is_party_to : Account → ContractRow → Bool
-is_party_to a r = is_same_account r.contract.counterparties.seller a || is_same_account r.contract.counterparties.buyer a
+-- whether the seller or the buyer of a contract is this account
+abbrev pub names_account : Account → ContractRow → Bool
+names_account a r = is_same_account r.contract.counterparties.seller a || is_same_account r.contract.counterparties.buyer a
 
 -- the contracts in force of an account on a date, by Settlement Period, then by the bytes of their references
 abbrev pub contracts_of : Account → ℕ → Registered → List ContractRow
-contracts_of a date tables = filter (is_party_to a) (flat_map (rows_in_force tables) (periods_on date 50))
+contracts_of a date tables = filter (names_account a) (flat_map (rows_in_force tables) (periods_on date 50))
 
 module _ (content : Content) where
   -- what is registered of a party, if it is registered

@@ -72,11 +72,11 @@ module _ (timetable : Timetable) (history : History) where
   nets_of None = []
   nets_of (Some run) = day_nets (settled_by run) (accounts_of run)
 
-  -- what a run posts to which accounts, where a run of its date came before it or none did
+  -- what a run posts to which accounts, where this run of its date came before it, if one did
   abbrev pub postings_after : Option Run → Run → DayNets
   postings_after former run = differences (nets_of former) (nets_of (Some run))
 
-  -- how many periods and accounts a run has, the sum of its residuals, and how many postings
+  -- the counts of a run's periods, accounts and postings, and the sum of its residuals, where this run came before it, if one did
   abbrev pub summary_after : Option Run → Run → Summary
   summary_after former run = record {
     periods = period_count timetable.midnight run.key.date;

@@ -87,7 +87,7 @@ module _ (midnight : Midnights) (s : State) where
   abbrev pub timetable_at : Timetable
   timetable_at = office_timetable midnight s.settings
 
-  -- what is registered and in force
+  -- what is registered and in force in this state
   abbrev pub registered_at : Registered
   registered_at = registered_in timetable_at s.history
 
