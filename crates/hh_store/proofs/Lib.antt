@@ -1,5 +1,8 @@
+mod ApartLaws
 mod Examples
 mod KeyLaws
 mod LoadLaws
 pub mod ReachLaws
 pub mod ReadLaws
+pub mod RunLaws
+mod RunRowLaws

@@ -16,7 +16,7 @@ use Rattle.hh_runs.specs.declared.summary.Summary.{Summary}
 use Rattle.hh_store.specs.Content.{Content, CreditKey, PostingKey, ResultKey, credit_entries, credit_key_cmp, posting_entries, posting_key_cmp, result_entries, result_key_cmp, tables_of}
 use Rattle.hh_store.specs.Runs.{Run, RunKey, latest_run, postings_after, run_key_cmp, settled_by}
 use Rattle.hh_store.specs.States.{AcceptedFile, FileKey, State, file_key_cmp}
-use Rattle.hh_store.specs.Steps.{CanLoad, CanRun, IsReached, Load, after_load, kept_file, new_run, new_summary, registered_at, rows_coming, timetable_at}
+use Rattle.hh_store.specs.Steps.{CanLoad, CanRun, IsReached, Load, after_load, after_run, kept_file, new_run, new_summary, registered_at, rows_coming, timetable_at}
 
 -- what a load writes: the file with the counts of its reply, its rows that are not late, and the references that it fixes
 pub record LoadWrites : Type 0 where
@@ -114,12 +114,12 @@ module _ (midnight : Midnights) (content : Content) where
   abbrev pub IsLoadFrom : LoadWrites → Type 0
   IsLoadFrom w = (s : State) × (load : Load) × StandsFor s × CanLoad midnight s load × (w ≡ load_writes midnight s load)
 
-  -- the machine writes this for a run that it makes in a state with these tables
-  abbrev pub IsRunFrom : RunWrites → Type 0
-  IsRunFrom w =
-      (s : State) × (moment : ℤ) × StandsFor s × CanRun midnight s moment w.key × (w ≡ run_writes midnight s w.key)
-
 -- what a load writes makes the tables of a reached state those of the state after the load
 abbrev pub LoadEffect : Type 0
 LoadEffect = (midnight : Midnights) (s : State) (load : Load) → IsReached midnight s → CanLoad midnight s load
     → tables_of midnight (after_load midnight s load) ≡ effect_of_load (load_writes midnight s load) (tables_of midnight s)
+
+-- what a run writes makes the tables of a state those of the state after the run
+abbrev pub RunEffect : Type 0
+RunEffect = (midnight : Midnights) (s : State) (moment : ℤ) (key : RunKey) → CanRun midnight s moment key
+    → tables_of midnight (after_run s key) ≡ effect_of_run (run_writes midnight s key) (tables_of midnight s)

@@ -1,7 +1,6 @@
 //! What an accepted file changes in the tables.
 
 ghost use Rattle.std.specs.Prelude.{◌≡◌};
-ghost use Rattle.hh_store.specs.Changes.{LoadEffect};
 
 use crate::kept_file::KeptFile;
 use hh_names::{Counterparties, FileName, Reference};
@@ -92,11 +91,3 @@ impl LoadChange {
         &self.references
     }
 }
-
-/// That what is written for an accepted file makes the tables those of the machine after it: in each
-/// state that the machine reaches, and for each file that it accepts there, the tables before with
-/// what the file writes are the tables of the state after it (profile).
-#[tactic(auto, using(crate::proofs::ReachLaws::load_effect))]
-pub fn load_effect()
-    ensures { LoadEffect }
-{}
