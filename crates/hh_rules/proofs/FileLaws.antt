@@ -219,7 +219,8 @@ pub passed_on : {X Y : Type 0} (view : X → Y) (result : Result X Fault) (e : F
 passed_on view (Ok x) e outcome passed refused = absurd (false_is_not_true passed.0)
 passed_on view (Err f) e outcome passed refused = subst (λ g. Refuses faults g outcome) (sym passed.1) refused
 
--- no more rows are late than there are
-pub late_with : (r : Row) (done : RowDone) (file : FileRowsView) → (with_done r done file).late ≤ file.late + 1
-late_with r (Applied fixes) file = omega arith
-late_with r (Late fixes) file = omega arith
+-- each row counts once, in time or late
+pub count_with : (r : Row) (done : RowDone) (file : FileRowsView)
+    → length (with_done r done file).rows + (with_done r done file).late ≡ length file.rows + file.late + 1
+count_with r (Applied fixes) file = let longer = length-append file.rows (r ∷ []) in omega arith
+count_with r (Late fixes) file = omega arith

@@ -1,6 +1,6 @@
 //! The rows of a file, judged one after the other.
 
-ghost use Rattle.std.specs.Prelude.{◌≡◌, ◌<◌, length, map, true, IfOk, OnOk};
+ghost use Rattle.std.specs.Prelude.{◌≡◌, ◌+◌, ◌<◌, length, IfOk, OnOk};
 ghost use Rattle.hh_names.specs.Faults.{faults, Gives};
 ghost use Rattle.hh_rules.specs.FileRows.{judged_row_at, JudgesFile};
 ghost use Rattle.hh_rules.specs.RegisterView.{done_at, IsKeptIn, ServesAfter};
@@ -14,24 +14,16 @@ use jiff::tz::TimeZone;
 use std::alloc::{AllocError, Global};
 use std::marker::Model;
 
-/// A reference with the seller and buyer that its first row fixed (Section P in shape).
-#[derive(Clone, Copy, Debug, PartialEq, Eq)]
-pub struct FixedReference {
-    pub reference: Reference,
-    pub counterparties: Counterparties,
-}
-
 /// What the rows of an accepted file come to: those that are not late, in their order, how many are
 /// late, and the references that the rows fixed, late ones included (profile).
 #[derive(Debug, Drop)]
 pub struct FileRows {
     rows: Vec<Row>,
     late: u32,
-    references: Vec<FixedReference>,
+    references: Vec<(Reference, Counterparties)>,
 }
 
 impl Model for FileRows {
-    ghost use Rattle.std.specs.Prelude.{map};
     ghost use Rattle.hh_rules.specs.FileRows.{FileRowsView};
 
     ghost Value = { FileRowsView };
@@ -39,7 +31,7 @@ impl Model for FileRows {
     ghost view = { λ f. record {
       rows = f.rows.items;
       late = f.late;
-      references = map (λ r. (r.reference, r.counterparties)) f.references.items;
+      references = f.references.items;
     } };
 }
 
@@ -64,9 +56,10 @@ impl FileRows {
         &self.rows
     }
 
-    /// The references that the rows fixed, in the order of their first rows.
-    pub fn references(&self) -> &[FixedReference]
-        ensures { map (λ r. (r.reference, r.counterparties)) result.now ≡ self.now.references }
+    /// The references that the rows fixed, each with its seller and buyer, in the order of their first
+    /// rows (Section P in shape).
+    pub fn references(&self) -> &[(Reference, Counterparties)]
+        ensures { result.now ≡ self.now.references }
     {
         &self.references
     }
@@ -103,10 +96,8 @@ impl FileRows {
             return Ok(());
         }
         if let Row::Contract(row) = row {
-            self.references.push(FixedReference {
-                reference: row.key.reference,
-                counterparties: row.contract.counterparties,
-            })?;
+            self.references
+                .push((row.key.reference, row.contract.counterparties))?;
         }
         Ok(())
     }
@@ -124,7 +115,8 @@ impl Register {
         rows: &[Row],
     ) -> Result<FileRows, Fault>
         requires { length rows.now < 4294967295 }
-        ensures { JudgesFile zone.now self moment rows.now result }
+        ensures judged { JudgesFile zone.now self moment rows.now result }
+        ensures count { IfOk result (λ file. length file.rows + file.late ≡ length rows.now) }
     {
         let mut last = None;
         let mut file = FileRows::new(alloc);

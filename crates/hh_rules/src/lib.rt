@@ -9,7 +9,7 @@ mod register;
 mod row_done;
 mod timing;
 
-pub use file_rows::{FileRows, FixedReference};
+pub use file_rows::FileRows;
 pub use hh_names::{
     AccessKey, Account, Contract, Counterparties, Fault, FileName, OperatorKey, PartyId,
     PeriodNumber, Reading, Reallocation, Reference, Refusal, Side, UnitId, read_yes_no,

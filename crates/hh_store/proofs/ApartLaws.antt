@@ -8,8 +8,7 @@ use Rattle.std.specs.List.{AllByRecursion, flat_map}
 use Rattle.std.specs.Ordering.{eq_by_cmp, is_eq, is_lt, ordering_then}
 use Rattle.std.specs.declared.cmp.Ordering.TheVariants.{Less, Equal, Greater}
 use Rattle.std.proofs.lemmas.List.{append-nil}
-use Rattle.hh_tables.specs.Tables.{in_key_order}
-use Rattle.hh_store.specs.Changes.{put_all}
+use Rattle.hh_tables.specs.Tables.{in_key_order, put_all}
 use Rattle.hh_store.proofs.LoadLaws.{in_key_order-append}
 
 -- no two elements of a list are alike

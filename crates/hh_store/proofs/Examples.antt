@@ -25,7 +25,8 @@ use Rattle.hh_store.specs.PeriodSettlement.{settled, terms_at}
 use Rattle.hh_store.specs.Reads.{contracts_in, is_key_known}
 use Rattle.hh_store.specs.Runs.{RunKey, postings_after}
 use Rattle.hh_store.specs.States.{AcceptedFile, State, empty_state}
-use Rattle.hh_store.specs.Steps.{Load, after_load, after_run, first_row_fault, kept_file, kept_summary, new_run, new_summary, registered_at, rows_coming, run_fault, timetable_at}
+use Rattle.hh_rules.specs.FileRows.{first_fault}
+use Rattle.hh_store.specs.Steps.{Load, after_load, after_run, kept_file, kept_summary, new_run, new_summary, registered_at, rows_coming, run_fault, timetable_at}
 
 -- 2024-07-01 is day 19905 and begins at 1719788400; each day here has 48 periods
 abbrev midnight : ℕ → ℤ
@@ -115,7 +116,7 @@ loaded = after_load midnight with_meters prices
 
 -- the fault of a load's rows
 abbrev fault_in : State → Load → Option Fault
-fault_in s load = first_row_fault (timetable_at midnight s) s.history 1 (rows_coming load)
+fault_in s load = first_fault (timetable_at midnight s) s.history 1 (rows_coming load)
 
 parties_accepted : fault_in empty parties ≡ None
 parties_accepted = refl

@@ -1,6 +1,6 @@
 -- What an accepted load writes is what is registered and in force after it.
-use Rattle.std.proofs.Common.{◌≡◌, ℕ, List, [], ◌∷◌, ◌++◌, map, refl, sym, ap, ◌∙◌, true, false, cond, Some, None, Ordering, append_assoc}
-use Rattle.std.specs.Prelude.{ℤ, filter, is_some}
+use Rattle.std.proofs.Common.{◌≡◌, ℕ, List, [], ◌∷◌, ◌++◌, map, refl, sym, ap, ◌∙◌, true, false, cond, Option, Some, None, Ordering, append_assoc}
+use Rattle.std.specs.Prelude.{ℤ, filter, is_none, is_some, option_to_list}
 use Rattle.std.specs.Cmp.{IsTotalOrder}
 use Rattle.std.specs.FinMap.{find, put}
 use Rattle.std.specs.FinMap.Entries.{find-append, find-put, is_sorted-put, same_entries}
@@ -8,18 +8,19 @@ use Rattle.std.specs.List.{cons_option}
 use Rattle.std.specs.Ordering.{eq_by_cmp}
 use Rattle.std.specs.declared.cmp.Ordering.TheVariants.{Equal}
 use Rattle.std.proofs.lemmas.List.{append-nil}
-use Rattle.hh_tables.specs.Tables.{Table, in_key_order}
+use Rattle.hh_tables.specs.Tables.{Table, in_key_order, put_all}
 use Rattle.hh_tables.proofs.TableLaws.{false_is_not_true, find-in_key_order, is_sorted-in_key_order}
 use Rattle.hh_names.specs.declared.values.Counterparties.{Counterparties}
 use Rattle.hh_names.specs.Accounts.{bytes_cmp}
 use Rattle.hh_rows.specs.declared.rows.Row.{Row}
 use Rattle.hh_rows.specs.declared.rows.Row.TheVariants as row
-use Rattle.hh_rules.specs.Effects.{put_new, with_row}
+use Rattle.hh_rules.specs.Effects.{fixes_reference, put_new, with_row}
 use Rattle.hh_rules.specs.Entries.{reference_entry}
-use Rattle.hh_rules.specs.History.{History, Registered, entries_of, registered_in}
+use Rattle.hh_rules.specs.FileRows.{fixed_by, fixed_references, timely_rows}
+use Rattle.hh_rules.specs.History.{History, Registered, registered_in}
 use Rattle.hh_rules.specs.Lateness.{Accepted, Timetable, accepted_at, is_in_time}
 use Rattle.hh_rules.proofs.HistoryLaws.{looks_back}
-use Rattle.hh_store.specs.Changes.{new_references, put_all, put_row, put_rows}
+use Rattle.hh_store.specs.Changes.{put_row, put_rows}
 
 -- what is registered and in force after rows that come one after the other
 abbrev with_rows : Timetable → History → Registered → Registered
@@ -38,10 +39,6 @@ registered_in-append timetable (a ∷ rows) history =
 abbrev references_after : History → Table (List ℕ) Counterparties → Table (List ℕ) Counterparties
 references_after [] known = known
 references_after (a ∷ rows) known = references_after rows (put_new bytes_cmp (reference_entry a.row) known)
-
--- the rows of these that are in time
-abbrev timely_rows : Timetable → History → List Row
-timely_rows timetable rows = map (λ a. a.row) (filter (is_in_time timetable) rows)
 
 -- a late row fixes its reference where that is new, and changes nothing else
 late_row : (timetable : Timetable) (moment : ℤ) (r : Row) (tables : Registered) → is_in_time timetable (accepted_at moment r) ≡ false
@@ -66,31 +63,47 @@ apart timetable (a ∷ rows) tables known =
           ∙ apart timetable rows tables (put_new bytes_cmp (reference_entry a.row) known)
     ] refl
 
--- to put the new references is to let each row see the ones before it
-new_references-put : (rows : History) (known : Table (List ℕ) Counterparties) → put_all bytes_cmp (new_references known (entries_of reference_entry rows)) known ≡ references_after rows known
-new_references-put [] known = refl
-new_references-put (a ∷ rows) known =
-    elim (reference_entry a.row) as (λ e. put_all bytes_cmp (new_references known (cons_option e (entries_of reference_entry rows))) known ≡ references_after rows (put_new bytes_cmp e known)) [
-      | None ↦ new_references-put rows known
-      | Some e ↦ elim (is_some (find bytes_cmp e.0 known)) as (λ there.
-          put_all bytes_cmp (cond there (new_references known (entries_of reference_entry rows)) (e ∷ new_references (put bytes_cmp e.0 e.1 known) (entries_of reference_entry rows))) known
-          ≡ references_after rows (cond there known (put bytes_cmp e.0 e.1 known))) [
-            | true ↦ new_references-put rows known
-            | false ↦ new_references-put rows (put bytes_cmp e.0 e.1 known)
-          ]
-    ]
+-- the reference that a row fixes, put into the table, is what the row changes of the references
+fixed_row : (tables : Registered) (r : Row)
+    → put_all bytes_cmp (option_to_list (fixed_by (fixes_reference tables r) (reference_entry r))) tables.references ≡ put_new bytes_cmp (reference_entry r) tables.references
+fixed_row tables (row.Party r) = refl
+fixed_row tables (row.Unit r) = refl
+fixed_row tables (row.Meter r) = refl
+fixed_row tables (row.Price r) = refl
+fixed_row tables (row.Contract r) =
+    elim (find bytes_cmp r.key.reference tables.references) as (λ known.
+    put_all bytes_cmp (option_to_list (fixed_by (is_none known) (reference_entry (row.Contract r)))) tables.references
+    ≡ cond (is_some known) tables.references (put bytes_cmp r.key.reference r.contract.counterparties tables.references)) [ None ↦ refl | Some counterparties ↦ refl ]
+fixed_row tables (row.Reallocation r) = refl
 
--- what is registered and in force after rows is what the rows in time and the new references make of the tables
+put_one_more : {K V : Type 0} (R : K → K → Ordering) (o : Option (K × V)) (es : List (K × V)) (table : Table K V)
+    → put_all R (cons_option o es) table ≡ put_all R es (put_all R (option_to_list o) table)
+put_one_more R None es table = refl
+put_one_more R (Some e) es table = refl
+
+-- to put the references that rows fix is to let each row see the ones before it
+fixed_references-put : (timetable : Timetable) (history rows : History)
+    → put_all bytes_cmp (fixed_references timetable history rows) (registered_in timetable history).references ≡ references_after rows (registered_in timetable history).references
+fixed_references-put timetable history [] = refl
+fixed_references-put timetable history (a ∷ rows) =
+    let tables : Registered = registered_in timetable history in
+    let after : (registered_in timetable (history ++ a ∷ [])).references ≡ put_new bytes_cmp (reference_entry a.row) tables.references = ap (λ t. t.references) (looks_back timetable history a) in
+    put_one_more bytes_cmp (fixed_by (fixes_reference tables a.row) (reference_entry a.row)) (fixed_references timetable (history ++ a ∷ []) rows) tables.references
+    ∙ ap (put_all bytes_cmp (fixed_references timetable (history ++ a ∷ []) rows)) (fixed_row tables a.row ∙ sym after)
+    ∙ fixed_references-put timetable (history ++ a ∷ []) rows
+    ∙ ap (references_after rows) after
+
+-- what is registered and in force after rows is what the rows in time and the references that they fix make of the tables
 pub load_register : (timetable : Timetable) (history rows : History) →
     registered_in timetable (history ++ rows)
     ≡ record (put_rows (timely_rows timetable rows) (registered_in timetable history)) {
-      references = put_all bytes_cmp (new_references (registered_in timetable history).references (entries_of reference_entry rows)) (registered_in timetable history).references;
+      references = put_all bytes_cmp (fixed_references timetable history rows) (registered_in timetable history).references;
     }
 load_register timetable history rows =
     let tables : Registered = registered_in timetable history in
     registered_in-append timetable rows history
     ∙ apart timetable rows tables tables.references
-    ∙ ap (λ references. record (put_rows (timely_rows timetable rows) tables) { references = references }) (sym (new_references-put rows tables.references))
+    ∙ ap (λ references. record (put_rows (timely_rows timetable rows) tables) { references = references }) (sym (fixed_references-put timetable history rows))
 
 -- one more entry under a new key is put into the table
 pub in_key_order-append : {K V : Type 0} {R : K → K → Ordering} → IsTotalOrder R → ((x y : K) → R x y ≡ Equal → x ≡ y) → (es : List (K × V)) (k : K) (v : V) → find R k es ≡ None

@@ -5,13 +5,13 @@ use Rattle.std.specs.FinMap.{find, put}
 use Rattle.std.specs.List.{AllByRecursion, flat_map}
 use Rattle.std.specs.Ordering.{eq_by_cmp, nat_cmp, ordering_then}
 use Rattle.std.proofs.lemmas.List.{append-nil}
-use Rattle.hh_tables.specs.Tables.{in_key_order}
+use Rattle.hh_tables.specs.Tables.{in_key_order, put_all}
 use Rattle.hh_time.specs.Days.{Midnights, period_count}
 use Rattle.hh_names.specs.Accounts.{account_cmp}
 use Rattle.hh_rules.specs.Lateness.{Timetable}
 use Rattle.hh_calc.specs.declared.result.AccountRow.{AccountRow}
 use Rattle.hh_runs.specs.declared.summary.Summary.{Summary}
-use Rattle.hh_store.specs.Changes.{RunEffect, StandsFor, effect_of_run, put_all, run_writes}
+use Rattle.hh_store.specs.Changes.{RunEffect, StandsFor, effect_of_run, run_writes}
 use Rattle.hh_store.specs.Content.{Content, CreditKey, PostingKey, ResultKey, all_credits, all_postings, all_results, all_summaries, credit_entries, credit_key_cmp, posting_entries, posting_key_cmp, result_entries, result_key_cmp, runs_with_former, tables_of}
 use Rattle.hh_store.specs.PeriodSettlement.{unit_account_cmp}
 use Rattle.hh_store.specs.Runs.{Run, RunKey, latest_run, nets_of, postings_after, run_key_cmp, settled_by, summary_after, with_former}

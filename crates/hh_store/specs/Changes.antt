@@ -2,15 +2,14 @@
 use Rattle.std.specs.Prelude.{◌≡◌, ℕ, ℤ, List, [], ◌∷◌, map, filter, is_some, true, if◌then◌else◌}
 use Rattle.std.specs.declared.cmp.Ordering.{Ordering}
 use Rattle.std.specs.FinMap.{find, put}
-use Rattle.hh_tables.specs.Tables.{Table}
+use Rattle.hh_tables.specs.Tables.{put_all}
 use Rattle.hh_time.specs.Days.{Midnights}
 use Rattle.hh_names.specs.declared.values.Counterparties.{Counterparties}
 use Rattle.hh_names.specs.Accounts.{bytes_cmp}
 use Rattle.hh_rows.specs.declared.rows.Row.{Row}
 use Rattle.hh_rules.specs.Effects.{with_row}
-use Rattle.hh_rules.specs.Entries.{reference_entry}
-use Rattle.hh_rules.specs.History.{Registered, entries_of}
-use Rattle.hh_rules.specs.Lateness.{is_in_time}
+use Rattle.hh_rules.specs.FileRows.{fixed_references, timely_rows}
+use Rattle.hh_rules.specs.History.{Registered}
 use Rattle.hh_calc.specs.declared.result.AccountRow.{AccountRow}
 use Rattle.hh_runs.specs.declared.summary.Summary.{Summary}
 use Rattle.hh_store.specs.Content.{Content, CreditKey, PostingKey, ResultKey, credit_entries, credit_key_cmp, posting_entries, posting_key_cmp, result_entries, result_key_cmp, tables_of}
@@ -32,11 +31,6 @@ pub record RunWrites : Type 0 where
   pub results : List (ResultKey × AccountRow)
   pub credits : List (CreditKey × ℤ)
   pub postings : List (PostingKey × ℤ)
-
--- a table with each of these entries in the place of its key's, one after the other
-abbrev pub put_all : {K V : Type 0} → (K → K → Ordering) → List (K × V) → Table K V → Table K V
-put_all R [] table = table
-put_all R (e ∷ es) table = put_all R es (put R e.0 e.1 table)
 
 -- what is registered and in force with a further row that is not late; references stand apart
 abbrev pub put_row : Row → Registered → Registered
@@ -67,22 +61,14 @@ effect_of_run w content = record content {
   postings = put_all posting_key_cmp w.postings content.postings;
 }
 
--- of the references of rows, in the order of the rows, those that are not known when they come, where these were known before
-abbrev pub new_references : Table (List ℕ) Counterparties → List (List ℕ × Counterparties) → List (List ℕ × Counterparties)
-new_references known [] = []
-new_references known (e ∷ es) =
-    if is_some (find bytes_cmp e.0 known) then new_references known es
-    else e ∷ new_references (put bytes_cmp e.0 e.1 known) es
-
 module _ (midnight : Midnights) (s : State) where
   -- the rows of a load that are not late
   abbrev pub rows_in_time : Load → List Row
-  rows_in_time load = map (λ a. a.row) (filter (is_in_time (timetable_at midnight s)) (rows_coming load))
+  rows_in_time load = timely_rows (timetable_at midnight s) (rows_coming load)
 
   -- the references that a load fixes, late rows included
   abbrev pub references_fixed : Load → List (List ℕ × Counterparties)
-  references_fixed load =
-      new_references (registered_at midnight s).references (entries_of reference_entry (rows_coming load))
+  references_fixed load = fixed_references (timetable_at midnight s) s.history (rows_coming load)
 
   -- what the machine writes for an accepted load
   abbrev pub load_writes : Load → LoadWrites

@@ -1,19 +1,19 @@
 -- What the settlement machine does with a file and with a run: when it accepts them, and the state after it.
-use Rattle.std.specs.Prelude.{◌≡◌, ℕ, ◌+◌, ◌-◌, ℤ, List, [], ◌∷◌, ◌++◌, map, length, count_by, not, if◌then◌else◌, Option, Some, None, option_map}
+use Rattle.std.specs.Prelude.{◌≡◌, ℕ, ℤ, List, [], ◌∷◌, ◌++◌, map, length, if◌then◌else◌, Option, Some, None, option_map}
 use Rattle.std.specs.FinMap.{find}
 use Rattle.std.specs.Option.{option_or}
 use Rattle.hh_time.specs.Days.{Midnights, is_over, period_count}
 use Rattle.hh_names.specs.declared.fault.Fault.{Fault}
 use Rattle.hh_names.specs.declared.fault.Refusal.{Refusal}
 use Rattle.hh_names.specs.declared.fault.Refusal.TheVariants.{DayNotOver, MissingMeter, MissingPrice, TooLarge}
-use Rattle.hh_names.specs.Faults.{first_met, plain_fault, row_fault}
+use Rattle.hh_names.specs.Faults.{first_met, plain_fault}
 use Rattle.hh_rows.specs.declared.keys.UnitPeriod.{UnitPeriod}
 use Rattle.hh_rows.specs.declared.rows.Row.{Row}
 use Rattle.hh_rows.specs.declared.settings.Settings.{Settings}
 use Rattle.hh_rows.specs.declared.settlement_period.SettlementPeriod.{SettlementPeriod}
+use Rattle.hh_rules.specs.FileRows.{coming_at, first_fault, late_count, timely_rows}
 use Rattle.hh_rules.specs.History.{History, Registered, registered_in}
-use Rattle.hh_rules.specs.Lateness.{Accepted, Timetable, accepted_at, is_in_time, timing_of}
-use Rattle.hh_rules.specs.Refusals.{refusals_of, whole_standing}
+use Rattle.hh_rules.specs.Lateness.{Timetable}
 use Rattle.hh_runs.specs.declared.run_kind.RunKind.{RunKind}
 use Rattle.hh_runs.specs.declared.summary.Summary.{Summary}
 use Rattle.hh_runs.specs.NextRun.{order_refusals}
@@ -31,30 +31,13 @@ pub record Load : Type 0 where
 
 -- the rows of a load, with the moment at which they come
 abbrev pub rows_coming : Load → History
-rows_coming load = map (accepted_at load.moment) load.rows
-
--- why a row that comes after a history of accepted rows is refused, if it is
-abbrev pub refusal_after : Timetable → History → Accepted → Option Refusal
-refusal_after timetable history a =
-    first_met (refusals_of (whole_standing (registered_in timetable history)) (timing_of timetable a) a.row)
-
--- The fault of the first row that is refused, where rows come after a history and are numbered from this number on. Each row
--- is judged after those before it.
-abbrev pub first_row_fault : Timetable → History → ℕ → List Accepted → Option Fault
-first_row_fault timetable history number [] = None
-first_row_fault timetable history number (a ∷ rows) =
-    option_or (option_map (λ why. row_fault why number) (refusal_after timetable history a))
-    (first_row_fault timetable (history ++ a ∷ []) (number + 1) rows)
-
--- how many of these rows are late
-abbrev pub late_count : Timetable → List Accepted → ℕ
-late_count timetable rows = count_by (λ a. not (is_in_time timetable a)) rows
+rows_coming load = coming_at load.moment load.rows
 
 -- what is kept of a load that is accepted: its bytes, with the counts of its reply
 abbrev pub kept_file : Timetable → Load → AcceptedFile
 kept_file timetable load =
-    let late : ℕ = late_count timetable (rows_coming load) in
-    record { body = load.body; applied = length load.rows - late; late = late }
+    let rows : History = rows_coming load in
+    record { body = load.body; applied = length (timely_rows timetable rows); late = late_count timetable rows }
 
 -- the first that there is
 abbrev pub first_there : {X : Type 0} → List (Option X) → Option X
@@ -123,7 +106,7 @@ module _ (midnight : Midnights) (s : State) where
   abbrev pub CanLoad : Load → Type 0
   CanLoad load =
       (find file_key_cmp load.key s.files ≡ None)
-      × (first_row_fault timetable_at s.history 1 (rows_coming load) ≡ None)
+      × (first_fault timetable_at s.history 1 (rows_coming load) ≡ None)
 
   -- the run is not there, and is not refused at the moment
   abbrev pub CanRun : ℤ → RunKey → Type 0
