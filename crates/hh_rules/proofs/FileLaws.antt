@@ -21,7 +21,7 @@ use Rattle.hh_rules.specs.declared.row_done.RowDone.{RowDone}
 use Rattle.hh_rules.specs.declared.row_done.RowDone.TheVariants.{Applied, Late}
 use Rattle.hh_rules.specs.Effects.{fixes_reference, row_done}
 use Rattle.hh_rules.specs.Entries.{reference_entry}
-use Rattle.hh_rules.specs.FileRows.{FileRowsView, JudgesFile, ServesAfterHistory, coming_at, file_rows, first_fault, fixed_by, fixed_references, judged_file, judged_row, judged_row_at, late_count, no_rows, refusal_after, register_of, timely_rows, with_done}
+use Rattle.hh_rules.specs.FileRows.{FileRowsView, JudgesFile, ServesAfterHistory, coming_at, file_outcome, first_fault, fixed_by, fixed_references, judged_file, judged_row, judged_row_at, late_count, refusal_after, register_of, timely_rows, with_done}
 use Rattle.hh_rules.specs.History.{History, Registered, registered_in}
 use Rattle.hh_rules.specs.Lateness.{Timetable, Accepted, accepted_at, is_in_time}
 use Rattle.hh_rules.specs.RegisterView.{AgreesOn, RegisterView, ServesAfter, ServesFor, done_at, in_time_at, refusal_at, register_after, tables_in, timetable_in, timetable_of}
@@ -66,10 +66,10 @@ module _ (timetable : Timetable) where
       ∙ cons_option-append (fixed_after history b) (fixed_references timetable (history ++ b ∷ []) rows) (option_to_list (fixed_after (history ++ b ∷ rows) a))
 
   -- what a file's rows come to with one more row
-  pub file_rows-append : (history rows : History) (a : Accepted)
-      → file_rows timetable history (rows ++ a ∷ [])
-      ≡ with_done a.row (row_done (is_in_time timetable a) (fixes_reference (registered_in timetable (history ++ rows)) a.row)) (file_rows timetable history rows)
-  file_rows-append history rows a =
+  pub file_outcome-append : (history rows : History) (a : Accepted)
+      → file_outcome timetable history (rows ++ a ∷ [])
+      ≡ with_done a.row (row_done (is_in_time timetable a) (fixes_reference (registered_in timetable (history ++ rows)) a.row)) (file_outcome timetable history rows)
+  file_outcome-append history rows a =
       (λ i. record { rows = timely-append rows a i; late = late-append rows a i; references = fixed-append history rows a i })
       ∙ elim (is_in_time timetable a) as (λ t.
       record {
@@ -77,7 +77,7 @@ module _ (timetable : Timetable) where
         late = cond t (late_count timetable rows) (late_count timetable rows + 1);
         references = fixed_references timetable history rows ++ option_to_list (fixed_after (history ++ rows) a);
       }
-      ≡ with_done a.row (row_done t (fixes_reference (registered_in timetable (history ++ rows)) a.row)) (file_rows timetable history rows)) [
+      ≡ with_done a.row (row_done t (fixes_reference (registered_in timetable (history ++ rows)) a.row)) (file_outcome timetable history rows)) [
         | true ↦ refl
         | false ↦ refl
       ]
@@ -100,19 +100,11 @@ pub record IsJudgedTo (zone : TimeZone) (first : RegisterView) (moment : ℤ) (r
   pub serves : ServesFor (drop i rows) (register_of (timetable_of zone first) (history ++ coming_at moment (take i rows))) register
   pub fault : first_fault (timetable_of zone first) (history ++ coming_at moment (take i rows)) (i + 1) (coming_at moment (drop i rows))
       ≡ first_fault (timetable_of zone first) history 1 (coming_at moment rows)
-  pub so_far : file ≡ file_rows (timetable_of zone first) history (coming_at moment (take i rows))
+  pub so_far : file ≡ file_outcome (timetable_of zone first) history (coming_at moment (take i rows))
 
 abbrev pub AreJudgedTo : TimeZone → RegisterView → ℤ → List Row → ℕ → RegisterView → FileRowsView → Type 0
 AreJudgedTo zone first moment rows i register file =
     (history : History) → ServesAfterHistory zone first rows history → IsJudgedTo zone first moment rows i register file history
-
--- nothing is said before the first row
-pub judged_to_none : (zone : TimeZone) (first : RegisterView) (moment : ℤ) (rows : List Row) → AreJudgedTo zone first moment rows 0 first no_rows
-judged_to_none zone first moment rows history serves = record {
-  serves = subst (λ h. ServesFor rows (register_of (timetable_of zone first) h) first) (sym (append-nil history)) serves;
-  fault = ap (λ h. first_fault (timetable_of zone first) h 1 (coming_at moment rows)) (append-nil history);
-  so_far = refl;
-}
 
 -- a refusal of a row of this number, or what comes later
 abbrev told : ℕ → Option Refusal → Option Fault → Option Fault
@@ -159,7 +151,7 @@ module _ (zone : TimeZone) (first : RegisterView) (moment : ℤ) (rows : List Ro
         → judged_file timetable history (coming_at moment rows) ≡ Err e
     refused_here e None found answer = cc answer
     refused_here e (Some why) found answer =
-        ap (answer_by (file_rows timetable history (coming_at moment rows)))
+        ap (answer_by (file_outcome timetable history (coming_at moment rows)))
         (next_fault ∙ ap (λ o. told (i + 1) o (first_fault timetable (before ++ now ∷ []) (i + 1 + 1) (coming_at moment (drop (i + 1) rows)))) (sym refused_alike ∙ found))
         ∙ ap Err same
       where
@@ -183,8 +175,8 @@ module _ (zone : TimeZone) (first : RegisterView) (moment : ℤ) (rows : List Ro
           ∙ sym (next_fault ∙ ap (λ o. told (i + 1) o (first_fault timetable (before ++ now ∷ []) (i + 1 + 1) (coming_at moment (drop (i + 1) rows)))) (sym refused_alike ∙ none));
       so_far = added ∙ ap (λ d. with_done r d file) done_is
           ∙ ap (with_done r (row_done (is_in_time timetable now) (fixes_reference (registered_in timetable before) r))) so_far.so_far
-          ∙ sym (file_rows-append timetable history (coming_at moment (take i rows)) now)
-          ∙ sym (ap (file_rows timetable history) front_is);
+          ∙ sym (file_outcome-append timetable history (coming_at moment (take i rows)) now)
+          ∙ sym (ap (file_outcome timetable history) front_is);
     }
 
   module _ (file : FileRowsView) (so_far : AreJudgedTo zone first moment rows i register file) where
@@ -209,9 +201,9 @@ pub judged_to_end : (zone : TimeZone) (first : RegisterView) (moment : ℤ) (row
     → i ≡ length rows → AreJudgedTo zone first moment rows i register file → JudgesFile zone first moment rows (Ok file)
 judged_to_end zone first moment rows i register file at_end all history serves =
     let end = all history serves in
-    ap (answer_by (file_rows (timetable_of zone first) history (coming_at moment rows)))
+    ap (answer_by (file_outcome (timetable_of zone first) history (coming_at moment rows)))
     (sym end.fault ∙ ap (λ rs. first_fault (timetable_of zone first) (history ++ coming_at moment (take i rows)) (i + 1) (coming_at moment rs)) (drop_all i rows (omega arith)))
-    ∙ ap Ok (ap (λ rs. file_rows (timetable_of zone first) history (coming_at moment rs)) (sym (take_all i rows (omega arith))) ∙ sym end.so_far)
+    ∙ ap Ok (ap (λ rs. file_outcome (timetable_of zone first) history (coming_at moment rs)) (sym (take_all i rows (omega arith))) ∙ sym end.so_far)
 
 -- a fault that is passed on
 pub passed_on : {X Y : Type 0} (view : X → Y) (result : Result X Fault) (e : Fault) (outcome : Result Y Fault)

@@ -74,8 +74,8 @@ with_done r (Applied fixes) file = with_fixed fixes r (record file { rows = file
 with_done r (Late fixes) file = with_fixed fixes r (record file { late = file.late + 1 })
 
 -- what an accepted file's rows come to after a history
-abbrev pub file_rows : Timetable → History → List Accepted → FileRowsView
-file_rows timetable history rows = record {
+abbrev pub file_outcome : Timetable → History → List Accepted → FileRowsView
+file_outcome timetable history rows = record {
   rows = timely_rows timetable rows;
   late = late_count timetable rows;
   references = fixed_references timetable history rows;
@@ -85,7 +85,7 @@ file_rows timetable history rows = record {
 abbrev pub judged_file : Timetable → History → List Accepted → Result FileRowsView Fault
 judged_file timetable history rows = elim (first_fault timetable history 1 rows) [
   | Some fault ↦ Err fault
-  | None ↦ Ok (file_rows timetable history rows)
+  | None ↦ Ok (file_outcome timetable history rows)
 ]
 
 -- a register that has everything that a history put into it

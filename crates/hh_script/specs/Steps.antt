@@ -36,7 +36,7 @@ abbrev pub path_value : List ℕ → Option (List ℕ)
 path_value word = if is_utf8 word then Some word else None
 
 -- a file to be loaded: when, by whom, of which kind, where it lies, and the name by which it is registered
-pub record Load : Type 0 where
+pub record LoadStep : Type 0 where
   pub moment : ℤ
   pub key : List ℕ
   pub kind : FileKind
@@ -45,10 +45,10 @@ pub record Load : Type 0 where
 
 -- a step of a script
 pub data Step : Type 0 where
-  LoadFile : Load → Step
+  LoadFile : LoadStep → Step
 
 -- the load that a line says
-abbrev pub load_of : LoadLine → Load
+abbrev pub load_of : LoadLine → LoadStep
 load_of l = record { moment = l.moment; key = l.key.now; kind = l.kind; path = l.path.now; name = l.name.now }
 
 -- the step that a line says
@@ -56,13 +56,13 @@ abbrev pub step_of : ScriptLine → Step
 step_of (line.Load l) = LoadFile (load_of l)
 
 -- the values of a load, if all are there
-abbrev pub load_from : Option ℤ → Option (List ℕ) → Option FileKind → Option (List ℕ) → Option (List ℕ) → Option Load
+abbrev pub load_from : Option ℤ → Option (List ℕ) → Option FileKind → Option (List ℕ) → Option (List ℕ) → Option LoadStep
 load_from (Some moment) (Some key) (Some kind) (Some path) (Some name) =
     Some (record { moment = moment; key = key; kind = kind; path = path; name = name })
 load_from _ _ _ _ _ = None
 
 -- SECONDS KEY KIND PATH
-abbrev pub load_value : List (List ℕ) → Option Load
+abbrev pub load_value : List (List ℕ) → Option LoadStep
 load_value (moment ∷ key ∷ kind ∷ path ∷ []) =
     load_from (moment_value moment) (shown_key_value key) (kind_value kind) (path_value path) (path_name path)
 load_value _ = None
