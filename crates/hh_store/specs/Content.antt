@@ -39,7 +39,8 @@ pub record PostingKey : Type 0 where
 
 -- results in the order of their runs, then of their periods, then of their accounts
 abbrev pub result_key_cmp : ResultKey → ResultKey → Ordering
-result_key_cmp = then_cmp (on (λ k. k.run) run_key_cmp) (then_cmp (on (λ k. k.period) nat_cmp) (on (λ k. k.account) account_cmp))
+result_key_cmp =
+    then_cmp (on (λ k. k.run) run_key_cmp) (then_cmp (on (λ k. k.period) nat_cmp) (on (λ k. k.account) account_cmp))
 
 -- credits in the order of their runs, then of their periods, then of their units, then of their accounts
 abbrev pub credit_key_cmp : CreditKey → CreditKey → Ordering

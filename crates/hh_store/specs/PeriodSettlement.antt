@@ -69,7 +69,7 @@ module _ (tables : Registered) where
     abbrev pub unit_at : List ℕ × UnitRegistration → Option BmUnit
     unit_at e = option_map (unit_with e) (reading_of (record { unit = e.0; at = at }))
 
-    -- What a Settlement Period is settled from. No run is made where a price or a reading is missing: the price counts as 0 here
+    -- What a Settlement Period is settled from. Where a price or a reading is missing no run is made; here the price counts as 0
     -- then, and the unit is left out.
     abbrev pub terms_at : PeriodTerms
     terms_at =
@@ -111,4 +111,5 @@ in_credit_order credits =
 
 -- a period, settled: the accounts' rows, the credits in order, and the residual
 abbrev pub settled : PeriodTerms → Settled
-settled p = settled_period (account_rows (all_figures p) (residual_shares p)) (in_credit_order (credits_of p.units)) (residual p)
+settled p =
+    settled_period (account_rows (all_figures p) (residual_shares p)) (in_credit_order (credits_of p.units)) (residual p)

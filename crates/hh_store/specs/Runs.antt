@@ -76,7 +76,7 @@ module _ (timetable : Timetable) (history : History) where
   abbrev pub postings_after : Option Run → Run → DayNets
   postings_after former run = differences (nets_of former) (nets_of (Some run))
 
-  -- the counts of a run's periods, accounts and postings, and the sum of its residuals, where this run came before it, if one did
+  -- the summary of a run, where this run of its date came before it, if one did
   abbrev pub summary_after : Option Run → Run → Summary
   summary_after former run = record {
     periods = period_count timetable.midnight run.key.date;
