@@ -49,10 +49,27 @@ abbrev pub all_behind : {A : Type 0} → List A → Option (List A) → Option (
 all_behind front None = None
 all_behind front (Some xs) = Some (front ++ xs)
 
+all_behind-onto : {A : Type 0} (front : List A) (x : A) (others : Option (List A)) → all_behind front (onto (Some x) others) ≡ all_behind (front ++ x ∷ []) others
+all_behind-onto front x None = refl
+all_behind-onto front x (Some xs) = ap Some (sym (append_assoc front (x ∷ []) xs))
+
 -- What is read so far, and what the rest has.
 pub record IsReadTo (bytes rest : List ℕ) (lines : List ScriptLine) : Type 0 where
   pub values : script_value bytes ≡ all_behind (map step_of lines) (script_value rest)
   pub off : first_off bytes ≡ position_from is_off (length lines + 1) (lines_of rest)
+
+-- One line more.
+pub read_more : (bytes rest : List ℕ) (lines : List ScriptLine) → IsReadTo bytes rest lines → (text more : List ℕ) (line : ScriptLine) (now : List ScriptLine) → lines_of rest ≡ text ∷ lines_of more
+    → Some (step_of line) ≡ step_value text → now ≡ lines ++ line ∷ [] → IsReadTo bytes more now
+read_more bytes rest lines so_far text more line now is value last = record {
+  values = so_far.values ∙ ap (λ ls. all_behind (map step_of lines) (all_values step_value ls)) is
+      ∙ ap (λ v. all_behind (map step_of lines) (onto v (script_value more))) (sym value)
+      ∙ all_behind-onto (map step_of lines) (step_of line) (script_value more)
+      ∙ ap (λ ls. all_behind ls (script_value more)) (sym (map-append step_of lines (line ∷ [])) ∙ ap (map step_of) (sym last));
+  off = so_far.off ∙ ap (position_from is_off (length lines + 1)) is
+      ∙ ap (λ v. cond (is_none v) (Some (length lines + 1)) (position_from is_off (length lines + 1 + 1) (lines_of more))) (sym value)
+      ∙ ap (λ n. position_from is_off (n + 1) (lines_of more)) (sym (ap length last ∙ length_push lines line));
+}
 
 -- At the end all is read.
 pub read_all : (bytes rest : List ℕ) (lines : List ScriptLine) → IsReadTo bytes rest lines → rest ≡ [] → script_value bytes ≡ Some (map step_of lines)
