@@ -11,8 +11,8 @@ ghost use Rattle.hh_tables.specs.Tables.{IsTable, put_all};
 use std::alloc::{AllocError, Global};
 use std::marker::Model;
 
-/// Rows of columns under keys, at most one under each, made anew for each lot of rows that is put into
-/// them. Contracts see the list of the rows, in the order of their keys.
+/// Rows of columns under keys, at most one under each, kept as a list. One row is put where it belongs;
+/// for many a new table is made. Contracts see the list of the rows, in the order of their keys.
 #[derive(Drop)]
 pub struct ListTable<K: Ord, V> {
     rows: Vec<(K, V)>,
