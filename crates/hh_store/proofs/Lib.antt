@@ -1,7 +1,11 @@
 mod ApartLaws
+mod ContractLaws
 mod Examples
 mod KeyLaws
+mod KeptLaws
 mod LoadLaws
+mod NamedLaws
+mod PartLaws
 pub mod ReachLaws
 pub mod ReadLaws
 pub mod RunLaws

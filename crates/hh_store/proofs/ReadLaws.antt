@@ -6,9 +6,10 @@ use Rattle.std.specs.Ordering.{eq_by_cmp}
 use Rattle.hh_tables.proofs.TableLaws.{find-in_key_order}
 use Rattle.hh_time.specs.Days.{Midnights}
 use Rattle.hh_rows.specs.declared.file_kind.FileKind.{FileKind}
+use Rattle.hh_store.specs.declared.file_key.FileKey.{FileKey}
 use Rattle.hh_store.specs.Content.{tables_of}
 use Rattle.hh_store.specs.Reads.{file_in}
-use Rattle.hh_store.specs.States.{AcceptedFile, FileKey, State, file_key_cmp}
+use Rattle.hh_store.specs.States.{AcceptedFile, State, file_key_cmp}
 use Rattle.hh_store.specs.Steps.{Load, after_load, kept_file, timetable_at}
 use Rattle.hh_store.proofs.KeyLaws.{file_key_total}
 

@@ -12,9 +12,10 @@ use Rattle.hh_rules.specs.FileRows.{fixed_references, timely_rows}
 use Rattle.hh_rules.specs.History.{Registered}
 use Rattle.hh_calc.specs.declared.result.AccountRow.{AccountRow}
 use Rattle.hh_runs.specs.declared.summary.Summary.{Summary}
+use Rattle.hh_store.specs.declared.file_key.FileKey.{FileKey}
 use Rattle.hh_store.specs.Content.{Content, CreditKey, PostingKey, ResultKey, credit_entries, credit_key_cmp, posting_entries, posting_key_cmp, result_entries, result_key_cmp, tables_of}
 use Rattle.hh_store.specs.Runs.{Run, RunKey, latest_run, postings_after, run_key_cmp, settled_by}
-use Rattle.hh_store.specs.States.{AcceptedFile, FileKey, State, file_key_cmp}
+use Rattle.hh_store.specs.States.{AcceptedFile, State, file_key_cmp}
 use Rattle.hh_store.specs.Steps.{CanLoad, CanRun, IsReached, Load, after_load, after_run, kept_file, new_run, new_summary, registered_at, rows_coming, timetable_at}
 
 -- what a load writes: the file with the counts of its reply, its rows that are not late, and the references that it fixes

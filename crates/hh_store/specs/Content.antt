@@ -16,8 +16,9 @@ use Rattle.hh_calc.specs.declared.result.CreditRow.{CreditRow}
 use Rattle.hh_calc.specs.Terms.{Settled}
 use Rattle.hh_runs.specs.declared.summary.Summary.{Summary}
 use Rattle.hh_runs.specs.DayNets.{DayNets}
+use Rattle.hh_store.specs.declared.file_key.FileKey.{FileKey}
 use Rattle.hh_store.specs.Runs.{Run, RunKey, postings_after, run_key_cmp, settled_by, summary_after, with_former}
-use Rattle.hh_store.specs.States.{AcceptedFile, FileKey, State, file_key_cmp, office_timetable}
+use Rattle.hh_store.specs.States.{AcceptedFile, State, file_key_cmp, office_timetable}
 
 -- an account in a period of a run
 pub record ResultKey : Type 0 where
@@ -61,6 +62,22 @@ pub record Content : Type 0 where
   pub results : Table ResultKey AccountRow
   pub credits : Table CreditKey ℤ
   pub postings : Table PostingKey ℤ
+
+-- nothing is registered or in force
+abbrev pub nothing_registered : Registered
+nothing_registered = record { parties = []; units = []; references = []; meters = []; prices = []; contracts = []; reallocations = [] }
+
+-- the tables of an office with these settings, in which nothing has been accepted
+abbrev pub empty_content : Settings → Content
+empty_content settings = record {
+  settings = settings;
+  registered = nothing_registered;
+  files = [];
+  runs = [];
+  results = [];
+  credits = [];
+  postings = [];
+}
 
 -- the key of an account's row in a Settlement Period of a run
 abbrev pub result_key : RunKey → SettlementPeriod → AccountRow → ResultKey

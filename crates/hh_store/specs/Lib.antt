@@ -1,6 +1,9 @@
 pub mod Changes
 pub mod Content
 pub mod DaySettlement
+pub mod KeptContracts
+pub mod KeptTables
+pub mod Parts
 pub mod PeriodSettlement
 pub mod Reads
 pub mod Runs

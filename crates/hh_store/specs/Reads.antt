@@ -26,6 +26,10 @@ names_account a r = is_same_account r.contract.counterparties.seller a || is_sam
 abbrev pub contracts_of : Account → ℕ → Registered → List ContractRow
 contracts_of a date tables = filter (names_account a) (flat_map (rows_in_force tables) (periods_on date 50))
 
+-- whether a registered party has this key
+abbrev pub is_key_known_in : Registered → List ℕ → Bool
+is_key_known_in tables key = list_any (λ e. bytes_eq e.1.key key) tables.parties
+
 module _ (content : Content) where
   -- what is registered of a party, if it is registered
   abbrev pub party_in : List ℕ → Option PartyRegistration
@@ -41,7 +45,7 @@ module _ (content : Content) where
 
   -- whether a registered party has this key
   abbrev pub is_key_known : List ℕ → Bool
-  is_key_known key = list_any (λ e. bytes_eq e.1.key key) content.registered.parties
+  is_key_known key = is_key_known_in content.registered key
 
   -- what is kept of the file of this kind and name, if one was accepted
   abbrev pub file_in : FileKind → List ℕ → Option AcceptedFile

@@ -4,17 +4,12 @@ use Rattle.std.specs.Ordering.{on, then_cmp}
 use Rattle.std.specs.declared.cmp.Ordering.{Ordering}
 use Rattle.hh_time.specs.Days.{Midnights}
 use Rattle.hh_names.specs.Accounts.{bytes_cmp}
-use Rattle.hh_rows.specs.declared.file_kind.FileKind.{FileKind}
 use Rattle.hh_rows.specs.declared.settings.Settings.{Settings}
 use Rattle.hh_rows.specs.Kinds.{kind_word}
 use Rattle.hh_rules.specs.History.{History}
 use Rattle.hh_rules.specs.Lateness.{Timetable}
+use Rattle.hh_store.specs.declared.file_key.FileKey.{FileKey}
 use Rattle.hh_store.specs.Runs.{Run}
-
--- the kind and the name by which a file is registered
-pub record FileKey : Type 0 where
-  pub kind : FileKind
-  pub name : List ℕ
 
 -- files in the order of the words of their kinds, then of their names
 abbrev pub file_key_cmp : FileKey → FileKey → Ordering

@@ -1,7 +1,8 @@
 //! Accepted files.
 
-ghost use Rattle.std.specs.Prelude.{◌≡◌};
+ghost use Rattle.std.specs.Prelude.{◌≡◌, IfOk};
 
+use std::alloc::{AllocError, Global};
 use std::marker::Model;
 
 /// What is kept of an accepted file, so that a repeat of it gets the same reply (profile).
@@ -30,6 +31,17 @@ impl KeptFile {
             applied,
             late,
         }
+    }
+
+    /// The same once more. `Err` only where memory is refused.
+    pub(crate) fn copy(&self, alloc: Global) -> Result<KeptFile, AllocError>
+        ensures { IfOk result (λ file. file ≡ self.now) }
+    {
+        Ok(KeptFile {
+            body: Vec::from_slice(alloc, &self.body)?,
+            applied: self.applied,
+            late: self.late,
+        })
     }
 
     /// The file's bytes.

@@ -2,14 +2,22 @@
 #![tactic(auto)]
 
 mod effects;
+mod entries;
+mod file_key;
+mod kept_contracts;
 mod kept_file;
+mod kept_register;
 mod load_change;
+mod part;
+mod plain_tables;
 mod store_fault;
 mod tables;
 
 pub use effects::{load_effect, run_effect};
+pub use file_key::FileKey;
 pub use kept_file::KeptFile;
 pub use load_change::LoadChange;
+pub use plain_tables::PlainTables;
 pub use store_fault::StoreFault;
 pub use tables::Tables;
 

@@ -2,6 +2,7 @@
 
 ghost use Rattle.std.specs.Prelude.{◌≡◌};
 
+use crate::file_key::FileKey;
 use crate::kept_file::KeptFile;
 use hh_names::{Counterparties, FileName, Reference};
 use hh_rows::{FileKind, Row};
@@ -68,6 +69,23 @@ impl LoadChange {
         ensures { result ≡ self.now.key.name }
     {
         self.name
+    }
+
+    /// The key under which the file is kept.
+    pub(crate) fn key(&self) -> FileKey
+        ensures { result ≡ self.now.key }
+    {
+        FileKey {
+            kind: self.kind,
+            name: self.name,
+        }
+    }
+
+    /// The file with the counts of its reply, without the rest.
+    pub(crate) fn into_file(self) -> KeptFile
+        ensures { result ≡ self.file }
+    {
+        self.file
     }
 
     /// The file with the counts of its reply.

@@ -1,0 +1,245 @@
+//! The part of a register in memory that rows are judged by.
+
+ghost use Rattle.std.specs.Prelude.{◌≡◌, ℕ, filter, All, IfOk, OnOk};
+ghost use Rattle.std.specs.FinMap.{find};
+ghost use Rattle.hh_tables.specs.Tables.{IsTable, put_all};
+ghost use Rattle.hh_rows.specs.Keys.{contract_key_cmp, reallocation_key_cmp, settlement_period_cmp, unit_period_cmp};
+ghost use Rattle.hh_rules.specs.RegisterView.{holding, tables_in, AgreesOnParty, AgreesOnReference, AgreesOnUnit, ServesFor};
+ghost use Rattle.hh_store.specs.Parts.{is_named_in, whole_of, with_reallocations, AgreesOnNames, Grows, IsNamedIn, IsPartOf};
+
+use crate::kept_register::KeptRegister;
+use crate::store_fault::StoreFault;
+use hh_names::{Contract, PartyId, Reallocation, Reference, Refusal, UnitId};
+use hh_rows::{
+    ContractKey, ContractRow, LeadMinutes, MeterRow, PartyRow, PriceRow, ReallocationKey,
+    ReallocationRow, Row, SettlementPeriod, UnitPeriod, UnitRow,
+};
+use hh_rules::Register;
+use std::alloc::{AllocError, Global};
+use std::collections::BTreeSet;
+
+impl KeptRegister {
+    /// A register that judges these rows, and is changed by them, as one of everything that is
+    /// registered and in force would.
+    pub(crate) fn register_for(
+        &self,
+        alloc: Global,
+        lead_minutes: LeadMinutes,
+        rows: &[Row],
+    ) -> Result<Register, StoreFault>
+        ensures { IfOk result (ServesFor rows.now (whole_of lead_minutes self.now)) }
+    {
+        let mut part = self.names_of(alloc, lead_minutes, rows)?;
+        let named = periods_named(alloc, rows)?;
+        self.hold_reallocations(&mut part, &named)?;
+        Ok(part)
+    }
+
+    /// A register that has what these rows name, and the rows in force of their keys, but no
+    /// reallocation.
+    fn names_of(
+        &self,
+        alloc: Global,
+        lead_minutes: LeadMinutes,
+        rows: &[Row],
+    ) -> Result<Register, StoreFault>
+        ensures part { IfOk result (IsPartOf (whole_of lead_minutes self.now)) }
+        ensures agrees { IfOk result (λ part. All (AgreesOnNames self.now (tables_in part)) rows.now) }
+    {
+        let parties = count(self.parties.len())?;
+        let units = count(self.units.len())?;
+        let mut part = Register::part(alloc, lead_minutes, parties, units);
+        for row in rows {
+            self.hold_names(&mut part, row)?;
+        }
+        Ok(part)
+    }
+
+    /// Holds what a row names, and the row in force of its key if it isn't a reallocation.
+    fn hold_names(&self, part: &mut Register, row: &Row) -> Result<(), StoreFault>
+        ensures grows { OnOk result (Grows self.now part.old part.new) }
+        ensures agrees { (lead_minutes : ℕ) → IsPartOf (whole_of lead_minutes self.now) part.old
+            → OnOk result (AgreesOnNames self.now (tables_in part.new) row.now) }
+    {
+        match row {
+            Row::Party(row) => self.hold_party(part, &row.party),
+            Row::Unit(row) => {
+                self.hold_party(part, &row.registration.lead.party)?;
+                self.hold_unit(part, &row.unit)
+            }
+            Row::Meter(row) => {
+                self.hold_unit(part, &row.key.unit)?;
+                self.hold_reading(part, &row.key)
+            }
+            Row::Price(row) => self.hold_price(part, &row.at),
+            Row::Contract(row) => {
+                self.hold_party(part, &row.contract.counterparties.seller.party)?;
+                self.hold_party(part, &row.contract.counterparties.buyer.party)?;
+                self.hold_reference(part, &row.key.reference)?;
+                self.hold_contract(part, &row.key)
+            }
+            Row::Reallocation(row) => {
+                self.hold_party(part, &row.key.account.party)?;
+                self.hold_unit(part, &row.key.unit_period.unit)
+            }
+        }
+    }
+
+    /// Holds a party, if it is registered.
+    fn hold_party(&self, part: &mut Register, party: &PartyId) -> Result<(), StoreFault>
+        ensures grows { OnOk result (Grows self.now part.old part.new) }
+        ensures agrees { (lead_minutes : ℕ) → IsPartOf (whole_of lead_minutes self.now) part.old
+            → OnOk result (AgreesOnParty self.now (tables_in part.new) party.now) }
+    {
+        match self.party(party) {
+            Some(registration) => hold(part, Row::Party(PartyRow { party: *party, registration })),
+            None => Ok(()),
+        }
+    }
+
+    /// Holds a unit, if it is registered.
+    fn hold_unit(&self, part: &mut Register, unit: &UnitId) -> Result<(), StoreFault>
+        ensures grows { OnOk result (Grows self.now part.old part.new) }
+        ensures agrees { (lead_minutes : ℕ) → IsPartOf (whole_of lead_minutes self.now) part.old
+            → OnOk result (AgreesOnUnit self.now (tables_in part.new) unit.now) }
+    {
+        match self.unit(unit) {
+            Some(registration) => hold(part, Row::Unit(UnitRow { unit: *unit, registration })),
+            None => Ok(()),
+        }
+    }
+
+    /// Holds the seller and the buyer of a reference, if a row has fixed them.
+    fn hold_reference(&self, part: &mut Register, reference: &Reference) -> Result<(), StoreFault>
+        ensures grows { OnOk result (Grows self.now part.old part.new) }
+        ensures agrees { (lead_minutes : ℕ) → IsPartOf (whole_of lead_minutes self.now) part.old
+            → OnOk result (AgreesOnReference self.now (tables_in part.new) reference.now) }
+    {
+        match self.reference(reference) {
+            Some(counterparties) => Ok(part.hold_reference(*reference, counterparties)?),
+            None => Ok(()),
+        }
+    }
+
+    /// Holds the reading that counts for a unit in a Settlement Period, if there is one.
+    fn hold_reading(&self, part: &mut Register, key: &UnitPeriod) -> Result<(), StoreFault>
+        ensures grows { OnOk result (Grows self.now part.old part.new) }
+        ensures agrees { (lead_minutes : ℕ) → IsPartOf (whole_of lead_minutes self.now) part.old
+            → OnOk result (find unit_period_cmp key.now (tables_in part.new).meters
+              ≡ find unit_period_cmp key.now self.now.meters) }
+    {
+        match self.meters.get(key) {
+            Some(reading) => hold(part, Row::Meter(MeterRow { key: *key, reading })),
+            None => Ok(()),
+        }
+    }
+
+    /// Holds the price that counts for a Settlement Period, if there is one.
+    fn hold_price(&self, part: &mut Register, at: &SettlementPeriod) -> Result<(), StoreFault>
+        ensures grows { OnOk result (Grows self.now part.old part.new) }
+        ensures agrees { (lead_minutes : ℕ) → IsPartOf (whole_of lead_minutes self.now) part.old
+            → OnOk result (find settlement_period_cmp at.now (tables_in part.new).prices
+              ≡ find settlement_period_cmp at.now self.now.prices) }
+    {
+        match self.prices.get(at) {
+            Some(price) => hold(part, Row::Price(PriceRow { at: *at, price })),
+            None => Ok(()),
+        }
+    }
+
+    /// Holds the volume in force of a reference in a Settlement Period, if a row is in force. `Store`
+    /// where no row has fixed the reference.
+    fn hold_contract(&self, part: &mut Register, key: &ContractKey) -> Result<(), StoreFault>
+        ensures grows { OnOk result (Grows self.now part.old part.new) }
+        ensures agrees { (lead_minutes : ℕ) → IsPartOf (whole_of lead_minutes self.now) part.old
+            → OnOk result (find contract_key_cmp key.now (tables_in part.new).contracts
+              ≡ find contract_key_cmp key.now self.now.contracts) }
+    {
+        let Some(volume) = self.contracts.get(key) else {
+            return Ok(());
+        };
+        let Some(counterparties) = self.reference(&key.reference) else {
+            return Err(StoreFault::Store);
+        };
+        let contract = Contract {
+            counterparties,
+            volume,
+        };
+        let key = *key;
+        hold(part, Row::Contract(ContractRow { key, contract }))
+    }
+
+    /// Holds all reallocations in force of the units in the Settlement Periods that are named.
+    fn hold_reallocations(
+        &self,
+        part: &mut Register,
+        named: &BTreeSet<UnitPeriod>,
+    ) -> Result<(), StoreFault>
+        ensures held { OnOk result (part.new ≡ with_reallocations
+            (put_all reallocation_key_cmp (filter (is_named_in named.now) self.now.reallocations)
+              (tables_in part.old).reallocations) part.old) }
+        ensures rising { IsTable reallocation_key_cmp self.now.reallocations }
+    {
+        for (key, reallocation) in self.reallocation_rows() {
+            if named.contains(&key.unit_period) {
+                let row = ReallocationRow {
+                    key: *key,
+                    reallocation: *reallocation,
+                };
+                hold(part, Row::Reallocation(row))?;
+            }
+        }
+        Ok(())
+    }
+
+    /// The reallocations in force, in the order of their keys.
+    fn reallocation_rows(&self) -> &[(ReallocationKey, Reallocation)]
+        ensures rows { result.now ≡ self.now.reallocations }
+        ensures rising { IsTable reallocation_key_cmp self.now.reallocations }
+    {
+        let rows = self.reallocations.rows();
+        if let Some(first) = rows.first() {
+            let _first = self.reallocations.get(&first.0);
+        }
+        rows
+    }
+}
+
+/// How many there are; `Store` where they are more than any office has.
+fn count(rows: usize) -> Result<u32, StoreFault>
+    ensures { IfOk result (λ count. count ≡ rows) }
+{
+    match u32::try_from(rows) {
+        Ok(count) => Ok(count),
+        Err(_) => Err(StoreFault::Store),
+    }
+}
+
+/// Holds a row; `Store` where more than 100 percent of a unit would be in force.
+fn hold(part: &mut Register, row: Row) -> Result<(), StoreFault>
+    ensures { OnOk result (part.new ≡ holding row part.old) }
+{
+    match part.hold_row(row) {
+        Ok(()) => Ok(()),
+        Err(fault) => {
+            if fault.refusal == Refusal::Memory {
+                Err(StoreFault::Memory)
+            } else {
+                Err(StoreFault::Store)
+            }
+        }
+    }
+}
+
+/// The units with the Settlement Periods that rows of reallocations name.
+fn periods_named(alloc: Global, rows: &[Row]) -> Result<BTreeSet<UnitPeriod>, AllocError>
+    ensures { IfOk result (λ named. All (IsNamedIn named) rows.now) }
+{
+    let mut named = BTreeSet::new(alloc);
+    for row in rows {
+        if let Row::Reallocation(row) = row {
+            named.insert(row.key.unit_period)?;
+        }
+    }
+    Ok(named)
+}
