@@ -22,7 +22,7 @@ use Rattle.hh_rows.specs.declared.rows.Row.{Row}
 use Rattle.hh_rows.specs.declared.rows.Row.TheVariants as row
 use Rattle.hh_rows.proofs.KeyLaws.{exact_unit_periods, reallocation_key_total}
 use Rattle.hh_rules.specs.History.{Registered}
-use Rattle.hh_rules.specs.RegisterView.{AgreesOn, RegisterView, ServesFor, reallocations_at, tables_in}
+use Rattle.hh_rules.specs.RegisterView.{AgreesOn, RegisterView, ServesFor, holding, reallocations_at, tables_in}
 use Rattle.hh_store.specs.Parts.{AgreesOnNames, Grows, IsNamedIn, IsPartOf, is_named_in, whole_of, with_reallocations}
 use Rattle.hh_store.proofs.PartLaws.{names_grown}
 
@@ -155,3 +155,26 @@ names_more whole rows i r inside is old new grows so_far own =
     All-more (AgreesOnNames whole (tables_in new)) rows i r inside
     (All-weaker (AgreesOnNames whole (tables_in old)) (AgreesOnNames whole (tables_in new)) (names_grown whole old new grows) (take i rows) so_far)
     (subst (AgreesOnNames whole (tables_in new)) is own)
+
+module _ (named : BTreeSet UnitPeriod) where
+  -- the part with those that are named of the reallocations
+  abbrev with_named : Table ReallocationKey Reallocation → RegisterView → RegisterView
+  with_named es part = with_reallocations (put_all reallocation_key_cmp (filter (is_named_in named) es) (tables_in part).reallocations) part
+
+  module _ (es lent : Table ReallocationKey Reallocation) (same : lent ≡ es) (i : ℕ) (e : ReallocationKey × Reallocation) (inside : i < length lent) (is : e ≡ get_or lent i e) (first old new : RegisterView) (so_far : old ≡ with_named (take i es) first) where
+    one_more : put_all reallocation_key_cmp (filter (is_named_in named) (take (i + 1) es)) (tables_in first).reallocations
+        ≡ cond (is_named_in named e) (put reallocation_key_cmp e.0 e.1 (put_all reallocation_key_cmp (filter (is_named_in named) (take i es)) (tables_in first).reallocations))
+        (put_all reallocation_key_cmp (filter (is_named_in named) (take i es)) (tables_in first).reallocations)
+    one_more = held_more named es i e (subst (λ l. i < length l) same inside) (subst (λ l. e ≡ get_or l i e) same is) (tables_in first).reallocations
+
+    pub holds_more : is_named_in named e ≡ true → new ≡ holding (row.Reallocation (record { key = e.0; reallocation = e.1 })) old → new ≡ with_named (take (i + 1) es) first
+    holds_more here became =
+        became ∙ ap (holding (row.Reallocation (record { key = e.0; reallocation = e.1 }))) so_far
+        ∙ sym (ap (λ rows. with_reallocations rows first) (one_more ∙ ap (λ b. cond b (put reallocation_key_cmp e.0 e.1 (put_all reallocation_key_cmp (filter (is_named_in named) (take i es)) (tables_in first).reallocations))
+        (put_all reallocation_key_cmp (filter (is_named_in named) (take i es)) (tables_in first).reallocations)) here))
+
+    pub skips_more : is_named_in named e ≡ false → new ≡ old → new ≡ with_named (take (i + 1) es) first
+    skips_more elsewhere became =
+        became ∙ so_far
+        ∙ sym (ap (λ rows. with_reallocations rows first) (one_more ∙ ap (λ b. cond b (put reallocation_key_cmp e.0 e.1 (put_all reallocation_key_cmp (filter (is_named_in named) (take i es)) (tables_in first).reallocations))
+        (put_all reallocation_key_cmp (filter (is_named_in named) (take i es)) (tables_in first).reallocations)) elsewhere))

@@ -139,32 +139,87 @@ module _ (whole : Registered) where
   module _ (old : RegisterView) where
     -- rows and references of the whole that the part gets
     pub grows_party : (r : PartyRow) → find bytes_cmp r.party whole.parties ≡ Some r.registration → Grows whole old (holding (row.Party r) old)
-    grows_party r has = record (grows_none old) { parties = grows-put bytes_total exact_bytes whole.parties (tables_in old).parties r.party r.registration has }
+    grows_party r has = record {
+      lead_minutes = refl;
+      party_count = refl;
+      unit_count = refl;
+      parties = grows-put bytes_total exact_bytes whole.parties (tables_in old).parties r.party r.registration has;
+      units = λ k. inl refl;
+      references = λ k. inl refl;
+      meters = λ k. inl refl;
+      prices = λ k. inl refl;
+      contracts = λ k. inl refl;
+      reallocations = refl;
+    }
 
     pub agrees_party : (r : PartyRow) → find bytes_cmp r.party whole.parties ≡ Some r.registration → AgreesOnParty whole (tables_in (holding (row.Party r) old)) r.party
     agrees_party r has = agrees-put bytes_total exact_bytes whole.parties (tables_in old).parties r.party r.registration has
 
     pub grows_unit : (r : UnitRow) → find bytes_cmp r.unit whole.units ≡ Some r.registration → Grows whole old (holding (row.Unit r) old)
-    grows_unit r has = record (grows_none old) { units = grows-put bytes_total exact_bytes whole.units (tables_in old).units r.unit r.registration has }
+    grows_unit r has = record {
+      lead_minutes = refl;
+      party_count = refl;
+      unit_count = refl;
+      parties = λ k. inl refl;
+      units = grows-put bytes_total exact_bytes whole.units (tables_in old).units r.unit r.registration has;
+      references = λ k. inl refl;
+      meters = λ k. inl refl;
+      prices = λ k. inl refl;
+      contracts = λ k. inl refl;
+      reallocations = refl;
+    }
 
     pub agrees_unit : (r : UnitRow) → find bytes_cmp r.unit whole.units ≡ Some r.registration → AgreesOnUnit whole (tables_in (holding (row.Unit r) old)) r.unit
     agrees_unit r has = agrees-put bytes_total exact_bytes whole.units (tables_in old).units r.unit r.registration has
 
     pub grows_reference : (reference : List ℕ) (c : Counterparties) → find bytes_cmp reference whole.references ≡ Some c → Grows whole old (holding_reference reference c old)
-    grows_reference reference c has = record (grows_none old) { references = grows-put bytes_total exact_bytes whole.references (tables_in old).references reference c has }
+    grows_reference reference c has = record {
+      lead_minutes = refl;
+      party_count = refl;
+      unit_count = refl;
+      parties = λ k. inl refl;
+      units = λ k. inl refl;
+      references = grows-put bytes_total exact_bytes whole.references (tables_in old).references reference c has;
+      meters = λ k. inl refl;
+      prices = λ k. inl refl;
+      contracts = λ k. inl refl;
+      reallocations = refl;
+    }
 
     pub agrees_reference : (reference : List ℕ) (c : Counterparties) → find bytes_cmp reference whole.references ≡ Some c → AgreesOnReference whole (tables_in (holding_reference reference c old)) reference
     agrees_reference reference c has = agrees-put bytes_total exact_bytes whole.references (tables_in old).references reference c has
 
     pub grows_reading : (r : MeterRow) → find unit_period_cmp r.key whole.meters ≡ Some r.reading → Grows whole old (holding (row.Meter r) old)
-    grows_reading r has = record (grows_none old) { meters = grows-put unit_period_total exact_unit_periods whole.meters (tables_in old).meters r.key r.reading has }
+    grows_reading r has = record {
+      lead_minutes = refl;
+      party_count = refl;
+      unit_count = refl;
+      parties = λ k. inl refl;
+      units = λ k. inl refl;
+      references = λ k. inl refl;
+      meters = grows-put unit_period_total exact_unit_periods whole.meters (tables_in old).meters r.key r.reading has;
+      prices = λ k. inl refl;
+      contracts = λ k. inl refl;
+      reallocations = refl;
+    }
 
     pub agrees_reading : (r : MeterRow) → find unit_period_cmp r.key whole.meters ≡ Some r.reading
         → find unit_period_cmp r.key (tables_in (holding (row.Meter r) old)).meters ≡ find unit_period_cmp r.key whole.meters
     agrees_reading r has = agrees-put unit_period_total exact_unit_periods whole.meters (tables_in old).meters r.key r.reading has
 
     pub grows_price : (r : PriceRow) → find settlement_period_cmp r.at whole.prices ≡ Some r.price → Grows whole old (holding (row.Price r) old)
-    grows_price r has = record (grows_none old) { prices = grows-put settlement_period_total exact_settlement_periods whole.prices (tables_in old).prices r.at r.price has }
+    grows_price r has = record {
+      lead_minutes = refl;
+      party_count = refl;
+      unit_count = refl;
+      parties = λ k. inl refl;
+      units = λ k. inl refl;
+      references = λ k. inl refl;
+      meters = λ k. inl refl;
+      prices = grows-put settlement_period_total exact_settlement_periods whole.prices (tables_in old).prices r.at r.price has;
+      contracts = λ k. inl refl;
+      reallocations = refl;
+    }
 
     pub agrees_price : (r : PriceRow) → find settlement_period_cmp r.at whole.prices ≡ Some r.price
         → find settlement_period_cmp r.at (tables_in (holding (row.Price r) old)).prices ≡ find settlement_period_cmp r.at whole.prices
@@ -172,9 +227,17 @@ module _ (whole : Registered) where
 
     pub grows_contract : (r : ContractRow) → find bytes_cmp r.key.reference whole.references ≡ Some r.contract.counterparties → find contract_key_cmp r.key whole.contracts ≡ Some r.contract.volume
         → Grows whole old (holding (row.Contract r) old)
-    grows_contract r fixed has = record (grows_none old) {
+    grows_contract r fixed has = record {
+      lead_minutes = refl;
+      party_count = refl;
+      unit_count = refl;
+      parties = λ k. inl refl;
+      units = λ k. inl refl;
       references = grows-put_new bytes_total exact_bytes whole.references (tables_in old).references r.key.reference r.contract.counterparties fixed;
+      meters = λ k. inl refl;
+      prices = λ k. inl refl;
       contracts = grows-put contract_key_total exact_contract_keys whole.contracts (tables_in old).contracts r.key r.contract.volume has;
+      reallocations = refl;
     }
 
     pub agrees_contract : (r : ContractRow) → find contract_key_cmp r.key whole.contracts ≡ Some r.contract.volume

@@ -61,7 +61,7 @@ impl KeptRegister {
             return None;
         }
         let counterparties = self.reference(&key.reference)?;
-        if !names(counterparties, account) {
+        if !names(&counterparties, account) {
             return None;
         }
         let contract = Contract {
@@ -73,8 +73,8 @@ impl KeptRegister {
 }
 
 /// Whether the seller or the buyer is this account.
-fn names(counterparties: Counterparties, account: &Account) -> bool
-    ensures { result ≡ names account.now counterparties }
+fn names(counterparties: &Counterparties, account: &Account) -> bool
+    ensures { result ≡ names account.now counterparties.now }
 {
     counterparties.seller == *account || counterparties.buyer == *account
 }

@@ -7,6 +7,6 @@ use Rattle.hh_store.proofs.kept_register.KeptRegister.names_of.Given as goal
 -- the part has nothing but what the whole has, and what the rows so far name
 abbrev pub invariant-loop-row : goal.invariant-loop-row
 invariant-loop-row l = record {
-  part : IsPartOf (whole_of l.lead_minutes l.self) l.part;
+  part : IsPartOf (whole_of l.fn.lead_minutes l.self) l.part;
   agrees : All (AgreesOnNames l.self (tables_in l.part)) (take l.row-index l.rows);
 }
