@@ -1,12 +1,13 @@
 -- The contracts in force of an account on a date: those that a walk over the table finds, by Settlement Period.
-use Rattle.std.proofs.Common.{◌≡◌, ℕ, List, [], ◌∷◌, ◌++◌, map, refl, sym, ap, ◌∙◌, Bool, true, false, cond, Option, Some, None, Ordering}
-use Rattle.std.specs.Prelude.{ℤ, ◌&&◌, ◌==◌, filter, filter_map, option_map}
+use Rattle.std.proofs.Common.{◌≡◌, ℕ, ◌+◌, ◌<◌, List, [], ◌∷◌, ◌++◌, map, length, take, get_or, refl, sym, ap, subst, ◌∙◌, Bool, true, false, cond, Option, Some, None, Ordering}
+use Rattle.std.specs.Prelude.{ℤ, ◌&&◌, ◌==◌, filter, filter_map, option_map, option_to_list}
 use Rattle.std.specs.Cmp.{unsigned_tied}
 use Rattle.std.specs.FinMap.{find}
 use Rattle.std.specs.List.{cons_option, flat_map}
 use Rattle.std.specs.Ordering.{eq_by_cmp, is_eq, nat_cmp, ordering_then}
 use Rattle.std.specs.declared.cmp.Ordering.TheVariants.{Less, Equal, Greater}
-use Rattle.std.proofs.lemmas.List.Elements.{filter-append}
+use Rattle.std.proofs.lemmas.List.{take_more}
+use Rattle.std.proofs.lemmas.List.Elements.{filter-append, filter_map-append}
 use Rattle.hh_names.specs.declared.account.Account.{Account}
 use Rattle.hh_names.specs.declared.values.Counterparties.{Counterparties}
 use Rattle.hh_names.specs.Accounts.{bytes_cmp}
@@ -88,3 +89,18 @@ module _ (a : Account) (date : ℕ) (tables : Registered) where
   -- the rows that are found, by their Settlement Periods, are the contracts in force of the account on the date
   pub contracts_by_period : flat_map (λ p. filter (is_in_period p) (found tables.contracts)) (from_one_to 50) ≡ contracts_of a date tables
   contracts_by_period = by_periods (from_one_to 50)
+
+-- one more entry, and what is found of it
+pub found_more : {X Y : Type 0} (f : X → Option Y) (es lent : List X) → lent ≡ es → (i : ℕ) (e : X) → i < length lent → e ≡ get_or lent i e → (o : Option Y) → o ≡ f e → (old new : List Y)
+    → old ≡ filter_map f (take i es) → new ≡ old ++ option_to_list o → new ≡ filter_map f (take (i + 1) es)
+found_more f es lent same i e inside is o found old new so_far more =
+    let at : e ≡ get_or es i e = subst (λ l. e ≡ get_or l i e) same is in
+    more
+    ∙ (λ j. so_far j ++ option_to_list (found j))
+    ∙ ap (λ l. filter_map f (take i es) ++ l) (single (f e))
+    ∙ sym (filter_map-append f (take i es) (e ∷ []))
+    ∙ ap (filter_map f) (ap (λ x. take i es ++ x ∷ []) at ∙ sym (take_more es i e (subst (λ l. i < length l) same inside)))
+  where
+    single : {Z : Type 0} (o : Option Z) → option_to_list o ≡ cons_option o []
+    single None = refl
+    single (Some z) = refl

@@ -1,6 +1,6 @@
 -- The reallocations of the units in the Settlement Periods that rows name, and that a part that has them serves for the rows.
 use Rattle.std.proofs.Common.{◌≡◌, ℕ, ◌+◌, ◌<◌, List, [], ◌∷◌, ◌++◌, length, take, get_or, refl, sym, ap, subst, ◌∙◌, Bool, true, false, cond, Ordering, append_assoc}
-use Rattle.std.specs.Prelude.{◌&&◌, filter, T}
+use Rattle.std.specs.Prelude.{◌≢◌, filter, T}
 use Rattle.std.specs.BTreeMap.{is_at}
 use Rattle.std.specs.BTreeSet.{BTreeSet, Updates, contains}
 use Rattle.std.specs.Cmp.{IsTotalOrder, Equal-is}
@@ -18,6 +18,7 @@ use Rattle.hh_names.specs.declared.values.Reallocation.{Reallocation}
 use Rattle.hh_rows.specs.Keys.{reallocation_key_cmp, unit_period_cmp}
 use Rattle.hh_rows.specs.declared.keys.ReallocationKey.{ReallocationKey}
 use Rattle.hh_rows.specs.declared.keys.UnitPeriod.{UnitPeriod}
+use Rattle.hh_rows.specs.declared.rows.ReallocationRow.{ReallocationRow}
 use Rattle.hh_rows.specs.declared.rows.Row.{Row}
 use Rattle.hh_rows.specs.declared.rows.Row.TheVariants as row
 use Rattle.hh_rows.proofs.KeyLaws.{exact_unit_periods, reallocation_key_total}
@@ -178,3 +179,12 @@ module _ (named : BTreeSet UnitPeriod) where
         became ∙ so_far
         ∙ sym (ap (λ rows. with_reallocations rows first) (one_more ∙ ap (λ b. cond b (put reallocation_key_cmp e.0 e.1 (put_all reallocation_key_cmp (filter (is_named_in named) (take i es)) (tables_in first).reallocations))
         (put_all reallocation_key_cmp (filter (is_named_in named) (take i es)) (tables_in first).reallocations)) elsewhere))
+
+-- a row of another kind names no unit in a Settlement Period
+pub not_named : (named : BTreeSet UnitPeriod) (r : Row) → ((x : ReallocationRow) → r ≢ row.Reallocation x) → IsNamedIn named r
+not_named named (row.Party r) other = tt
+not_named named (row.Unit r) other = tt
+not_named named (row.Meter r) other = tt
+not_named named (row.Price r) other = tt
+not_named named (row.Contract r) other = tt
+not_named named (row.Reallocation r) other = absurd (other r refl)

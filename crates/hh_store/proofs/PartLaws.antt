@@ -1,5 +1,5 @@
 -- A part of a register grows by what the whole has, and then serves for the rows that name it.
-use Rattle.std.proofs.Common.{◌≡◌, ℕ, List, [], ◌∷◌, ◌++◌, refl, sym, ap, subst, ◌∙◌, Bool, true, false, cond, Option, Some, None, Ordering, append_assoc, inl, inr}
+use Rattle.std.proofs.Common.{◌≡◌, ℕ, List, [], ◌∷◌, ◌++◌, length, refl, sym, ap, subst, ◌∙◌, Bool, true, false, cond, Option, Some, None, Ordering, append_assoc, inl, inr}
 use Rattle.std.specs.Prelude.{◌⊎◌, is_some, OnOk, Result, Ok, Err}
 use Rattle.std.specs.Cmp.{IsTotalOrder, Equal-is, eq_by_cmp_equiv}
 use Rattle.std.specs.FinMap.{find, put}
@@ -26,7 +26,7 @@ use Rattle.hh_rows.specs.declared.settlement_period.SettlementPeriod.{Settlement
 use Rattle.hh_rows.proofs.KeyLaws.{contract_key_total, exact_contract_keys, exact_settlement_periods, exact_unit_periods, settlement_period_total, unit_period_total}
 use Rattle.hh_rules.specs.Effects.{put_new}
 use Rattle.hh_rules.specs.History.{Registered}
-use Rattle.hh_rules.specs.RegisterView.{AgreesOnParty, AgreesOnReference, AgreesOnUnit, RegisterView, holding, holding_reference, tables_in}
+use Rattle.hh_rules.specs.RegisterView.{AgreesOnParty, AgreesOnReference, AgreesOnUnit, RegisterView, empty_part, holding, holding_reference, tables_in}
 use Rattle.hh_store.specs.Parts.{AgreesOnNames, Grows, GrowsTable, IsPartOf, IsWithin, whole_of}
 
 module _ {K V : Type 0} {R : K → K → Ordering} (o : IsTotalOrder R) (exact : (x y : K) → R x y ≡ Equal → x ≡ y) (whole old : Table K V) (k : K) (v : V) (has : find R k whole ≡ Some v) where
@@ -272,3 +272,18 @@ once_held P held new r is p = on_ok_weaker r (λ e. subst P (sym e) p) is
 pub where_both : {X E P Q S : Type 0} (r : Result X E) → (P → Q → S) → OnOk r P → OnOk r Q → OnOk r S
 where_both (Ok x) both p q = both p q
 where_both (Err e) both p q = tt
+
+-- a part that counts all parties and units and holds none of them yet
+pub empty_is_part : (whole : Registered) (lead_minutes parties units : ℕ) → parties ≡ length whole.parties → units ≡ length whole.units → IsPartOf (whole_of lead_minutes whole) (empty_part lead_minutes parties units)
+empty_is_part whole lead_minutes parties units all_parties all_units = record {
+  lead_minutes = refl;
+  party_count = all_parties;
+  unit_count = all_units;
+  parties = λ k. inl refl;
+  units = λ k. inl refl;
+  references = λ k. inl refl;
+  meters = λ k. inl refl;
+  prices = λ k. inl refl;
+  contracts = λ k. inl refl;
+  reallocations = refl;
+}
