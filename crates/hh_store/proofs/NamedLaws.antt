@@ -73,9 +73,9 @@ filter_within test wider within (x ∷ xs) =
           ∙ ap (λ b. cond b (x ∷ filter test (filter wider xs)) (filter test (filter wider xs))) passes
           ∙ ap (λ l. x ∷ l) rest
       | false ↦ λ fails. elim (wider x) as (λ w. filter test (cond w (x ∷ filter wider xs) (filter wider xs)) ≡ filter test xs) [
-          | true ↦ ap (λ b. cond b (x ∷ filter test (filter wider xs)) (filter test (filter wider xs))) fails ∙ rest
-          | false ↦ rest
-        ]
+        | true ↦ ap (λ b. cond b (x ∷ filter test (filter wider xs)) (filter test (filter wider xs))) fails ∙ rest
+        | false ↦ rest
+      ]
     ] refl
 
 module _ (whole : Registered) (rising : IsTable reallocation_key_cmp whole.reallocations) (named : BTreeSet UnitPeriod) where

@@ -49,22 +49,22 @@ module _ {K V : Type 0} {R : K → K → Ordering} (o : IsTotalOrder R) (exact :
 module _ {K V : Type 0} (R : K → K → Ordering) (whole : Table K V) (k : K) where
   -- where the whole has nothing, the part has nothing
   agrees-none : (part : Table K V) → IsWithin R whole part → find R k whole ≡ None → find R k part ≡ find R k whole
-  agrees-none part within none = elim (within k) as (λ _. find R k part ≡ find R k whole) [ | inl nothing ↦ nothing ∙ sym none | inr same ↦ same ]
+  agrees-none part within none = elim (within k) as (λ _. find R k part ≡ find R k whole) [ inl nothing ↦ nothing ∙ sym none | inr same ↦ same ]
 
   -- what agrees stays
   agrees-grown : (old new : Table K V) → GrowsTable R whole old new → find R k old ≡ find R k whole → find R k new ≡ find R k whole
-  agrees-grown old new grows agrees = elim (grows k) as (λ _. find R k new ≡ find R k whole) [ | inl same ↦ same ∙ agrees | inr has ↦ has ]
+  agrees-grown old new grows agrees = elim (grows k) as (λ _. find R k new ≡ find R k whole) [ inl same ↦ same ∙ agrees | inr has ↦ has ]
 
 module _ {K V : Type 0} (R : K → K → Ordering) (whole : Table K V) where
   within-grown : (old new : Table K V) → IsWithin R whole old → GrowsTable R whole old new → IsWithin R whole new
   within-grown old new within grows k = elim (grows k) as (λ _. (find R k new ≡ None) ⊎ (find R k new ≡ find R k whole)) [
-    | inl same ↦ elim (within k) as (λ _. (find R k new ≡ None) ⊎ (find R k new ≡ find R k whole)) [ | inl nothing ↦ inl (same ∙ nothing) | inr is ↦ inr (same ∙ is) ]
+    | inl same ↦ elim (within k) as (λ _. (find R k new ≡ None) ⊎ (find R k new ≡ find R k whole)) [ inl nothing ↦ inl (same ∙ nothing) | inr is ↦ inr (same ∙ is) ]
     | inr has ↦ inr has
   ]
 
   grows-both : (a b c : Table K V) → GrowsTable R whole a b → GrowsTable R whole b c → GrowsTable R whole a c
   grows-both a b c first second k = elim (second k) as (λ _. (find R k c ≡ find R k a) ⊎ (find R k c ≡ find R k whole)) [
-    | inl same ↦ elim (first k) as (λ _. (find R k c ≡ find R k a) ⊎ (find R k c ≡ find R k whole)) [ | inl before ↦ inl (same ∙ before) | inr has ↦ inr (same ∙ has) ]
+    | inl same ↦ elim (first k) as (λ _. (find R k c ≡ find R k a) ⊎ (find R k c ≡ find R k whole)) [ inl before ↦ inl (same ∙ before) | inr has ↦ inr (same ∙ has) ]
     | inr has ↦ inr has
   ]
 

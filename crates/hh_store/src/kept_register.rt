@@ -9,15 +9,12 @@ ghost use Rattle.hh_store.specs.Content.{nothing_registered};
 ghost use Rattle.hh_store.specs.KeptTables.{with_changed};
 ghost use Rattle.hh_store.specs.Reads.{is_key_known_in};
 
-use crate::entries::{
-    contracts_of, meters_of, parties_of, prices_of, reallocations_of, units_of,
-};
+use crate::entries::{contracts_of, meters_of, parties_of, prices_of, reallocations_of, units_of};
 use crate::load_change::LoadChange;
 use hh_names::{Counterparties, PartyId, Reading, Reallocation, Reference, UnitId};
 use hh_num::{Kwh, Price};
 use hh_rows::{
-    ContractKey, PartyRegistration, ReallocationKey, SettlementPeriod, UnitPeriod,
-    UnitRegistration,
+    ContractKey, PartyRegistration, ReallocationKey, SettlementPeriod, UnitPeriod, UnitRegistration,
 };
 use hh_tables::ListTable;
 use std::alloc::{AllocError, Global};
@@ -166,10 +163,7 @@ fn with_entries<K: Ord + Copy, V: Copy>(
 }
 
 /// Takes over a table that was made anew, if it was.
-fn take_table<K: Ord + Copy, V: Copy>(
-    table: &mut ListTable<K, V>,
-    changed: Option<ListTable<K, V>>,
-)
+fn take_table<K: Ord + Copy, V: Copy>(table: &mut ListTable<K, V>, changed: Option<ListTable<K, V>>)
     ensures { table.new ≡ unwrap_or changed table.old }
 {
     if let Some(changed) = changed {

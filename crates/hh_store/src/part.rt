@@ -92,7 +92,13 @@ impl KeptRegister {
             → OnOk result (AgreesOnParty self.now (tables_in part.new) party.now) }
     {
         match self.party(party) {
-            Some(registration) => hold(part, Row::Party(PartyRow { party: *party, registration })),
+            Some(registration) => hold(
+                part,
+                Row::Party(PartyRow {
+                    party: *party,
+                    registration,
+                }),
+            ),
             None => Ok(()),
         }
     }
@@ -104,7 +110,13 @@ impl KeptRegister {
             → OnOk result (AgreesOnUnit self.now (tables_in part.new) unit.now) }
     {
         match self.unit(unit) {
-            Some(registration) => hold(part, Row::Unit(UnitRow { unit: *unit, registration })),
+            Some(registration) => hold(
+                part,
+                Row::Unit(UnitRow {
+                    unit: *unit,
+                    registration,
+                }),
+            ),
             None => Ok(()),
         }
     }
@@ -126,7 +138,7 @@ impl KeptRegister {
         ensures grows { OnOk result (Grows self.now part.old part.new) }
         ensures agrees { (lead_minutes : ℕ) → IsPartOf (whole_of lead_minutes self.now) part.old
             → OnOk result (find unit_period_cmp key.now (tables_in part.new).meters
-              ≡ find unit_period_cmp key.now self.now.meters) }
+            ≡ find unit_period_cmp key.now self.now.meters) }
     {
         match self.meters.get(key) {
             Some(reading) => hold(part, Row::Meter(MeterRow { key: *key, reading })),
@@ -139,7 +151,7 @@ impl KeptRegister {
         ensures grows { OnOk result (Grows self.now part.old part.new) }
         ensures agrees { (lead_minutes : ℕ) → IsPartOf (whole_of lead_minutes self.now) part.old
             → OnOk result (find settlement_period_cmp at.now (tables_in part.new).prices
-              ≡ find settlement_period_cmp at.now self.now.prices) }
+            ≡ find settlement_period_cmp at.now self.now.prices) }
     {
         match self.prices.get(at) {
             Some(price) => hold(part, Row::Price(PriceRow { at: *at, price })),
@@ -153,7 +165,7 @@ impl KeptRegister {
         ensures grows { OnOk result (Grows self.now part.old part.new) }
         ensures agrees { (lead_minutes : ℕ) → IsPartOf (whole_of lead_minutes self.now) part.old
             → OnOk result (find contract_key_cmp key.now (tables_in part.new).contracts
-              ≡ find contract_key_cmp key.now self.now.contracts) }
+            ≡ find contract_key_cmp key.now self.now.contracts) }
     {
         let Some(volume) = self.contracts.get(key) else {
             return Ok(());
@@ -177,7 +189,7 @@ impl KeptRegister {
     ) -> Result<(), StoreFault>
         ensures held { OnOk result (part.new ≡ with_reallocations
             (put_all reallocation_key_cmp (filter (is_named_in named.now) self.now.reallocations)
-              (tables_in part.old).reallocations) part.old) }
+            (tables_in part.old).reallocations) part.old) }
         ensures rising { IsTable reallocation_key_cmp self.now.reallocations }
     {
         for (key, reallocation) in self.reallocation_rows() {
