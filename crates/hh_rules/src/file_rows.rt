@@ -64,6 +64,14 @@ impl FileRows {
         &self.references
     }
 
+    /// The rows that are not late, and the references that the rows fixed.
+    pub fn into_parts(self) -> (Vec<Row>, Vec<(Reference, Counterparties)>)
+        ensures rows { result.0.items ≡ self.rows }
+        ensures references { result.1.items ≡ self.references }
+    {
+        (self.rows, self.references)
+    }
+
     /// How many rows are late.
     pub fn late(&self) -> u32
         ensures { result ≡ self.now.late }

@@ -1,7 +1,7 @@
 mod ApartLaws
 mod ContractLaws
 mod Examples
-mod KeyLaws
+pub mod KeyLaws
 mod KeptLaws
 mod LoadLaws
 mod NamedLaws

@@ -10,8 +10,8 @@ use Rattle.hh_rules.specs.History.{History, registered_in}
 use Rattle.hh_rules.specs.Lateness.{Timetable}
 use Rattle.hh_runs.specs.DayNets.{differences}
 use Rattle.hh_runs.specs.declared.summary.Summary.{Summary}
-use Rattle.hh_store.specs.Changes.{LoadEffect, StandsFor, effect_of_load, load_writes}
-use Rattle.hh_store.specs.Content.{Content, credit_entries, credit_key_cmp, posting_entries, posting_key_cmp, result_entries, result_key_cmp}
+use Rattle.hh_store.specs.Changes.{LoadEffect}
+use Rattle.hh_store.specs.Content.{credit_entries, credit_key_cmp, posting_entries, posting_key_cmp, result_entries, result_key_cmp}
 use Rattle.hh_store.specs.DaySettlement.{day_nets, settled_day}
 use Rattle.hh_store.specs.PeriodSettlement.{accounts_on}
 use Rattle.hh_store.specs.Runs.{Run, RunKey, last_of, nets_of, periods_of, postings_after, run_key_cmp, runs_of_date, seen_by, settled_by, summary_after, with_former}
@@ -122,11 +122,3 @@ load_effect midnight s load reached can =
       credits = in_key_order credit_key_cmp (credits_same timetable s.history more s.runs within i);
       postings = in_key_order posting_key_cmp (all_postings_same timetable s.history more (with_former [] s.runs) pairs i);
     }
-
--- tables that stand for a state stand, with what an accepted load writes, for the state after it
-pub stands_after_load : (midnight : Midnights) (content : Content) (s : State) (load : Load) → StandsFor midnight content s → CanLoad midnight s load
-    → StandsFor midnight (effect_of_load (load_writes midnight s load) content) (after_load midnight s load)
-stands_after_load midnight content s load stands can = (
-  by_load s load stands.0 can,
-  ap (effect_of_load (load_writes midnight s load)) stands.1 ∙ sym (load_effect midnight s load stands.0 can),
-)

@@ -1,8 +1,9 @@
 -- What the calls of the tables read from their content.
-use Rattle.std.specs.Prelude.{ℕ, List, filter, Bool, ◌||◌, Option}
+use Rattle.std.specs.Prelude.{◌≡◌, ℕ, List, filter, Bool, ◌||◌, Option}
 use Rattle.std.specs.FinMap.{find}
 use Rattle.std.specs.List.{flat_map, list_any}
 use Rattle.std.specs.Str.{bytes_eq}
+use Rattle.hh_time.specs.Days.{Midnights}
 use Rattle.hh_names.specs.declared.account.Account.{Account}
 use Rattle.hh_names.specs.declared.values.Counterparties.{Counterparties}
 use Rattle.hh_names.specs.Accounts.{bytes_cmp, is_same_account}
@@ -13,10 +14,11 @@ use Rattle.hh_rows.specs.declared.rows.UnitRegistration.{UnitRegistration}
 use Rattle.hh_rules.specs.History.{Registered}
 use Rattle.hh_rules.specs.RegisterView.{RegisterView}
 use Rattle.hh_rules.specs.Refusals.{whole_standing}
-use Rattle.hh_store.specs.Content.{Content}
+use Rattle.hh_store.specs.declared.file_key.FileKey.{FileKey}
+use Rattle.hh_store.specs.Content.{Content, tables_of}
 use Rattle.hh_store.specs.DaySettlement.{periods_on}
 use Rattle.hh_store.specs.PeriodSettlement.{rows_in_force}
-use Rattle.hh_store.specs.States.{AcceptedFile, file_key_cmp}
+use Rattle.hh_store.specs.States.{AcceptedFile, State, file_key_cmp}
 
 -- whether the seller or the buyer of a contract is this account
 abbrev pub names_account : Account → ContractRow → Bool
@@ -61,3 +63,8 @@ module _ (content : Content) where
   -- the contracts in force of an account on a date
   abbrev pub contracts_in : Account → ℕ → List ContractRow
   contracts_in account date = contracts_of account date content.registered
+
+-- the file that the tables of a state hold under a key is the one that was accepted under it
+abbrev pub HoldsFiles : Type 0
+HoldsFiles = (midnight : Midnights) (s : State) (key : FileKey)
+    → file_in (tables_of midnight s) key.kind key.name ≡ find file_key_cmp key s.files

@@ -1,6 +1,8 @@
-//! That what is written for a load and for a run makes the tables those of the machine.
+//! That what is written for a load and for a run makes the tables those of the machine, and that the
+//! files in the tables are those that were accepted.
 
 ghost use Rattle.hh_store.specs.Changes.{LoadEffect, RunEffect};
+ghost use Rattle.hh_store.specs.Reads.{HoldsFiles};
 
 /// That what is written for an accepted file makes the tables those of the machine after it: in each
 /// state that the machine reaches, and for each file that it accepts there, the tables before with
@@ -16,4 +18,10 @@ pub fn load_effect()
 #[tactic(auto, using(crate::proofs::RunLaws::run_effect))]
 pub fn run_effect()
     ensures { RunEffect }
+{}
+
+/// That the file of a kind and name in the tables is the one that was accepted under them: in each
+/// state, for each kind and name (profile).
+pub fn kept_files()
+    ensures { HoldsFiles }
 {}

@@ -1,0 +1,202 @@
+-- A file that was accepted stays, and gets the same reply when it comes again.
+use Rattle.std.proofs.Common.{◌≡◌, ℕ, ℤ, List, [], ◌∷◌, ◌++◌, length, refl, sym, ap, subst, ◌∙◌, Bool, true, false, cond, Option, Some, None, Result, Ok, Err, Ordering}
+use Rattle.std.specs.Prelude.{IsFalse, MatchBool, nat_lt}
+use Rattle.std.specs.Cmp.{eq_by_cmp_equiv}
+use Rattle.std.specs.FinMap.{find}
+use Rattle.std.specs.Option.{option_or}
+use Rattle.std.specs.Ordering.{eq_by_cmp}
+use Rattle.std.specs.Str.{bytes_eq}
+use Rattle.std.proofs.lemmas.Slice.Eq.{bytes_eq-Decides}
+use Rattle.hh_tables.proofs.TableLaws.{false_is_not_true}
+use Rattle.hh_time.specs.Days.{Midnights}
+use Rattle.hh_names.specs.declared.fault.Fault.{Fault}
+use Rattle.hh_names.specs.declared.fault.Refusal.TheVariants.{FileChanged, FileTooLarge, Forbidden}
+use Rattle.hh_names.specs.Faults.{plain_fault}
+use Rattle.hh_rows.specs.declared.rows.Row.{Row}
+use Rattle.hh_rows.specs.declared.settings.Settings.{Settings}
+use Rattle.hh_rules.specs.FileRows.{coming_at, first_fault}
+use Rattle.hh_texts.specs.Files.{file_rows}
+use Rattle.hh_texts.specs.Rows.{most_bytes}
+use Rattle.hh_store.specs.Content.{tables_of}
+use Rattle.hh_store.specs.declared.file_key.FileKey.{FileKey}
+use Rattle.hh_store.specs.States.{AcceptedFile, State, file_key_cmp}
+use Rattle.hh_store.specs.Steps.{CanLoad, IsReached, Load, after_load, by_load, kept_file, timetable_at}
+use Rattle.hh_store.proofs.KeyLaws.{file_key_total}
+use Rattle.hh_office.specs.declared.request.Action.{Action}
+use Rattle.hh_office.specs.declared.request.Action.TheVariants as ask
+use Rattle.hh_office.specs.declared.request.Request.{Request}
+use Rattle.hh_office.specs.declared.request.Upload.{Upload}
+use Rattle.hh_office.specs.declared.reply.Reply.{Reply}
+use Rattle.hh_office.specs.declared.reply.Reply.TheVariants as reply
+use Rattle.hh_office.specs.Machine.{Outcome, Timed, act, answer, is_operator, key_of, load, load_beside, load_new, load_of, loaded, loaded_reply, may, next, refused, refused_for, repeat_reply, state_after, step, unchanged}
+use Rattle.hh_office.specs.Promises.{ComesTo, HandleStep, RepeatsOnce, is_given_up, is_load, is_refused}
+use Rattle.hh_office.specs.Views.{OfficeView, midnight_of}
+
+-- what holds of a state and of each state after an accepted load holds of the state after any request
+module _ (midnight : Midnights) (s : State) (P : State → Type 0) (same : P s)
+    (more : (load : Load) → CanLoad midnight s load → P (after_load midnight s load)) where
+  by_loaded : (load : Load) → find file_key_cmp load.key s.files ≡ None → P (loaded midnight s load).state
+  by_loaded load new =
+      elim (first_fault (timetable_at midnight s) s.history 1 (coming_at load.moment load.rows)) as (λ o.
+      first_fault (timetable_at midnight s) s.history 1 (coming_at load.moment load.rows) ≡ o
+      → P (elim o as (λ _. Outcome) [
+        | Some fault ↦ refused s fault
+        | None ↦ record { reply = loaded_reply (kept_file (timetable_at midnight s) load); state = after_load midnight s load }
+      ]).state) [ None ↦ λ none. more load (new, none) | Some fault ↦ λ _. same ] refl
+
+  by_new : (moment : ℤ) (upload : Upload) → find file_key_cmp (key_of upload) s.files ≡ None → P (load_new midnight s moment upload).state
+  by_new moment upload new =
+      elim (file_rows upload.kind upload.body) as (λ (found : Result (List Row) Fault).
+      P (elim found as (λ _. Outcome) [ Err fault ↦ refused s fault | Ok rows ↦ loaded midnight s (load_of moment upload rows) ]).state)
+      [ Err fault ↦ same | Ok rows ↦ by_loaded (load_of moment upload rows) new ]
+
+  by_beside : (moment : ℤ) (upload : Upload) (found : Option AcceptedFile) → find file_key_cmp (key_of upload) s.files ≡ found → P (load_beside midnight s found moment upload).state
+  by_beside moment upload None is = by_new moment upload is
+  by_beside moment upload (Some file) is = same
+
+  by_act : (moment : ℤ) (action : Action) → P (act midnight s moment action).state
+  by_act moment (ask.Load upload) =
+      let found : Option AcceptedFile = find file_key_cmp (key_of upload) s.files in
+      elim (nat_lt most_bytes (length upload.body)) as (λ b. P (cond b (refused_for s FileTooLarge) (load_beside midnight s found moment upload)).state)
+      [ true ↦ same | false ↦ by_beside moment upload found refl ]
+  by_act moment (ask.Contracts account date) = same
+
+  pub next_by : (moment : ℤ) (request : Request) → P (next midnight s moment request)
+  next_by moment request =
+      elim (may midnight s request.key request.action) as (λ b. P (cond b (act midnight s moment request.action) (refused_for s Forbidden)).state)
+      [ true ↦ by_act moment request.action | false ↦ same ]
+
+-- what each request keeps, a list of requests keeps
+pub after_by : (midnight : Midnights) (P : State → Type 0) → ((s : State) (moment : ℤ) (request : Request) → P s → P (next midnight s moment request))
+    → (s : State) (ts : List Timed) → P s → P (state_after midnight s ts)
+after_by midnight P keeps s [] holds = holds
+after_by midnight P keeps s (t ∷ ts) holds = after_by midnight P keeps (next midnight s t.0 t.1) ts (keeps s t.0 t.1 holds)
+
+-- the machine reaches the state after each request
+pub next_reached : (midnight : Midnights) (s : State) (moment : ℤ) (request : Request) → IsReached midnight s → IsReached midnight (next midnight s moment request)
+next_reached midnight s moment request reached = next_by midnight s (IsReached midnight) reached (λ load can. by_load s load reached can) moment request
+
+-- the settings stay
+same_settings : (midnight : Midnights) (s : State) (moment : ℤ) (request : Request) (settings : Settings) → s.settings ≡ settings → (next midnight s moment request).settings ≡ settings
+same_settings midnight s moment request settings is = next_by midnight s (λ t. t.settings ≡ settings) is (λ load can. is) moment request
+
+-- what is found in a list with one more entry
+find-push : {K V : Type 0} (R : K → K → Ordering) (q : K) (es : List (K × V)) (e : K × V) → find R q (es ++ e ∷ []) ≡ option_or (find R q es) (find R q (e ∷ []))
+find-push R q [] e = refl
+find-push R q (x ∷ es) e =
+    ap (cond (eq_by_cmp R q x.0) (Some x.1)) (find-push R q es e)
+    ∙ elim (eq_by_cmp R q x.0) as (λ b. cond b (Some x.1) (option_or (find R q es) (find R q (e ∷ []))) ≡ option_or (cond b (Some x.1) (find R q es)) (find R q (e ∷ []))) [ true ↦ refl | false ↦ refl ]
+
+-- a file is kept under a key
+abbrev IsKept : FileKey → AcceptedFile → State → Type 0
+IsKept key file s = find file_key_cmp key s.files ≡ Some file
+
+-- a file that is kept stays
+stays : (midnight : Midnights) (key : FileKey) (file : AcceptedFile) (s : State) (moment : ℤ) (request : Request) → IsKept key file s → IsKept key file (next midnight s moment request)
+stays midnight key file s moment request kept =
+    next_by midnight s (IsKept key file) kept
+    (λ load can. find-push file_key_cmp key s.files (load.key, kept_file (timetable_at midnight s) load)
+    ∙ ap (λ o. option_or o (find file_key_cmp key ((load.key, kept_file (timetable_at midnight s) load) ∷ []))) kept) moment request
+
+-- a file that is accepted is kept, with its reply
+abbrev Keeps : Upload → Outcome → Type 0
+Keeps upload outcome = IsFalse (is_refused outcome.reply)
+    → (file : AcceptedFile) × IsKept (key_of upload) file outcome.state × (repeat_reply file upload.body ≡ outcome.reply)
+
+not_refused : {X : Type 0} → true ≡ false → X
+not_refused e = absurd (false_is_not_true (sym e))
+
+module _ (midnight : Midnights) (s : State) (moment : ℤ) (upload : Upload) where
+  -- a new file is found once it is kept
+  new_kept : (file : AcceptedFile) → find file_key_cmp (key_of upload) s.files ≡ None → find file_key_cmp (key_of upload) (s.files ++ (key_of upload, file) ∷ []) ≡ Some file
+  new_kept file new =
+      find-push file_key_cmp (key_of upload) s.files (key_of upload, file)
+      ∙ ap (λ o. option_or o (find file_key_cmp (key_of upload) ((key_of upload, file) ∷ []))) new
+      ∙ ap (λ b. cond b (Some file) None) ((eq_by_cmp_equiv file_key_total).refl (key_of upload))
+
+  same_bytes : (file : AcceptedFile) → file.body ≡ upload.body → repeat_reply file upload.body ≡ loaded_reply file
+  same_bytes file is = ap (λ b. cond b (loaded_reply file) (reply.Refused (plain_fault FileChanged))) ((bytes_eq-Decides file.body upload.body).1 is)
+
+  keeps_loaded : (rows : List Row) → find file_key_cmp (key_of upload) s.files ≡ None → Keeps upload (loaded midnight s (load_of moment upload rows))
+  keeps_loaded rows new =
+      let load : Load = load_of moment upload rows in
+      let file : AcceptedFile = kept_file (timetable_at midnight s) load in
+      elim (first_fault (timetable_at midnight s) s.history 1 (coming_at moment rows)) as (λ o. Keeps upload (elim o as (λ _. Outcome) [
+        | Some fault ↦ refused s fault
+        | None ↦ record { reply = loaded_reply file; state = after_load midnight s load }
+      ])) [ Some fault ↦ not_refused | None ↦ λ _. (file, new_kept file new, same_bytes file refl) ]
+
+  keeps_new : find file_key_cmp (key_of upload) s.files ≡ None → Keeps upload (load_new midnight s moment upload)
+  keeps_new new =
+      elim (file_rows upload.kind upload.body) as (λ (found : Result (List Row) Fault).
+      Keeps upload (elim found as (λ _. Outcome) [ Err fault ↦ refused s fault | Ok rows ↦ loaded midnight s (load_of moment upload rows) ]))
+      [ Err fault ↦ not_refused | Ok rows ↦ keeps_loaded rows new ]
+
+  keeps_beside : (found : Option AcceptedFile) → find file_key_cmp (key_of upload) s.files ≡ found → Keeps upload (load_beside midnight s found moment upload)
+  keeps_beside None is = keeps_new is
+  keeps_beside (Some file) is = λ _. (file, is, refl)
+
+-- A file is sent with a key.
+module _ (midnight : Midnights) (key : List ℕ) (upload : Upload) where
+  abbrev asked : Request
+  asked = record { key = key; action = ask.Load upload }
+
+  -- where it is accepted, the key is the operator's, the file is not too large, and it is kept with its reply
+  abbrev WasAccepted : State → Outcome → Type 0
+  WasAccepted s outcome = IsFalse (is_refused outcome.reply)
+      → (is_operator midnight s key ≡ true) × (nat_lt most_bytes (length upload.body) ≡ false)
+      × ((file : AcceptedFile) × IsKept (key_of upload) file outcome.state × (repeat_reply file upload.body ≡ outcome.reply))
+
+  module _ (s : State) (moment : ℤ) where
+    abbrev beside : Outcome
+    beside = load_beside midnight s (find file_key_cmp (key_of upload) s.files) moment upload
+
+    was_accepted : WasAccepted s (step midnight s moment asked)
+    was_accepted =
+        elim (is_operator midnight s key) as (λ b. is_operator midnight s key ≡ b → WasAccepted s (cond b (load midnight s moment upload) (refused_for s Forbidden))) [
+          | false ↦ λ _. not_refused
+          | true ↦ λ operator.
+              elim (nat_lt most_bytes (length upload.body)) as (λ b. nat_lt most_bytes (length upload.body) ≡ b → WasAccepted s (cond b (refused_for s FileTooLarge) beside)) [
+                | true ↦ λ _. not_refused
+                | false ↦ λ small fine. (operator, small, keeps_beside midnight s moment upload (find file_key_cmp (key_of upload) s.files) refl fine)
+              ] refl
+        ] refl
+
+    -- it comes again to a state in which it is kept
+    again : (file : AcceptedFile) → IsKept (key_of upload) file s → nat_lt most_bytes (length upload.body) ≡ false → is_operator midnight s key ≡ true
+        → step midnight s moment asked ≡ unchanged s (repeat_reply file upload.body)
+    again file kept small operator =
+        ap (λ b. cond b (load midnight s moment upload) (refused_for s Forbidden)) operator
+        ∙ ap (λ b. cond b (refused_for s FileTooLarge) beside) small
+        ∙ ap (λ found. load_beside midnight s found moment upload) kept
+
+-- nothing has changed, whether the request was given up or not
+unchanged_by : (b : Bool) (old new : OfficeView) (s : State) (P : Type 0) → old.content ≡ tables_of (midnight_of old) s
+    → MatchBool b (new ≡ old) (P × (new ≡ record old { content = tables_of (midnight_of old) s })) → MatchBool b (Unit {0}) P × (new ≡ old)
+unchanged_by true old new s P stands same = (tt, same)
+unchanged_by false old new s P stands comes = (comes.0, comes.1 ∙ ap (λ c. record old { content = c }) (sym stands))
+
+-- an office that steps as the machine answers a repeated file as before
+pub repeats_upload : (key : List ℕ) (upload : Upload) (old new : OfficeView) (moment : ℤ) (given : Reply)
+    → HandleStep old new moment (asked (midnight_of old) key upload) given → RepeatsOnce old new (asked (midnight_of old) key upload) given
+repeats_upload key upload old new moment given steps s earlier between reached loads fine stands =
+    let midnight = midnight_of old in
+    let request : Request = asked midnight key upload in
+    let (operator, small, (file, kept, same)) = was_accepted midnight key upload s earlier fine in
+    let after : State = next midnight s earlier request in
+    let t : State = state_after midnight after between in
+    let kept_now : IsKept (key_of upload) file t = after_by midnight (IsKept (key_of upload) file) (stays midnight (key_of upload) file) after between kept in
+    let settings : t.settings ≡ s.settings =
+    after_by midnight (λ u. u.settings ≡ s.settings) (λ u m r. same_settings midnight u m r s.settings) after between (same_settings midnight s earlier request s.settings refl) in
+    let operator_now : is_operator midnight t key ≡ true = ap (λ (c : Settings). bytes_eq c.operator_key key) settings ∙ operator in
+    let comes : ComesTo old new given (unchanged t (repeat_reply file upload.body)) = subst (ComesTo old new given) (again midnight key upload t moment file kept_now small operator_now) (steps t stands) in
+    subst (λ r. MatchBool (is_given_up given) (Unit {0}) (given ≡ r) × (new ≡ old)) same
+    (unchanged_by (is_given_up given) old new t (given ≡ repeat_reply file upload.body) stands.1 comes)
+
+-- the same of any request
+pub repeats : (old new : OfficeView) (moment : ℤ) (request : Request) (given : Reply) → HandleStep old new moment request given → RepeatsOnce old new request given
+repeats old new moment request given steps =
+    elim request.action as (λ a. HandleStep old new moment (record { key = request.key; action = a }) given → RepeatsOnce old new (record { key = request.key; action = a }) given) [
+      | ask.Load upload ↦ repeats_upload request.key upload old new moment given
+      | ask.Contracts account date ↦ λ _ s earlier between reached loads. not_refused (sym loads)
+    ] steps

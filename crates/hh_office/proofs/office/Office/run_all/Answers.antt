@@ -1,0 +1,25 @@
+use Rattle.std.proofs.Common.{◌≡◌, ◌+◌, ◌∷◌, [], ◌++◌, length, take, subst, sym, ap, ◌∙◌, cond, arith, length-append}
+use Rattle.std.specs.Vec.{vec_capacity}
+use Rattle.std.proofs.lemmas.List.{take_more}
+use Rattle.hh_office.specs.Promises.{RunAllStep}
+use Rattle.hh_office.proofs.ListLaws.{run_more}
+use Rattle.hh_office.proofs.office.Office.run_all.Goals as goal
+
+pub loop-request-preserved : goal.loop-request-preserved
+loop-request-preserved g c =
+    let old = c.args.self.now in
+    let i = c.loop-request.request-index in
+    let requests = c.args.requests.now in
+    let t = c.request-item.result in
+    let before = c.loop-request.replies.items in
+    let pushed = c.push-pushed.ensures.items ∙ ap (λ b. cond b (before ++ c.handle_timed.result ∷ []) before) (sym c.if-prove.ensures.value) in
+    let front : take (i + 1) requests ≡ take i requests ++ t ∷ [] = take_more requests i t (omega arith) ∙ ap (λ x. take i requests ++ x ∷ []) (sym c.request-item.is) in
+    let room = c.loop-request.invariant.room in
+    let kept = c.push-pushed.ensures.capacity in
+    record {
+      run = subst (λ ts. RunAllStep old c.handle_timed.new.self ts c.push-pushed.new.self.items) (sym front)
+          (subst (RunAllStep old c.handle_timed.new.self (take i requests ++ t ∷ [])) (sym pushed)
+          (run_more old c.loop-request.self c.handle_timed.new.self (take i requests) before t c.handle_timed.result c.loop-request.invariant.run c.handle_timed.ensures));
+      count = ap length pushed ∙ length-append before (c.handle_timed.result ∷ []) ∙ ap (λ n. n + 1) c.loop-request.invariant.count;
+      room = omega arith;
+    }

@@ -1,0 +1,12 @@
+use Rattle.std.proofs.Common.{◌≡◌, ◌≤◌, length, take}
+use Rattle.std.specs.Prelude.{vec_capacity}
+use Rattle.hh_office.specs.Promises.{RunAllStep}
+use Rattle.hh_office.proofs.office.Office.run_all.Given as goal
+
+-- the requests so far were answered, and there is room for the other replies
+abbrev pub invariant-loop-request : goal.invariant-loop-request
+invariant-loop-request g l = record {
+  run : RunAllStep l.fn.self l.self (take l.request-index l.requests) l.replies.items;
+  count : length l.replies.items ≡ l.request-index;
+  room : length l.requests ≤ vec_capacity l.replies;
+}

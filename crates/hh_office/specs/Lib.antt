@@ -1,0 +1,4 @@
+pub mod Loads
+pub mod Machine
+pub mod Promises
+pub mod Views

@@ -1,0 +1,57 @@
+-- What the office writes for a file that it accepts, and what that comes to.
+use Rattle.std.specs.Prelude.{◌≡◌, ℤ, length, Result, Ok, Err}
+use Rattle.hh_time.specs.Days.{Midnights}
+use Rattle.hh_names.specs.declared.fault.Fault.{Fault}
+use Rattle.hh_rules.specs.FileRows.{FileRowsView, coming_at, judged_file}
+use Rattle.hh_texts.specs.Files.{file_rows}
+use Rattle.hh_store.specs.Changes.{LoadWrites, load_writes}
+use Rattle.hh_store.specs.Content.{tables_of}
+use Rattle.hh_store.specs.States.{State}
+use Rattle.hh_store.specs.Steps.{CanLoad, Load, after_load, timetable_at}
+use Rattle.hh_office.specs.declared.reply.Reply.{Reply}
+use Rattle.hh_office.specs.declared.request.Upload.{Upload}
+use Rattle.hh_office.specs.Machine.{Outcome, key_of, loaded_reply}
+use Rattle.hh_office.specs.Promises.{ComesTo, Stands, UnlessFailed}
+use Rattle.hh_office.specs.Views.{OfficeView, midnight_of}
+
+-- what the rows of a new file come to in a state, or the first fault in it
+abbrev pub judged_upload : Midnights → State → ℤ → Upload → Result FileRowsView Fault
+judged_upload midnight s moment upload = elim (file_rows upload.kind upload.body) [
+  | Err fault ↦ Err fault
+  | Ok rows ↦ judged_file (timetable_at midnight s) s.history (coming_at moment rows)
+]
+
+-- an answer is this outcome, unless memory ran out or the store refused
+abbrev pub Answers : Result FileRowsView Fault → Result FileRowsView Fault → Type 0
+Answers (Ok judged) outcome = outcome ≡ Ok judged
+Answers (Err fault) outcome = UnlessFailed fault (outcome ≡ Err fault)
+
+-- a new file is judged as in each state that the office stands for
+abbrev pub Judges : OfficeView → ℤ → Upload → Result FileRowsView Fault → Type 0
+Judges office moment upload result =
+    (s : State) → Stands office s → Answers result (judged_upload (midnight_of office) s moment upload)
+
+-- what is written for a file whose rows come to these
+abbrev pub writes_of : Upload → FileRowsView → LoadWrites
+writes_of upload judged = record {
+  key = key_of upload;
+  file = record { body = upload.body; applied = length judged.rows; late = judged.late };
+  rows = judged.rows;
+  references = judged.references;
+}
+
+-- what is written makes the tables, for each load for which the machine writes this, those of the state after it
+abbrev pub Writes : OfficeView → OfficeView → LoadWrites → Type 0
+Writes old new writes =
+    (s : State) (load : Load) → Stands old s → CanLoad (midnight_of old) s load → writes ≡ load_writes (midnight_of old) s load
+    → new ≡ record old { content = tables_of (midnight_of old) (after_load (midnight_of old) s load) }
+
+-- what becomes of a load that is accepted in a state and has this reply
+abbrev pub accepted : OfficeView → State → Load → LoadWrites → Outcome
+accepted office s load writes = record { reply = loaded_reply writes.file; state = after_load (midnight_of office) s load }
+
+-- what is written comes to the outcome of each load for which the machine writes this
+abbrev pub Accepts : OfficeView → OfficeView → LoadWrites → Reply → Type 0
+Accepts old new writes given =
+    (s : State) (load : Load) → Stands old s → CanLoad (midnight_of old) s load → writes ≡ load_writes (midnight_of old) s load
+    → ComesTo old new given (accepted old s load writes)

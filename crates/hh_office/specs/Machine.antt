@@ -1,0 +1,141 @@
+-- The settlement machine: what it answers to a request, and the state after it.
+use Rattle.std.specs.Prelude.{ℕ, nat_lt, ℤ, List, [], ◌∷◌, length, Bool, false, ◌||◌, if◌then◌else◌, Option, Some, None, Result, Ok, Err}
+use Rattle.std.specs.FinMap.{find}
+use Rattle.std.specs.Str.{bytes_eq}
+use Rattle.hh_time.specs.Days.{Midnights}
+use Rattle.hh_names.specs.declared.account.Account.{Account}
+use Rattle.hh_names.specs.declared.fault.Fault.{Fault}
+use Rattle.hh_names.specs.declared.fault.Refusal.{Refusal}
+use Rattle.hh_names.specs.declared.fault.Refusal.TheVariants.{FileChanged, FileTooLarge, Forbidden}
+use Rattle.hh_names.specs.Accounts.{bytes_cmp}
+use Rattle.hh_names.specs.Faults.{plain_fault}
+use Rattle.hh_rows.specs.declared.rows.PartyRegistration.{PartyRegistration}
+use Rattle.hh_rows.specs.declared.rows.Row.{Row}
+use Rattle.hh_rules.specs.FileRows.{coming_at, first_fault}
+use Rattle.hh_texts.specs.Files.{file_rows}
+use Rattle.hh_texts.specs.Rows.{most_bytes}
+use Rattle.hh_store.specs.declared.file_key.FileKey.{FileKey}
+use Rattle.hh_store.specs.Reads.{contracts_of}
+use Rattle.hh_store.specs.States.{AcceptedFile, State, file_key_cmp}
+use Rattle.hh_store.specs.Steps.{Load, after_load, kept_file, registered_at, timetable_at}
+use Rattle.hh_office.specs.declared.request.Action.{Action}
+use Rattle.hh_office.specs.declared.request.Action.TheVariants as ask
+use Rattle.hh_office.specs.declared.request.Request.{Request}
+use Rattle.hh_office.specs.declared.request.Upload.{Upload}
+use Rattle.hh_office.specs.declared.reply.Reply.{Reply}
+use Rattle.hh_office.specs.declared.reply.Reply.TheVariants as reply
+
+-- a request with the moment at which it comes
+abbrev pub Timed : Type 0
+Timed = ℤ × Request
+
+-- what becomes of a request: the reply, and the state after it
+pub record Outcome : Type 0 where
+  pub reply : Reply
+  pub state : State
+
+-- a reply that leaves the state as it is
+abbrev pub unchanged : State → Reply → Outcome
+unchanged s r = record { reply = r; state = s }
+
+-- a refusal, which leaves the state as it is
+abbrev pub refused : State → Fault → Outcome
+refused s fault = unchanged s (reply.Refused fault)
+
+-- the same of the whole request
+abbrev pub refused_for : State → Refusal → Outcome
+refused_for s why = refused s (plain_fault why)
+
+-- the reply to a file that is kept
+abbrev pub loaded_reply : AcceptedFile → Reply
+loaded_reply file = reply.Loaded (record { applied = file.applied; late = file.late })
+
+-- the reply to a file under whose kind and name this one is kept: the same bytes get the reply that is kept
+abbrev pub repeat_reply : AcceptedFile → List ℕ → Reply
+repeat_reply file body = if bytes_eq file.body body then loaded_reply file else reply.Refused (plain_fault FileChanged)
+
+-- the kind and name under which a file is kept
+abbrev pub key_of : Upload → FileKey
+key_of upload = record { kind = upload.kind; name = upload.name }
+
+-- a file that comes at a moment and reads as these rows
+abbrev pub load_of : ℤ → Upload → List Row → Load
+load_of moment upload rows = record { moment = moment; key = key_of upload; body = upload.body; rows = rows }
+
+-- the key is that of a party, if the party is registered
+abbrev pub is_key_of : List ℕ → Option PartyRegistration → Bool
+is_key_of key None = false
+is_key_of key (Some party) = bytes_eq party.key key
+
+module _ (midnight : Midnights) (s : State) where
+  -- whether a key is the operator's
+  abbrev pub is_operator : List ℕ → Bool
+  is_operator key = bytes_eq s.settings.operator_key key
+
+  -- whether a key is that of an account's party
+  abbrev pub is_holder : Account → List ℕ → Bool
+  is_holder account key = is_key_of key (find bytes_cmp account.party (registered_at midnight s).parties)
+
+  -- who may ask for what: the operator for everything, a party for the contracts of its own accounts
+  abbrev pub may : List ℕ → Action → Bool
+  may key (ask.Load upload) = is_operator key
+  may key (ask.Contracts account date) = is_operator key || is_holder account key
+
+  -- what becomes of a new file that reads as these rows: it is refused with its first row that is refused
+  abbrev pub loaded : Load → Outcome
+  loaded load = elim (first_fault (timetable_at midnight s) s.history 1 (coming_at load.moment load.rows)) [
+    | Some fault ↦ refused s fault
+    | None ↦ record { reply = loaded_reply (kept_file (timetable_at midnight s) load); state = after_load midnight s load }
+  ]
+
+  -- what becomes of a new file: it is read whole before its rows are judged
+  abbrev pub load_new : ℤ → Upload → Outcome
+  load_new moment upload = elim (file_rows upload.kind upload.body) [
+    | Err fault ↦ refused s fault
+    | Ok rows ↦ loaded (load_of moment upload rows)
+  ]
+
+  -- what becomes of a file, by what is kept under its kind and name
+  abbrev pub load_beside : Option AcceptedFile → ℤ → Upload → Outcome
+  load_beside (Some file) moment upload = unchanged s (repeat_reply file upload.body)
+  load_beside None moment upload = load_new moment upload
+
+  -- what becomes of a file: first its length is asked, then whether it is known
+  abbrev pub load : ℤ → Upload → Outcome
+  load moment upload = if nat_lt most_bytes (length upload.body) then refused_for s FileTooLarge
+      else load_beside (find file_key_cmp (key_of upload) s.files) moment upload
+
+  -- the contracts in force of an account on a date
+  abbrev pub contracts : Account → ℕ → Outcome
+  contracts account date = unchanged s (reply.Contracts (record {
+    account = account;
+    date = date;
+    contracts = contracts_of account date (registered_at midnight s);
+  }))
+
+  -- what becomes of what is asked, if the key allows it
+  abbrev pub act : ℤ → Action → Outcome
+  act moment (ask.Load upload) = load moment upload
+  act moment (ask.Contracts account date) = contracts account date
+
+  -- what becomes of a request that comes at a moment
+  abbrev pub step : ℤ → Request → Outcome
+  step moment request = if may request.key request.action then act moment request.action else refused_for s Forbidden
+
+  -- the reply to a request
+  abbrev pub answer : ℤ → Request → Reply
+  answer moment request = (step moment request).reply
+
+  -- the state after a request
+  abbrev pub next : ℤ → Request → State
+  next moment request = (step moment request).state
+
+-- the replies to requests, one after the other
+abbrev pub replies_to : Midnights → State → List Timed → List Reply
+replies_to midnight s [] = []
+replies_to midnight s (t ∷ ts) = answer midnight s t.0 t.1 ∷ replies_to midnight (next midnight s t.0 t.1) ts
+
+-- the state after requests, one after the other
+abbrev pub state_after : Midnights → State → List Timed → State
+state_after midnight s [] = s
+state_after midnight s (t ∷ ts) = state_after midnight (next midnight s t.0 t.1) ts

@@ -1,0 +1,101 @@
+-- What the office promises of a request and of lists of requests.
+use Rattle.std.specs.Prelude.{◌≡◌, ◌⊎◌, ℤ, List, map, filter, zip, length, Bool, true, false, not, Result, Ok, Err, IsTrue, IsFalse, MatchBool}
+use Rattle.hh_time.specs.Days.{Midnights}
+use Rattle.hh_names.specs.declared.fault.Fault.{Fault}
+use Rattle.hh_names.specs.declared.fault.Refusal.{Refusal}
+use Rattle.hh_names.specs.declared.fault.Refusal.TheVariants.{Memory, Store}
+use Rattle.hh_store.specs.Changes.{StandsFor}
+use Rattle.hh_store.specs.Content.{Content, tables_of}
+use Rattle.hh_store.specs.States.{State}
+use Rattle.hh_store.specs.Steps.{IsReached}
+use Rattle.hh_office.specs.declared.request.Action.{Action}
+use Rattle.hh_office.specs.declared.request.Action.TheVariants as ask
+use Rattle.hh_office.specs.declared.request.Request.{Request}
+use Rattle.hh_office.specs.declared.reply.Reply.{Reply}
+use Rattle.hh_office.specs.declared.reply.Reply.TheVariants as reply
+use Rattle.hh_office.specs.Machine.{Outcome, Timed, answer, next, replies_to, state_after, step}
+use Rattle.hh_office.specs.Views.{OfficeView, midnight_of}
+
+-- memory ran out, or the store refused
+abbrev pub is_failure : Refusal → Bool
+is_failure Memory = true
+is_failure Store = true
+is_failure _ = false
+
+-- this holds of a refusal, unless memory ran out or the store refused
+abbrev pub UnlessFailed : Fault → Type 0 → Type 0
+UnlessFailed fault holds = MatchBool (is_failure fault.refusal) (Unit {0}) holds
+
+-- the request was given up, since memory ran out or the store refused
+abbrev pub is_given_up : Reply → Bool
+is_given_up (reply.Refused fault) = is_failure fault.refusal
+is_given_up _ = false
+
+-- ---- one request
+
+-- The reply and the tables after it are those of an outcome; where the request was given up, nothing has changed.
+abbrev pub ComesTo : OfficeView → OfficeView → Reply → Outcome → Type 0
+ComesTo old new given outcome = MatchBool (is_given_up given) (new ≡ old)
+    ((given ≡ outcome.reply) × (new ≡ record old { content = tables_of (midnight_of old) outcome.state }))
+
+-- an office stands for a state if its tables do
+abbrev pub Stands : OfficeView → State → Type 0
+Stands office s = StandsFor (midnight_of office) office.content s
+
+-- the office does with a request what the machine does with it in each state that the office stands for
+abbrev pub HandleStep : OfficeView → OfficeView → ℤ → Request → Reply → Type 0
+HandleStep old new moment request given =
+    (s : State) → Stands old s → ComesTo old new given (step (midnight_of old) s moment request)
+
+-- ---- lists of requests
+
+-- the requests that were not given up, each with its reply
+abbrev pub served : List Timed → List Reply → List (Timed × Reply)
+served requests replies = filter (λ r. not (is_given_up r.1)) (zip requests replies)
+
+-- Tables and replies are the machine's: there is a reply to each request, those that were not given up are answered as by the
+-- machine, one after the other, and the tables at the end are the machine's after these.
+pub record RunsAs (old new : OfficeView) (s : State) (requests : List Timed) (given : List Reply) : Type 0 where
+  pub count : length given ≡ length requests
+  pub replies : map (λ r. r.1) (served requests given) ≡ replies_to (midnight_of old) s (map (λ r. r.0) (served requests given))
+  pub tables : new ≡ record old { content = tables_of (midnight_of old) (state_after (midnight_of old) s (map (λ r. r.0) (served requests given))) }
+
+-- the office does with a list of requests what the machine does with them from each state that the office stands for
+abbrev pub RunAllStep : OfficeView → OfficeView → List Timed → List Reply → Type 0
+RunAllStep old new requests replies = (s : State) → Stands old s → RunsAs old new s requests replies
+
+-- ---- repeats
+
+-- a reply that refuses
+abbrev pub is_refused : Reply → Bool
+is_refused (reply.Refused fault) = true
+is_refused _ = false
+
+-- whether a file is sent
+abbrev pub is_load : Action → Bool
+is_load (ask.Load upload) = true
+is_load _ = false
+
+-- A file that was accepted in some state and comes again, after whatever requests, gets the same reply, unless it is given up, and
+-- nothing changes.
+abbrev pub RepeatsOnce : OfficeView → OfficeView → Request → Reply → Type 0
+RepeatsOnce old new request given =
+    (s : State) (earlier : ℤ) (between : List Timed) → IsReached (midnight_of old) s
+    → IsTrue (is_load request.action) → IsFalse (is_refused (answer (midnight_of old) s earlier request))
+    → Stands old (state_after (midnight_of old) (next (midnight_of old) s earlier request) between)
+    → MatchBool (is_given_up given) (Unit {0}) (given ≡ answer (midnight_of old) s earlier request) × (new ≡ old)
+
+-- ---- within the office
+
+-- the reply to a request that was answered or refused
+abbrev pub reply_of : Result Reply Fault → Reply
+reply_of (Ok given) = given
+reply_of (Err fault) = reply.Refused fault
+
+-- the answer to a part of a request and the tables after it come to the machine's outcome in each state that the office stands for
+abbrev pub Does : OfficeView → OfficeView → Result Reply Fault → (Midnights → State → Outcome) → Type 0
+Does old new result outcome = (s : State) → Stands old s → ComesTo old new (reply_of result) (outcome (midnight_of old) s)
+
+-- the office tells what is so in each state that it stands for
+abbrev pub Tells : OfficeView → Bool → (Midnights → State → Bool) → Type 0
+Tells office told is_so = (s : State) → Stands office s → told ≡ is_so (midnight_of office) s

@@ -1,0 +1,49 @@
+//! Who may ask for what.
+
+ghost use Rattle.std.specs.Prelude.{◌≡◌, IfOk};
+ghost use Rattle.hh_office.specs.Machine.{is_holder, is_operator, may};
+ghost use Rattle.hh_office.specs.Promises.{Tells};
+
+use crate::office::Office;
+use crate::request::{Action, Request};
+use hh_names::Account;
+use hh_store::{StoreFault, Tables};
+
+impl<'z, T: Tables> Office<'z, T> {
+    /// Whether the key of a request allows what it asks.
+    pub(crate) fn may(&mut self, request: &Request) -> Result<bool, StoreFault>
+        ensures allowed { IfOk result (λ allowed. Tells self.old allowed
+            (λ midnight s. may midnight s request.now.key request.now.action)) }
+        ensures same { self.new ≡ self.old }
+    {
+        let key = request.key.as_slice();
+        match &request.action {
+            Action::Load(_) => self.is_operator(key),
+            Action::Contracts { account, .. } => {
+                Ok(self.is_operator(key)? || self.is_holder(account, key)?)
+            }
+        }
+    }
+
+    /// Whether a key is the operator's.
+    fn is_operator(&mut self, key: &[u8]) -> Result<bool, StoreFault>
+        ensures told { IfOk result (λ told. Tells self.old told
+            (λ midnight s. is_operator midnight s key.now)) }
+        ensures same { self.new ≡ self.old }
+    {
+        let settings = self.tables.settings()?;
+        Ok(settings.operator_key.as_bytes() == key)
+    }
+
+    /// Whether a key is that of an account's party.
+    fn is_holder(&mut self, account: &Account, key: &[u8]) -> Result<bool, StoreFault>
+        ensures told { IfOk result (λ told. Tells self.old told
+            (λ midnight s. is_holder midnight s account.now key.now)) }
+        ensures same { self.new ≡ self.old }
+    {
+        match self.tables.party(&account.party)? {
+            Some(party) => Ok(party.key.as_bytes() == key),
+            None => Ok(false),
+        }
+    }
+}

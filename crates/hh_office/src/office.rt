@@ -1,0 +1,101 @@
+//! The office: requests in, replies out, tables kept.
+
+ghost use Rattle.std.specs.Prelude.{◌≡◌, IfOk, OnErr};
+ghost use Rattle.hh_office.specs.Machine.{contracts, step};
+ghost use Rattle.hh_office.specs.Promises.{Does, HandleStep, RepeatsOnce, RunAllStep};
+
+use crate::reply::{ContractsReply, Reply};
+use crate::request::{Action, Request};
+use hh_names::{Account, Fault, Refusal};
+use hh_store::Tables;
+use hh_time::SettlementDate;
+use jiff::tz::TimeZone;
+use std::alloc::{AllocError, Global};
+use std::marker::Model;
+
+/// The settlement agent's office over its tables, in the zone whose local midnights begin its
+/// Settlement Days. Contracts see the zone and what the tables contain.
+#[derive(Drop)]
+pub struct Office<'z, T: Tables> {
+    pub(crate) alloc: Global,
+    pub(crate) tables: T,
+    pub(crate) zone: TimeZone<'z>,
+}
+
+impl<'z, T: Tables> Model for Office<'z, T> {
+    ghost use Rattle.hh_office.specs.Views.{OfficeView};
+
+    ghost Value = { OfficeView };
+
+    ghost view = { λ o. record { zone = o.zone; content = T.content o.tables } };
+}
+
+impl<'z, T: Tables> Office<'z, T> {
+    /// An office over these tables, in this zone.
+    pub fn new(alloc: Global, tables: T, zone: TimeZone<'z>) -> Office<'z, T>
+        ensures { result ≡ record { zone = zone.entry; content = T.content tables } }
+    {
+        Office {
+            alloc,
+            tables,
+            zone,
+        }
+    }
+
+    /// Answers a request that comes at a moment, in seconds since 1970-01-01T00:00:00Z, which may be
+    /// earlier than the one before (profile). A refused request changes nothing. Refusals 90, where
+    /// memory is refused, and 91, where the store refuses, may stand in the place of any reply.
+    pub fn handle(&mut self, moment: i64, request: &Request) -> Reply
+        ensures step { HandleStep self.old self.new moment request.now result }
+        ensures once { RepeatsOnce self.old self.new request.now result }
+    {
+        match self.act(moment, request) {
+            Ok(reply) => reply,
+            Err(fault) => Reply::Refused(fault),
+        }
+    }
+
+    /// Answers requests, each with the moment at which it comes, one after the other. The room for the
+    /// replies is taken first: where it is refused, nothing has run.
+    pub fn run_all(&mut self, requests: &[(i64, Request)]) -> Result<Vec<Reply>, AllocError>
+        ensures run { IfOk result (λ replies.
+            RunAllStep self.old self.new requests.now replies.items) }
+        ensures none { OnErr result (self.new ≡ self.old) }
+    {
+        let mut replies = Vec::with_capacity(self.alloc, requests.len())?;
+        for request in requests.iter() {
+            let pushed = replies.push(self.handle_timed(request));
+            prove!(pushed.is_ok());
+        }
+        Ok(replies)
+    }
+
+    /// Answers a request at its moment.
+    fn handle_timed(&mut self, request: &(i64, Request)) -> Reply
+        ensures { HandleStep self.old self.new request.now.0 request.now.1 result }
+    {
+        self.handle(request.0, &request.1)
+    }
+
+    /// What becomes of a request.
+    fn act(&mut self, moment: i64, request: &Request) -> Result<Reply, Fault>
+        ensures { Does self.old self.new result (λ midnight s. step midnight s moment request.now) }
+    {
+        if !self.may(request)? {
+            return Err(Fault::of(Refusal::Forbidden));
+        }
+        match &request.action {
+            Action::Load(upload) => self.load(moment, upload),
+            Action::Contracts { account, date } => self.contracts(account, *date),
+        }
+    }
+
+    /// The contracts in force of an account on a date.
+    fn contracts(&mut self, account: &Account, date: SettlementDate) -> Result<Reply, Fault>
+        ensures { Does self.old self.new result (λ midnight s.
+            contracts midnight s account.now date) }
+    {
+        let contracts = self.tables.contracts(account, date)?;
+        Ok(Reply::Contracts(ContractsReply::new(*account, date, contracts)))
+    }
+}

@@ -1,0 +1,65 @@
+//! What is asked of an office.
+
+ghost use Rattle.std.specs.Prelude.{◌≡◌};
+
+use hh_names::{Account, FileName};
+use hh_rows::FileKind;
+use hh_time::SettlementDate;
+use std::marker::Model;
+
+/// Bytes as they came: a file's, or a key's. Contracts see the list of them.
+#[derive(Debug, Drop)]
+pub struct Bytes {
+    items: Vec<u8>,
+}
+
+impl Model for Bytes {
+    ghost use Rattle.std.specs.Prelude.{List, ℕ};
+
+    ghost Value = { List ℕ };
+
+    ghost view = { λ bytes. bytes.items.items };
+}
+
+impl Bytes {
+    /// These bytes.
+    pub fn new(items: Vec<u8>) -> Bytes
+        ensures { result ≡ items.items }
+    {
+        Bytes { items }
+    }
+
+    /// The bytes one after the other.
+    pub fn as_slice(&self) -> &[u8]
+        ensures { result.now ≡ self.now }
+    {
+        &self.items
+    }
+}
+
+/// A file that is sent (profile). Its name is the one under which it is kept, and never a path.
+#[derive(Debug, Drop)]
+pub struct Upload {
+    pub kind: FileKind,
+    pub name: FileName,
+    pub body: Bytes,
+}
+
+/// What is asked.
+#[derive(Debug, Drop)]
+pub enum Action {
+    /// That a file be loaded (profile).
+    Load(Upload),
+    /// Which contracts of an account are in force on a date (Section P in shape).
+    Contracts {
+        account: Account,
+        date: SettlementDate,
+    },
+}
+
+/// What is asked, and the key that is shown with it.
+#[derive(Debug, Drop)]
+pub struct Request {
+    pub key: Bytes,
+    pub action: Action,
+}
