@@ -2,8 +2,9 @@
 
 A run in which memory is refused ends with status 1, says `refused 90 Memory` and writes nothing, or
 it can do without that memory and ends as it does with it. `hh_bench load` may have written of the
-files before, and the nanoseconds that `hh_bench` tells are not compared. The first run in which
-nothing was refused any more ends the turn. A C compiler builds what refuses, `failing_malloc.c`.
+files before, and the nanoseconds that `hh_bench` tells are not compared. A script goes on after a line
+that was refused memory. The first run in which nothing was refused any more ends the turn. A C
+compiler builds what refuses, `failing_malloc.c`.
 """
 import os
 import pathlib
@@ -18,6 +19,56 @@ from programs import BENCH, CONTRACTS, HOME, METER, SETTLE, need
 SMALL_DAY = "--periods 1 --parties 3 --units 4 --contracts 2 --reallocations 1".split()
 MOST_RUNS = 100_000
 REFUSED = [b"refused 90 Memory"]
+OPERATOR = "op-settle001"
+NO_PARTY, NO_UNIT = b"refused 30 UnknownParty row 1", b"refused 31 UnknownUnit row 1"
+# Files of a script: the kind, the text, the reply, what is told where a file before it was not applied,
+# and what stands registered after it.
+SCRIPT = [
+    (
+        "parties",
+        "party,from,to,key\nA,2024-01-01,,aaaa0001\nB,2024-01-01,,bbbb0001\n",
+        b"applied=2 late=0",
+        {},
+        "parties",
+    ),
+    (
+        "units",
+        "unit,party,side,interconnector,from,to\nU,A,P,no,2024-01-01,\n",
+        b"applied=1 late=0",
+        {"parties": NO_PARTY},
+        "units",
+    ),
+    (
+        "contracts",
+        "reference,seller,buyer,date,period,mwh\nC,A-P,B-C,2024-07-01,1,1\nC,A-P,B-C,2024-07-01,2,1\n",
+        b"applied=2 late=0",
+        {"parties": NO_PARTY},
+        None,
+    ),
+    (
+        "contracts",
+        "reference,seller,buyer,date,period,mwh\nD,A-P,B-C,2024-07-01,1,1\nD,A-P,A-P,2024-07-01,2,1\n",
+        b"refused 35 SameAccount row 2",
+        {"parties": NO_PARTY},
+        None,
+    ),
+    (
+        "reallocations",
+        "unit,account,date,period,percent,fixed_mwh\nU,B-P,2024-07-01,1,10,0\n",
+        b"applied=1 late=0",
+        {"parties": NO_PARTY, "units": NO_UNIT},
+        None,
+    ),
+    ("prices", "date,period,price\n2024-07-01,1,50\n", b"applied=1 late=0", {}, None),
+    (
+        "meters",
+        "unit,date,period,metered_mwh,tlm,balancing_mwh\nU,2024-07-01,1,1,1,0\n",
+        b"applied=1 late=0",
+        {"units": NO_UNIT},
+        None,
+    ),
+    ("prices", "date,period\n", b"refused 12 BadHeader", {}, None),
+]
 
 
 @unittest.skipUnless(shutil.which("cc"), "no C compiler `cc` is on the path, so memory was not refused")
@@ -43,16 +94,40 @@ class Refused(unittest.TestCase):
         status, written, told = got
         return status == 1 and told == REFUSED and most.startswith(written)
 
-    def refuse_each(self, call, status, writes_by_file=False):
-        """Refuses each allocation of a call in turn. With ample memory it has this status. At least
-        one refusal has to show, since a program that takes no memory by `malloc` would pass else."""
+    def is_script_answered(self, got, replies):
+        """Whether a script's run answered each line as it has to, but for at most one that was refused
+        memory, or ended with refusal 90 behind a beginning of its lines."""
+        status, written, told = got
+        lines = written.splitlines()
+        whole = status == 0 and told == [] and len(lines) == len(replies)
+        ended = status == 1 and told == REFUSED and (not written or written.endswith(b"\n"))
+        if not whole and not ended:
+            return False
+        registered, refused = set(), status
+        for line, (reply, otherwise, registers) in zip(lines, replies):
+            wanted = next((other for what, other in otherwise.items() if what not in registered), reply)
+            if [line] == REFUSED:
+                refused += 1
+            elif line != wanted:
+                return False
+            elif line == reply:
+                registered.add(registers)
+        return refused <= 1
+
+    def refuse_each(self, call, status, writes_by_file=False, replies=None):
+        """Refuses each allocation of a call in turn. With ample memory it has this status, and a script
+        these replies. At least one refusal has to show, since a program that takes no memory by
+        `malloc` would pass else."""
         need(call[0])
         wanted = self.run_once(call, 0)
         self.assertEqual(wanted[0], status, call)
+        if replies is not None:
+            self.assertEqual(wanted[1:], (b"".join(reply + b"\n" for reply, _, _ in replies), []))
         most, shown = wanted[1] if writes_by_file else b"", 0
         for fail_at in range(1, MOST_RUNS):
             got = self.run_once(call, fail_at)
-            self.assertTrue(got == wanted or self.is_refusal(got, most), f"{call}: allocation {fail_at} refused: {got}")
+            right = self.is_refusal(got, most) if replies is None else self.is_script_answered(got, replies)
+            self.assertTrue(got == wanted or right, f"{call}: allocation {fail_at} refused: {got}")
             if not self.note.exists():
                 self.assertEqual(got, wanted, "refused, though no allocation was")
                 self.assertGreater(shown, 0, f"{call}: no refusal was ever told")
@@ -88,6 +163,26 @@ class Refused(unittest.TestCase):
                 self.refuse_each([BENCH, "read", kind, path, "1"], 0)
         with self.subTest("load"):
             self.refuse_each([BENCH, "load", *(word for file in files for word in file)], 0, writes_by_file=True)
+
+    def test_a_script(self):
+        """Files of each kind, two refused ones, the first file once more, and one that isn't there."""
+        lines, replies = [], []
+        for number, (kind, text, *answers) in enumerate(SCRIPT, 1):
+            path = self.room / f"{number}.csv"
+            path.write_text(text)
+            lines.append(f"load 0 {OPERATOR} {kind} {path}\n")
+            replies.append(answers)
+        lines += [lines[0], f"load 0 {OPERATOR} units {self.room}/none.csv\n"]
+        replies += [replies[0], [b"fault file", {}, None]]
+        script = self.room / "script"
+        script.write_text("".join(lines))
+        self.refuse_each([SETTLE, "script", "--operator-key", OPERATOR, str(script)], 0, replies=replies)
+
+    def test_a_script_that_is_not_run(self):
+        script = self.room / "wrong"
+        script.write_text(f"load 0 {OPERATOR} units u.csv\n\n")
+        self.refuse_each([SETTLE, "script", "--operator-key", OPERATOR, str(script)], 2)
+        self.refuse_each([SETTLE, "script", "--operator-key", OPERATOR, str(self.room / "missing")], 1)
 
 
 if __name__ == "__main__":

@@ -1,0 +1,775 @@
+"""What an analyst meets at the office's desk, through the built `settle script`: files are loaded, come
+late, twice or wrong, and each line is answered. Every script begins with empty tables."""
+import csv
+import os
+import pathlib
+import shutil
+import subprocess
+import sys
+import unittest
+
+from programs import HOME, SETTLE, as_nobody, settle
+from test_program import OfTheProgram
+
+OPERATOR = "op-settle001"
+DAY = "2024-07-01"
+# 2024-07-01 begins at 2024-06-30T23:00:00Z. With a lead of 60 minutes period 1 has its deadline at 22:00:00Z.
+START = 1_719_788_400
+DEADLINE = START - 3600
+# 2024-06-29T22:26:40Z, when files come where no test says otherwise.
+EARLY = 1_719_700_000
+HEADERS = {
+    "parties": "party,from,to,key",
+    "units": "unit,party,side,interconnector,from,to",
+    "meters": "unit,date,period,metered_mwh,tlm,balancing_mwh",
+    "prices": "date,period,price",
+    "contracts": "reference,seller,buyer,date,period,mwh",
+    "reallocations": "unit,account,date,period,percent,fixed_mwh",
+}
+IDLE = range(2, 49)
+MARKET = [
+    ("parties", ["GENCO,2024-01-01,,genco0001", "SUPCO,2024-01-01,,supco0001"]),
+    ("units", ["G1,GENCO,P,no,2024-01-01,", "S1,SUPCO,C,no,2024-01-01,"]),
+    ("contracts", [f"C1,GENCO-P,SUPCO-C,{DAY},1,99.000"]),
+    (
+        "meters",
+        [f"G1,{DAY},1,100.000,0.9950000,0", f"S1,{DAY},1,-98.000,1.0050000,0"]
+        + [f"{unit},{DAY},{period},0,1,0" for period in IDLE for unit in ("G1", "S1")],
+    ),
+    ("prices", [f"{DAY},1,50.00000"] + [f"{DAY},{period},0" for period in IDLE]),
+]
+# Two parties, two units, one contract, and for 48 periods two readings and a price each.
+LOADED = ["applied=2 late=0", "applied=2 late=0", "applied=1 late=0", "applied=96 late=0", "applied=48 late=0"]
+APPLIED = "applied=1 late=0"
+LATE = "applied=0 late=1"
+
+
+def text_of(kind, rows):
+    """A file's bytes, a line a row."""
+    return "".join(f"{line}\n" for line in [HEADERS[kind], *rows]).encode()
+
+
+def realloc(account, percent):
+    """A percentage of unit G1 in period 1."""
+    return f"G1,{account},{DAY},1,{percent},0"
+
+
+class Desk(OfTheProgram):
+    """A test with scripts and files in a folder of its own."""
+
+    def setUp(self):
+        super().setUp()
+        self.folders = 0
+
+    def path(self, name, data):
+        """A new file of this name, in a folder that no other file is in."""
+        self.folders += 1
+        folder = self.room / str(self.folders)
+        folder.mkdir()
+        (folder / name).write_bytes(data)
+        return str(folder / name)
+
+    def load(self, kind, rows, name="x.csv", moment=EARLY, key=OPERATOR):
+        """The line of a script that loads a file. Its rows stand under the kind's header; bytes are the
+        whole file."""
+        data = rows if isinstance(rows, bytes) else text_of(kind, [rows] if isinstance(rows, str) else rows)
+        return f"load {moment} {key} {kind} {self.path(name, data)}"
+
+    def market(self):
+        """The lines that load the market."""
+        return [self.load(kind, rows, f"f{number}.csv") for number, (kind, rows) in enumerate(MARKET, 1)]
+
+    def run_script(self, text, *options, **how):
+        """Runs a script of this text."""
+        return settle("script", "--operator-key", OPERATOR, *options, self.file("script", text), **how)
+
+    def replies(self, *lines, options=(), **how):
+        """What is printed for these lines."""
+        status, written, told = self.run_script("".join(f"{line}\n" for line in lines), *options, **how)
+        self.assertEqual((status, told), (0, b""))
+        self.assertTrue(written.endswith(b"\n") or not lines)
+        return written.decode().splitlines()
+
+    def after_market(self, *lines, options=()):
+        """What is printed for these lines once the market is loaded."""
+        found = self.replies(*self.market(), *lines, options=options)
+        self.assertEqual(found[:5], LOADED)
+        return found[5:]
+
+    def is_wrong(self, made, line=None):
+        """Status 2 with nothing run. The line that is off its form is told by its number."""
+        status, written, told = made
+        self.assertEqual((status, written), (2, b""))
+        self.assertTrue(told.endswith(b"\n"))
+        if line is not None:
+            self.assertRegex(told, rb"(?<!\d)%d(?!\d)" % line)
+
+
+class Loads(Desk):
+    def test_the_market(self):
+        self.assertEqual(self.replies(*self.market()), LOADED)
+
+    def test_each_call_begins_with_empty_tables(self):
+        self.assertEqual(self.replies(*self.market()), LOADED)
+        units = self.load(*MARKET[1])
+        self.assertEqual(self.replies(units), ["refused 30 UnknownParty row 1"])
+
+    def test_the_last_line_may_lack_its_end(self):
+        script = self.load(*MARKET[0]) + "\n" + self.load(*MARKET[1])
+        self.assertEqual(self.run_script(script), (0, b"applied=2 late=0\napplied=2 late=0\n", b""))
+
+    def test_a_script_of_no_bytes(self):
+        self.assertEqual(self.run_script(b""), (0, b"", b""))
+
+    def test_a_relative_path_without_a_folder(self):
+        self.file("f1.csv", text_of(*MARKET[0]))
+        line = f"load {EARLY} {OPERATOR} parties f1.csv"
+        self.assertEqual(self.replies(line, cwd=self.room), ["applied=2 late=0"])
+
+    def test_a_folder_whose_name_is_not_ascii(self):
+        folder = self.room / "Zähler"
+        folder.mkdir()
+        (folder / "f1.csv").write_bytes(text_of(*MARKET[0]))
+        self.assertEqual(self.replies(f"load {EARLY} {OPERATOR} parties {folder}/f1.csv"), ["applied=2 late=0"])
+
+    def test_forms_of_a_file(self):
+        """One mark at the start, CRLF, quotes and empty lines are taken; a second mark is not."""
+        rows = b"date,period,price\r\n\r\n\"2024-07-01\",07,-0.5\r\n"
+        mark = b"\xef\xbb\xbf"
+        lines = [self.load("prices", mark * count + rows, f"{count}.csv") for count in range(3)]
+        self.assertEqual(self.replies(*lines), [APPLIED, APPLIED, "refused 12 BadHeader"])
+
+    def test_output_that_no_pipe_holds(self):
+        """Each of 5,000 lines is answered."""
+        self.file("h.csv", text_of("meters", []))
+        line = f"load 0 {OPERATOR} meters h.csv\n"
+        reply = b"applied=0 late=0\n"
+        self.assertGreater(len(reply) * 5000, 65_536)
+        self.assertEqual(self.run_script(line * 5000, cwd=self.room), (0, reply * 5000, b""))
+
+
+    def test_a_day_at_the_markets_size(self):
+        """400 parties, 2,000 units, and all that they are told of in a day: each row is applied."""
+        folder = self.room / "day"
+        subprocess.run([sys.executable, str(HOME / "bench" / "gen_day.py"), str(folder)], check=True)
+        files = [line.split() for line in (folder / "order").read_text().splitlines()]
+        lines = [f"load {EARLY} {OPERATOR} {kind} {folder}/{name}" for kind, name in files]
+        rows = [len((folder / name).read_bytes().splitlines()) - 1 for _, name in files]
+        self.assertGreater(sum(rows), 100_000)
+        self.assertEqual(self.replies(*lines), [f"applied={count} late=0" for count in rows])
+
+
+class Keys(Desk):
+    """The operator's key allows a load, and no other does."""
+
+    FORBIDDEN = "refused 60 Forbidden"
+
+    def test_a_partys_key(self):
+        again = self.load(*MARKET[0], name="f1.csv", key="genco0001")
+        self.assertEqual(self.after_market(again), [self.FORBIDDEN])
+
+    def test_keys_of_nobody(self):
+        lines = [self.load(*MARKET[0], key=key) for key in ("nobody01", "op-settle002", OPERATOR + "0")]
+        self.assertEqual(self.replies(*lines), [self.FORBIDDEN] * 3)
+
+    def test_nothing_is_loaded_by_them(self):
+        parties = self.load(*MARKET[0], name="f1.csv", key="genco0001")
+        units = self.load(*MARKET[1])
+        self.assertEqual(self.replies(parties, units), [self.FORBIDDEN, "refused 30 UnknownParty row 1"])
+
+    def test_before_the_size_and_the_name(self):
+        too_large = self.load("meters", b"x" * 1_048_577, "f4.csv", key="genco0001")
+        changed = self.load("parties", [], "f1.csv", key="genco0001")
+        self.assertEqual(self.after_market(too_large, changed), [self.FORBIDDEN] * 2)
+
+    def test_the_shortest_and_the_longest(self):
+        for key in ("op-" + "Settle01", "op-" + "0" * 61):
+            script = self.file("keys", self.load(*MARKET[0], key=key) + "\n")
+            self.assertEqual(settle("script", "--operator-key", key, script), (0, b"applied=2 late=0\n", b""))
+
+
+class Deadlines(Desk):
+    """A notification has to come before the second of its period's deadline."""
+
+    def contract(self, number, moment, date=DAY, period=1):
+        """A file of one contract, of another name and volume for each number."""
+        return self.load("contracts", f"C1,GENCO-P,SUPCO-C,{date},{period},{number}.000", f"c{number}.csv", moment)
+
+    def test_the_deadlines_second(self):
+        lines = [self.contract(98, DEADLINE - 1), self.contract(97, DEADLINE), self.contract(96, EARLY)]
+        self.assertEqual(self.after_market(*lines), [APPLIED, LATE, APPLIED])
+
+    def test_each_row_has_its_own_deadline(self):
+        """At the deadline of period 3 the rows of periods 1 to 3 are late."""
+        rows = [f"C1,GENCO-P,SUPCO-C,{DAY},{period},1.000" for period in range(1, 49)]
+        line = self.load("contracts", rows, moment=DEADLINE + 2 * 1800)
+        self.assertEqual(self.after_market(line), ["applied=45 late=3"])
+
+    def test_days_on_which_clocks_change(self):
+        """The last period of 46 and of 50 begins half an hour before the next midnight."""
+        for date, midnight, last in (("2024-03-31", 1_711_843_200, 46), ("2024-10-27", 1_729_983_600, 50)):
+            for period in (1, last):
+                deadline = midnight + 1800 * (period - 1) - 3600
+                lines = [self.contract(1, deadline - 1, date, period), self.contract(2, deadline, date, period)]
+                with self.subTest(f"{date} {period}"):
+                    self.assertEqual(self.after_market(*lines), [APPLIED, LATE])
+
+    def test_lead_minutes(self):
+        """None are 60; 0 puts the deadline on the start, and 1440 a day before it."""
+        for words, lead in (((), 60), (("60",), 60), (("0",), 0), (("1440",), 1440), (("0090",), 90)):
+            deadline = START - 60 * lead
+            options = [word for minutes in words for word in ("--lead-minutes", minutes)]
+            lines = [self.contract(1, deadline - 1), self.contract(2, deadline)]
+            with self.subTest(lead=lead):
+                self.assertEqual(self.after_market(*lines, options=options), [APPLIED, LATE])
+
+    def test_the_first_and_the_last_moment(self):
+        lines = [self.contract(1, -(2**63)), self.contract(2, 2**63 - 1), self.contract(3, -1)]
+        self.assertEqual(self.after_market(*lines), [APPLIED, LATE, APPLIED])
+
+    def test_readings_and_prices_are_never_late(self):
+        after = START + 400 * 86_400
+        lines = [
+            self.load("meters", f"G1,{DAY},1,101.000,0.9950000,0", moment=after),
+            self.load("prices", f"{DAY},1,51.00000", moment=after),
+        ]
+        self.assertEqual(self.after_market(*lines), [APPLIED, APPLIED])
+
+    def test_a_late_row_is_not_in_force(self):
+        """The 60 percent that come late leave room for 100."""
+        lines = [
+            self.load("reallocations", realloc("SUPCO-P", 60), "a", DEADLINE),
+            self.load("reallocations", realloc("SUPCO-C", 100), "b"),
+            self.load("reallocations", realloc("SUPCO-P", "0.00001"), "c"),
+        ]
+        self.assertEqual(self.after_market(*lines), [LATE, APPLIED, "refused 38 OverHundred row 1"])
+
+    def test_a_late_row_changes_none_in_force(self):
+        """10 percent are in force, and stay when 100 come late."""
+        lines = [
+            self.load("reallocations", realloc("SUPCO-P", 10), "a"),
+            self.load("reallocations", realloc("SUPCO-P", 100), "b", DEADLINE),
+            self.load("reallocations", realloc("SUPCO-C", 90), "c"),
+            self.load("reallocations", realloc("SUPCO-C", "90.00001"), "d"),
+        ]
+        self.assertEqual(self.after_market(*lines), [APPLIED, LATE, APPLIED, "refused 38 OverHundred row 1"])
+
+    def test_the_row_accepted_last_counts_whatever_its_moment(self):
+        """60 percent of the deadline's last second give way to 10 of a day before."""
+        lines = [
+            self.load("reallocations", realloc("SUPCO-P", 60), "a", DEADLINE - 1),
+            self.load("reallocations", realloc("SUPCO-P", 10), "b", EARLY),
+            self.load("reallocations", realloc("SUPCO-C", 90), "c", EARLY),
+            self.load("reallocations", realloc("SUPCO-C", "90.00001"), "d", EARLY),
+        ]
+        self.assertEqual(self.after_market(*lines), [APPLIED] * 3 + ["refused 38 OverHundred row 1"])
+
+    def test_a_late_row_fixes_its_reference(self):
+        lines = [
+            self.load("contracts", f"C9,GENCO-P,SUPCO-C,{DAY},1,1.000", "a", DEADLINE),
+            self.load("contracts", f"C9,SUPCO-C,GENCO-P,{DAY},1,1.000", "b"),
+            self.load("contracts", f"C9,GENCO-P,SUPCO-C,{DAY},1,1.000", "c"),
+        ]
+        self.assertEqual(self.after_market(*lines), [LATE, "refused 36 ReferenceMoved row 1", APPLIED])
+
+
+class Repeats(Desk):
+    """A file that has been accepted is known by its kind, its name and its bytes."""
+
+    def test_the_kept_reply(self):
+        rows = [f"C1,GENCO-P,SUPCO-C,{DAY},{period},98.000" for period in (1, 2)]
+        moments = DEADLINE, EARLY, START + 86_400, -1
+        lines = [self.load("contracts", rows, "c.csv", moment) for moment in moments]
+        self.assertEqual(self.after_market(*lines), ["applied=1 late=1"] * 4)
+
+    def test_one_byte_changed(self):
+        rows = f"C1,GENCO-P,SUPCO-C,{DAY},1,98.000"
+        data = text_of("contracts", [rows])
+        lines = [
+            self.load("contracts", data, "c.csv"),
+            self.load("contracts", data.replace(b"98.000", b"98.001"), "c.csv"),
+            self.load("contracts", data[:-1], "c.csv"),
+            self.load("contracts", b"\xff", "c.csv"),
+            self.load("contracts", data, "c.csv"),
+            self.load("contracts", data, "C.csv"),
+        ]
+        changed = "refused 20 FileChanged"
+        self.assertEqual(self.after_market(*lines), [APPLIED, changed, changed, changed, APPLIED, APPLIED])
+
+    def test_too_large_goes_before_changed(self):
+        line = self.load("prices", b"x" * 1_048_577, "f5.csv")
+        self.assertEqual(self.after_market(line), ["refused 10 FileTooLarge"])
+
+    def test_nothing_is_changed_by_them(self):
+        """60 percent give way to 50; the file with the 60 comes again; another 50 have room all the same."""
+        lines = [
+            self.load("reallocations", realloc("SUPCO-P", 60), "a"),
+            self.load("reallocations", realloc("SUPCO-P", 50), "b"),
+            self.load("reallocations", realloc("SUPCO-P", 60), "a"),
+            self.load("reallocations", realloc("SUPCO-C", 50), "c"),
+            self.load("reallocations", realloc("SUPCO-P", 60), "d"),
+        ]
+        self.assertEqual(self.after_market(*lines), [APPLIED] * 4 + ["refused 38 OverHundred row 1"])
+
+    def test_each_kind_has_its_own_names(self):
+        lines = [self.load(kind, [], "same.csv") for kind in HEADERS]
+        self.assertEqual(self.replies(*lines), ["applied=0 late=0"] * 6)
+
+    def test_a_refused_file_is_judged_anew(self):
+        units = self.load(*MARKET[1], name="u.csv")
+        lines = [units, self.load(*MARKET[0]), units, units]
+        wanted = ["refused 30 UnknownParty row 1", "applied=2 late=0", "applied=2 late=0", "applied=2 late=0"]
+        self.assertEqual(self.replies(*lines), wanted)
+
+
+class Rows(Desk):
+    """What a row is refused for, over the market."""
+
+    def refused(self, kind, rows, wanted):
+        with self.subTest(f"{kind} {rows}"):
+            self.assertEqual(self.after_market(self.load(kind, rows)), [wanted])
+
+    def test_parties(self):
+        self.refused("parties", "GENCO,2024-02-01,,genco0001", "refused 39 ShrinksRange row 1")
+        self.refused("parties", "GENCO,2024-01-01,2098-12-31,genco0001", "refused 39 ShrinksRange row 1")
+        self.refused("parties", "GENCO,2023-12-31,,genco0002", APPLIED)
+
+    def test_units(self):
+        self.refused("units", "U1,NEWCO,P,no,2024-01-01,", "refused 30 UnknownParty row 1")
+        self.refused("units", "U1,GENCO,P,no,2023-12-31,", "refused 33 NotEffective row 1")
+        self.refused("units", "G1,GENCO,P,no,2024-01-02,", "refused 39 ShrinksRange row 1")
+        for row in ("G1,SUPCO,P,no,2024-01-01,", "G1,GENCO,C,no,2024-01-01,", "G1,GENCO,P,yes,2024-01-01,"):
+            self.refused("units", row, "refused 40 UnitMoved row 1")
+        self.refused("units", "G1,GENCO,C,no,2024-01-02,", "refused 39 ShrinksRange row 1")
+
+    def test_readings(self):
+        self.refused("meters", f"U1,{DAY},49,1,1,0", "refused 31 UnknownUnit row 1")
+        self.refused("meters", "G1,2023-12-31,49,1,1,0", "refused 33 NotEffective row 1")
+        self.refused("meters", f"G1,{DAY},49,1,1,0", "refused 34 NoSuchPeriod row 1")
+
+    def test_periods_of_days_on_which_clocks_change(self):
+        self.refused("prices", "2024-03-31,46,1", APPLIED)
+        self.refused("prices", "2024-03-31,47,1", "refused 34 NoSuchPeriod row 1")
+        self.refused("prices", "2024-10-27,50,1", APPLIED)
+        self.refused("prices", "2024-10-27,51,1", "refused 14 BadField row 1 column 2")
+
+    def test_contracts(self):
+        self.refused("contracts", f"C9,NEWCO-P,SUPCO-C,{DAY},1,1", "refused 30 UnknownParty row 1")
+        self.refused("contracts", f"C9,GENCO-P,NEWCO-C,{DAY},1,1", "refused 30 UnknownParty row 1")
+        self.refused("contracts", "C9,GENCO-P,SUPCO-C,2023-12-31,1,1", "refused 33 NotEffective row 1")
+        self.refused("contracts", f"C9,GENCO-P,GENCO-P,{DAY},49,1", "refused 34 NoSuchPeriod row 1")
+        self.refused("contracts", f"C1,GENCO-P,GENCO-P,{DAY},1,1", "refused 35 SameAccount row 1")
+        self.refused("contracts", f"C1,GENCO-P,SUPCO-P,{DAY},1,1", "refused 36 ReferenceMoved row 1")
+        self.refused("contracts", f"C9,GENCO-P,GENCO-C,{DAY},1,1", APPLIED)
+
+    def test_reallocations(self):
+        self.refused("reallocations", f"U1,NEWCO-P,{DAY},1,1,0", "refused 30 UnknownParty row 1")
+        self.refused("reallocations", f"U1,SUPCO-P,{DAY},1,1,0", "refused 31 UnknownUnit row 1")
+        self.refused("reallocations", "G1,SUPCO-P,2023-12-31,1,1,0", "refused 33 NotEffective row 1")
+        self.refused("reallocations", f"G1,GENCO-P,{DAY},49,1,0", "refused 34 NoSuchPeriod row 1")
+        self.refused("reallocations", f"G1,GENCO-P,{DAY},1,1,0", "refused 37 OwnLead row 1")
+        self.refused("reallocations", f"G1,GENCO-C,{DAY},1,100.00000,0", APPLIED)
+
+    def test_a_hundred_percent(self):
+        lines = [
+            self.load("reallocations", [realloc("SUPCO-P", 60), realloc("SUPCO-C", 40)], "a"),
+            self.load("reallocations", realloc("SUPCO-C", "40.00001"), "b"),
+            self.load("reallocations", realloc("SUPCO-C", 40), "c"),
+        ]
+        self.assertEqual(self.after_market(*lines), ["applied=2 late=0", "refused 38 OverHundred row 1", APPLIED])
+        rows = [realloc("SUPCO-P", 60), realloc("SUPCO-C", "40.00001")]
+        self.refused("reallocations", rows, "refused 38 OverHundred row 2")
+
+    def test_four_hundred_parties(self):
+        """Two are registered, so that 398 have room; who is known is taken all the same."""
+        rows = [f"P{number},2024-01-01,,party{number:03}" for number in range(399)]
+        self.refused("parties", rows, "refused 42 TooMany row 399")
+        self.refused("parties", [*rows[:398], "GENCO,2023-01-01,,genco0001"], "applied=399 late=0")
+
+    def test_two_thousand_units(self):
+        rows = [f"U{number},GENCO,P,no,2024-01-01," for number in range(1999)]
+        self.refused("units", rows, "refused 42 TooMany row 1999")
+        self.refused("units", rows[:1998], "applied=1998 late=0")
+
+
+class Whole(Desk):
+    """A file is applied whole or not at all."""
+
+    def test_a_bad_third_row(self):
+        """After it the file's name is free, and so are the references of the rows before it: C2 is taken
+        with seller and buyer exchanged. Once that is accepted neither is free."""
+        bad = [
+            f"C2,GENCO-P,SUPCO-C,{DAY},1,1.000",
+            f"C3,GENCO-P,SUPCO-C,{DAY},1,1.000",
+            f"C4,GENCO-P,GENCO-P,{DAY},1,1.000",
+        ]
+        exchanged = [f"C2,SUPCO-C,GENCO-P,{DAY},1,1.000", f"C3,SUPCO-C,GENCO-P,{DAY},1,1.000"]
+        lines = [
+            self.load("contracts", bad, "c.csv"),
+            self.load("contracts", exchanged, "c.csv"),
+            self.load("contracts", bad[0], "d.csv"),
+            self.load("contracts", bad[:2], "c.csv"),
+        ]
+        wanted = [
+            "refused 35 SameAccount row 3",
+            "applied=2 late=0",
+            "refused 36 ReferenceMoved row 1",
+            "refused 20 FileChanged",
+        ]
+        self.assertEqual(self.after_market(*lines), wanted)
+
+    def test_no_party_of_a_refused_file_is_registered(self):
+        lines = [
+            self.load("parties", ["NEWCO,2024-01-01,,newco0001", "GENCO,2024-02-01,,genco0001"], "a"),
+            self.load("units", "N1,NEWCO,P,no,2024-01-01,", "b"),
+        ]
+        self.assertEqual(self.after_market(*lines), ["refused 39 ShrinksRange row 2", "refused 30 UnknownParty row 1"])
+
+    def test_no_percentage_of_a_refused_file_is_in_force(self):
+        lines = [
+            self.load("reallocations", [realloc("SUPCO-P", 60), realloc("SUPCO-C", 41)], "a"),
+            self.load("reallocations", realloc("SUPCO-C", 100), "b"),
+        ]
+        self.assertEqual(self.after_market(*lines), ["refused 38 OverHundred row 2", APPLIED])
+
+    def test_rows_see_the_rows_before_them(self):
+        rows = [f"C2,GENCO-P,SUPCO-C,{DAY},1,1.000", f"C2,SUPCO-C,GENCO-P,{DAY},2,1.000"]
+        self.assertEqual(self.after_market(self.load("contracts", rows)), ["refused 36 ReferenceMoved row 2"])
+
+    def test_texts_are_read_before_rows_are_judged(self):
+        rows = [f"C2,GENCO-P,GENCO-P,{DAY},1,1.000", f"C3,GENCO-P,SUPCO-C,{DAY},1,1.0000"]
+        self.assertEqual(self.after_market(self.load("contracts", rows)), ["refused 14 BadField row 2 column 6"])
+
+
+class Texts(Desk):
+    """Files whose texts are wrong, or as large as they may be."""
+
+    TOO_LARGE = "refused 10 FileTooLarge"
+
+    def test_a_header_alone_and_no_bytes(self):
+        lines = [self.load("meters", [], "a"), self.load("meters", b"", "b"), self.load("meters", b"\n\n", "c")]
+        self.assertEqual(self.replies(*lines), ["applied=0 late=0", "refused 12 BadHeader", "refused 12 BadHeader"])
+
+    def test_a_header_of_another_kind(self):
+        self.assertEqual(self.replies(self.load("units", text_of("parties", []))), ["refused 12 BadHeader"])
+
+    def test_the_most_rows(self):
+        rows = [f"G1,{DAY},1,0,1,0"] * 20_001
+        lines = [self.load("meters", rows, "a"), self.load("meters", rows[1:], "b")]
+        self.assertEqual(self.after_market(*lines), ["refused 11 TooManyRows", "applied=20000 late=0"])
+
+    def test_the_greatest_volume(self):
+        volumes = "10000.000", "-10000.000", "10000.001", "-10000.001"
+        lines = [self.load("contracts", f"C5,GENCO-P,SUPCO-C,{DAY},1,{mwh}", f"c{mwh}") for mwh in volumes]
+        bad = "refused 14 BadField row 1 column 6"
+        self.assertEqual(self.after_market(*lines), [APPLIED, APPLIED, bad, bad])
+
+    def test_records_and_fields(self):
+        """A record with a field too few or too many, and the first field that is wrong."""
+        for rows, wanted in (
+            (["2024-07-01,1,1", "2024-07-01,2"], "refused 13 BadRecord row 2"),
+            (["2024-07-01,1,50,5"], "refused 13 BadRecord row 1"),
+            (["2024-07-1,0,x"], "refused 14 BadField row 1 column 1"),
+            (["2024-07-01,0,x"], "refused 14 BadField row 1 column 2"),
+            (["2024-07-01,1,+1"], "refused 14 BadField row 1 column 3"),
+            (["2024-07-01,1,100000"], "refused 14 BadField row 1 column 3"),
+        ):
+            with self.subTest(rows):
+                self.assertEqual(self.replies(self.load("prices", rows)), [wanted])
+        ends_early = "NEWCO,2024-02-01,2024-01-31,newco0001"
+        self.assertEqual(self.replies(self.load("parties", ends_early)), ["refused 14 BadField row 1 column 3"])
+
+    def test_the_greatest_file(self):
+        """1,048,576 bytes are read, and one more is refused."""
+        header = text_of("meters", [])
+        whole = header + b"\n" * (1_048_576 - len(header))
+        lines = [self.load("meters", whole + b"\n", "a"), self.load("meters", whole, "a")]
+        self.assertEqual(self.replies(*lines), [self.TOO_LARGE, "applied=0 late=0"])
+
+    def test_a_file_without_end(self):
+        line = f"load {EARLY} {OPERATOR} meters /dev/zero"
+        self.assertEqual(self.replies(line, *self.market()), [self.TOO_LARGE, *LOADED])
+
+    def test_a_megabyte_in_one_field(self):
+        header = text_of("meters", [])
+        rest = f",{DAY},1,1,1,0\n".encode()
+        long = b"A" * (1_048_576 - len(header) - len(rest))
+        for data, wanted in (
+            (header + long + rest, "refused 14 BadField row 1 column 1"),
+            (long, "refused 12 BadHeader"),
+            (header + b'"' + long + b",\n" * 7, "refused 13 BadRecord row 1"),
+        ):
+            self.assertEqual(self.after_market(self.load("meters", data)), [wanted])
+
+    def test_bytes_that_are_no_text(self):
+        header = text_of("meters", [])
+        rest = f",{DAY},1,1,1,0\n".encode()
+        every = bytes(range(256))
+        for data, wanted in (
+            (every * 40, "refused 12 BadHeader"),
+            (b"\xff" + header, "refused 12 BadHeader"),
+            (header.replace(b"unit", b"un\0t"), "refused 12 BadHeader"),
+            (header + b"G1\xff" + rest, "refused 14 BadField row 1 column 1"),
+            (header + b"G1\0" + rest, "refused 14 BadField row 1 column 1"),
+            (header + b"\0", "refused 13 BadRecord row 1"),
+            (header.decode().encode("utf-16"), "refused 12 BadHeader"),
+        ):
+            with self.subTest(data[:60]):
+                self.assertEqual(self.after_market(self.load("meters", data)), [wanted])
+
+
+class Files(Desk):
+    """What the paths of a script lead to. One that can't be read is told, and the script goes on."""
+
+    def line(self, path, kind="parties"):
+        return f"load {EARLY} {OPERATOR} {kind} {path}"
+
+    def test_files_that_cannot_be_read(self):
+        missing, link = str(self.room / "missing.csv"), str(self.room / "link.csv")
+        os.symlink("nowhere.csv", link)
+        through = self.file("f", b"") + "/x.csv"
+        lines = [self.line(path) for path in (missing, link, through, self.room)]
+        self.assertEqual(self.replies(*lines, *self.market()), ["fault file"] * 4 + LOADED)
+
+    def test_an_accepted_file_that_is_gone(self):
+        """A repeat is a repeat by its bytes, so that without them there is none."""
+        before = self.load(*MARKET[0], name="f1.csv")
+        lines = [before, self.line(self.room / "f1.csv")]
+        self.assertEqual(self.replies(*lines), ["applied=2 late=0", "fault file"])
+
+    def test_files_of_others(self):
+        """Root may read every file, so it calls a copy of the program as nobody."""
+        nobody = as_nobody()
+        if nobody is None:
+            self.skipTest("root may read every file, and setpriv doesn't give up its rights here")
+        os.chmod(self.room, 0o755)
+        program = shutil.copy(SETTLE, self.room / "settle")
+        os.chmod(program, 0o755)
+        closed = self.file("f1.csv", text_of(*MARKET[0]))
+        script = self.file("script", self.line(closed) + "\n")
+        for modes, ended in (
+            ((0o644, 0o644), (0, b"applied=2 late=0\n", b"")),
+            ((0o644, 0), (0, b"fault file\n", b"")),
+            ((0, 0o644), (1, b"", b"fault file\n")),
+        ):
+            for path, mode in zip((script, closed), modes):
+                os.chmod(path, mode)
+            made = subprocess.run([*nobody, program, "script", "--operator-key", OPERATOR, script], capture_output=True)
+            self.assertEqual((made.returncode, made.stdout, made.stderr), ended)
+
+    def test_a_pipe_with_a_name(self):
+        """What another program writes into it, in pieces, is the file."""
+        pipe = self.room / "f4.csv"
+        os.mkfifo(pipe)
+        data = self.file("data", text_of(*MARKET[3]))
+        writes = 'exec >"$1"; head -c 1000 "$0"; sleep 0.2; tail -c +1001 "$0"'
+        writer = subprocess.Popen(["sh", "-c", writes, data, str(pipe)])
+        self.addCleanup(writer.wait)
+        self.addCleanup(writer.kill)
+        lines = [*self.market()[:3], self.line(pipe, "meters"), self.load(*MARKET[3], name="f4.csv")]
+        self.assertEqual(self.replies(*lines, timeout=60), [*LOADED[:4], LOADED[3]])
+
+    def test_the_script_cannot_be_read(self):
+        for path in (self.room / "missing", self.room):
+            made = settle("script", "--operator-key", OPERATOR, str(path))
+            self.assertEqual(made, (1, b"", b"fault file\n"))
+
+
+class OffTheirForm(Desk):
+    """A script with a line that is off its form is not run at all."""
+
+    def test_lines(self):
+        path = self.path("f1.csv", text_of(*MARKET[0]))
+        for line in (
+            "",
+            " ",
+            "load",
+            f"{EARLY} {OPERATOR} parties {path}",
+            f"LOAD {EARLY} {OPERATOR} parties {path}",
+            f"stop {EARLY} {OPERATOR} parties {path}",
+            f"load {EARLY} {OPERATOR} parties",
+            f"load {EARLY} {OPERATOR} parties {path} {path}",
+            f"load {EARLY} {OPERATOR} parties {path} ",
+            f" load {EARLY} {OPERATOR} parties {path}",
+            f"load {EARLY}  {OPERATOR} parties {path}",
+            f"load\t{EARLY} {OPERATOR} parties {path}",
+            f"load {EARLY} {OPERATOR} parties {path}\r",
+            f"load {EARLY}.0 {OPERATOR} parties {path}",
+            f"load +{EARLY} {OPERATOR} parties {path}",
+            f"load x {OPERATOR} parties {path}",
+            f"load {2**63} {OPERATOR} parties {path}",
+            f"load {-(2**63) - 1} {OPERATOR} parties {path}",
+            f"load {EARLY} op-short parties {path}",
+            f"load {EARLY} op-{'k' * 62} parties {path}",
+            f"load {EARLY} genco01 parties {path}",
+            f"load {EARLY} {'k' * 65} parties {path}",
+            f"load {EARLY} genco_0001 parties {path}",
+            f"load {EARLY} {OPERATOR} party {path}",
+            f"load {EARLY} {OPERATOR} Parties {path}",
+            f"load {EARLY} {OPERATOR} parties {self.room}/",
+            f"load {EARLY} {OPERATOR} parties {self.room}/a,b.csv",
+            f"load {EARLY} {OPERATOR} parties {self.room}/ä.csv",
+            f"load {EARLY} {OPERATOR} parties {self.room}/{'n' * 65}",
+        ):
+            with self.subTest(line):
+                good = self.load(*MARKET[0])
+                self.is_wrong(self.run_script(f"{good}\n{line}\n{good}\n"), line=2)
+
+    def test_a_path_that_is_no_text(self):
+        line = f"load {EARLY} {OPERATOR} parties ".encode() + b"\xff/f1.csv\n"
+        self.is_wrong(self.run_script(line), line=1)
+
+    def test_the_first_such_line_is_told(self):
+        good = self.load(*MARKET[0])
+        self.is_wrong(self.run_script(f"{good}\n" * 16 + "x\n" * 30), line=17)
+
+    def test_scripts_that_are_none(self):
+        for data in (b"\n", b"\0", bytes(range(256)), text_of(*MARKET[0])):
+            with self.subTest(data[:20]):
+                self.is_wrong(self.run_script(data), line=1)
+
+    def test_a_name_of_64_letters(self):
+        self.assertEqual(self.replies(self.load(*MARKET[0], name="n" * 64)), ["applied=2 late=0"])
+
+
+class WrongWords(Desk):
+    """Words that form no command: nothing is run, and the script is not even looked for."""
+
+    def test_operator_keys(self):
+        script = self.file("script", self.load(*MARKET[0]) + "\n")
+        for key in ("", "genco0001", "op-short01", "op-" + "k" * 62, "OP-settle001", "op-settle_01", "op-settle001 "):
+            for path in (script, str(self.room / "missing")):
+                with self.subTest(f"{key} {path}"):
+                    self.is_wrong(settle("script", "--operator-key", key, path))
+
+    def test_lead_minutes(self):
+        script = self.load(*MARKET[0]) + "\n"
+        for minutes in ("1441", "-1", "+5", "60.0", "", "x", "18446744073709551617"):
+            with self.subTest(minutes):
+                self.is_wrong(self.run_script(script, "--lead-minutes", minutes))
+
+    def test_words(self):
+        script = self.file("script", self.load(*MARKET[0]) + "\n")
+        key = ("--operator-key", OPERATOR)
+        for words in (
+            (),
+            (script,),
+            key,
+            ("--operator-key", script),
+            (*key, script, script),
+            (*key, "--lead-minutes", script),
+            (*key, "--key", "genco0001", script),
+            (*key, script, "--help"),
+        ):
+            with self.subTest(words):
+                self.is_wrong(settle("script", *words))
+
+    def test_a_path_that_is_no_text(self):
+        self.is_wrong(settle(b"script", b"--operator-key", OPERATOR.encode(), b"\xff.script"))
+
+
+class Streams(Desk):
+    """What is told where standard output takes nothing, or standard error does."""
+
+    def by_shell(self, streams, text):
+        words = [SETTLE, "script", "--operator-key", OPERATOR, self.file("script", text)]
+        made = subprocess.run(["sh", "-c", f'"$@" {streams}', "sh", *words], capture_output=True)
+        return made.returncode, made.stdout, made.stderr
+
+    def test_a_full_device(self):
+        for text in (self.load(*MARKET[0]), f"load 0 {OPERATOR} units /nowhere"):
+            self.assertEqual(self.by_shell(">/dev/full", text), (1, b"", b"fault output\n"))
+
+    def test_a_full_device_that_is_not_written_to(self):
+        self.assertEqual(self.by_shell(">/dev/full", ""), (0, b"", b""))
+        status, written, told = self.by_shell(">/dev/full", "x")
+        self.assertEqual((status, written), (2, b""))
+        self.assertNotEqual(told, b"fault output\n")
+
+    def test_a_full_device_for_errors(self):
+        good = self.load(*MARKET[0])
+        self.assertEqual(self.by_shell("2>/dev/full", good), (0, b"applied=2 late=0\n", b""))
+        self.assertEqual(self.by_shell("2>/dev/full", "x"), (2, b"", b""))
+
+    def test_a_pipe_that_nobody_reads(self):
+        script = self.file("script", self.load(*MARKET[0]))
+        reads, writes = os.pipe()
+        os.close(reads)
+        words = [SETTLE, "script", "--operator-key", OPERATOR, script]
+        made = subprocess.run(words, stdout=writes, stderr=subprocess.PIPE)
+        os.close(writes)
+        self.assertEqual((made.returncode, made.stderr), (1, b"fault output\n"))
+
+    def test_files_are_left_as_they_were(self):
+        """Without standard streams the files get their descriptors, and nothing is written to them."""
+        data = text_of(*MARKET[0])
+        path = self.path("f1.csv", data)
+        self.by_shell("<&- >&- 2>&-", f"load 0 {OPERATOR} parties {path}\nload 0 {OPERATOR} units {path}\n")
+        self.assertEqual(pathlib.Path(path).read_bytes(), data)
+
+
+class ExampleMarket(Desk):
+    """`examples/market`: the replies follow from the rows of its files and the deadlines."""
+
+    KEY = "op-market001"
+    FOLDER = "examples/market/"
+
+    def expected(self, moment, kind, name, lead):
+        """The reply to a file that is accepted when it comes at this moment."""
+        with open(HOME / self.FOLDER / name, newline="", encoding="utf-8") as opened:
+            rows = list(csv.DictReader(opened))
+        deadlines = []
+        if kind in ("contracts", "reallocations"):
+            deadlines = [START + 1800 * (int(row["period"]) - 1) - 60 * lead for row in rows]
+        late = sum(moment >= deadline for deadline in deadlines)
+        return f"applied={len(rows) - late} late={late}"
+
+    def replies_to(self, script, lead):
+        """The lines of a script of the market, and what is printed for them, side by side."""
+        path = self.FOLDER + script
+        lines = (HOME / path).read_text(encoding="utf-8").splitlines()
+        words = "script", "--operator-key", self.KEY, "--lead-minutes", str(lead), path
+        status, written, told = settle(*words, cwd=HOME)
+        self.assertEqual((status, told), (0, b""))
+        return list(zip(lines, written.decode().splitlines(), strict=True))
+
+    def check(self, script, lead, others):
+        """Each line is answered by what its file comes to, but for those that `others` answers, by line."""
+        first = {}
+        for number, (line, reply) in enumerate(self.replies_to(script, lead), 1):
+            _, moment, _, kind, path = line.split(" ")
+            name = path.removeprefix(self.FOLDER)
+            with self.subTest(f"{script} {lead}: line {number}"):
+                if number in others:
+                    self.assertEqual(reply, others[number])
+                    continue
+                # (a file that was accepted keeps the moment at which it was)
+                came = first.setdefault((kind, path), int(moment))
+                self.assertEqual(reply, self.expected(came, kind, name, lead))
+
+    def test_the_plain_day(self):
+        for lead in (0, 60):
+            self.check("plain.script", lead, {})
+
+    def test_the_day(self):
+        """A changed file, a seller who buys, 110 percent, a price of seven decimals, a party's key and
+        no file: one after the other. With a lead of a day the 110 percent come late."""
+        others = {
+            8: "refused 20 FileChanged",
+            9: "refused 35 SameAccount row 3",
+            11: "refused 38 OverHundred row 1",
+            13: "refused 14 BadField row 2 column 3",
+            14: "refused 60 Forbidden",
+            17: "fault file",
+        }
+        for lead in (0, 60):
+            self.check("day.script", lead, others)
+        self.check("day.script", 1440, {line: reply for line, reply in others.items() if line != 11})
+
+    def test_the_wrong_order(self):
+        unknown = "refused 30 UnknownParty row 1"
+        self.check("order.script", 60, {1: unknown, 2: unknown, 4: "refused 31 UnknownUnit row 1"})
+
+
+if __name__ == "__main__":
+    unittest.main()
