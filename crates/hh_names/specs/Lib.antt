@@ -1,5 +1,6 @@
 pub mod Accounts
 pub mod CounterpartyRule
+pub mod FaultText
 pub mod Faults
 pub mod Fields
 pub mod Words

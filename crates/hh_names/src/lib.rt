@@ -4,6 +4,7 @@
 mod account;
 mod bytes;
 mod fault;
+mod fault_text;
 mod operator_key;
 mod period_number;
 mod values;

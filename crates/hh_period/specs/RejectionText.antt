@@ -1,7 +1,6 @@
 -- The text that tells a rejection.
-use Rattle.std.specs.Prelude.{ℕ, List, [], ◌++◌, Option, Some, None, codes, decimal}
-use Rattle.hh_names.specs.declared.fault.Fault.{Fault}
-use Rattle.hh_names.specs.Faults.{refusal_number, refusal_name}
+use Rattle.std.specs.Prelude.{ℕ, List, [], ◌++◌, Option, Some, None, codes}
+use Rattle.hh_names.specs.FaultText.{fault_text}
 use Rattle.hh_period.specs.declared.rejection.Input.{Input}
 use Rattle.hh_period.specs.declared.rejection.Input.TheVariants.{Meter, Contracts, Price}
 use Rattle.hh_period.specs.declared.rejection.Rejection.{Rejection}
@@ -12,30 +11,11 @@ input_word Meter = codes "meter"
 input_word Contracts = codes "contracts"
 input_word Price = codes "price"
 
--- a number that a refusal may have, behind its word
-abbrev pub number_place : List ℕ → Option ℕ → List ℕ
-number_place word None = []
-number_place word (Some number) = word ++ decimal number
-
--- the unit that a refusal may have
-abbrev pub unit_place : Option (List ℕ) → List ℕ
-unit_place None = []
-unit_place (Some unit) = codes " unit " ++ unit
-
 -- the ending that names an input
 abbrev pub input_ending : Option Input → List ℕ
 input_ending None = []
 input_ending (Some input) = codes " in " ++ input_word input
 
--- `refused <number> <name>`
-abbrev pub refusal_head : Fault → List ℕ
-refusal_head fault = codes "refused " ++ decimal (refusal_number fault.refusal) ++ codes " " ++ refusal_name fault.refusal
-
--- the row, the column, the unit and the period, where the fault has them
-abbrev pub refusal_places : Fault → List ℕ
-refusal_places fault = number_place (codes " row ") fault.row ++ number_place (codes " column ") fault.column
-    ++ unit_place fault.unit ++ number_place (codes " period ") fault.period
-
--- the refusal, its places and its input
+-- the refusal and its input
 abbrev pub rejection_text : Rejection → List ℕ
-rejection_text e = refusal_head e.fault ++ refusal_places e.fault ++ input_ending e.input
+rejection_text e = fault_text e.fault ++ input_ending e.input

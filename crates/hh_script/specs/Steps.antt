@@ -1,5 +1,5 @@
 -- The steps of a script: what its lines ask for by their words.
-use Rattle.std.specs.Prelude.{ℕ, ℤ, ◌==◌, List, [], ◌∷◌, Option, Some, None, option_map, codes, bytes_eq, if◌then◌else◌}
+use Rattle.std.specs.Prelude.{◌≡◌, ℕ, ℤ, ◌==◌, List, [], ◌∷◌, Option, Some, None, option_map, codes, bytes_eq, if◌then◌else◌}
 use Rattle.std.specs.List.{after_last, slice_split}
 use Rattle.std.specs.Str.{is_utf8}
 use Rattle.hh_num.specs.Fixed.{fixed_value, fits_i64, kept_if}
@@ -46,6 +46,10 @@ pub record LoadStep : Type 0 where
 -- a step of a script
 pub data Step : Type 0 where
   LoadFile : LoadStep → Step
+
+-- a step names its file as the register can
+abbrev pub IsNamed : Step → Type 0
+IsNamed (LoadFile load) = word_value is_file_name_byte 1 64 load.name ≡ Some load.name
 
 -- the load that a line says
 abbrev pub load_of : LoadLine → LoadStep

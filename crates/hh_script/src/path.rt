@@ -1,8 +1,9 @@
 //! Paths, and the names of what lies there.
 
-ghost use Rattle.std.specs.Prelude.{◌≡◌, ◌==◌};
+ghost use Rattle.std.specs.Prelude.{◌≡◌, ◌==◌, IfSome, Some};
 ghost use Rattle.std.specs.List.{after_last};
 ghost use Rattle.std.specs.Option.{option_copied};
+ghost use Rattle.hh_names.specs.Words.{is_file_name_byte, word_value};
 ghost use Rattle.hh_script.specs.Steps.{path_name, path_value};
 
 use hh_names::FileName;
@@ -20,7 +21,9 @@ pub(crate) fn read_path(word: &[u8]) -> Option<&str>
 /// The name of what lies at a path, if what follows the last `/` is one.
 #[tactic(auto, unfolding(crate::specs::Steps::path_name))]
 pub(crate) fn read_path_name(path: &[u8]) -> Option<&[u8]>
-    ensures { option_copied result ≡ path_name path.now }
+    ensures name { option_copied result ≡ path_name path.now }
+    ensures named { IfSome result (λ name.
+        word_value is_file_name_byte 1 64 name.now ≡ Some name.now) }
 {
     let name = behind_last(path, b'/');
     if FileName::read(name).is_some() {

@@ -1,7 +1,7 @@
 //! The lines of a script, of which there are several kinds.
 
-ghost use Rattle.std.specs.Prelude.{◌≡◌, option_map};
-ghost use Rattle.hh_script.specs.Steps.{step_of, step_value};
+ghost use Rattle.std.specs.Prelude.{◌≡◌, option_map, IfSome};
+ghost use Rattle.hh_script.specs.Steps.{IsNamed, LoadFile, load_of, step_of, step_value};
 
 use crate::load::LoadLine;
 use crate::words::split_word;
@@ -16,12 +16,22 @@ impl<'a> ScriptLine<'a> {
     /// What a line asks for, if it has a form: its first word says which.
     #[tactic(auto, unfolding(crate::specs::Steps::step_value))]
     pub(crate) fn read(line: &'a [u8]) -> Option<ScriptLine<'a>>
-        ensures { option_map step_of result ≡ step_value line.entry.now }
+        ensures value { option_map step_of result ≡ step_value line.entry.now }
+        ensures named { IfSome result (λ line. IsNamed (step_of line)) }
     {
         let (command, words) = split_word(line)?;
         if command == b"load".as_slice() {
             return LoadLine::read(words).map(ScriptLine::Load);
         }
         None
+    }
+
+    /// The load that the line asks for.
+    pub fn load(&self) -> LoadLine<'a>
+        ensures { step_of self.now ≡ LoadFile (load_of result) }
+    {
+        match self {
+            ScriptLine::Load(load) => *load,
+        }
     }
 }

@@ -9,4 +9,4 @@ returns-clause-lines c =
 pub loop-rest-preserved : goal.loop-rest-preserved
 loop-rest-preserved c =
     read_more c.args.bytes.now c.loop-rest.rest.now c.loop-rest.lines.items c.loop-rest.invariant c.split_line.result.0.now c.split_line.result.1.now c.in-Some.line c.push.new.self.items
-    c.split_line.ensures.lines c.in-Some.ensures c.in_ok-push-in-Some.ensures.items
+    c.split_line.ensures.lines c.in-Some.ensures.value c.in-Some.ensures.named c.in_ok-push-in-Some.ensures.items
