@@ -1,3 +1,4 @@
+pub mod HandleLaws
 pub mod ListLaws
 pub mod OnceLaws
 pub mod StepLaws

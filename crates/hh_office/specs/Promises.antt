@@ -1,5 +1,5 @@
 -- What the office promises of a request and of lists of requests.
-use Rattle.std.specs.Prelude.{◌≡◌, ◌⊎◌, ℤ, List, map, filter, zip, length, Bool, true, false, not, Result, Ok, Err, IsTrue, IsFalse, MatchBool}
+use Rattle.std.specs.Prelude.{◌≡◌, ◌⊎◌, ℤ, List, map, filter, zip, length, Bool, true, false, not, Result, Ok, Err, IsTrue, IsFalse, MatchBool, if◌then◌else◌}
 use Rattle.hh_time.specs.Days.{Midnights}
 use Rattle.hh_names.specs.declared.fault.Fault.{Fault}
 use Rattle.hh_names.specs.declared.fault.Refusal.{Refusal}
@@ -47,6 +47,20 @@ abbrev pub HandleStep : OfficeView → OfficeView → ℤ → Request → Reply 
 HandleStep old new moment request given =
     (s : State) → Stands old s → ComesTo old new given (step (midnight_of old) s moment request)
 
+-- the office stands after a request for the machine's state after it, or for the same state where the request was given up
+abbrev pub StandsAfter : OfficeView → OfficeView → ℤ → Request → Reply → Type 0
+StandsAfter old new moment request given =
+    (s : State) → Stands old s → Stands new (if is_given_up given then s else next (midnight_of old) s moment request)
+
+-- a reply that refuses
+abbrev pub is_refused : Reply → Bool
+is_refused (reply.Refused fault) = true
+is_refused _ = false
+
+-- a refusal changes nothing in an office that stands for some state
+abbrev pub RefusalLeaves : OfficeView → OfficeView → Reply → Type 0
+RefusalLeaves old new given = (s : State) → Stands old s → IsTrue (is_refused given) → new ≡ old
+
 -- ---- lists of requests
 
 -- the requests that were not given up, each with its reply
@@ -65,11 +79,6 @@ abbrev pub RunAllStep : OfficeView → OfficeView → List Timed → List Reply 
 RunAllStep old new requests replies = (s : State) → Stands old s → RunsAs old new s requests replies
 
 -- ---- repeats
-
--- a reply that refuses
-abbrev pub is_refused : Reply → Bool
-is_refused (reply.Refused fault) = true
-is_refused _ = false
 
 -- whether a file is sent
 abbrev pub is_load : Action → Bool

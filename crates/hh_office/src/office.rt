@@ -2,7 +2,7 @@
 
 ghost use Rattle.std.specs.Prelude.{◌≡◌, IfOk, OnErr};
 ghost use Rattle.hh_office.specs.Machine.{contracts, step};
-ghost use Rattle.hh_office.specs.Promises.{Does, HandleStep, RepeatsOnce, RunAllStep};
+ghost use Rattle.hh_office.specs.Promises.{Does, HandleStep, RefusalLeaves, RepeatsOnce, RunAllStep, StandsAfter};
 
 use crate::reply::{ContractsReply, Reply};
 use crate::request::{Action, Request};
@@ -47,6 +47,8 @@ impl<'z, T: Tables> Office<'z, T> {
     /// memory is refused, and 91, where the store refuses, may stand in the place of any reply.
     pub fn handle(&mut self, moment: i64, request: &Request) -> Reply
         ensures step { HandleStep self.old self.new moment request.now result }
+        ensures stands { StandsAfter self.old self.new moment request.now result }
+        ensures untouched { RefusalLeaves self.old self.new result }
         ensures once { RepeatsOnce self.old self.new request.now result }
     {
         match self.act(moment, request) {

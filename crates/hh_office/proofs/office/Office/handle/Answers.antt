@@ -3,6 +3,7 @@ use Rattle.hh_office.specs.declared.reply.Reply.TheVariants as reply
 use Rattle.std.proofs.lemmas.Int.{to_z-of_z}
 use Rattle.hh_office.specs.Machine.{step}
 use Rattle.hh_office.specs.Promises.{Does}
+use Rattle.hh_office.proofs.HandleLaws.{refusal_leaves, stands_after}
 use Rattle.hh_office.proofs.OnceLaws.{repeats}
 use Rattle.hh_office.proofs.office.Office.handle.Goals as goal
 
@@ -23,3 +24,19 @@ returns-in-Err-clause-step g c =
 pub returns-in-Err-clause-once : goal.returns-in-Err-clause-once
 returns-in-Err-clause-once g c =
     repeats c.args.self.now c.act.new.self c.args.moment c.args.request.now (reply.Refused c.in-Err.fault) (returns-in-Err-clause-step g c)
+
+pub returns-in-Ok-clause-stands : goal.returns-in-Ok-clause-stands
+returns-in-Ok-clause-stands g c =
+    stands_after c.args.self.now c.act.new.self c.args.moment c.args.request.now c.in-Ok.reply (returns-in-Ok-clause-step g c)
+
+pub returns-in-Ok-clause-untouched : goal.returns-in-Ok-clause-untouched
+returns-in-Ok-clause-untouched g c =
+    refusal_leaves c.args.self.now c.act.new.self c.args.moment c.args.request.now c.in-Ok.reply (returns-in-Ok-clause-step g c)
+
+pub returns-in-Err-clause-stands : goal.returns-in-Err-clause-stands
+returns-in-Err-clause-stands g c =
+    stands_after c.args.self.now c.act.new.self c.args.moment c.args.request.now (reply.Refused c.in-Err.fault) (returns-in-Err-clause-step g c)
+
+pub returns-in-Err-clause-untouched : goal.returns-in-Err-clause-untouched
+returns-in-Err-clause-untouched g c =
+    refusal_leaves c.args.self.now c.act.new.self c.args.moment c.args.request.now (reply.Refused c.in-Err.fault) (returns-in-Err-clause-step g c)

@@ -1,0 +1,93 @@
+-- What becomes of an office, and what is written, while the lines of a script are run.
+use Rattle.std.specs.Prelude.{◌≡◌, ◌⊎◌, ℕ, List, [], ◌∷◌, ◌++◌, take, Option, Some, None, IsTrue}
+use Rattle.std.specs.Io.KnownBytes.{Appends}
+use Rattle.hh_devices.specs.Devices.{AppendsFront}
+use Rattle.hh_time.specs.Days.{Midnights}
+use Rattle.hh_names.specs.Faults.{memory_fault}
+use Rattle.hh_script.specs.Steps.{LoadFile, LoadStep, Step}
+use Rattle.hh_store.specs.States.{State}
+use Rattle.hh_office.specs.declared.request.Action.TheVariants as ask
+use Rattle.hh_office.specs.declared.request.Request.{Request}
+use Rattle.hh_office.specs.Machine.{Outcome, step}
+use Rattle.hh_office.specs.declared.reply.Reply.TheVariants as reply
+use Rattle.hh_office.specs.Promises.{Stands, is_given_up, is_refused}
+use Rattle.hh_office.specs.Views.{OfficeView, midnight_of}
+use Rattle.hh_session.specs.declared.told.Told.{Told}
+use Rattle.hh_session.specs.declared.told.Told.TheVariants.{Replied, Unreadable}
+use Rattle.hh_session.specs.Lines.{told_line}
+
+-- memory was refused
+abbrev pub no_memory : Told
+no_memory = Replied (reply.Refused memory_fault)
+
+-- a request was refused
+abbrev pub IsRefusal : Told → Type 0
+IsRefusal Unreadable = ⊥
+IsRefusal (Replied given) = IsTrue (is_refused given)
+
+-- What goes out for a line that came to this: its text, or that of refused memory in the place of a refusal.
+module _ (before after : Option (List ℕ)) (told : Told) where
+  -- it went out
+  abbrev pub TellsLine : Type 0
+  TellsLine = Appends before after (told_line told) ⊎ (IsRefusal told × Appends before after (told_line no_memory))
+
+  -- a beginning of it went out
+  abbrev pub BeginsLine : Type 0
+  BeginsLine = AppendsFront before after (told_line told) ⊎ (IsRefusal told × AppendsFront before after (told_line no_memory))
+
+-- what a load asks of the office once its file is read
+abbrev pub request_of : LoadStep → List ℕ → Request
+request_of load body = record {
+  key = load.key;
+  action = ask.Load (record { kind = load.kind; name = load.name; body = body });
+}
+
+-- What a path may read as: the bytes of its file, or nothing where it cannot be read.
+module _ (reads : List ℕ → Option (List ℕ) → Type 0) (midnight : Midnights) where
+  -- the file of a load was read, and the machine answered
+  abbrev pub IsAnswered : State → LoadStep → Told → State → Type 0
+  IsAnswered s load told t =
+      (body : List ℕ) × reads load.path (Some body)
+      × (let outcome : Outcome = step midnight s load.moment (request_of load body) in (told ≡ Replied outcome.reply) × (t ≡ outcome.state))
+
+  -- what a load comes to in a state, and the state after it: its file cannot be read, it is answered, or it is given up
+  abbrev pub LoadDoes : State → LoadStep → Told → State → Type 0
+  LoadDoes s load Unreadable t = reads load.path None × (t ≡ s)
+  LoadDoes s load (Replied given) t = IsAnswered s load (Replied given) t ⊎ (IsTrue (is_given_up given) × (t ≡ s))
+
+  -- what a step comes to in a state, and the state after it
+  abbrev pub StepDoes : State → Step → Told → State → Type 0
+  StepDoes s (LoadFile load) told t = LoadDoes s load told t
+
+  -- what the steps of a script write, one after the other, and the state after them
+  abbrev pub ScriptDoes : State → List Step → List ℕ → State → Type 0
+  ScriptDoes s [] text t = (text ≡ []) × (t ≡ s)
+  ScriptDoes s (step ∷ steps) text t =
+      (told : Told) × (between : State) × (rest : List ℕ)
+      × StepDoes s step told between × ScriptDoes between steps rest t × (text ≡ told_line told ++ rest)
+
+-- what a load comes to, and the office after it
+abbrev pub RunsLoad : (List ℕ → Option (List ℕ) → Type 0) → OfficeView → OfficeView → LoadStep → Told → Type 0
+RunsLoad reads old new load told = (s : State) → Stands old s → (t : State) × LoadDoes reads (midnight_of old) s load told t × Stands new t
+
+-- An output had these bytes before and has those after.
+module _ (reads : List ℕ → Option (List ℕ) → Type 0) (old new : OfficeView) (before after : Option (List ℕ)) where
+  -- a step was run from each state that the office stood for, and its line went out
+  abbrev pub RunsStep : Step → Type 0
+  RunsStep step = (s : State) → Stands old s
+      → (told : Told) × (t : State) × StepDoes reads (midnight_of old) s step told t × Appends before after (told_line told) × Stands new t
+
+  -- a step was run, and a beginning of its line went out
+  abbrev pub StopsStep : Step → Type 0
+  StopsStep step = (s : State) → Stands old s
+      → (told : Told) × (t : State) × StepDoes reads (midnight_of old) s step told t × AppendsFront before after (told_line told)
+
+  -- steps were run from each state that the office stood for, and what they write went out
+  abbrev pub RunsScript : List Step → Type 0
+  RunsScript steps = (s : State) → Stands old s
+      → (text : List ℕ) × (t : State) × ScriptDoes reads (midnight_of old) s steps text t × Appends before after text × Stands new t
+
+  -- the first of the steps were run, and a beginning of what they write went out
+  abbrev pub StopsScript : List Step → Type 0
+  StopsScript steps = (s : State) → Stands old s
+      → (count : ℕ) × (text : List ℕ) × (t : State) × ScriptDoes reads (midnight_of old) s (take count steps) text t × AppendsFront before after text

@@ -1,0 +1,120 @@
+//! The lines of a script, run one after the other.
+
+ghost use Rattle.std.specs.Prelude.{◌≡◌, ℕ, List, Some, None, map, take, All, IfOk, IsErrOf, OnErr, OnOk};
+ghost use Rattle.hh_devices.specs.Devices.{Failed};
+ghost use Rattle.hh_script.specs.Steps.{IsNamed, LoadFile, load_of, step_of};
+ghost use Rattle.hh_session.specs.Course.{RunsLoad, RunsScript, RunsStep, StopsScript, StopsStep, request_of};
+
+use crate::tell::{LOADED_ROOM, tell, tell_no_memory};
+use crate::told::Told;
+use hh_devices::{DeviceFailed, Sink};
+use hh_inputs::{InputFault, Inputs};
+use hh_names::FileName;
+use hh_office::{Action, Bytes, Office, Request, Upload};
+use hh_script::{LoadLine, ScriptLine};
+use hh_store::Tables;
+use hh_texts::MOST_BYTES;
+use std::alloc::{AllocError, Global};
+
+/// The most bytes that are read of a file: one more than a file may have, so that a larger one is
+/// told, and an endless one ends.
+const MOST_READ: usize = MOST_BYTES + 1;
+
+/// Runs the lines of a script over an office, one after the other, and writes a line for each
+/// (profile): `applied=N late=M`, a refusal's text, or `fault file` where the file cannot be read.
+///
+/// # Errors
+///
+/// The output failed or took nothing in this call. Some of the lines were run, and a beginning of what
+/// they write went out.
+pub fn run_lines<T: Tables, I: Inputs, O: Sink>(
+    alloc: Global,
+    office: &mut Office<'_, T>,
+    inputs: &I,
+    lines: &[ScriptLine<'_>],
+    out: &mut O,
+) -> Result<(), DeviceFailed>
+    requires { All IsNamed (map step_of lines.now) }
+    ensures done { OnOk result (RunsScript (I.reads_as inputs.now) office.old office.new
+        (O.taken out.old) (O.taken out.new) (map step_of lines.now)) }
+    ensures well { OnOk result (O.failures out.new ≡ O.failures out.old) }
+    ensures cut { OnErr result (StopsScript (I.reads_as inputs.now) office.old office.new
+        (O.taken out.old) (O.taken out.new) (map step_of lines.now)) }
+    ensures failed { OnErr result (Failed (O.failures out.old) (O.failures out.new)) }
+{
+    for line in lines.iter() {
+        run_line(alloc, office, inputs, line, out)?;
+    }
+    Ok(())
+}
+
+/// Runs a line of a script over an office, and writes its line.
+fn run_line<T: Tables, I: Inputs, O: Sink>(
+    alloc: Global,
+    office: &mut Office<'_, T>,
+    inputs: &I,
+    line: &ScriptLine<'_>,
+    out: &mut O,
+) -> Result<(), DeviceFailed>
+    requires { IsNamed (step_of line.now) }
+    ensures done { OnOk result (RunsStep (I.reads_as inputs.now) office.old office.new
+        (O.taken out.old) (O.taken out.new) (step_of line.now)) }
+    ensures well { OnOk result (O.failures out.new ≡ O.failures out.old) }
+    ensures cut { OnErr result (StopsStep (I.reads_as inputs.now) office.old office.new
+        (O.taken out.old) (O.taken out.new) (step_of line.now)) }
+    ensures failed { OnErr result (Failed (O.failures out.old) (O.failures out.new)) }
+{
+    // What an accepted file is told by: once the office has acted, memory can no longer be refused.
+    match Vec::with_capacity(alloc, LOADED_ROOM) {
+        Ok(room) => {
+            let told = run_load(alloc, office, inputs, &line.load());
+            tell(alloc, room, &told, out)
+        }
+        Err(AllocError) => tell_no_memory(out),
+    }
+}
+
+/// What a load comes to.
+fn run_load<T: Tables, I: Inputs>(
+    alloc: Global,
+    office: &mut Office<'_, T>,
+    inputs: &I,
+    load: &LoadLine<'_>,
+) -> Told
+    requires { IsNamed (LoadFile (load_of load.now)) }
+    ensures { RunsLoad (I.reads_as inputs.now) office.old office.new (load_of load.now) result }
+{
+    match read_request(alloc, inputs, load) {
+        Ok(request) => Told::Replied(office.handle(load.moment, &request)),
+        Err(InputFault::Unreadable) => Told::Unreadable,
+        Err(InputFault::Memory) => Told::no_memory(),
+    }
+}
+
+/// What a load asks of the office, by so many bytes of its file that a larger one is told.
+fn read_request<I: Inputs>(
+    alloc: Global,
+    inputs: &I,
+    load: &LoadLine<'_>,
+) -> Result<Request, InputFault>
+    requires { IsNamed (LoadFile (load_of load.now)) }
+    ensures request { IfOk result (λ request. (all : List ℕ)
+        × I.reads_as inputs.now load.now.path.now (Some all)
+        × (request ≡ request_of (load_of load.now) (take MOST_READ all))) }
+    ensures unreadable { IsErrOf result InputFault.Unreadable
+        → I.reads_as inputs.now load.now.path.now None }
+{
+    let body = inputs.read(alloc, load.path, MOST_READ)?;
+    let key = Vec::from_slice(alloc, load.key)?;
+    let Some(name) = FileName::read(load.name) else {
+        unreachable!()
+    };
+    Ok(Request {
+        key: Bytes::new(key),
+        action: Action::Load(Upload {
+            kind: load.kind,
+            name,
+            body: Bytes::new(body),
+        }),
+    })
+}

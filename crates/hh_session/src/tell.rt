@@ -1,0 +1,106 @@
+//! How it is told what the lines of a script came to.
+
+ghost use Rattle.std.specs.Prelude.{◌≡◌, ◌≤◌, ◌+◌, ◌++◌, [], decimal, length, vec_capacity, vec_len, OnErr, OnOk};
+ghost use Rattle.std.specs.Io.KnownBytes.{Appends};
+ghost use Rattle.hh_devices.specs.Devices.{AppendsFront, Failed};
+ghost use Rattle.hh_office.specs.declared.reply.Reply.TheVariants.{Refused};
+ghost use Rattle.hh_session.specs.Course.{BeginsLine, TellsLine, no_memory};
+ghost use Rattle.hh_session.specs.Lines.{loaded_line, told_line};
+ghost use Rattle.hh_session.specs.declared.told.Told.TheVariants.{Replied};
+
+use crate::told::Told;
+use hh_devices::{DeviceFailed, Sink, write_whole};
+use hh_names::Fault;
+use hh_office::{Loaded, Reply};
+use itoa::Buffer;
+use std::alloc::{AllocError, Global};
+
+/// The room that the line of an accepted file may take: two numbers of at most 40 bytes and their words.
+pub(crate) const LOADED_ROOM: usize = 95;
+
+/// Tells what a line came to. An accepted file is told in the room that was taken for it; where
+/// memory is refused for the line of a refusal, that is told in its place.
+pub(crate) fn tell<O: Sink>(
+    alloc: Global,
+    mut room: Vec<u8>,
+    told: &Told,
+    out: &mut O,
+) -> Result<(), DeviceFailed>
+    requires empty { room.items ≡ [] }
+    requires ample { 95 ≤ vec_capacity room }
+    ensures told { OnOk result (TellsLine (O.taken out.old) (O.taken out.new) told.now) }
+    ensures well { OnOk result (O.failures out.new ≡ O.failures out.old) }
+    ensures cut { OnErr result (BeginsLine (O.taken out.old) (O.taken out.new) told.now) }
+    ensures failed { OnErr result (Failed (O.failures out.old) (O.failures out.new)) }
+{
+    match told {
+        Told::Replied(Reply::Loaded(loaded)) => {
+            push_loaded(&mut room, *loaded);
+            write_whole(out, &room)
+        }
+        Told::Replied(Reply::Refused(fault)) => tell_refused(alloc, *fault, out),
+        Told::Replied(Reply::Contracts(_)) => write_whole(out, b""),
+        Told::Unreadable => write_whole(out, b"fault file\n"),
+    }
+}
+
+/// Tells a refusal, or that of memory where memory is refused for its line.
+fn tell_refused<O: Sink>(alloc: Global, fault: Fault, out: &mut O) -> Result<(), DeviceFailed>
+    ensures told { OnOk result (TellsLine (O.taken out.old) (O.taken out.new)
+        (Replied (Refused fault))) }
+    ensures well { OnOk result (O.failures out.new ≡ O.failures out.old) }
+    ensures cut { OnErr result (BeginsLine (O.taken out.old) (O.taken out.new)
+        (Replied (Refused fault))) }
+    ensures failed { OnErr result (Failed (O.failures out.old) (O.failures out.new)) }
+{
+    match format!(in alloc; "{fault}\n") {
+        Ok(line) => write_whole(out, line.as_bytes()),
+        Err(AllocError) => tell_no_memory(out),
+    }
+}
+
+/// Tells that memory was refused. Takes none.
+pub(crate) fn tell_no_memory<O: Sink>(out: &mut O) -> Result<(), DeviceFailed>
+    ensures told { OnOk result (Appends (O.taken out.old) (O.taken out.new)
+        (told_line no_memory)) }
+    ensures well { OnOk result (O.failures out.new ≡ O.failures out.old) }
+    ensures cut { OnErr result (AppendsFront (O.taken out.old) (O.taken out.new)
+        (told_line no_memory)) }
+    ensures failed { OnErr result (Failed (O.failures out.old) (O.failures out.new)) }
+{
+    write_whole(out, b"refused 90 Memory\n")
+}
+
+/// Appends bytes for which there is room.
+fn push(line: &mut Vec<u8>, bytes: &[u8])
+    requires { vec_len line.old + length bytes.now ≤ vec_capacity line.old }
+    ensures items { line.new.items ≡ line.old.items ++ bytes.now }
+    ensures len { vec_len line.new ≡ vec_len line.old + length bytes.now }
+    ensures room { vec_capacity line.old ≤ vec_capacity line.new }
+{
+    let pushed = line.extend_from_slice(bytes);
+    prove!(pushed.is_ok());
+}
+
+/// Appends a number for which there is room.
+fn push_number(line: &mut Vec<u8>, number: u32)
+    requires { vec_len line.old + 40 ≤ vec_capacity line.old }
+    ensures items { line.new.items ≡ line.old.items ++ decimal number }
+    ensures len { vec_len line.new ≤ vec_len line.old + 40 }
+    ensures room { vec_capacity line.old ≤ vec_capacity line.new }
+{
+    let mut buffer = Buffer::new();
+    push(line, buffer.format(number).as_bytes());
+}
+
+/// The line of an accepted file, in a vector that has the room.
+pub(crate) fn push_loaded(line: &mut Vec<u8>, loaded: Loaded)
+    requires { vec_len line.old + 95 ≤ vec_capacity line.old }
+    ensures { line.new.items ≡ line.old.items ++ loaded_line loaded }
+{
+    push(line, b"applied=");
+    push_number(line, loaded.applied);
+    push(line, b" late=");
+    push_number(line, loaded.late);
+    push(line, b"\n");
+}
