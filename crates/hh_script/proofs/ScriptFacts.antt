@@ -58,7 +58,7 @@ all_behind-onto front x (Some xs) = ap Some (sym (append_assoc front (x ∷ []) 
 pub record IsReadTo (bytes rest : List ℕ) (lines : List ScriptLine) : Type 0 where
   pub values : script_value bytes ≡ all_behind (map step_of lines) (script_value rest)
   pub off : first_off bytes ≡ position_from is_off (length lines + 1) (lines_of rest)
-  pub named : All IsNamed (map step_of lines)
+  pub named : All (λ l. IsNamed (step_of l)) lines
 
 -- One line more.
 pub read_more : (bytes rest : List ℕ) (lines : List ScriptLine) → IsReadTo bytes rest lines → (text more : List ℕ) (line : ScriptLine) (now : List ScriptLine) → lines_of rest ≡ text ∷ lines_of more
@@ -71,8 +71,7 @@ read_more bytes rest lines so_far text more line now is value named last = recor
   off = so_far.off ∙ ap (position_from is_off (length lines + 1)) is
       ∙ ap (λ v. cond (is_none v) (Some (length lines + 1)) (position_from is_off (length lines + 1 + 1) (lines_of more))) (sym value)
       ∙ ap (λ n. position_from is_off (n + 1) (lines_of more)) (sym (ap length last ∙ length_push lines line));
-  named = subst (All IsNamed) (sym (ap (map step_of) last ∙ map-append step_of lines (line ∷ [])))
-      (All-append IsNamed (map step_of lines) (step_of line ∷ []) so_far.named (All-cons IsNamed (step_of line) [] named (All-nil IsNamed)));
+  named = let good : ScriptLine → Type 0 = λ l. IsNamed (step_of l) in subst (All good) (sym last) (All-append good lines (line ∷ []) so_far.named (All-cons good line [] named (All-nil good)));
 }
 
 -- At the end all is read.

@@ -48,7 +48,7 @@ impl<T: Drop> From<AllocFailed<T>> for ScriptFault {
 pub fn read_script<'a>(alloc: Global, bytes: &'a [u8]) -> Result<Vec<ScriptLine<'a>>, ScriptFault>
     ensures lines { IfOk result (λ lines.
         script_value bytes.entry.now ≡ Some (map step_of lines.items)) }
-    ensures named { IfOk result (λ lines. All IsNamed (map step_of lines.items)) }
+    ensures named { IfOk result (λ lines. All (λ line. IsNamed (step_of line)) lines.items) }
     ensures off { IfErr result (IsFaultOf bytes.entry.now) }
 {
     let mut lines = Vec::new(alloc);

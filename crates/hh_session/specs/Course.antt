@@ -66,16 +66,24 @@ module _ (reads : List ℕ → Option (List ℕ) → Type 0) (midnight : Midnigh
       (told : Told) × (between : State) × (rest : List ℕ)
       × StepDoes s step told between × ScriptDoes between steps rest t × (text ≡ told_line told ++ rest)
 
+-- the office stands for a state now, in the same zone as before
+abbrev pub StandsNow : OfficeView → OfficeView → State → Type 0
+StandsNow old new t = Stands new t × (new.zone ≡ old.zone)
+
 -- what a load comes to, and the office after it
 abbrev pub RunsLoad : (List ℕ → Option (List ℕ) → Type 0) → OfficeView → OfficeView → LoadStep → Told → Type 0
-RunsLoad reads old new load told = (s : State) → Stands old s → (t : State) × LoadDoes reads (midnight_of old) s load told t × Stands new t
+RunsLoad reads old new load told = (s : State) → Stands old s → (t : State) × LoadDoes reads (midnight_of old) s load told t × StandsNow old new t
+
+-- a load that is refused leaves the office as it is
+abbrev pub LeavesRefused : OfficeView → OfficeView → Told → Type 0
+LeavesRefused old new told = (s : State) → Stands old s → IsRefusal told → new ≡ old
 
 -- An output had these bytes before and has those after.
 module _ (reads : List ℕ → Option (List ℕ) → Type 0) (old new : OfficeView) (before after : Option (List ℕ)) where
   -- a step was run from each state that the office stood for, and its line went out
   abbrev pub RunsStep : Step → Type 0
   RunsStep step = (s : State) → Stands old s
-      → (told : Told) × (t : State) × StepDoes reads (midnight_of old) s step told t × Appends before after (told_line told) × Stands new t
+      → (told : Told) × (t : State) × StepDoes reads (midnight_of old) s step told t × Appends before after (told_line told) × StandsNow old new t
 
   -- a step was run, and a beginning of its line went out
   abbrev pub StopsStep : Step → Type 0
@@ -85,7 +93,7 @@ module _ (reads : List ℕ → Option (List ℕ) → Type 0) (old new : OfficeVi
   -- steps were run from each state that the office stood for, and what they write went out
   abbrev pub RunsScript : List Step → Type 0
   RunsScript steps = (s : State) → Stands old s
-      → (text : List ℕ) × (t : State) × ScriptDoes reads (midnight_of old) s steps text t × Appends before after text × Stands new t
+      → (text : List ℕ) × (t : State) × ScriptDoes reads (midnight_of old) s steps text t × Appends before after text × StandsNow old new t
 
   -- the first of the steps were run, and a beginning of what they write went out
   abbrev pub StopsScript : List Step → Type 0

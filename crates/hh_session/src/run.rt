@@ -3,7 +3,7 @@
 ghost use Rattle.std.specs.Prelude.{◌≡◌, ℕ, List, Some, None, map, take, All, IfOk, IsErrOf, OnErr, OnOk};
 ghost use Rattle.hh_devices.specs.Devices.{Failed};
 ghost use Rattle.hh_script.specs.Steps.{IsNamed, LoadFile, load_of, step_of};
-ghost use Rattle.hh_session.specs.Course.{RunsLoad, RunsScript, RunsStep, StopsScript, StopsStep, request_of};
+ghost use Rattle.hh_session.specs.Course.{LeavesRefused, RunsLoad, RunsScript, RunsStep, StopsScript, StopsStep, request_of};
 
 use crate::tell::{LOADED_ROOM, tell, tell_no_memory};
 use crate::told::Told;
@@ -34,7 +34,7 @@ pub fn run_lines<T: Tables, I: Inputs, O: Sink>(
     lines: &[ScriptLine<'_>],
     out: &mut O,
 ) -> Result<(), DeviceFailed>
-    requires { All IsNamed (map step_of lines.now) }
+    requires { All (λ line. IsNamed (step_of line)) lines.now }
     ensures done { OnOk result (RunsScript (I.reads_as inputs.now) office.old office.new
         (O.taken out.old) (O.taken out.new) (map step_of lines.now)) }
     ensures well { OnOk result (O.failures out.new ≡ O.failures out.old) }
@@ -82,7 +82,8 @@ fn run_load<T: Tables, I: Inputs>(
     load: &LoadLine<'_>,
 ) -> Told
     requires { IsNamed (LoadFile (load_of load.now)) }
-    ensures { RunsLoad (I.reads_as inputs.now) office.old office.new (load_of load.now) result }
+    ensures runs { RunsLoad (I.reads_as inputs.now) office.old office.new (load_of load.now) result }
+    ensures untouched { LeavesRefused office.old office.new result }
 {
     match read_request(alloc, inputs, load) {
         Ok(request) => Told::Replied(office.handle(load.moment, &request)),

@@ -22,7 +22,7 @@ pub(crate) const LOADED_ROOM: usize = 95;
 /// memory is refused for the line of a refusal, that is told in its place.
 pub(crate) fn tell<O: Sink>(
     alloc: Global,
-    mut room: Vec<u8>,
+    room: Vec<u8>,
     told: &Told,
     out: &mut O,
 ) -> Result<(), DeviceFailed>
@@ -34,13 +34,34 @@ pub(crate) fn tell<O: Sink>(
     ensures failed { OnErr result (Failed (O.failures out.old) (O.failures out.new)) }
 {
     match told {
-        Told::Replied(Reply::Loaded(loaded)) => {
+        Told::Replied(reply) => tell_reply(alloc, room, reply, out),
+        Told::Unreadable => write_whole(out, b"fault file\n"),
+    }
+}
+
+/// Tells a reply, as `tell` does.
+fn tell_reply<O: Sink>(
+    alloc: Global,
+    mut room: Vec<u8>,
+    reply: &Reply,
+    out: &mut O,
+) -> Result<(), DeviceFailed>
+    requires empty { room.items ≡ [] }
+    requires ample { 95 ≤ vec_capacity room }
+    ensures told { OnOk result (TellsLine (O.taken out.old) (O.taken out.new)
+        (Replied reply.now)) }
+    ensures well { OnOk result (O.failures out.new ≡ O.failures out.old) }
+    ensures cut { OnErr result (BeginsLine (O.taken out.old) (O.taken out.new)
+        (Replied reply.now)) }
+    ensures failed { OnErr result (Failed (O.failures out.old) (O.failures out.new)) }
+{
+    match reply {
+        Reply::Loaded(loaded) => {
             push_loaded(&mut room, *loaded);
             write_whole(out, &room)
         }
-        Told::Replied(Reply::Refused(fault)) => tell_refused(alloc, *fault, out),
-        Told::Replied(Reply::Contracts(_)) => write_whole(out, b""),
-        Told::Unreadable => write_whole(out, b"fault file\n"),
+        Reply::Refused(fault) => tell_refused(alloc, *fault, out),
+        Reply::Contracts(_) => write_whole(out, b""),
     }
 }
 

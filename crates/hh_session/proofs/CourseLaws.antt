@@ -1,0 +1,190 @@
+-- What becomes of the lines of a script, by what its parts do.
+use Rattle.std.proofs.Common.{◌≡◌, ℕ, ℤ, ◌+◌, ◌<◌, List, [], ◌∷◌, ◌++◌, length, map, take, refl, sym, ap, subst, ◌∙◌, Bool, true, false, cond, Option, Some, None, Result, Ok, Err, inl, inr, arith, ltb}
+use Rattle.std.specs.Prelude.{◌⊎◌, MatchBool, OnErr, OnOk, slice_index_or}
+use Rattle.std.specs.FinMap.{find}
+use Rattle.std.specs.Io.KnownBytes.{Appends}
+use Rattle.std.proofs.lemmas.Bool.{lt-ltb, ltb-false, ltb-true}
+use Rattle.std.proofs.lemmas.List.{append-nil, append_assoc, length-take-le, map-append, take-map, take_all, take_more}
+use Rattle.hh_devices.specs.Devices.{AppendsFront}
+use Rattle.jiff.specs.Words.{plain_zone}
+use Rattle.hh_time.specs.Days.{Midnights}
+use Rattle.hh_time.specs.Zone.{midnight_in}
+use Rattle.hh_names.specs.declared.fault.Refusal.TheVariants.{FileTooLarge, Forbidden}
+use Rattle.hh_script.specs.declared.script_line.ScriptLine.{ScriptLine}
+use Rattle.hh_script.specs.Steps.{LoadFile, LoadStep, Step, step_of}
+use Rattle.hh_texts.specs.Rows.{most_bytes}
+use Rattle.hh_store.specs.Content.{tables_of}
+use Rattle.hh_store.specs.States.{State, file_key_cmp}
+use Rattle.hh_office.specs.declared.request.Request.{Request}
+use Rattle.hh_office.specs.declared.request.Upload.{Upload}
+use Rattle.hh_office.specs.declared.reply.Reply.{Reply}
+use Rattle.hh_office.specs.Machine.{Outcome, key_of, load_beside, may, refused_for, step}
+use Rattle.hh_office.specs.Promises.{HandleStep, Stands, StandsAfter, is_given_up}
+use Rattle.hh_office.specs.Views.{OfficeView, midnight_of}
+use Rattle.hh_session.specs.declared.told.Told.{Told}
+use Rattle.hh_session.specs.declared.told.Told.TheVariants.{Replied}
+use Rattle.hh_session.specs.Course.{BeginsLine, LeavesRefused, LoadDoes, RunsLoad, RunsScript, RunsStep, ScriptDoes, StandsNow, StepDoes, StopsScript, StopsStep, TellsLine, no_memory, request_of}
+use Rattle.hh_session.specs.Lines.{told_line}
+
+-- A load asks the machine for the same by so many bytes of its file that a larger one is told.
+module _ (midnight : Midnights) (s : State) (l : LoadStep) (all : List ℕ) where
+  -- the outcome for a file of which these bytes were read
+  abbrev asks : List ℕ → Outcome
+  asks body = step midnight s l.moment (request_of l body)
+
+  -- a file that is too large is refused as such, whatever it holds
+  abbrev refused_large : Outcome
+  refused_large = cond (may midnight s l.key (request_of l all).action) (refused_for s FileTooLarge) (refused_for s Forbidden)
+
+  too_large : (body : List ℕ) → ltb most_bytes (length body) ≡ true → asks body ≡ refused_large
+  too_large body large =
+      ap (λ b. cond (may midnight s l.key (request_of l all).action) (cond b (refused_for s FileTooLarge) (within body)) (refused_for s Forbidden)) large
+    where
+      upload : List ℕ → Upload
+      upload body = record { kind = l.kind; name = l.name; body = body }
+
+      within : List ℕ → Outcome
+      within body = load_beside midnight s (find file_key_cmp (key_of (upload body)) s.files) l.moment (upload body)
+
+  pub by_front : (most : ℕ) → most_bytes < most → asks (take most all) ≡ asks all
+  by_front most enough = go (ltb most (length all)) refl
+    where
+      go : (b : Bool) → ltb most (length all) ≡ b → asks (take most all) ≡ asks all
+      go false is = ap asks (take_all most all (ltb-false most (length all) is))
+      go true is =
+          let larger : most < length all = ltb-true most (length all) is in
+          too_large (take most all) (ap (ltb most_bytes) (length-take-le most all (omega arith)) ∙ lt-ltb most_bytes most enough)
+          ∙ sym (too_large all (lt-ltb most_bytes (length all) (omega (arith, enough))))
+
+-- What a load does that the office answered.
+module _ (reads : List ℕ → Option (List ℕ) → Type 0) (old new : OfficeView) (l : LoadStep) (all : List ℕ) (most : ℕ) (enough : most_bytes < most)
+    (read : reads l.path (Some all)) (request : Request) (is : request ≡ request_of l (take most all)) (given : Reply) where
+  answered_by : (s t : State) (reply : Reply) (b : Bool) → is_given_up given ≡ b → (record { reply = reply; state = t }) ≡ step (midnight_of old) s l.moment (request_of l all)
+      → MatchBool b (new ≡ old) ((given ≡ reply) × (new ≡ record old { content = tables_of (midnight_of old) t })) → Stands new (cond b s t)
+      → (u : State) × LoadDoes reads (midnight_of old) s l (Replied given) u × StandsNow old new u
+  answered_by s t reply true up outcome same stands = (s, inr (up, refl), (stands, ap (λ (o : OfficeView). o.zone) same))
+  answered_by s t reply false up outcome comes stands = (
+    t,
+    inl (all, read, (ap Replied (comes.0 ∙ ap (λ (o : Outcome). o.reply) outcome), ap (λ (o : Outcome). o.state) outcome)),
+    (stands, ap (λ (o : OfficeView). o.zone) comes.1),
+  )
+
+  pub load_answered : HandleStep old new l.moment request given → StandsAfter old new l.moment request given → RunsLoad reads old new l (Replied given)
+  load_answered steps after s stands =
+      let outcome : Outcome = step (midnight_of old) s l.moment request in
+      answered_by s outcome.state outcome.reply (is_given_up given) refl
+      (ap (step (midnight_of old) s l.moment) is ∙ by_front (midnight_of old) s l all most enough) (steps s stands) (after s stands)
+
+-- What a line does, by what it came to and what went out.
+module _ (reads : List ℕ → Option (List ℕ) → Type 0) (old new : OfficeView) (before after : Option (List ℕ)) (l : LoadStep) (told : Told)
+    (runs : RunsLoad reads old new l told) (leaves : LeavesRefused old new told) where
+  pub line_done : TellsLine before after told → RunsStep reads old new before after (LoadFile l)
+  line_done (inl went) s stands = let (t, does, now) = runs s stands in (told, t, does, went, now)
+  line_done (inr (refusal, went)) s stands =
+      let same : new ≡ old = leaves s stands refusal in
+      (no_memory, s, inr (refl, refl), went, (subst (λ o. Stands o s) (sym same) stands, ap (λ (o : OfficeView). o.zone) same))
+
+  pub line_cut : BeginsLine before after told → StopsStep reads old new before after (LoadFile l)
+  line_cut (inl went) s stands = let (t, does, now) = runs s stands in (told, t, does, went)
+  line_cut (inr (refusal, went)) s stands = (no_memory, s, inr (refl, refl), went)
+
+-- a line for which memory is refused before anything is done
+pub memory_done : (reads : List ℕ → Option (List ℕ) → Type 0) (old : OfficeView) (before after : Option (List ℕ)) (step : Step)
+    → Appends before after (told_line no_memory) → RunsStep reads old old before after step
+memory_done reads old before after (LoadFile l) went s stands = (no_memory, s, inr (refl, refl), went, (stands, refl))
+
+pub memory_cut : (reads : List ℕ → Option (List ℕ) → Type 0) (old : OfficeView) (before after : Option (List ℕ)) (step : Step)
+    → AppendsFront before after (told_line no_memory) → StopsStep reads old old before after step
+memory_cut reads old before after (LoadFile l) went s stands = (no_memory, s, inr (refl, refl), went)
+
+-- ---- lines one after the other
+
+appends_more : (before between after : Option (List ℕ)) (text line : List ℕ) → Appends before between text → Appends between after line → Appends before after (text ++ line)
+appends_more None between after text line first second = tt
+appends_more (Some xs) None after text line first second = absurd first
+appends_more (Some xs) (Some ys) None text line first second = absurd second
+appends_more (Some xs) (Some ys) (Some zs) text line first second = second ∙ ap (λ bytes. bytes ++ line) first ∙ append_assoc xs text line
+
+appends_none : (before : Option (List ℕ)) → Appends before before []
+appends_none None = tt
+appends_none (Some xs) = sym (append-nil xs)
+
+module _ (reads : List ℕ → Option (List ℕ) → Type 0) (midnight : Midnights) where
+  does_more : (s t u : State) (steps : List Step) (text : List ℕ) (step : Step) (told : Told) → ScriptDoes reads midnight s steps text t → StepDoes reads midnight t step told u
+      → ScriptDoes reads midnight s (steps ++ step ∷ []) (text ++ told_line told) u
+  does_more s t u [] text step told (none, same) does = (
+    told,
+    u,
+    [],
+    subst (λ v. StepDoes reads midnight v step told u) same does,
+    (refl, refl),
+    ap (λ bytes. bytes ++ told_line told) none ∙ sym (append-nil (told_line told)),
+  )
+  does_more s t u (first ∷ steps) text step told (told0, v, rest, does0, others, is) does = (
+    told0,
+    v,
+    rest ++ told_line told,
+    does0,
+    does_more v t u steps rest step told others does,
+    ap (λ bytes. bytes ++ told_line told) is ∙ append_assoc (told_line told0) rest (told_line told),
+  )
+
+module _ (reads : List ℕ → Option (List ℕ) → Type 0) (old now new : OfficeView) (before between after : Option (List ℕ)) (steps : List Step) (step : Step)
+    (ran : RunsScript reads old now before between steps) where
+  -- one more line of a script
+  pub script_more : RunsStep reads now new between after step → RunsScript reads old new before after (steps ++ step ∷ [])
+  script_more runs s stands =
+      let (text, t, does, went, (now_stands, zone)) = ran s stands in
+      let (told, u, line, line_went, (new_stands, new_zone)) = runs t now_stands in (
+        text ++ told_line told,
+        u,
+        does_more reads (midnight_of old) s t u steps text step told does (subst (λ z. StepDoes reads (midnight_in (plain_zone z)) t step told u) zone line),
+        appends_more before between after text (told_line told) went line_went,
+        (new_stands, new_zone ∙ zone),
+      )
+
+  -- a line that stops a script
+  pub script_stops : (all : List Step) (count : ℕ) → take count all ≡ steps ++ step ∷ [] → StopsStep reads now new between after step → StopsScript reads old new before after all
+  script_stops all count is stops s stands =
+      let (text, t, does, went, (now_stands, zone)) = ran s stands in
+      let (told, u, line, (front, rest, cut, line_went)) = stops t now_stands in (
+        count,
+        text ++ told_line told,
+        u,
+        subst (λ xs. ScriptDoes reads (midnight_of old) s xs (text ++ told_line told) u) (sym is)
+            (does_more reads (midnight_of old) s t u steps text step told does (subst (λ z. StepDoes reads (midnight_in (plain_zone z)) t step told u) zone line)),
+        (
+          text ++ front,
+          rest,
+          ap (λ bytes. text ++ bytes) cut ∙ sym (append_assoc text front rest),
+          appends_more before between after text front went line_went,
+        ),
+      )
+
+-- no lines
+pub script_none : (reads : List ℕ → Option (List ℕ) → Type 0) (office : OfficeView) (taken : Option (List ℕ)) → RunsScript reads office office taken taken []
+script_none reads office taken s stands = ([], s, (refl, refl), appends_none taken, (stands, refl))
+
+-- ---- results
+
+pub OnOk-map : {T E : Type 0} (r : Result T E) (P Q : Type 0) → (P → Q) → OnOk r P → OnOk r Q
+OnOk-map (Ok x) P Q f p = f p
+OnOk-map (Err e) P Q f p = tt
+
+pub OnErr-map : {T E : Type 0} (r : Result T E) (P Q : Type 0) → (P → Q) → OnErr r P → OnErr r Q
+OnErr-map (Ok x) P Q f p = tt
+OnErr-map (Err e) P Q f p = f p
+
+-- the steps of the lines so far and of the next
+pub one_more_step : (lines : List ScriptLine) (i : ℕ) (line : ScriptLine) → i < length lines
+    → map step_of (take (i + 1) lines) ≡ map step_of (take i lines) ++ step_of (slice_index_or lines i line) ∷ []
+one_more_step lines i line inside = ap (map step_of) (take_more lines i line inside) ∙ map-append step_of (take i lines) (slice_index_or lines i line ∷ [])
+
+-- so many steps of a script are those of so many lines
+pub first_steps : (lines : List ScriptLine) (n : ℕ) → take n (map step_of lines) ≡ map step_of (take n lines)
+first_steps lines n = take-map step_of n lines
+
+-- a fault that is passed on
+pub passed_failure : {T E : Type 0} (P : Type 0) (result : Result T E) → P → OnErr result P
+passed_failure P (Ok x) p = tt
+passed_failure P (Err e) p = p
