@@ -1,3 +1,4 @@
 pub mod DateRanges
 pub mod Keys
 pub mod Kinds
+pub mod Minutes

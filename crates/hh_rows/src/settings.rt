@@ -1,8 +1,10 @@
 //! What an office is set up with.
 
 ghost use Rattle.std.specs.Prelude.{◌≡◌, ◌≤◌, SomeIff};
+ghost use Rattle.hh_rows.specs.Minutes.{lead_minutes_value};
 
 use hh_names::OperatorKey;
+use hh_num::read_fixed;
 use std::marker::Model;
 
 /// The whole minutes by which notifications close before the start of their Settlement Period, 0
@@ -34,6 +36,15 @@ impl LeadMinutes {
         } else {
             None
         }
+    }
+
+    /// The minutes that a text says: 0 to 1,440, in the grammar of `read_fixed` without decimals.
+    #[tactic(auto, unfolding(crate::specs::Minutes::lead_minutes_value))]
+    pub fn read(text: &[u8]) -> Option<LeadMinutes>
+        ensures { result ≡ lead_minutes_value text.now }
+    {
+        let minutes = read_fixed(text, 0)?;
+        LeadMinutes::new(u16::try_from(minutes).ok()?)
     }
 
     /// The number of minutes.

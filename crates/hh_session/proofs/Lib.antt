@@ -1,1 +1,2 @@
 pub mod CourseLaws
+pub mod ScriptLaws

@@ -1,2 +1,4 @@
 pub mod Course
 pub mod Lines
+pub mod Script
+pub mod ScriptStops

@@ -2,8 +2,10 @@
 #![tactic(auto)]
 
 mod run;
+mod script;
 mod tell;
 mod told;
 
 pub use run::run_lines;
+pub use script::{MOST_SCRIPT_BYTES, ScriptStop, run_script};
 pub use told::Told;

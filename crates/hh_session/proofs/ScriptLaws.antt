@@ -1,0 +1,54 @@
+-- What a script's file reads as, and what its lines do over a new office.
+use Rattle.std.proofs.Common.{◌≡◌, ℕ, ◌+◌, ◌<◌, ◌≤◌, List, length, take, refl, ap, ◌∙◌, Bool, true, false, Option, arith, ltb}
+use Rattle.std.proofs.lemmas.Bool.{ltb-false, ltb-true}
+use Rattle.std.proofs.lemmas.List.{length-take-le, take_all}
+use Rattle.jiff.specs.declared.tz.timezone.TimeZone.{TimeZone}
+use Rattle.hh_time.specs.Days.{Midnights}
+use Rattle.hh_rows.specs.declared.settings.Settings.{Settings}
+use Rattle.hh_script.specs.Steps.{Step}
+use Rattle.hh_store.specs.Content.{Content, tables_of}
+use Rattle.hh_store.specs.States.{empty_state}
+use Rattle.hh_store.specs.Steps.{at_first}
+use Rattle.hh_office.specs.Views.{OfficeView, midnight_of}
+use Rattle.hh_session.specs.Course.{RunsScript, StopsScript}
+use Rattle.hh_session.specs.Script.{IsMarketZone, NewOfficeCuts, NewOfficeWrites}
+
+-- So many bytes were read of a file, or all of it.
+module _ (most : ℕ) (all bytes : List ℕ) (front : bytes ≡ take (most + 1) all) where
+  -- where they are too many, it has too many
+  pub read_larger : most < length bytes → most < length all
+  read_larger more = go (ltb most (length all)) refl
+    where
+      go : (b : Bool) → ltb most (length all) ≡ b → most < length all
+      go true is = ltb-true most (length all) is
+      go false is =
+          let few : length all ≤ most = ltb-false most (length all) is in
+          let same : length bytes ≡ length all = ap length (front ∙ take_all (most + 1) all (omega arith)) in
+          absurd (omega arith)
+
+  -- where they are not, they are the whole
+  pub read_whole : length bytes ≤ most → bytes ≡ all
+  read_whole few = go (ltb most (length all)) refl
+    where
+      go : (b : Bool) → ltb most (length all) ≡ b → bytes ≡ all
+      go false is = let less : length all ≤ most = ltb-false most (length all) is in front ∙ take_all (most + 1) all (omega arith)
+      go true is =
+          let larger : most < length all = ltb-true most (length all) is in
+          let cut : length bytes ≡ most + 1 = ap length front ∙ length-take-le (most + 1) all (omega arith) in
+          absurd (omega arith)
+
+-- A new office is run.
+module _ (reads : List ℕ → Option (List ℕ) → Type 0) (settings : Settings) (zone : TimeZone) (market : IsMarketZone zone)
+    (content : Content) (stands : (midnight : Midnights) → content ≡ tables_of midnight (empty_state settings)) (new : OfficeView) (before after : Option (List ℕ)) (steps : List Step) where
+  abbrev first : OfficeView
+  first = record { zone = zone; content = content }
+
+  pub new_office_writes : RunsScript reads first new before after steps → NewOfficeWrites reads settings before after steps
+  new_office_writes runs =
+      let (text, t, does, went, now) = runs (empty_state settings) (at_first settings, stands (midnight_of first)) in
+      (text, (zone, market, (t, does)), went)
+
+  pub new_office_cuts : StopsScript reads first new before after steps → NewOfficeCuts reads settings before after steps
+  new_office_cuts stops =
+      let (count, text, t, does, went) = stops (empty_state settings) (at_first settings, stands (midnight_of first)) in
+      (count, text, (zone, market, (t, does)), went)

@@ -1,0 +1,68 @@
+-- How the script in a file is run over a new office.
+use Rattle.std.specs.Prelude.{◌≡◌, ℕ, ◌<◌, ◌≤◌, List, length, take, Option, Some, None, codes}
+use Rattle.std.specs.Io.KnownBytes.{Appends}
+use Rattle.jiff.specs.Placed.{IsPosixZone}
+use Rattle.jiff.specs.declared.tz.timezone.TimeZone.{TimeZone}
+use Rattle.jiff.specs.Words.{plain_zone}
+use Rattle.hh_devices.specs.Devices.{AppendsFront}
+use Rattle.hh_time.specs.Zone.{midnight_in}
+use Rattle.hh_names.specs.declared.fault.Refusal.TheVariants.{FileTooLarge}
+use Rattle.hh_names.specs.Faults.{memory_fault, plain_fault, ByRefusal}
+use Rattle.hh_rows.specs.declared.settings.Settings.{Settings}
+use Rattle.hh_script.specs.Script.{first_off, script_value}
+use Rattle.hh_script.specs.Steps.{Step}
+use Rattle.hh_store.specs.States.{State, empty_state}
+use Rattle.hh_session.specs.declared.script.ScriptStop.{ScriptStop}
+use Rattle.hh_session.specs.declared.script.ScriptStop.TheVariants as stop
+use Rattle.hh_session.specs.Course.{ScriptDoes}
+
+-- the most bytes that a script may have: 16 MiB
+abbrev pub most_script_bytes : ℕ
+most_script_bytes = 16_777_216
+
+-- the zone of the market
+abbrev pub IsMarketZone : TimeZone → Type 0
+IsMarketZone zone = IsPosixZone (codes "GMT0BST,M3.5.0/1,M10.5.0") (plain_zone zone)
+
+-- What a path may read as: the bytes of its file, or nothing where it cannot be read. An office has these settings.
+module _ (reads : List ℕ → Option (List ℕ) → Type 0) (settings : Settings) where
+  -- what steps write over a new office of the market's zone
+  abbrev pub NewOfficeDoes : List Step → List ℕ → Type 0
+  NewOfficeDoes steps text =
+      (zone : TimeZone) × IsMarketZone zone
+      × ((t : State) × ScriptDoes reads (midnight_in (plain_zone zone)) (empty_state settings) steps text t)
+
+  -- An output had these bytes before and has those after.
+  module _ (old new : Option (List ℕ)) (steps : List Step) where
+    -- steps were run over a new office, and what they write went out
+    abbrev pub NewOfficeWrites : Type 0
+    NewOfficeWrites = (text : List ℕ) × NewOfficeDoes steps text × Appends old new text
+
+    -- the first of the steps were run, and a beginning of what they write went out
+    abbrev pub NewOfficeCuts : Type 0
+    NewOfficeCuts = (count : ℕ) × (text : List ℕ) × NewOfficeDoes (take count steps) text × AppendsFront old new text
+
+-- A script lies at a path.
+module _ (reads : List ℕ → Option (List ℕ) → Type 0) (path : List ℕ) where
+  -- the file may read as a script of these steps
+  abbrev pub IsScript : List Step → Type 0
+  IsScript steps = (all : List ℕ) × reads path (Some all) × (length all ≤ most_script_bytes) × (script_value all ≡ Some steps)
+
+  -- why the steps are not known: the file cannot be read, is too large, or has a line off its form; or memory was refused
+  abbrev pub IsUnread : ScriptStop → Type 0
+  IsUnread stop.File = reads path None
+  IsUnread (stop.Off line) = (all : List ℕ) × reads path (Some all) × (script_value all ≡ None) × (first_off all ≡ Some line)
+  IsUnread (stop.Refused fault) = ByRefusal fault.refusal (fault ≡ memory_fault)
+      ((fault ≡ plain_fault FileTooLarge) × ((all : List ℕ) × reads path (Some all) × (most_script_bytes < length all)))
+  IsUnread stop.Output = ⊥
+
+  -- An office has these settings, and an output had these bytes before and has those after.
+  module _ (settings : Settings) (old new : Option (List ℕ)) where
+    -- the script was run, and what it writes went out
+    abbrev pub WritesScript : Type 0
+    WritesScript = (steps : List Step) × IsScript steps × NewOfficeWrites reads settings old new steps
+
+    -- why the script is not run: it is not read, and nothing went out; or the output failed, if this holds, while it was run
+    abbrev pub StopsAt : Type 0 → ScriptStop → Type 0
+    StopsAt failed stop.Output = failed × ((steps : List Step) × IsScript steps × NewOfficeCuts reads settings old new steps)
+    StopsAt failed why = (new ≡ old) × IsUnread why

@@ -1,0 +1,18 @@
+-- Why a script is not run, by the faults of its parts.
+use Rattle.hh_inputs.specs.declared.inputs.InputFault.{InputFault}
+use Rattle.hh_inputs.specs.declared.inputs.InputFault.TheVariants as input
+use Rattle.hh_names.specs.Faults.{memory_fault}
+use Rattle.hh_script.specs.declared.script.ScriptFault.{ScriptFault}
+use Rattle.hh_script.specs.declared.script.ScriptFault.TheVariants as script
+use Rattle.hh_session.specs.declared.script.ScriptStop.{ScriptStop}
+use Rattle.hh_session.specs.declared.script.ScriptStop.TheVariants.{File, Off, Refused}
+
+-- a script whose file gives no bytes
+abbrev pub input_stop : InputFault → ScriptStop
+input_stop input.Unreadable = File
+input_stop input.Memory = Refused memory_fault
+
+-- a script that is not read
+abbrev pub script_stop : ScriptFault → ScriptStop
+script_stop (script.Off line) = Off line
+script_stop script.Memory = Refused memory_fault

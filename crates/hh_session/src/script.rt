@@ -1,0 +1,124 @@
+//! The script in a file, run over a new office.
+
+ghost use Rattle.std.specs.Prelude.{◌≡◌, ◌≢◌, ◌≤◌, Some, length, map, All, IfErr, IfOk, OnErr, OnOk};
+ghost use Rattle.hh_devices.specs.Devices.{Failed};
+ghost use Rattle.hh_script.specs.Steps.{IsNamed, step_of};
+ghost use Rattle.hh_session.specs.Script.{IsUnread, NewOfficeCuts, NewOfficeWrites, StopsAt, WritesScript, most_script_bytes};
+
+use crate::run::run_lines;
+use hh_devices::{DeviceFailed, Sink};
+use hh_inputs::{InputFault, Inputs};
+use hh_names::{Fault, Refusal};
+use hh_office::Office;
+use hh_rows::Settings;
+use hh_script::{ScriptFault, ScriptLine, read_script};
+use hh_store::PlainTables;
+use hh_time::london;
+use std::alloc::Global;
+
+/// The most bytes that a script may have (profile).
+pub const MOST_SCRIPT_BYTES: usize = 16_777_216;
+
+/// Why a script is not run, or not to its end.
+#[derive(Clone, Copy, Debug, PartialEq, Eq)]
+pub enum ScriptStop {
+    /// Its file cannot be read. Nothing was run.
+    File,
+    /// The first line that is off its form, numbered from 1. Nothing was run.
+    Off { line: usize },
+    /// It has too many bytes (10), or memory was refused (90). Nothing was run.
+    Refused(Fault),
+    /// The output failed or took nothing, and a beginning of the text went out.
+    Output,
+}
+
+impl From<InputFault> for ScriptStop {
+    ghost use Rattle.std.specs.Prelude.{◌≡◌};
+    ghost use Rattle.hh_session.specs.ScriptStops.{input_stop};
+
+    ghost from_gives = { λ fault stop. stop ≡ input_stop fault };
+
+    fn from(fault: InputFault) -> ScriptStop {
+        match fault {
+            InputFault::Unreadable => ScriptStop::File,
+            InputFault::Memory => ScriptStop::Refused(Fault::of(Refusal::Memory)),
+        }
+    }
+}
+
+impl From<ScriptFault> for ScriptStop {
+    ghost use Rattle.std.specs.Prelude.{◌≡◌};
+    ghost use Rattle.hh_session.specs.ScriptStops.{script_stop};
+
+    ghost from_gives = { λ fault stop. stop ≡ script_stop fault };
+
+    fn from(fault: ScriptFault) -> ScriptStop {
+        match fault {
+            ScriptFault::Off { line } => ScriptStop::Off { line },
+            ScriptFault::Memory => ScriptStop::Refused(Fault::of(Refusal::Memory)),
+        }
+    }
+}
+
+/// Runs the script in a file over a new office with these settings, whose tables are in memory, and
+/// writes a line for each of its lines (profile). All lines are read before any is run.
+///
+/// # Errors
+///
+/// `File`, `Off` and `Refused`, with nothing written; `Output` where the output failed or took nothing
+/// in this call.
+pub fn run_script<I: Inputs, O: Sink>(
+    alloc: Global,
+    settings: Settings,
+    inputs: &I,
+    path: &str,
+    out: &mut O,
+) -> Result<(), ScriptStop>
+    ensures done { OnOk result (WritesScript (I.reads_as inputs.now) path.now settings
+        (O.taken out.old) (O.taken out.new)) }
+    ensures well { OnOk result (O.failures out.new ≡ O.failures out.old) }
+    ensures stopped { IfErr result (StopsAt (I.reads_as inputs.now) path.now settings
+        (O.taken out.old) (O.taken out.new) (Failed (O.failures out.old) (O.failures out.new))) }
+    ensures untouched { IfErr result (λ stop. stop ≢ ScriptStop.Output → out.new ≡ out.old) }
+{
+    let bytes = read_whole(alloc, inputs, path)?;
+    let lines = read_script(alloc, &bytes)?;
+    match run_new_office(alloc, settings, inputs, &lines, out) {
+        Ok(()) => Ok(()),
+        Err(DeviceFailed) => Err(ScriptStop::Output),
+    }
+}
+
+/// The bytes of a script's file, where it has not too many.
+fn read_whole<I: Inputs>(alloc: Global, inputs: &I, path: &str) -> Result<Vec<u8>, ScriptStop>
+    ensures whole { IfOk result (λ bytes. I.reads_as inputs.now path.now (Some bytes.items)) }
+    ensures small { IfOk result (λ bytes. length bytes.items ≤ most_script_bytes) }
+    ensures unread { IfErr result (IsUnread (I.reads_as inputs.now) path.now) }
+    ensures known { IfErr result (λ stop. stop ≢ ScriptStop.Output) }
+{
+    let bytes = inputs.read(alloc, path, MOST_SCRIPT_BYTES + 1)?;
+    if bytes.len() > MOST_SCRIPT_BYTES {
+        return Err(ScriptStop::Refused(Fault::of(Refusal::FileTooLarge)));
+    }
+    Ok(bytes)
+}
+
+/// Runs lines over a new office, whose tables are in memory.
+fn run_new_office<I: Inputs, O: Sink>(
+    alloc: Global,
+    settings: Settings,
+    inputs: &I,
+    lines: &[ScriptLine<'_>],
+    out: &mut O,
+) -> Result<(), DeviceFailed>
+    requires { All (λ line. IsNamed (step_of line)) lines.now }
+    ensures done { OnOk result (NewOfficeWrites (I.reads_as inputs.now) settings
+        (O.taken out.old) (O.taken out.new) (map step_of lines.now)) }
+    ensures well { OnOk result (O.failures out.new ≡ O.failures out.old) }
+    ensures cut { OnErr result (NewOfficeCuts (I.reads_as inputs.now) settings
+        (O.taken out.old) (O.taken out.new) (map step_of lines.now)) }
+    ensures failed { OnErr result (Failed (O.failures out.old) (O.failures out.new)) }
+{
+    let mut office = Office::new(alloc, PlainTables::new(alloc, settings), london());
+    run_lines(alloc, &mut office, inputs, lines, out)
+}
