@@ -17,6 +17,21 @@ struct Case<'a> {
     err: &'a str,
 }
 
+/// The words of a call that settles a period. A negative price follows the word `--`.
+fn line_of(alloc: Global, price: &str) -> Result<Vec<String>, AllocError> {
+    line(
+        alloc,
+        &[
+            "settle",
+            "period",
+            "meter.csv",
+            "contracts.csv",
+            "--",
+            price,
+        ],
+    )
+}
+
 /// Settles a case from files in memory, and compares the exit status and both outputs.
 fn settles<R: AllocGlobal + Abort>(rt: &R, case: &Case<'_>) -> Result<(), Fail> {
     let alloc = rt.alloc();
@@ -35,17 +50,7 @@ fn settles<R: AllocGlobal + Abort>(rt: &R, case: &Case<'_>) -> Result<(), Fail> 
             bytes: meter.as_bytes(),
         },
     ];
-    let words = line(
-        alloc,
-        &[
-            "settle",
-            "period",
-            "meter.csv",
-            "contracts.csv",
-            "--",
-            case.price,
-        ],
-    )?;
+    let words = line_of(alloc, case.price)?;
     let mut out = MemorySink::with_room(alloc, 4096)?;
     let mut err = MemorySink::with_room(alloc, 4096)?;
     let status = command(
