@@ -1,7 +1,9 @@
 """What only the built program can show: its exit statuses, its streams and the system's files."""
 import os
 import pathlib
+import resource
 import shutil
+import signal
 import subprocess
 import tempfile
 import unittest
@@ -68,6 +70,8 @@ class Settled(OfTheProgram):
         # 2 MWh long at -5 pounds: 1,000 pence to pay
         text = b"account A-P credited 2.0000000000 imbalance 2.0000000000 charge 1000\nresidual -1000\n"
         self.assertEqual(self.period("U,A-P,2,1,0\n", "", "--", "-5"), (0, text, b""))
+        meter, contracts = str(self.room / "meter.csv"), str(self.room / "contracts.csv")
+        self.assertEqual(settle("period", "--", meter, contracts, "-5"), (0, text, b""))
 
     def test_a_write_of_more_than_4096_bytes(self):
         rows, text = period_of(100)
@@ -104,18 +108,23 @@ class Refused(OfTheProgram):
 
     def test_a_header(self):
         self.refused(settle("period", CONTRACTS, METER, "1"), "refused 12 BadHeader in meter")
+        self.refused(settle("period", METER, METER, "1"), "refused 12 BadHeader in contracts")
+        self.refused(settle("period", "/dev/null", CONTRACTS, "1"), "refused 12 BadHeader in meter")
 
     def test_a_contract_with_itself(self):
         self.refused(self.period("", "C,A-P,A-P,1\n", "1"), "refused 35 SameAccount row 1 in contracts")
 
     def test_a_reference_that_moved(self):
-        rows = "C,A-P,B-P,1\nC,A-P,B-C,1\n"
-        self.refused(self.period("", rows, "1"), "refused 36 ReferenceMoved row 2 in contracts")
+        rows = "C,A-P,B-P,1\nD,A-P,B-P,1\nC,A-P,B-C,1\n"
+        self.refused(self.period("", rows, "1"), "refused 36 ReferenceMoved row 3 in contracts")
 
     def test_a_charge_past_its_limit(self):
-        # 200,000 MWh at 99,999.99999 pounds are about 2 * 10^12 pence, of which 10^12 may be
-        rows = "".join(f"U{unit},A-P,10000,2,0\n" for unit in range(10))
-        self.refused(self.period(rows, "", "99999.99999"), "refused 55 TooLarge")
+        # Each unit gives 20,000 MWh. Five at 99,999.99999 pounds are 10^12 - 100 pence, and 10^12 may be.
+        rows = [f"U{unit},A-P,10000,2,0\n" for unit in range(6)]
+        energy, pence = "100000.0000000000", 10**12 - 100
+        text = f"account A-P credited {energy} imbalance {energy} charge -{pence}\nresidual {pence}\n"
+        self.assertEqual(self.period("".join(rows[:5]), "", "99999.99999"), (0, text.encode(), b""))
+        self.refused(self.period("".join(rows), "", "99999.99999"), "refused 55 TooLarge")
 
     def test_the_greatest_file(self):
         """1,048,576 bytes are read, and one more is refused."""
@@ -181,15 +190,20 @@ class WrongWords(OfTheProgram):
     def test_words_that_are_no_command(self):
         self.wrong()
         self.wrong("")
-        self.wrong("perod", METER, CONTRACTS, "50")
+        self.wrong("periods", METER, CONTRACTS, "50")
+        self.wrong("period")
         self.wrong("period", METER, CONTRACTS)
         self.wrong("period", METER, CONTRACTS, "50", "50")
         self.wrong("period", METER, CONTRACTS, "-5")
+        self.wrong("period", METER, CONTRACTS, "50", "--at=1")
+        self.wrong("period", "-x", METER, CONTRACTS, "50")
+        self.wrong("--version")
 
     def test_calls_for_help(self):
-        self.wrong("--help")
+        for words in (("--help",), ("-h",), ("help",), ("period", METER, CONTRACTS, "--help")):
+            self.wrong(*words)
         self.wrong("period", "--help")
-        self.wrong("period", METER, CONTRACTS, "--help")
+        self.assertIn(b"settle period <METER> <CONTRACTS> <PRICE>", settle("period", "--help")[2])
 
     def test_words_that_are_not_utf8(self):
         for words in ((b"period", b"\xff.csv", CONTRACTS, "50"), (b"\xff",)):
@@ -210,6 +224,18 @@ class Streams(OfTheProgram):
 
     def test_a_full_device(self):
         self.assertEqual(self.by_shell(">/dev/full", *self.SETTLED), (1, b"", b"fault output\n"))
+
+    def test_a_file_that_takes_five_bytes(self):
+        """Where the output takes a beginning and then fails, the status tells it."""
+
+        def limit():
+            signal.signal(signal.SIGXFSZ, signal.SIG_IGN)
+            resource.setrlimit(resource.RLIMIT_FSIZE, (5, 5))
+
+        with open(self.room / "out", "wb") as out:
+            made = subprocess.run([SETTLE, *self.SETTLED], stdout=out, stderr=subprocess.PIPE, preexec_fn=limit)
+        self.assertEqual((made.returncode, made.stderr), (1, b"fault output\n"))
+        self.assertEqual((self.room / "out").read_bytes(), EXAMPLE[:5])
 
     def test_a_full_device_that_is_not_written_to(self):
         self.assertEqual(self.by_shell(">/dev/full", *self.WRONG), (1, b"", b"refused 14 BadField in price\n"))

@@ -1,15 +1,13 @@
 -- What becomes of a file's rows, row after row.
-use Rattle.std.proofs.Common.{◌≡◌, ◌<◌, ◌≤◌, ℕ, ◌+◌, ℤ, List, [], ◌∷◌, ◌++◌, Bool, true, false, cond, refl, sym, ap, subst, ◌∙◌, Option, Some, None, Ok, Err, map, length, take, drop, get_or, arith}
+use Rattle.std.proofs.Common.{◌≡◌, ◌<◌, ℕ, ◌+◌, ℤ, List, [], ◌∷◌, ◌++◌, true, false, cond, refl, sym, ap, subst, ◌∙◌, Option, Some, None, Ok, Err, map, length, take, drop, get_or, arith}
 use Rattle.std.specs.Prelude.{filter, not, is_none, option_to_list, Result}
 use Rattle.std.specs.Result.{IsErr, IsErrAnd}
 use Rattle.std.specs.List.{cons_option}
-use Rattle.std.specs.FinMap.{find}
 use Rattle.std.proofs.Common.{length-append}
 use Rattle.std.proofs.lemmas.List.Elements.{All-head}
 use Rattle.std.proofs.lemmas.List.{append-nil, append_assoc, drop_all, drop_more, map-append, take_all, take_more}
 use Rattle.jiff.specs.declared.tz.timezone.TimeZone.{TimeZone}
 use Rattle.hh_tables.proofs.TableLaws.{false_is_not_true}
-use Rattle.hh_names.specs.Accounts.{bytes_cmp}
 use Rattle.hh_names.specs.Faults.{ByRefusal, Gives, Refuses, faults, row_fault}
 use Rattle.hh_names.specs.declared.values.Counterparties.{Counterparties}
 use Rattle.hh_names.specs.declared.fault.Fault.{Fault}
@@ -24,7 +22,7 @@ use Rattle.hh_rules.specs.Entries.{reference_entry}
 use Rattle.hh_rules.specs.FileRows.{FileRowsView, JudgesFile, ServesAfterHistory, coming_at, file_outcome, first_fault, fixed_by, fixed_references, judged_file, judged_row, judged_row_at, late_count, refusal_after, register_of, timely_rows, with_done}
 use Rattle.hh_rules.specs.History.{History, Registered, registered_in}
 use Rattle.hh_rules.specs.Lateness.{Timetable, Accepted, accepted_at, is_in_time}
-use Rattle.hh_rules.specs.RegisterView.{AgreesOn, RegisterView, ServesAfter, ServesFor, done_at, in_time_at, refusal_at, register_after, tables_in, timetable_in, timetable_of}
+use Rattle.hh_rules.specs.RegisterView.{AgreesOn, RegisterView, ServesAfter, ServesFor, done_at, refusal_at, tables_in, timetable_in, timetable_of}
 use Rattle.hh_rules.proofs.HistoryLaws.{filter-append}
 use Rattle.hh_rules.proofs.ServingLaws.{part_refuses}
 use Rattle.hh_rules.proofs.StandingLaws.{standing-append}

@@ -1,6 +1,6 @@
 -- A register that serves for a row judges it as the whole one does, and serves for the rows that follow.
-use Rattle.std.proofs.Common.{◌≡◌, ℕ, ◌+◌, suc, ℤ, List, [], ◌∷◌, Bool, true, false, cond, refl, sym, ap, subst, ◌∙◌, Option, Some, None, Ordering, arith}
-use Rattle.std.specs.Prelude.{pos, ◌+ℤ◌, not, ◌&&◌, ◌||◌, nat_le, int_lt, is_none, is_some, slice_index_or, filter, All, T}
+use Rattle.std.proofs.Common.{◌≡◌, ℕ, ◌+◌, ℤ, List, [], ◌∷◌, Bool, true, false, cond, refl, sym, ap, subst, ◌∙◌, Option, Some, None, Ordering}
+use Rattle.std.specs.Prelude.{pos, ◌+ℤ◌, not, ◌&&◌, ◌||◌, nat_le, int_lt, is_none, is_some, slice_index_or, filter, T}
 use Rattle.std.specs.Cmp.{IsTotalOrder}
 use Rattle.std.proofs.lemmas.List.Elements.{All-head, All-tail}
 use Rattle.std.specs.FinMap.{find, put, is_sorted}

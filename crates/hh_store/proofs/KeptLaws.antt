@@ -1,5 +1,5 @@
 -- What a load puts into the tables of what is registered and in force, table by table.
-use Rattle.std.proofs.Common.{◌≡◌, ℕ, List, [], ◌∷◌, refl, sym, ap, ◌∙◌}
+use Rattle.std.proofs.Common.{◌≡◌, List, [], ◌∷◌, refl, sym, ap, ◌∙◌}
 use Rattle.std.specs.Prelude.{filter_map, unwrap_or}
 use Rattle.hh_tables.specs.Tables.{put_all}
 use Rattle.hh_names.specs.Accounts.{bytes_cmp}

@@ -1,5 +1,5 @@
 -- A part of a register grows by what the whole has, and then serves for the rows that name it.
-use Rattle.std.proofs.Common.{◌≡◌, ℕ, List, [], ◌∷◌, ◌++◌, length, refl, sym, ap, subst, ◌∙◌, Bool, true, false, cond, Option, Some, None, Ordering, append_assoc, inl, inr}
+use Rattle.std.proofs.Common.{◌≡◌, ℕ, List, length, refl, sym, ap, subst, ◌∙◌, true, false, cond, Some, None, Ordering, inl, inr}
 use Rattle.std.specs.Prelude.{◌⊎◌, is_some, OnOk, Result, Ok, Err}
 use Rattle.std.specs.Cmp.{IsTotalOrder, Equal-is, eq_by_cmp_equiv}
 use Rattle.std.specs.FinMap.{find, put}
@@ -20,14 +20,13 @@ use Rattle.hh_rows.specs.declared.rows.PartyRow.{PartyRow}
 use Rattle.hh_rows.specs.declared.rows.PriceRow.{PriceRow}
 use Rattle.hh_rows.specs.declared.rows.UnitRow.{UnitRow}
 use Rattle.hh_rows.specs.Keys.{contract_key_cmp, settlement_period_cmp, unit_period_cmp}
-use Rattle.hh_rows.specs.declared.keys.ContractKey.{ContractKey}
 use Rattle.hh_rows.specs.declared.keys.UnitPeriod.{UnitPeriod}
 use Rattle.hh_rows.specs.declared.settlement_period.SettlementPeriod.{SettlementPeriod}
 use Rattle.hh_rows.proofs.KeyLaws.{contract_key_total, exact_contract_keys, exact_settlement_periods, exact_unit_periods, settlement_period_total, unit_period_total}
 use Rattle.hh_rules.specs.Effects.{put_new}
 use Rattle.hh_rules.specs.History.{Registered}
 use Rattle.hh_rules.specs.RegisterView.{AgreesOnParty, AgreesOnReference, AgreesOnUnit, RegisterView, empty_part, holding, holding_reference, tables_in}
-use Rattle.hh_store.specs.Parts.{AgreesOnNames, Grows, GrowsTable, IsPartOf, IsWithin, whole_of}
+use Rattle.hh_store.specs.Parts.{AgreesOnNames, Grows, GrowsTable, IsPartOf, IsPartOfTable, whole_of}
 
 module _ {K V : Type 0} {R : K → K → Ordering} (o : IsTotalOrder R) (exact : (x y : K) → R x y ≡ Equal → x ≡ y) (whole old : Table K V) (k : K) (v : V) (has : find R k whole ≡ Some v) where
   -- an entry of the whole that is put into the part
@@ -48,7 +47,7 @@ module _ {K V : Type 0} {R : K → K → Ordering} (o : IsTotalOrder R) (exact :
 
 module _ {K V : Type 0} (R : K → K → Ordering) (whole : Table K V) (k : K) where
   -- where the whole has nothing, the part has nothing
-  agrees-none : (part : Table K V) → IsWithin R whole part → find R k whole ≡ None → find R k part ≡ find R k whole
+  agrees-none : (part : Table K V) → IsPartOfTable R whole part → find R k whole ≡ None → find R k part ≡ find R k whole
   agrees-none part within none = elim (within k) as (λ _. find R k part ≡ find R k whole) [ inl nothing ↦ nothing ∙ sym none | inr same ↦ same ]
 
   -- what agrees stays
@@ -56,7 +55,7 @@ module _ {K V : Type 0} (R : K → K → Ordering) (whole : Table K V) (k : K) w
   agrees-grown old new grows agrees = elim (grows k) as (λ _. find R k new ≡ find R k whole) [ inl same ↦ same ∙ agrees | inr has ↦ has ]
 
 module _ {K V : Type 0} (R : K → K → Ordering) (whole : Table K V) where
-  within-grown : (old new : Table K V) → IsWithin R whole old → GrowsTable R whole old new → IsWithin R whole new
+  within-grown : (old new : Table K V) → IsPartOfTable R whole old → GrowsTable R whole old new → IsPartOfTable R whole new
   within-grown old new within grows k = elim (grows k) as (λ _. (find R k new ≡ None) ⊎ (find R k new ≡ find R k whole)) [
     | inl same ↦ elim (within k) as (λ _. (find R k new ≡ None) ⊎ (find R k new ≡ find R k whole)) [ inl nothing ↦ inl (same ∙ nothing) | inr is ↦ inr (same ∙ is) ]
     | inr has ↦ inr has
@@ -252,17 +251,11 @@ module _ (whole : Registered) where
     pub no_unit : (unit : List ℕ) → find bytes_cmp unit whole.units ≡ None → AgreesOnUnit whole (tables_in part) unit
     no_unit unit none = agrees-none bytes_cmp whole.units unit (tables_in part).units is.units none
 
-    pub no_reference : (reference : List ℕ) → find bytes_cmp reference whole.references ≡ None → AgreesOnReference whole (tables_in part) reference
-    no_reference reference none = agrees-none bytes_cmp whole.references reference (tables_in part).references is.references none
-
     pub no_reading : (key : UnitPeriod) → find unit_period_cmp key whole.meters ≡ None → find unit_period_cmp key (tables_in part).meters ≡ find unit_period_cmp key whole.meters
     no_reading key none = agrees-none unit_period_cmp whole.meters key (tables_in part).meters is.meters none
 
     pub no_price : (at : SettlementPeriod) → find settlement_period_cmp at whole.prices ≡ None → find settlement_period_cmp at (tables_in part).prices ≡ find settlement_period_cmp at whole.prices
     no_price at none = agrees-none settlement_period_cmp whole.prices at (tables_in part).prices is.prices none
-
-    pub no_contract : (key : ContractKey) → find contract_key_cmp key whole.contracts ≡ None → find contract_key_cmp key (tables_in part).contracts ≡ find contract_key_cmp key whole.contracts
-    no_contract key none = agrees-none contract_key_cmp whole.contracts key (tables_in part).contracts is.contracts none
 
 -- what holds of the part with one more row holds after the call that holds it
 pub once_held : {X E : Type 0} (P : RegisterView → Type 0) (held new : RegisterView) (r : Result X E) → OnOk r (new ≡ held) → P held → OnOk r (P new)

@@ -1,5 +1,5 @@
 -- The part of a register that rows are judged by: it holds nothing but what the whole has.
-use Rattle.std.specs.Prelude.{◌≡◌, ◌⊎◌, ℕ, List, [], Bool, true, Option, None}
+use Rattle.std.specs.Prelude.{◌≡◌, ◌⊎◌, ℕ, [], Bool, true, None}
 use Rattle.std.specs.BTreeSet.{BTreeSet, contains}
 use Rattle.std.specs.FinMap.{find}
 use Rattle.std.specs.declared.cmp.Ordering.{Ordering}
@@ -24,8 +24,8 @@ abbrev pub with_reallocations : Table ReallocationKey Reallocation → RegisterV
 with_reallocations rows part = with_tables (record (tables_in part) { reallocations = rows }) part
 
 -- what a table has under each key is nothing, or what the whole one has
-abbrev pub IsWithin : {K V : Type 0} → (K → K → Ordering) → Table K V → Table K V → Type 0
-IsWithin {K} R whole part = (k : K) → (find R k part ≡ None) ⊎ (find R k part ≡ find R k whole)
+abbrev pub IsPartOfTable : {K V : Type 0} → (K → K → Ordering) → Table K V → Table K V → Type 0
+IsPartOfTable {K} R whole part = (k : K) → (find R k part ≡ None) ⊎ (find R k part ≡ find R k whole)
 
 -- what a table has under each key is what it had, or what the whole one has
 abbrev pub GrowsTable : {K V : Type 0} → (K → K → Ordering) → Table K V → Table K V → Table K V → Type 0
@@ -37,12 +37,12 @@ pub record IsPartOf (whole part : RegisterView) : Type 0 where
   pub lead_minutes : part.lead_minutes ≡ whole.lead_minutes
   pub party_count : part.standing.party_count ≡ whole.standing.party_count
   pub unit_count : part.standing.unit_count ≡ whole.standing.unit_count
-  pub parties : IsWithin bytes_cmp (tables_in whole).parties (tables_in part).parties
-  pub units : IsWithin bytes_cmp (tables_in whole).units (tables_in part).units
-  pub references : IsWithin bytes_cmp (tables_in whole).references (tables_in part).references
-  pub meters : IsWithin unit_period_cmp (tables_in whole).meters (tables_in part).meters
-  pub prices : IsWithin settlement_period_cmp (tables_in whole).prices (tables_in part).prices
-  pub contracts : IsWithin contract_key_cmp (tables_in whole).contracts (tables_in part).contracts
+  pub parties : IsPartOfTable bytes_cmp (tables_in whole).parties (tables_in part).parties
+  pub units : IsPartOfTable bytes_cmp (tables_in whole).units (tables_in part).units
+  pub references : IsPartOfTable bytes_cmp (tables_in whole).references (tables_in part).references
+  pub meters : IsPartOfTable unit_period_cmp (tables_in whole).meters (tables_in part).meters
+  pub prices : IsPartOfTable settlement_period_cmp (tables_in whole).prices (tables_in part).prices
+  pub contracts : IsPartOfTable contract_key_cmp (tables_in whole).contracts (tables_in part).contracts
   pub reallocations : (tables_in part).reallocations ≡ []
 
 -- the part gets nothing but what the whole has, and no reallocations

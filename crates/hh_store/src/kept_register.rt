@@ -118,18 +118,25 @@ impl KeptRegister {
             with_changed changed self.now ≡ registered_with change.now self.now) }
     {
         let rows = change.rows();
+        let parties = with_entries(alloc, &self.parties, &parties_of(alloc, rows)?)?;
+        let units = with_entries(alloc, &self.units, &units_of(alloc, rows)?)?;
+        let references = with_entries(alloc, &self.references, change.references())?;
+        let meters = with_entries(alloc, &self.meters, &meters_of(alloc, rows)?)?;
+        let prices = with_entries(alloc, &self.prices, &prices_of(alloc, rows)?)?;
+        let contracts = with_entries(alloc, &self.contracts, &contracts_of(alloc, rows)?)?;
+        let reallocations = with_entries(
+            alloc,
+            &self.reallocations,
+            &reallocations_of(alloc, rows)?,
+        )?;
         Ok(ChangedTables {
-            parties: with_entries(alloc, &self.parties, &parties_of(alloc, rows)?)?,
-            units: with_entries(alloc, &self.units, &units_of(alloc, rows)?)?,
-            references: with_entries(alloc, &self.references, change.references())?,
-            meters: with_entries(alloc, &self.meters, &meters_of(alloc, rows)?)?,
-            prices: with_entries(alloc, &self.prices, &prices_of(alloc, rows)?)?,
-            contracts: with_entries(alloc, &self.contracts, &contracts_of(alloc, rows)?)?,
-            reallocations: with_entries(
-                alloc,
-                &self.reallocations,
-                &reallocations_of(alloc, rows)?,
-            )?,
+            parties,
+            units,
+            references,
+            meters,
+            prices,
+            contracts,
+            reallocations,
         })
     }
 

@@ -44,7 +44,8 @@ impl KeptRegister {
         rows: &[Row],
     ) -> Result<Register, StoreFault>
         ensures part { IfOk result (IsPartOf (whole_of lead_minutes self.now)) }
-        ensures agrees { IfOk result (λ part. All (AgreesOnNames self.now (tables_in part)) rows.now) }
+        ensures agrees { IfOk result (λ part.
+            All (AgreesOnNames self.now (tables_in part)) rows.now) }
     {
         let parties = count(self.parties.len())?;
         let units = count(self.units.len())?;

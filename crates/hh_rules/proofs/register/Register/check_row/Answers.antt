@@ -1,6 +1,6 @@
 use Rattle.std.proofs.Common.{◌∙◌, sym, ap, Err, w64}
 use Rattle.std.proofs.lemmas.Int.{to_z-of_z}
-use Rattle.hh_rules.specs.RegisterView.{judged, judged_at, refusal_at}
+use Rattle.hh_rules.specs.RegisterView.{judged, refusal_at}
 use Rattle.hh_rules.proofs.ServingLaws.{part_judges}
 use Rattle.hh_rules.proofs.register.Register.check_row.Goals as goal
 

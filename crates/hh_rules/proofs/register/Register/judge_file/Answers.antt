@@ -1,7 +1,7 @@
 use Rattle.std.proofs.Common.{◌≡◌, ◌+◌, ◌∙◌, ap, length, sym, subst, Ok, Err, arith, w64}
 use Rattle.std.proofs.lemmas.Int.{to_z-of_z}
 use Rattle.hh_rules.specs.FileRows.{JudgesFile}
-use Rattle.hh_rules.proofs.FileLaws.{AreJudgedTo, file_refused, judged_to_end, judged_to_more, count_with, passed_on}
+use Rattle.hh_rules.proofs.FileLaws.{file_refused, judged_to_end, judged_to_more, count_with, passed_on}
 use Rattle.hh_rules.proofs.register.Register.judge_file.Goals as goal
 
 pub returns-in_err-done-clause-judged : goal.returns-in_err-done-clause-judged

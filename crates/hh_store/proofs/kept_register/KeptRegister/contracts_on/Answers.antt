@@ -1,4 +1,4 @@
-use Rattle.std.proofs.Common.{◌≡◌, ◌++◌, ◌∙◌, [], ap, arith, sym, None, Some}
+use Rattle.std.proofs.Common.{◌∙◌, ap, arith, sym, None, Some}
 use Rattle.std.proofs.lemmas.List.{append-nil}
 use Rattle.hh_rules.specs.History.{Registered}
 use Rattle.hh_store.specs.KeptContracts.{contract_on}

@@ -1,4 +1,4 @@
-use Rattle.std.proofs.Common.{◌≡◌, sym}
+use Rattle.std.proofs.Common.{sym}
 use Rattle.hh_rules.specs.RegisterView.{AgreesOnParty, tables_in}
 use Rattle.hh_store.specs.Parts.{Grows}
 use Rattle.hh_store.proofs.PartLaws.{agrees_party, grows_party, grows_none, no_party, once_held}

@@ -1,5 +1,4 @@
-use Rattle.std.proofs.Common.{◌≡◌, ◌∙◌, arith, sym, true, false}
-use Rattle.hh_store.specs.Parts.{is_named_in}
+use Rattle.std.proofs.Common.{◌∙◌, arith, sym}
 use Rattle.hh_store.proofs.NamedLaws.{holds_more, skips_more}
 use Rattle.hh_store.proofs.kept_register.KeptRegister.hold_reallocations.Goals as goal
 use Rattle.hh_store.proofs.kept_register.KeptRegister.hold_reallocations.Goals.{then-contains+in_ok-hold, else-contains}

@@ -1,4 +1,4 @@
-use Rattle.std.proofs.Common.{◌≡◌, sym}
+use Rattle.std.proofs.Common.{sym}
 use Rattle.hh_rules.specs.RegisterView.{AgreesOnUnit, tables_in}
 use Rattle.hh_store.specs.Parts.{Grows}
 use Rattle.hh_store.proofs.PartLaws.{agrees_unit, grows_unit, grows_none, no_unit, once_held}
