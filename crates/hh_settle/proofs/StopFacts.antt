@@ -26,7 +26,7 @@ IsFrontOf reads most path front = (all : List ℕ) × reads path (Some all) × (
 module _ (reads : List ℕ → Option (List ℕ) → Type 0) (most : ℕ) (enough : most_bytes < most) (meter contracts price : List ℕ)
     (m c : List ℕ) (meter_read : IsFrontOf reads most meter m) (contracts_read : IsFrontOf reads most contracts c) where
   -- what the bytes that were read come to, the line does
-  comes_to : (outcome : Outcome (List ℕ)) → period_outcome m c price ≡ outcome → ComesTo reads (PeriodLine meter contracts price) outcome
+  comes_to : (outcome : Outcome (List ℕ)) → period_outcome m c price ≡ outcome → ComesTo reads meter contracts price outcome
   comes_to outcome is = (
     meter_read.0,
     contracts_read.0,

@@ -1,5 +1,5 @@
 -- How a line of words ends: done, or stopped, and what is told of it.
-use Rattle.std.specs.Prelude.{◌≡◌, ◌≢◌, ◌⊎◌, ℕ, List, [], ◌++◌, Option, Some, None, Ok, Err, codes}
+use Rattle.std.specs.Prelude.{◌≡◌, ◌≢◌, ◌⊎◌, ℕ, List, [], ◌++◌, Option, Some, None, Ok, Err, codes, decimal}
 use Rattle.std.specs.Io.KnownBytes.{Appends}
 use Rattle.clap.specs.Words.{Text}
 use Rattle.hh_devices.specs.Devices.{AppendsFront, Failed}
@@ -11,9 +11,13 @@ use Rattle.hh_period.specs.declared.inputs.PeriodFault.TheVariants as period
 use Rattle.hh_period.specs.declared.rejection.Rejection.{Rejection}
 use Rattle.hh_period.specs.Outcome.{memory_rejection, period_outcome, Outcome}
 use Rattle.hh_period.specs.RejectionText.{rejection_text}
+use Rattle.hh_rows.specs.declared.settings.Settings.{Settings}
+use Rattle.hh_session.specs.declared.script.ScriptStop.{ScriptStop}
+use Rattle.hh_session.specs.declared.script.ScriptStop.TheVariants as script
+use Rattle.hh_session.specs.Script.{IsUnread, StopsAt, WritesScript}
 use Rattle.hh_settle.specs.declared.program.Stop.{Stop}
 use Rattle.hh_settle.specs.declared.program.Stop.TheVariants as stop
-use Rattle.hh_settle.specs.Lines.{Line, PeriodLine, line_value}
+use Rattle.hh_settle.specs.Lines.{Line, PeriodLine, ScriptLine, line_value}
 
 -- why a command stops whose file gives no bytes
 abbrev pub input_stop : InputFault → Stop
@@ -25,6 +29,13 @@ abbrev pub period_stop : PeriodFault → Stop
 period_stop (period.Refused e) = stop.Refused e
 period_stop period.Write = stop.Output
 
+-- why a command stops whose script is not run, or not to its end
+abbrev pub script_stop : ScriptStop → Stop
+script_stop script.File = stop.File
+script_stop (script.Off line) = stop.Off line
+script_stop (script.Refused fault) = stop.Refused (record { fault = fault; input = None })
+script_stop script.Output = stop.Output
+
 -- the line that tells a rejection
 abbrev pub rejection_line : Rejection → List ℕ
 rejection_line e = rejection_text e ++ codes "\n"
@@ -34,6 +45,7 @@ abbrev pub stop_line : Stop → List ℕ
 stop_line (stop.Refused e) = rejection_line e
 stop_line stop.File = codes "fault file\n"
 stop_line stop.Output = codes "fault output\n"
+stop_line (stop.Off line) = codes "line " ++ decimal line ++ codes " is off its form\n"
 
 -- the bytes that a device tells before and after a command, and its counts of failures
 pub record Course : Type 0 where
@@ -66,27 +78,28 @@ module _ (old new : Option (List ℕ)) (failed : Type 0) where
   StopsBy Comes unread (stop.Refused e) = (new ≡ old) × ByRefusal e.fault.refusal (e ≡ memory_rejection) (Comes (Err e))
   StopsBy Comes unread stop.File = (new ≡ old) × unread
   StopsBy Comes unread stop.Output = failed × ((text : List ℕ) × Comes (Ok text) × AppendsFront old new text)
+  StopsBy Comes unread (stop.Off line) = ⊥
 
 -- What a path may read as: the bytes of its file, or nothing where it cannot be read.
 module _ (reads : List ℕ → Option (List ℕ) → Type 0) where
-  -- what a line may come to: a text, or a rejection, by what its files may read as
-  abbrev pub ComesTo : Line → Outcome (List ℕ) → Type 0
-  ComesTo (PeriodLine meter contracts price) outcome =
+  -- what a period may come to: a text, or a rejection, by what its files may read as
+  abbrev pub ComesTo : Text → Text → Text → Outcome (List ℕ) → Type 0
+  ComesTo meter contracts price outcome =
       (m c : List ℕ) × reads meter (Some m) × reads contracts (Some c) × (period_outcome m c price ≡ outcome)
 
-  -- a file of a line cannot be read: METER, or CONTRACTS where METER can
-  abbrev pub HasUnreadable : Line → Type 0
-  HasUnreadable (PeriodLine meter contracts price) = reads meter None ⊎ ((m : List ℕ) × reads meter (Some m) × reads contracts None)
+  -- a file of a period cannot be read: METER, or CONTRACTS where METER can
+  abbrev pub HasUnreadable : Text → Text → Type 0
+  HasUnreadable meter contracts = reads meter None ⊎ ((m : List ℕ) × reads meter (Some m) × reads contracts None)
 
-  -- the line comes to a text, and known bytes grow by it
+  -- the line is done, and known bytes grow by its text
   abbrev pub Does : Line → Option (List ℕ) → Option (List ℕ) → Type 0
-  Does line old new = (text : List ℕ) × ComesTo line (Ok text) × Appends old new text
+  Does (PeriodLine meter contracts price) old new = (text : List ℕ) × ComesTo meter contracts price (Ok text) × Appends old new text
+  Does (ScriptLine settings file) old new = WritesScript reads file settings old new
 
   -- a line stops so, where the output had these bytes and has those, and failed if this holds
   abbrev pub StopsLine : Option (List ℕ) → Option (List ℕ) → Type 0 → Line → Stop → Type 0
-  StopsLine old new failed (PeriodLine meter contracts price) =
-      let line : Line = PeriodLine meter contracts price in
-      StopsBy old new failed (ComesTo line) (HasUnreadable line)
+  StopsLine old new failed (PeriodLine meter contracts price) = StopsBy old new failed (ComesTo meter contracts price) (HasUnreadable meter contracts)
+  StopsLine old new failed (ScriptLine settings file) = λ s. (why : ScriptStop) × (s ≡ script_stop why) × StopsAt reads file settings old new failed why
 
   -- words form a line, and it is done
   abbrev pub DoesWords : List Text → Option (List ℕ) → Option (List ℕ) → Type 0
@@ -100,3 +113,8 @@ module _ (reads : List ℕ → Option (List ℕ) → Type 0) where
   -- words stop, and why is told
   abbrev pub Stops : List Text → Course → Course → Type 0
   Stops words out err = (s : Stop) × StopsWords words out s × Tells err s
+
+  -- words form no line, or that of a script of which a line is off its form
+  abbrev pub AreWrong : List Text → Type 0
+  AreWrong words = (line_value words ≡ None) ⊎ ((settings : Settings) × (file : Text) × (line : ℕ)
+      × (line_value words ≡ Some (ScriptLine settings file)) × IsUnread reads file (script.Off line))

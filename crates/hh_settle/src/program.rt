@@ -1,11 +1,11 @@
 //! One line of words, from its reading to the exit status.
 
-ghost use Rattle.std.specs.Prelude.{◌≡◌, ◌≤◌, ◌<◌, IfErr, OnErr, OnOk, List, map, string_bytes, None};
+ghost use Rattle.std.specs.Prelude.{◌≡◌, ◌≢◌, ◌≤◌, ◌<◌, IfErr, OnErr, OnOk, List, map, string_bytes};
 ghost use Rattle.clap.specs.Words.{Text};
 ghost use Rattle.hh_devices.specs.Devices.{Failed};
 ghost use Rattle.hh_period.specs.Outcome.{memory_rejection};
-ghost use Rattle.hh_settle.specs.Lines.{line_of, line_value};
-ghost use Rattle.hh_settle.specs.Stops.{course, Does, DoesWords, IsTold, Stops, StopsLine, Tells};
+ghost use Rattle.hh_settle.specs.Lines.{line_of};
+ghost use Rattle.hh_settle.specs.Stops.{course, AreWrong, Does, DoesWords, IsTold, Stops, StopsLine, Tells};
 ghost use Rattle.hh_texts.specs.Rows.{most_bytes};
 
 use crate::words::{Command, PeriodWords, USAGE, WordsFault, read_words};
@@ -13,6 +13,7 @@ use hh_devices::{DeviceFailed, Sink, write_whole};
 use hh_inputs::{InputFault, Inputs};
 use hh_names::Refusal;
 use hh_period::{PeriodFault, Rejection, period};
+use hh_session::{ScriptStop, run_script};
 use hh_texts::MOST_BYTES;
 use std::alloc::{AllocError, Global};
 use std::io::ErrorKind;
@@ -41,6 +42,8 @@ enum Stop {
     Refused(Rejection),
     File,
     Output,
+    /// A line of a script is off its form: the words are wrong.
+    Off { line: usize },
 }
 
 impl Stop {
@@ -73,6 +76,21 @@ impl From<PeriodFault> for Stop {
         match fault {
             PeriodFault::Refused(rejection) => Stop::Refused(rejection),
             PeriodFault::Write => Stop::Output,
+        }
+    }
+}
+
+impl From<ScriptStop> for Stop {
+    ghost use Rattle.hh_settle.specs.Stops.{script_stop};
+
+    ghost from_gives = { λ why stop. stop ≡ script_stop why };
+
+    fn from(why: ScriptStop) -> Stop {
+        match why {
+            ScriptStop::File => Stop::File,
+            ScriptStop::Off { line } => Stop::Off { line },
+            ScriptStop::Refused(fault) => Stop::Refused(Rejection { fault, input: None }),
+            ScriptStop::Output => Stop::Output,
         }
     }
 }
@@ -118,8 +136,8 @@ fn arguments<R: Env + AllocGlobal>(rt: &R) -> io::Result<Vec<String>> {
 }
 
 /// Runs one line of words, the program's own name in front, over files and two sinks, and answers
-/// the exit status: 0 done, 1 refused or a fault of a file or of the output, 2 wrong words or a
-/// call for help. What ends it is told on `err`; where `err` fails, the status alone tells it.
+/// the exit status: 0 done, 1 refused or a fault of a file or of the output, 2 wrong words, a line of
+/// a script off its form, or a call for help. What ends it is told on `err`; where `err` fails, the status alone tells it.
 pub fn command<I: Inputs, O: Sink, E: Sink>(
     alloc: Global,
     inputs: &I,
@@ -139,14 +157,15 @@ pub fn command<I: Inputs, O: Sink, E: Sink>(
     ensures stopped { result ≡ 1 → Stops (I.reads_as inputs.now) (map string_bytes words.now)
         (course O.taken O.failures out.old out.new) (course E.taken E.failures err.old err.new) }
 
-    // Words that form no line are told, unless `err` failed.
-    ensures wrong { result ≡ 2 → line_value (map string_bytes words.now) ≡ None }
+    // Words that form no line are told, and so is a line of a script off its form, unless `err` failed.
+    ensures wrong { result ≡ 2 → AreWrong (I.reads_as inputs.now) (map string_bytes words.now) }
     ensures told { result ≡ 2 → IsTold (course E.taken E.failures err.old err.new) }
     ensures untouched { result ≡ 2 → out.new ≡ out.old }
 {
     match read_words(alloc, words) {
-        Ok(command) => match perform(alloc, inputs, command, out) {
+        Ok(command) => match perform(alloc, inputs, &command, out) {
             Ok(()) => DONE,
+            Err(Stop::Off { line }) => off(alloc, err, line),
             Err(stop) => refused(alloc, err, stop),
         },
         Err(WordsFault::Wrong(text)) => wrong(err, text.as_str()),
@@ -158,18 +177,24 @@ pub fn command<I: Inputs, O: Sink, E: Sink>(
 fn perform<I: Inputs, O: Sink>(
     alloc: Global,
     inputs: &I,
-    command: Command<'_>,
+    command: &Command<'_>,
     out: &mut O,
 ) -> Result<(), Stop>
-    ensures done { OnOk result (Does (I.reads_as inputs.now) (line_of command.entry)
+    ensures done { OnOk result (Does (I.reads_as inputs.now) (line_of command.now)
         (O.taken out.old) (O.taken out.new)) }
     ensures well { OnOk result (O.failures out.new ≡ O.failures out.old) }
     ensures stopped { IfErr result (λ stop. StopsLine (I.reads_as inputs.now)
         (O.taken out.old) (O.taken out.new) (Failed (O.failures out.old) (O.failures out.new))
-        (line_of command.entry) stop) }
+        (line_of command.now) stop) }
+    ensures untouched { IfErr result (λ stop. stop ≢ Stop.Output → out.new ≡ out.old) }
 {
-    let words = command.words();
-    settle_files(alloc, inputs, MOST_READ, words, out)
+    match command {
+        Command::Period(words) => settle_files(alloc, inputs, MOST_READ, *words, out),
+        Command::Script(words) => {
+            run_script(alloc, words.settings, inputs, words.file, out)?;
+            Ok(())
+        }
+    }
 }
 
 /// Does what `period` is given, by so many bytes of each file.
@@ -187,6 +212,7 @@ fn settle_files<I: Inputs, O: Sink>(
     ensures stopped { IfErr result (λ stop. StopsLine (I.reads_as inputs.now)
         (O.taken out.old) (O.taken out.new) (Failed (O.failures out.old) (O.failures out.new))
         (line_of (Command.Period words.entry)) stop) }
+    ensures untouched { IfErr result (λ stop. stop ≢ Stop.Output → out.new ≡ out.old) }
 {
     let meter = inputs.read(alloc, words.meter, most)?;
     let contracts = inputs.read(alloc, words.contracts, most)?;
@@ -202,6 +228,15 @@ fn wrong<E: Sink>(err: &mut E, text: &str) -> u8
 {
     let told = if text.is_empty() { USAGE } else { text };
     let _ = write_whole(err, told.as_bytes());
+    WRONG_WORDS
+}
+
+/// Tells which line of a script is off its form, where the device for it does not fail.
+fn off<E: Sink>(alloc: Global, err: &mut E, line: usize) -> u8
+    ensures status { result ≡ 2 }
+    ensures told { IsTold (course E.taken E.failures err.old err.new) }
+{
+    let _ = write_stop(alloc, err, Stop::Off { line });
     WRONG_WORDS
 }
 
@@ -223,6 +258,19 @@ fn write_stop<E: Sink>(alloc: Global, err: &mut E, stop: Stop) -> Result<(), Dev
         Stop::Refused(rejection) => write_rejection(alloc, err, rejection),
         Stop::File => write_whole(err, b"fault file\n"),
         Stop::Output => write_whole(err, b"fault output\n"),
+        Stop::Off { line } => write_off(alloc, err, line),
+    }
+}
+
+/// Writes which line of a script is off its form, or that memory ran out for that.
+fn write_off<S: Sink>(alloc: Global, sink: &mut S, line: usize) -> Result<(), DeviceFailed>
+    ensures failed { OnErr result (Failed (S.failures sink.old) (S.failures sink.new)) }
+    ensures told { OnOk result (Tells (course S.taken S.failures sink.old sink.new)
+        (Stop.Off line)) }
+{
+    match format!(in alloc; "line {line} is off its form\n") {
+        Ok(text) => write_whole(sink, text.as_bytes()),
+        Err(AllocError) => write_whole(sink, b"refused 90 Memory\n"),
     }
 }
 

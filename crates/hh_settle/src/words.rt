@@ -4,22 +4,26 @@ ghost use Rattle.std.specs.Prelude.{◌≡◌, ◌≢◌, IfOk, IfErr, map, stri
 ghost use Rattle.clap.specs.Words.{app_of, rule_of, found_of, rows_of, first_of, kind_of, subcommand_rows_of};
 ghost use Rattle.clap.specs.declared.builder.command.Command.TheViews.{out-Command};
 ghost use Rattle.clap.specs.declared.error.kind.ErrorKind.TheVariants.{OutOfMemory};
-ghost use Rattle.hh_settle.specs.Grammar.{positional, period_app, settle_app};
-ghost use Rattle.hh_settle.specs.declared.words.Command.TheVariants.{Period};
-ghost use Rattle.hh_settle.specs.Lines.{line_of, line_value, given_line, given_period};
+ghost use Rattle.hh_settle.specs.Grammar.{option, period_app, positional, required_option, script_app, settle_app};
+ghost use Rattle.hh_settle.specs.Lines.{line_of, line_value, given_line, given_period, given_script, minutes_given};
 
 use clap::error::ErrorKind;
 use clap::{Arg, ArgAction, ArgMatches, Command as Grammar};
+use hh_names::OperatorKey;
+use hh_rows::{LeadMinutes, Settings};
 use std::alloc::{AllocError, Global};
 
 /// How the program is used, in short.
-pub const USAGE: &str = "usage: settle period METER CONTRACTS PRICE\n";
+pub const USAGE: &str = "usage: settle period METER CONTRACTS PRICE
+       settle script --operator-key KEY [--lead-minutes N] FILE\n";
 
 /// What the program is to do.
 #[derive(Clone, Copy, Debug, PartialEq, Eq)]
 pub enum Command<'a> {
     /// Settles one period from a file of meters, a file of contracts and a price.
     Period(PeriodWords<'a>),
+    /// Runs the lines of a script over a new office in memory.
+    Script(ScriptWords<'a>),
 }
 
 /// The words of `period`, as they were given.
@@ -30,15 +34,11 @@ pub struct PeriodWords<'a> {
     pub price: &'a str,
 }
 
-impl<'a> Command<'a> {
-    /// The words of the command.
-    pub fn words(self) -> PeriodWords<'a>
-        ensures { line_of self.entry ≡ line_of (Period result) }
-    {
-        match self {
-            Command::Period(words) => words,
-        }
-    }
+/// The values of `script`.
+#[derive(Clone, Copy, Debug, PartialEq, Eq)]
+pub struct ScriptWords<'a> {
+    pub settings: Settings,
+    pub file: &'a str,
 }
 
 /// Why the words give no command.
@@ -71,6 +71,25 @@ fn positional_of<'a>(alloc: Global, id: &'a str, help: &'a str) -> Arg<'a>
         .help(help)
 }
 
+/// A value that stands behind its name.
+fn option_of<'a>(alloc: Global, id: &'a str, help: &'a str) -> Arg<'a>
+    ensures rule { rule_of result ≡ option id.entry.now }
+    ensures own { result.global ≡ false }
+{
+    Arg::new(alloc, id)
+        .long(id)
+        .action(ArgAction::Set)
+        .help(help)
+}
+
+/// A required value that stands behind its name.
+fn required_option_of<'a>(alloc: Global, id: &'a str, help: &'a str) -> Arg<'a>
+    ensures rule { rule_of result ≡ required_option id.entry.now }
+    ensures own { result.global ≡ false }
+{
+    option_of(alloc, id, help).required(true)
+}
+
 /// The grammar of `period METER CONTRACTS PRICE`.
 fn period_grammar<'a>(alloc: Global) -> Result<Grammar<'a>, AllocError>
     ensures app { IfOk result (λ c. app_of c ≡ period_app) }
@@ -87,6 +106,26 @@ fn period_grammar<'a>(alloc: Global) -> Result<Grammar<'a>, AllocError>
         ))
 }
 
+/// The grammar of `script --operator-key KEY [--lead-minutes N] FILE`.
+fn script_grammar<'a>(alloc: Global) -> Result<Grammar<'a>, AllocError>
+    ensures app { IfOk result (λ c. app_of c ≡ script_app) }
+    ensures own { IfOk result (λ c. (out-Command c).has_globals ≡ false) }
+{
+    Grammar::new(alloc, "script")
+        .about("Runs the lines of a script over a new office in memory")
+        .arg(required_option_of(
+            alloc,
+            "operator-key",
+            "Key of the operator: op- and 8 to 61 letters or digits",
+        ))?
+        .arg(option_of(
+            alloc,
+            "lead-minutes",
+            "Minutes by which notifications close before their period, 0 to 1440; 60 where none are given",
+        ))?
+        .arg(positional_of(alloc, "FILE", "File of the script, one command a line"))
+}
+
 /// The grammar of the program, which asks for a subcommand.
 fn settle_grammar<'a>(alloc: Global) -> Result<Grammar<'a>, AllocError>
     ensures app { IfOk result (λ c. app_of c ≡ settle_app) }
@@ -95,7 +134,8 @@ fn settle_grammar<'a>(alloc: Global) -> Result<Grammar<'a>, AllocError>
     Grammar::new(alloc, "settle")
         .about("Settles the imbalances of half-hourly energy accounts")
         .subcommand_required(true)
-        .subcommand(period_grammar(alloc)?)
+        .subcommand(period_grammar(alloc)?)?
+        .subcommand(script_grammar(alloc)?)
 }
 
 /// Reads a line of words, the program's own name in front.
@@ -140,6 +180,9 @@ fn command_of<'a>(matches: &ArgMatches<'a>) -> Option<Command<'a>>
     if let Some(given) = matches.subcommand_matches("period") {
         return period_of(given);
     }
+    if let Some(given) = matches.subcommand_matches("script") {
+        return script_of(given);
+    }
     None
 }
 
@@ -151,6 +194,31 @@ fn period_of<'a>(given: &ArgMatches<'a>) -> Option<Command<'a>>
         contracts: value_of(given, "CONTRACTS")?,
         price: value_of(given, "PRICE")?,
     }))
+}
+
+fn script_of<'a>(given: &ArgMatches<'a>) -> Option<Command<'a>>
+    ensures { option_map line_of result ≡ given_script (rows_of (found_of given.now)) }
+{
+    let operator_key = OperatorKey::read(value_of(given, "operator-key")?.as_bytes())?;
+    let lead_minutes = minutes_of(value_of(given, "lead-minutes"))?;
+    let file = value_of(given, "FILE")?;
+    Some(Command::Script(ScriptWords {
+        settings: Settings {
+            lead_minutes,
+            operator_key,
+        },
+        file,
+    }))
+}
+
+/// The minutes that were given, or as many as where none are.
+fn minutes_of(text: Option<&str>) -> Option<LeadMinutes>
+    ensures { result ≡ minutes_given (option_map (λ text. text.now) text.entry) }
+{
+    match text {
+        Some(text) => LeadMinutes::read(text.as_bytes()),
+        None => Some(LeadMinutes::default()),
+    }
 }
 
 /// The text that a subcommand was given under a name.
