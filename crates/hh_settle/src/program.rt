@@ -1,11 +1,12 @@
 //! One line of words, from its reading to the exit status.
 
 ghost use Rattle.std.specs.Prelude.{◌≡◌, ◌≢◌, ◌≤◌, ◌<◌, IfErr, OnErr, OnOk, List, map, string_bytes};
+ghost use Rattle.std.specs.Io.KnownBytes.{Appends};
 ghost use Rattle.clap.specs.Words.{Text};
 ghost use Rattle.hh_devices.specs.Devices.{Failed};
 ghost use Rattle.hh_period.specs.Outcome.{memory_rejection};
 ghost use Rattle.hh_settle.specs.Lines.{line_of};
-ghost use Rattle.hh_settle.specs.Stops.{course, AreWrong, Does, DoesWords, IsTold, Stops, StopsLine, Tells};
+ghost use Rattle.hh_settle.specs.Stops.{course, AreWrong, Does, DoesWords, IsTold, Stops, StopsLine, Tells, stop_line};
 ghost use Rattle.hh_texts.specs.Rows.{most_bytes};
 
 use crate::words::{Command, PeriodWords, USAGE, WordsFault, read_words};
@@ -15,6 +16,7 @@ use hh_names::Refusal;
 use hh_period::{PeriodFault, Rejection, period};
 use hh_session::{ScriptStop, run_script};
 use hh_texts::MOST_BYTES;
+use itoa::Buffer;
 use std::alloc::{AllocError, Global};
 use std::io::ErrorKind;
 use std::rt::Env;
@@ -258,20 +260,20 @@ fn write_stop<E: Sink>(alloc: Global, err: &mut E, stop: Stop) -> Result<(), Dev
         Stop::Refused(rejection) => write_rejection(alloc, err, rejection),
         Stop::File => write_whole(err, b"fault file\n"),
         Stop::Output => write_whole(err, b"fault output\n"),
-        Stop::Off { line } => write_off(alloc, err, line),
+        Stop::Off { line } => write_off(err, line),
     }
 }
 
-/// Writes which line of a script is off its form, or that memory ran out for that.
-fn write_off<S: Sink>(alloc: Global, sink: &mut S, line: usize) -> Result<(), DeviceFailed>
+/// Writes which line of a script is off its form. Takes no memory.
+fn write_off<S: Sink>(sink: &mut S, line: usize) -> Result<(), DeviceFailed>
     ensures failed { OnErr result (Failed (S.failures sink.old) (S.failures sink.new)) }
-    ensures told { OnOk result (Tells (course S.taken S.failures sink.old sink.new)
-        (Stop.Off line)) }
+    ensures told { OnOk result (Appends (S.taken sink.old) (S.taken sink.new)
+        (stop_line (Stop.Off line))) }
 {
-    match format!(in alloc; "line {line} is off its form\n") {
-        Ok(text) => write_whole(sink, text.as_bytes()),
-        Err(AllocError) => write_whole(sink, b"refused 90 Memory\n"),
-    }
+    let mut digits = Buffer::new();
+    write_whole(sink, b"line ")?;
+    write_whole(sink, digits.format(line).as_bytes())?;
+    write_whole(sink, b" is off its form\n")
 }
 
 /// Writes a rejection's line, or that of memory where memory runs out for the line itself.
