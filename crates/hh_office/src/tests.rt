@@ -331,6 +331,15 @@ fn a_refused_file_leaves_nothing(rt: HostRuntime) -> Result<(), Fail> {
     Ok(())
 }
 
+/// A text with one more text so many times behind it.
+fn repeated(alloc: Global, start: &[u8], text: &[u8], count: usize) -> Option<Vec<u8>> {
+    let mut whole = start.to_vec(alloc).ok()?;
+    for _ in 0..count {
+        whole.extend_from_slice(text).ok()?;
+    }
+    Some(whole)
+}
+
 /// The office says this to a file of one byte so many times, sent with a key.
 fn says_of_length(
     rt: &(impl AllocGlobal + Abort),
@@ -340,10 +349,7 @@ fn says_of_length(
     len: usize,
     want: Said,
 ) -> Option<()> {
-    let mut body = Vec::with_capacity(rt.alloc(), len).ok()?;
-    for _ in 0..len {
-        body.push(b'a').ok()?;
-    }
+    let body = repeated(rt.alloc(), b"", b"a", len)?;
     let request = upload(rt.alloc(), key, FileKind::Parties, name, body);
     assert_eq!(rt;
         answer(office, MOMENT, request),
@@ -351,6 +357,44 @@ fn says_of_length(
         "{name:?} {len}"
     );
     Some(())
+}
+
+/// What an office says to a file of one row so many times.
+fn answer_to_rows(
+    alloc: Global,
+    office: &mut Office<'_, PlainTables>,
+    kind: FileKind,
+    row: &[u8],
+    count: usize,
+) -> Option<Said> {
+    let body = repeated(alloc, header_of(kind), row, count)?;
+    answer(office, MOMENT, upload(alloc, OPERATOR, kind, b"long", body))
+}
+
+#[test]
+fn a_file_may_be_long(rt: HostRuntime) -> Result<(), Fail> {
+    let mut office = office(&rt).ok_or("office")?;
+    let cases: [(FileKind, &[u8], usize, Said); 3] = [
+        (
+            FileKind::Contracts,
+            b"C1,GENCO-P,SUPCO-C,2024-07-01,1,98.000\n",
+            20_000,
+            Said::Loaded(20_000, 0),
+        ),
+        (
+            FileKind::Reallocations,
+            b"G1,SUPCO-P,2024-07-01,1,100.00000,0\n",
+            20_001,
+            refused(Refusal::TooManyRows),
+        ),
+        (FileKind::Prices, b"\n", 1_048_558, Said::Loaded(0, 0)),
+    ];
+    for (kind, row, count, want) in cases {
+        let given = answer_to_rows(rt.alloc(), &mut office, kind, row, count);
+        assert_eq!(rt; given, Some(want), "{kind:?}");
+    }
+    lists(&rt, &mut office, b"GENCO-P", &[(1, b"C1", 98_000)]).ok_or("list")?;
+    Ok(())
 }
 
 #[test]
