@@ -10,3 +10,6 @@ mod request;
 pub use office::Office;
 pub use reply::{ContractsReply, Loaded, Reply};
 pub use request::{Action, Bytes, Request, Upload};
+
+#[cfg(test)]
+mod tests;
