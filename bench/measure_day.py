@@ -3,8 +3,9 @@
 
 usage: measure_day.py [PROGRAM] [--rounds 7] [--days 10,30] [--day-rounds 3]
 PROGRAM is the built program, by default crates/hh_settle/out/hh_settle at the top of this repository.
-The first day is that of gen_day.py. A script loads its files, the three programs run it, and their outputs are
-compared byte for byte; then they run it in turn. After it come days of the same parties and units under other
+The first day is that of gen_day.py. A script loads its files: `settle` and the Rust peer run it, and the Python peer
+is called for each of its files over a database in a file, as an analyst would. The outputs are compared byte for
+byte; then the three run in turn. After it come days of the same parties and units under other
 dates and file names, all loaded by one script, and what each of --days cost is printed beside the first; --days ''
 leaves this out. Between two days stands the load of a named pipe, at which the program waits for this script. It
 needs `rustc`."""
@@ -61,14 +62,25 @@ def script_of(folder, name, parts):
     return str(path)
 
 
-def run_once(name, command):
-    """What a command prints, and the milliseconds that it took."""
+def run_once(name, commands):
+    """What commands print, one after the other, and the milliseconds that they took."""
     begin = time.perf_counter()
-    done = subprocess.run(command, stdout=subprocess.PIPE, check=False)
+    done = [subprocess.run(command, stdout=subprocess.PIPE, check=False) for command in commands]
     taken = (time.perf_counter() - begin) * 1000
-    if done.returncode != 0:
-        sys.exit(f"{name} ended with status {done.returncode}")
-    return done.stdout, taken
+    for one in done:
+        if one.returncode != 0:
+            sys.exit(f"{name} ended with status {one.returncode}")
+    return b"".join(one.stdout for one in done), taken
+
+
+def office_commands(folder, lines):
+    """The calls of the Python peer that load the files of these lines into a new database."""
+    database = folder / "office.db"
+    peer = [sys.executable, str(BENCH / "peer_office.py")]
+    files = [line.split()[3:] for line in lines.splitlines()]
+    begin = f"rm -f {database} {database}-*; exec \"$0\" \"$@\" > {os.devnull}"
+    first = ["sh", "-c", begin, *peer, "init", str(database)]
+    return [first, *([*peer, "load", str(database), kind, path] for kind, path in files)]
 
 
 def applied_rows(output):
@@ -171,9 +183,9 @@ def main():
             return [arguments.program, "script", "--operator-key", KEY, script]
 
         commands = {
-            "settle script": settle(first),
-            "Rust peer": [build_rust_peer("peer_day", folder, *ONE_UNIT), first],
-            "Python peer": [sys.executable, str(BENCH / "peer_office.py"), first],
+            "settle script": [settle(first)],
+            "Rust peer": [[build_rust_peer("peer_day", folder, *ONE_UNIT), first]],
+            "Python peer": office_commands(folder, lines[0]),
         }
         times = in_turn(commands, arguments.rounds)
         print_table(times, 1)
