@@ -18,7 +18,7 @@ use Rattle.hh_office.specs.declared.request.Action.TheVariants as ask
 use Rattle.hh_office.specs.declared.request.Request.{Request}
 use Rattle.hh_office.specs.declared.request.Upload.{Upload}
 use Rattle.hh_office.specs.declared.reply.Reply.{Reply}
-use Rattle.hh_office.specs.Machine.{Outcome, act, answer, key_of, load, load_beside, load_new, load_of, loaded, loaded_reply, may, next, refused, refused_for, step}
+use Rattle.hh_office.specs.Machine.{Transition, act, answer, key_of, load, load_beside, load_new, load_read_as, loaded, loaded_reply, may, next, refused, refused_for, step}
 use Rattle.hh_office.specs.Promises.{HandleStep, RefusalLeaves, Stands, StandsAfter, is_given_up, is_refused}
 use Rattle.hh_office.specs.Views.{OfficeView, midnight_of}
 use Rattle.hh_office.proofs.OnceLaws.{next_reached}
@@ -35,14 +35,14 @@ stands_after old new moment request given steps s stands =
     let t : State = next (midnight_of old) s moment request in
     stands_by (is_given_up given) old new s t (given ≡ answer (midnight_of old) s moment request) stands (next_reached (midnight_of old) s moment request stands.0) (steps s stands)
 
--- an outcome that refuses leaves the state
-abbrev Leaves : State → Outcome → Type 0
-Leaves s outcome = is_refused outcome.reply ≡ true → outcome.state ≡ s
+-- an transition that refuses leaves the state
+abbrev Leaves : State → Transition → Type 0
+Leaves s transition = is_refused transition.reply ≡ true → transition.state ≡ s
 
 module _ (midnight : Midnights) (s : State) where
   leaves_loaded : (load : Load) → Leaves s (loaded midnight s load)
   leaves_loaded load =
-      elim (first_fault (timetable_at midnight s) s.history 1 (coming_at load.moment load.rows)) as (λ o. Leaves s (elim o as (λ _. Outcome) [
+      elim (first_fault (timetable_at midnight s) s.history 1 (coming_at load.moment load.rows)) as (λ o. Leaves s (elim o as (λ _. Transition) [
         | Some fault ↦ refused s fault
         | None ↦ record { reply = loaded_reply (kept_file (timetable_at midnight s) load); state = after_load midnight s load }
       ])) [ None ↦ λ is. absurd (false_is_not_true is) | Some fault ↦ λ _. refl ]
@@ -50,8 +50,8 @@ module _ (midnight : Midnights) (s : State) where
   leaves_new : (moment : ℤ) (upload : Upload) → Leaves s (load_new midnight s moment upload)
   leaves_new moment upload =
       elim (file_rows upload.kind upload.body) as (λ (found : Result (List Row) Fault).
-      Leaves s (elim found as (λ _. Outcome) [ Err fault ↦ refused s fault | Ok rows ↦ loaded midnight s (load_of moment upload rows) ]))
-      [ Err fault ↦ λ _. refl | Ok rows ↦ leaves_loaded (load_of moment upload rows) ]
+      Leaves s (elim found as (λ _. Transition) [ Err fault ↦ refused s fault | Ok rows ↦ loaded midnight s (load_read_as moment upload rows) ]))
+      [ Err fault ↦ λ _. refl | Ok rows ↦ leaves_loaded (load_read_as moment upload rows) ]
 
   leaves_beside : (moment : ℤ) (upload : Upload) (found : Option AcceptedFile) → Leaves s (load_beside midnight s found moment upload)
   leaves_beside moment upload None = leaves_new moment upload
@@ -69,11 +69,11 @@ module _ (midnight : Midnights) (s : State) where
       elim (may midnight s request.key request.action) as (λ b. Leaves s (cond b (act midnight s moment request.action) (refused_for s Forbidden)))
       [ true ↦ leaves_act moment request.action | false ↦ λ _. refl ]
 
-left_by : (b : Bool) (old new : OfficeView) (s : State) (outcome : Outcome) (given : Reply) → Leaves s outcome → Stands old s → is_refused given ≡ true
-    → MatchBool b (new ≡ old) ((given ≡ outcome.reply) × (new ≡ record old { content = tables_of (midnight_of old) outcome.state })) → new ≡ old
-left_by true old new s outcome given leaves stands is same = same
-left_by false old new s outcome given leaves stands is comes =
-    let state : outcome.state ≡ s = leaves (ap is_refused (sym comes.0) ∙ is) in
+left_by : (b : Bool) (old new : OfficeView) (s : State) (transition : Transition) (given : Reply) → Leaves s transition → Stands old s → is_refused given ≡ true
+    → MatchBool b (new ≡ old) ((given ≡ transition.reply) × (new ≡ record old { content = tables_of (midnight_of old) transition.state })) → new ≡ old
+left_by true old new s transition given leaves stands is same = same
+left_by false old new s transition given leaves stands is comes =
+    let state : transition.state ≡ s = leaves (ap is_refused (sym comes.0) ∙ is) in
     comes.1 ∙ ap (λ c. record old { content = c }) (ap (tables_of (midnight_of old)) state ∙ sym stands.1)
 
 -- an office that steps as the machine is left as it is by a refusal

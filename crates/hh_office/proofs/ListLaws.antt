@@ -1,16 +1,15 @@
 -- One more request after a list of requests.
-use Rattle.std.proofs.Common.{◌≡◌, ℕ, List, [], ◌∷◌, ◌++◌, map, length, refl, sym, ap, subst, ◌∙◌, ◌+◌, Bool, true, false, cond, length-append}
+use Rattle.std.proofs.Common.{◌≡◌, List, [], ◌∷◌, ◌++◌, map, length, refl, sym, ap, subst, ◌∙◌, ◌+◌, true, false, cond, length-append}
 use Rattle.std.specs.Prelude.{MatchBool, filter, not, zip}
 use Rattle.std.proofs.lemmas.List.{append-nil, map-append}
 use Rattle.std.proofs.lemmas.List.Elements.{filter-append}
-use Rattle.hh_tables.proofs.TableLaws.{false_is_not_true}
 use Rattle.hh_time.specs.Days.{Midnights}
 use Rattle.hh_store.specs.Content.{tables_of}
 use Rattle.hh_store.specs.States.{State}
 use Rattle.hh_store.specs.Steps.{IsReached}
 use Rattle.hh_office.specs.declared.reply.Reply.{Reply}
 use Rattle.hh_office.specs.Machine.{Timed, answer, next, replies_to, state_after, step}
-use Rattle.hh_office.specs.Promises.{ComesTo, HandleStep, RunAllStep, RunsAs, Stands, is_given_up, served}
+use Rattle.hh_office.specs.Promises.{MakesTransition, HandleStep, RunAllStep, RunsAs, is_given_up, served}
 use Rattle.hh_office.specs.Views.{OfficeView, midnight_of}
 use Rattle.hh_office.proofs.OnceLaws.{after_by, next_reached}
 
@@ -79,7 +78,7 @@ run_more old now new ts rs t r before steps s stands =
     let done : List (Timed × Reply) = served ts rs in
     let reached : IsReached (midnight_of old) (so_far old s done) =
     after_by (midnight_of old) (IsReached (midnight_of old)) (λ u m q. next_reached (midnight_of old) u m q) s (map (λ x. x.0) done) stands.0 in
-    let comes : ComesTo (record old { content = tables_of (midnight_of old) (so_far old s done) }) new r (step (midnight_of old) (so_far old s done) t.0 t.1) =
+    let comes : MakesTransition (record old { content = tables_of (midnight_of old) (so_far old s done) }) new r (step (midnight_of old) (so_far old s done) t.0 t.1) =
     subst (λ o. HandleStep o new t.0 t.1 r) ran.tables steps (so_far old s done) (reached, refl) in
     let more : Served old s (served (ts ++ t ∷ []) (rs ++ r ∷ [])) new =
     subst (λ d. Served old s d new) (sym (served_more ts rs t r ran.count)) (serve_one old s done now new t r (ran.replies, ran.tables) comes) in
@@ -88,7 +87,3 @@ run_more old now new ts rs t r before steps s stands =
       replies = more.0;
       tables = more.1;
     }
-
--- no requests leave the office as it is
-pub run_none : (office : OfficeView) → RunAllStep office office [] []
-run_none office s stands = record { count = refl; replies = refl; tables = ap (λ c. record office { content = c }) stands.1 }

@@ -28,8 +28,8 @@ use Rattle.hh_office.specs.declared.request.Request.{Request}
 use Rattle.hh_office.specs.declared.request.Upload.{Upload}
 use Rattle.hh_office.specs.declared.reply.Reply.{Reply}
 use Rattle.hh_office.specs.declared.reply.Reply.TheVariants as reply
-use Rattle.hh_office.specs.Machine.{Outcome, Timed, act, answer, is_operator, key_of, load, load_beside, load_new, load_of, loaded, loaded_reply, may, next, refused, refused_for, repeat_reply, state_after, step, unchanged}
-use Rattle.hh_office.specs.Promises.{ComesTo, HandleStep, RepeatsOnce, is_given_up, is_load, is_refused}
+use Rattle.hh_office.specs.Machine.{Transition, Timed, act, is_operator, key_of, load, load_beside, load_new, load_read_as, loaded, loaded_reply, may, next, refused, refused_for, repeat_reply, state_after, step, unchanged}
+use Rattle.hh_office.specs.Promises.{MakesTransition, HandleStep, RepeatsOnce, is_given_up, is_refused}
 use Rattle.hh_office.specs.Views.{OfficeView, midnight_of}
 
 -- what holds of a state and of each state after an accepted load holds of the state after any request
@@ -39,7 +39,7 @@ module _ (midnight : Midnights) (s : State) (P : State → Type 0) (same : P s)
   by_loaded load new =
       elim (first_fault (timetable_at midnight s) s.history 1 (coming_at load.moment load.rows)) as (λ o.
       first_fault (timetable_at midnight s) s.history 1 (coming_at load.moment load.rows) ≡ o
-      → P (elim o as (λ _. Outcome) [
+      → P (elim o as (λ _. Transition) [
         | Some fault ↦ refused s fault
         | None ↦ record { reply = loaded_reply (kept_file (timetable_at midnight s) load); state = after_load midnight s load }
       ]).state) [ None ↦ λ none. more load (new, none) | Some fault ↦ λ _. same ] refl
@@ -47,8 +47,8 @@ module _ (midnight : Midnights) (s : State) (P : State → Type 0) (same : P s)
   by_new : (moment : ℤ) (upload : Upload) → find file_key_cmp (key_of upload) s.files ≡ None → P (load_new midnight s moment upload).state
   by_new moment upload new =
       elim (file_rows upload.kind upload.body) as (λ (found : Result (List Row) Fault).
-      P (elim found as (λ _. Outcome) [ Err fault ↦ refused s fault | Ok rows ↦ loaded midnight s (load_of moment upload rows) ]).state)
-      [ Err fault ↦ same | Ok rows ↦ by_loaded (load_of moment upload rows) new ]
+      P (elim found as (λ _. Transition) [ Err fault ↦ refused s fault | Ok rows ↦ loaded midnight s (load_read_as moment upload rows) ]).state)
+      [ Err fault ↦ same | Ok rows ↦ by_loaded (load_read_as moment upload rows) new ]
 
   by_beside : (moment : ℤ) (upload : Upload) (found : Option AcceptedFile) → find file_key_cmp (key_of upload) s.files ≡ found → P (load_beside midnight s found moment upload).state
   by_beside moment upload None is = by_new moment upload is
@@ -99,9 +99,9 @@ stays midnight key file s moment request kept =
     ∙ ap (λ o. option_or o (find file_key_cmp key ((load.key, kept_file (timetable_at midnight s) load) ∷ []))) kept) moment request
 
 -- a file that is accepted is kept, with its reply
-abbrev Keeps : Upload → Outcome → Type 0
-Keeps upload outcome = IsFalse (is_refused outcome.reply)
-    → (file : AcceptedFile) × IsKept (key_of upload) file outcome.state × (repeat_reply file upload.body ≡ outcome.reply)
+abbrev Keeps : Upload → Transition → Type 0
+Keeps upload transition = IsFalse (is_refused transition.reply)
+    → (file : AcceptedFile) × IsKept (key_of upload) file transition.state × (repeat_reply file upload.body ≡ transition.reply)
 
 not_refused : {X : Type 0} → true ≡ false → X
 not_refused e = absurd (false_is_not_true (sym e))
@@ -117,11 +117,11 @@ module _ (midnight : Midnights) (s : State) (moment : ℤ) (upload : Upload) whe
   same_bytes : (file : AcceptedFile) → file.body ≡ upload.body → repeat_reply file upload.body ≡ loaded_reply file
   same_bytes file is = ap (λ b. cond b (loaded_reply file) (reply.Refused (plain_fault FileChanged))) ((bytes_eq-Decides file.body upload.body).1 is)
 
-  keeps_loaded : (rows : List Row) → find file_key_cmp (key_of upload) s.files ≡ None → Keeps upload (loaded midnight s (load_of moment upload rows))
+  keeps_loaded : (rows : List Row) → find file_key_cmp (key_of upload) s.files ≡ None → Keeps upload (loaded midnight s (load_read_as moment upload rows))
   keeps_loaded rows new =
-      let load : Load = load_of moment upload rows in
+      let load : Load = load_read_as moment upload rows in
       let file : AcceptedFile = kept_file (timetable_at midnight s) load in
-      elim (first_fault (timetable_at midnight s) s.history 1 (coming_at moment rows)) as (λ o. Keeps upload (elim o as (λ _. Outcome) [
+      elim (first_fault (timetable_at midnight s) s.history 1 (coming_at moment rows)) as (λ o. Keeps upload (elim o as (λ _. Transition) [
         | Some fault ↦ refused s fault
         | None ↦ record { reply = loaded_reply file; state = after_load midnight s load }
       ])) [ Some fault ↦ not_refused | None ↦ λ _. (file, new_kept file new, same_bytes file refl) ]
@@ -129,7 +129,7 @@ module _ (midnight : Midnights) (s : State) (moment : ℤ) (upload : Upload) whe
   keeps_new : find file_key_cmp (key_of upload) s.files ≡ None → Keeps upload (load_new midnight s moment upload)
   keeps_new new =
       elim (file_rows upload.kind upload.body) as (λ (found : Result (List Row) Fault).
-      Keeps upload (elim found as (λ _. Outcome) [ Err fault ↦ refused s fault | Ok rows ↦ loaded midnight s (load_of moment upload rows) ]))
+      Keeps upload (elim found as (λ _. Transition) [ Err fault ↦ refused s fault | Ok rows ↦ loaded midnight s (load_read_as moment upload rows) ]))
       [ Err fault ↦ not_refused | Ok rows ↦ keeps_loaded rows new ]
 
   keeps_beside : (found : Option AcceptedFile) → find file_key_cmp (key_of upload) s.files ≡ found → Keeps upload (load_beside midnight s found moment upload)
@@ -142,13 +142,13 @@ module _ (midnight : Midnights) (key : List ℕ) (upload : Upload) where
   asked = record { key = key; action = ask.Load upload }
 
   -- where it is accepted, the key is the operator's, the file is not too large, and it is kept with its reply
-  abbrev WasAccepted : State → Outcome → Type 0
-  WasAccepted s outcome = IsFalse (is_refused outcome.reply)
+  abbrev WasAccepted : State → Transition → Type 0
+  WasAccepted s transition = IsFalse (is_refused transition.reply)
       → (is_operator midnight s key ≡ true) × (nat_lt most_bytes (length upload.body) ≡ false)
-      × ((file : AcceptedFile) × IsKept (key_of upload) file outcome.state × (repeat_reply file upload.body ≡ outcome.reply))
+      × ((file : AcceptedFile) × IsKept (key_of upload) file transition.state × (repeat_reply file upload.body ≡ transition.reply))
 
   module _ (s : State) (moment : ℤ) where
-    abbrev beside : Outcome
+    abbrev beside : Transition
     beside = load_beside midnight s (find file_key_cmp (key_of upload) s.files) moment upload
 
     was_accepted : WasAccepted s (step midnight s moment asked)
@@ -189,7 +189,7 @@ repeats_upload key upload old new moment given steps s earlier between reached l
     let settings : t.settings ≡ s.settings =
     after_by midnight (λ u. u.settings ≡ s.settings) (λ u m r. same_settings midnight u m r s.settings) after between (same_settings midnight s earlier request s.settings refl) in
     let operator_now : is_operator midnight t key ≡ true = ap (λ (c : Settings). bytes_eq c.operator_key key) settings ∙ operator in
-    let comes : ComesTo old new given (unchanged t (repeat_reply file upload.body)) = subst (ComesTo old new given) (again midnight key upload t moment file kept_now small operator_now) (steps t stands) in
+    let comes : MakesTransition old new given (unchanged t (repeat_reply file upload.body)) = subst (MakesTransition old new given) (again midnight key upload t moment file kept_now small operator_now) (steps t stands) in
     subst (λ r. MatchBool (is_given_up given) (Unit {0}) (given ≡ r) × (new ≡ old)) same
     (unchanged_by (is_given_up given) old new t (given ≡ repeat_reply file upload.body) stands.1 comes)
 

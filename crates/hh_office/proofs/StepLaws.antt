@@ -1,5 +1,5 @@
 -- What the steps of the office come to, by what is read from its tables and judged.
-use Rattle.std.proofs.Common.{◌≡◌, ℕ, List, refl, sym, ap, subst, ◌∙◌, Bool, true, false, cond, Option, Some, None, Result, Ok, Err}
+use Rattle.std.proofs.Common.{◌≡◌, List, refl, sym, ap, subst, ◌∙◌, Bool, true, false, cond, Option, Some, None, Result, Ok, Err}
 use Rattle.std.specs.Prelude.{ℤ, MatchBool, OnOk, length, nat_lt}
 use Rattle.std.specs.Result.{IsErr, IsErrAnd}
 use Rattle.std.specs.FinMap.{find}
@@ -24,23 +24,23 @@ use Rattle.hh_office.specs.declared.reply.Reply.{Reply}
 use Rattle.hh_office.specs.declared.reply.Reply.TheVariants as reply
 use Rattle.hh_office.specs.declared.request.Request.{Request}
 use Rattle.hh_office.specs.declared.request.Upload.{Upload}
-use Rattle.hh_office.specs.Loads.{Accepts, Answers, Writes, accepted, judged_upload, writes_of}
-use Rattle.hh_office.specs.Machine.{Outcome, act, key_of, load_new, may, step, load, load_beside, load_of, loaded_reply, refused, refused_for, unchanged}
-use Rattle.hh_office.specs.Promises.{ComesTo, Stands, UnlessFailed, is_failure, is_given_up, reply_of}
+use Rattle.hh_office.specs.Loads.{Accepts, Answers, WritesLoad, accepted, judged_upload, writes_of}
+use Rattle.hh_office.specs.Machine.{Transition, act, key_of, load_new, may, step, load, load_beside, load_read_as, loaded_reply, refused, refused_for, unchanged}
+use Rattle.hh_office.specs.Promises.{MakesTransition, Stands, UnlessFailed, is_failure, is_given_up, reply_of}
 use Rattle.hh_office.specs.Views.{OfficeView, midnight_of}
 
 by_failure : (b : Bool) (Q R A : Type 0) → A → (Q → R) → MatchBool b (Unit {0}) Q → MatchBool b A R
 by_failure true Q R A a f h = a
 by_failure false Q R A a f h = f h
 
--- an office that stands for a state and refuses, unless it failed, as the machine does, comes to the machine's outcome
-pub comes_refused : (office : OfficeView) (s : State) (fault : Fault) (outcome : Outcome) → Stands office s
-    → UnlessFailed fault (outcome ≡ refused s fault) → ComesTo office office (reply.Refused fault) outcome
-comes_refused office s fault outcome stands =
-    by_failure (is_failure fault.refusal) (outcome ≡ refused s fault) _ (office ≡ office) refl
+-- an office that stands for a state and refuses, unless it failed, as the machine does, comes to the machine's transition
+pub comes_refused : (office : OfficeView) (s : State) (fault : Fault) (transition : Transition) → Stands office s
+    → UnlessFailed fault (transition ≡ refused s fault) → MakesTransition office office (reply.Refused fault) transition
+comes_refused office s fault transition stands =
+    by_failure (is_failure fault.refusal) (transition ≡ refused s fault) _ (office ≡ office) refl
     (λ same. (
-      sym (ap (λ (o : Outcome). o.reply) same),
-      ap (λ c. record office { content = c }) (stands.1 ∙ ap (λ (o : Outcome). tables_of (midnight_of office) o.state) (sym same)),
+      sym (ap (λ (o : Transition). o.reply) same),
+      ap (λ c. record office { content = c }) (stands.1 ∙ ap (λ (o : Transition). tables_of (midnight_of office) o.state) (sym same)),
     ))
 
 unless_failed : (r : Refusal) (P Q R : Type 0) → (Q → R) → ByRefusal r P Q → MatchBool (is_failure r) (Unit {0}) R
@@ -49,9 +49,9 @@ unless_failed refusal.Store P Q R f p = tt
 unless_failed r P Q R f q = f q
 
 -- an answer that is given, unless memory ran out, is given, unless something failed
-pub answers : (result outcome : Result FileRowsView Fault) → Gives faults (λ judged. judged) result outcome → Answers result outcome
-answers (Ok judged) outcome gives = gives
-answers (Err fault) outcome gives = unless_failed fault.refusal (fault ≡ memory_fault) (outcome ≡ Err fault) _ (λ is. is) gives
+pub answers : (result transition : Result FileRowsView Fault) → Gives faults (λ judged. judged) result transition → Answers result transition
+answers (Ok judged) transition gives = gives
+answers (Err fault) transition gives = unless_failed fault.refusal (fault ≡ memory_fault) (transition ≡ Err fault) _ (λ is. is) gives
 
 -- the error of an answer, if it is one
 abbrev unwrap_err : {X : Type 0} → Fault → Result X Fault → Fault
@@ -112,37 +112,36 @@ module _ (office : OfficeView) (s : State) (moment : ℤ) (rows : List Row) (reg
 
 -- A new file comes to an office that stands for a state.
 module _ (office : OfficeView) (s : State) (moment : ℤ) (upload : Upload) (stands : Stands office s) where
-  -- the first fault of rows in the state, what they come to, and the outcome of the machine
+  -- the first fault of rows in the state, what they come to, and the transition of the machine
   abbrev fault_in : List Row → Option Fault
   fault_in rows = first_fault (timetable_at (midnight_of office) s) s.history 1 (coming_at moment rows)
 
   abbrev view_in : List Row → FileRowsView
   view_in rows = file_outcome (timetable_at (midnight_of office) s) s.history (coming_at moment rows)
 
-  abbrev outcome_by : List Row → Option Fault → Outcome
-  outcome_by rows o = elim o [
+  abbrev transition_by : List Row → Option Fault → Transition
+  transition_by rows o = elim o [
     | Some fault ↦ refused s fault
-    | None ↦ accepted office s (load_of moment upload rows) (writes_of upload (view_in rows))
+    | None ↦ accepted office s (load_read_as moment upload rows) (writes_of upload (view_in rows))
   ]
 
-  abbrev outcome_of : Result (List Row) Fault → Outcome
-  outcome_of found = elim found [ Err fault ↦ refused s fault | Ok rows ↦ outcome_by rows (fault_in rows) ]
+  abbrev transition_of : Result (List Row) Fault → Transition
+  transition_of found = elim found [ Err fault ↦ refused s fault | Ok rows ↦ transition_by rows (fault_in rows) ]
 
   abbrev judged_of : Result (List Row) Fault → Result FileRowsView Fault
   judged_of found = elim found [ Err fault ↦ Err fault | Ok rows ↦ judged_by (fault_in rows) (view_in rows) ]
 
-  by_fault : (rows : List Row) (o : Option Fault) (fault : Fault) → judged_by o (view_in rows) ≡ Err fault → outcome_by rows o ≡ refused s fault
-  by_fault rows o fault is = ap (outcome_by rows) (subst (IsFault o) is (fault_by o (view_in rows)))
+  by_fault : (rows : List Row) (o : Option Fault) (fault : Fault) → judged_by o (view_in rows) ≡ Err fault → transition_by rows o ≡ refused s fault
+  by_fault rows o fault is = ap (transition_by rows) (subst (IsFault o) is (fault_by o (view_in rows)))
 
-  by_judged : (found : Result (List Row) Fault) (fault : Fault) → judged_of found ≡ Err fault → outcome_of found ≡ refused s fault
+  by_judged : (found : Result (List Row) Fault) (fault : Fault) → judged_of found ≡ Err fault → transition_of found ≡ refused s fault
   by_judged (Err e) fault is = ap (refused s) (ap (unwrap_err e) is)
   by_judged (Ok rows) fault is = by_fault rows (fault_in rows) fault is
 
   -- a file that is refused
   pub load_refused : (fault : Fault) → UnlessFailed fault (judged_upload (midnight_of office) s moment upload ≡ Err fault)
-      → ComesTo office office (reply.Refused fault) (load_new (midnight_of office) s moment upload)
-  load_refused fault judges =
-      comes_refused office s fault (load_new (midnight_of office) s moment upload) stands
+      → MakesTransition office office (reply.Refused fault) (load_new (midnight_of office) s moment upload)
+  load_refused fault judges = comes_refused office s fault (load_new (midnight_of office) s moment upload) stands
       (by_failure (is_failure fault.refusal) _ _ (Unit {0}) tt (by_judged (file_rows upload.kind upload.body) fault) judges)
 
   module _ (new : OfficeView) (judged : FileRowsView) (given : Reply) (holds : HoldsFiles) (free : file_in office.content upload.kind upload.name ≡ None)
@@ -150,17 +149,17 @@ module _ (office : OfficeView) (s : State) (moment : ℤ) (upload : Upload) (sta
     new_key : find file_key_cmp (key_of upload) s.files ≡ None
     new_key = sym (holds (midnight_of office) s (key_of upload)) ∙ sym (ap (λ c. file_in c upload.kind upload.name) stands.1) ∙ free
 
-    accepted_by : (found : Result (List Row) Fault) → judged_of found ≡ Ok judged → ComesTo office new given (outcome_of found)
+    accepted_by : (found : Result (List Row) Fault) → judged_of found ≡ Ok judged → MakesTransition office new given (transition_of found)
     accepted_by (Err e) is = absurd (err_is_not_ok is)
     accepted_by (Ok rows) is =
         let none : fault_in rows ≡ None = subst (IsFault (fault_in rows)) is (fault_by (fault_in rows) (view_in rows)) in
         let view : judged ≡ view_in rows = sym (subst (IsView (view_in rows)) is (view_by (fault_in rows) (view_in rows))) in
-        subst (λ o. ComesTo office new given (outcome_by rows o)) (sym none)
-        (subst (λ v. ComesTo office new given (accepted office s (load_of moment upload rows) (writes_of upload v))) view
-        (accepts s (load_of moment upload rows) stands (new_key, none) (ap (writes_of upload) view)))
+        subst (λ o. MakesTransition office new given (transition_by rows o)) (sym none)
+        (subst (λ v. MakesTransition office new given (accepted office s (load_read_as moment upload rows) (writes_of upload v))) view
+        (accepts s (load_read_as moment upload rows) stands (new_key, none) (ap (writes_of upload) view)))
 
     -- a file that is accepted
-    pub load_accepted : judged_upload (midnight_of office) s moment upload ≡ Ok judged → ComesTo office new given (load_new (midnight_of office) s moment upload)
+    pub load_accepted : judged_upload (midnight_of office) s moment upload ≡ Ok judged → MakesTransition office new given (load_new (midnight_of office) s moment upload)
     load_accepted = accepted_by (file_rows upload.kind upload.body)
 
 -- an error that is passed on is the reply that refuses for it
@@ -169,12 +168,12 @@ passed_reply (Ok given) fault passed = absurd (false_is_not_true passed.0)
 passed_reply (Err f) fault passed = ap reply.Refused (sym passed.1)
 
 -- an office that is as before comes to what it came to
-pub comes_same : (office new : OfficeView) (given : Reply) (outcome : Outcome) → new ≡ office → ComesTo office office given outcome → ComesTo office new given outcome
-comes_same office new given outcome same = subst (λ o. ComesTo office o given outcome) (sym same)
+pub comes_same : (office new : OfficeView) (given : Reply) (transition : Transition) → new ≡ office → MakesTransition office office given transition → MakesTransition office new given transition
+comes_same office new given transition same = subst (λ o. MakesTransition office o given transition) (sym same)
 
 -- what the store wrote for a change is what the machine writes for each load that it is of
 pub commit_writes : {T E : Type 0} (result : Result T E) (old new : OfficeView) (writes : LoadWrites) → LoadEffect → new.zone ≡ old.zone
-    → ((midnight : Midnights) → IsLoadFrom midnight old.content writes → OnOk result (new.content ≡ effect_of_load writes old.content)) → OnOk result (Writes old new writes)
+    → ((midnight : Midnights) → IsLoadFrom midnight old.content writes → OnOk result (new.content ≡ effect_of_load writes old.content)) → OnOk result (WritesLoad old new writes)
 commit_writes (Err e) old new writes effect zone written = tt
 commit_writes (Ok x) old new writes effect zone written = λ s load stands can is.
     let midnight = midnight_of old in
@@ -182,17 +181,17 @@ commit_writes (Ok x) old new writes effect zone written = λ s load stands can i
     written midnight (s, load, stands, can, is) ∙ (λ i. effect_of_load (is i) (stands.1 i)) ∙ sym (effect midnight s load stands.0 can) in
     λ i. record { zone = zone i; content = content i }
 
--- what was written and its reply come to the machine's outcome
-pub accepts : (old new : OfficeView) (writes : LoadWrites) (given : Reply) → given ≡ loaded_reply writes.file → Writes old new writes → Accepts old new writes given
+-- what was written and its reply come to the machine's transition
+pub accepts : (old new : OfficeView) (writes : LoadWrites) (given : Reply) → given ≡ loaded_reply writes.file → WritesLoad old new writes → Accepts old new writes given
 accepts old new writes given reply written s load stands can is =
-    subst (λ r. ComesTo old new r (accepted old s load writes)) (sym reply) (refl, written s load stands can is)
+    subst (λ r. MakesTransition old new r (accepted old s load writes)) (sym reply) (refl, written s load stands can is)
 
 by_either : (b : Bool) (P Q : Type 0) → P → Q → MatchBool b P Q
 by_either true P Q p q = p
 by_either false P Q p q = q
 
 -- an office that stands for a state comes to a reply that leaves it
-pub comes_unchanged : (office : OfficeView) (s : State) (given : Reply) → Stands office s → ComesTo office office given (unchanged s given)
+pub comes_unchanged : (office : OfficeView) (s : State) (given : Reply) → Stands office s → MakesTransition office office given (unchanged s given)
 comes_unchanged office s given stands = by_either (is_given_up given) _ _ refl (refl, ap (λ c. record office { content = c }) stands.1)
 
 -- A file that is not too large comes to an office that stands for a state.
@@ -205,12 +204,12 @@ module _ (office : OfficeView) (s : State) (moment : ℤ) (upload : Upload) (sta
       ∙ ap (λ o. load_beside (midnight_of office) s o moment upload)
       (sym (is ∙ ap (λ c. file_in c upload.kind upload.name) stands.1 ∙ holds (midnight_of office) s (key_of upload)))
 
-  pub comes_by_kept : (new : OfficeView) (given : Reply) → ComesTo office new given (load_beside (midnight_of office) s found moment upload)
-      → ComesTo office new given (load (midnight_of office) s moment upload)
-  comes_by_kept new given = subst (ComesTo office new given) (sym by_kept)
+  pub comes_by_kept : (new : OfficeView) (given : Reply) → MakesTransition office new given (load_beside (midnight_of office) s found moment upload)
+      → MakesTransition office new given (load (midnight_of office) s moment upload)
+  comes_by_kept new given = subst (MakesTransition office new given) (sym by_kept)
 
 -- a request that the key allows is acted on
 pub comes_allowed : (office new : OfficeView) (given : Reply) (s : State) (moment : ℤ) (request : Request) → may (midnight_of office) s request.key request.action ≡ true
-    → ComesTo office new given (act (midnight_of office) s moment request.action) → ComesTo office new given (step (midnight_of office) s moment request)
+    → MakesTransition office new given (act (midnight_of office) s moment request.action) → MakesTransition office new given (step (midnight_of office) s moment request)
 comes_allowed office new given s moment request allowed =
-    subst (λ b. ComesTo office new given (cond b (act (midnight_of office) s moment request.action) (refused_for s Forbidden))) (sym allowed)
+    subst (λ b. MakesTransition office new given (cond b (act (midnight_of office) s moment request.action) (refused_for s Forbidden))) (sym allowed)

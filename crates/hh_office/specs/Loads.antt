@@ -10,8 +10,8 @@ use Rattle.hh_store.specs.States.{State}
 use Rattle.hh_store.specs.Steps.{CanLoad, Load, after_load, timetable_at}
 use Rattle.hh_office.specs.declared.reply.Reply.{Reply}
 use Rattle.hh_office.specs.declared.request.Upload.{Upload}
-use Rattle.hh_office.specs.Machine.{Outcome, key_of, loaded_reply}
-use Rattle.hh_office.specs.Promises.{ComesTo, Stands, UnlessFailed}
+use Rattle.hh_office.specs.Machine.{Transition, key_of, loaded_reply}
+use Rattle.hh_office.specs.Promises.{MakesTransition, Stands, UnlessFailed}
 use Rattle.hh_office.specs.Views.{OfficeView, midnight_of}
 
 -- what the rows of a new file come to in a state, or the first fault in it
@@ -41,17 +41,17 @@ writes_of upload judged = record {
 }
 
 -- what is written makes the tables, for each load for which the machine writes this, those of the state after it
-abbrev pub Writes : OfficeView → OfficeView → LoadWrites → Type 0
-Writes old new writes =
+abbrev pub WritesLoad : OfficeView → OfficeView → LoadWrites → Type 0
+WritesLoad old new writes =
     (s : State) (load : Load) → Stands old s → CanLoad (midnight_of old) s load → writes ≡ load_writes (midnight_of old) s load
     → new ≡ record old { content = tables_of (midnight_of old) (after_load (midnight_of old) s load) }
 
 -- what becomes of a load that is accepted in a state and has this reply
-abbrev pub accepted : OfficeView → State → Load → LoadWrites → Outcome
+abbrev pub accepted : OfficeView → State → Load → LoadWrites → Transition
 accepted office s load writes = record { reply = loaded_reply writes.file; state = after_load (midnight_of office) s load }
 
--- what is written comes to the outcome of each load for which the machine writes this
+-- what is written makes the transition of each load for which the machine writes this
 abbrev pub Accepts : OfficeView → OfficeView → LoadWrites → Reply → Type 0
 Accepts old new writes given =
     (s : State) (load : Load) → Stands old s → CanLoad (midnight_of old) s load → writes ≡ load_writes (midnight_of old) s load
-    → ComesTo old new given (accepted old s load writes)
+    → MakesTransition old new given (accepted old s load writes)

@@ -1,5 +1,5 @@
 -- The settlement machine: what it answers to a request, and the state after it.
-use Rattle.std.specs.Prelude.{ℕ, nat_lt, ℤ, List, [], ◌∷◌, length, Bool, false, ◌||◌, if◌then◌else◌, Option, Some, None, Result, Ok, Err}
+use Rattle.std.specs.Prelude.{ℕ, nat_lt, ℤ, List, [], ◌∷◌, length, Bool, false, ◌||◌, if◌then◌else◌, Option, Some, None, Ok, Err}
 use Rattle.std.specs.FinMap.{find}
 use Rattle.std.specs.Str.{bytes_eq}
 use Rattle.hh_time.specs.Days.{Midnights}
@@ -29,21 +29,21 @@ use Rattle.hh_office.specs.declared.reply.Reply.TheVariants as reply
 abbrev pub Timed : Type 0
 Timed = ℤ × Request
 
--- what becomes of a request: the reply, and the state after it
-pub record Outcome : Type 0 where
+-- what becomes of a request in a state: the reply, and the state after it
+pub record Transition : Type 0 where
   pub reply : Reply
   pub state : State
 
 -- a reply that leaves the state as it is
-abbrev pub unchanged : State → Reply → Outcome
+abbrev pub unchanged : State → Reply → Transition
 unchanged s r = record { reply = r; state = s }
 
 -- a refusal, which leaves the state as it is
-abbrev pub refused : State → Fault → Outcome
+abbrev pub refused : State → Fault → Transition
 refused s fault = unchanged s (reply.Refused fault)
 
 -- the same of the whole request
-abbrev pub refused_for : State → Refusal → Outcome
+abbrev pub refused_for : State → Refusal → Transition
 refused_for s why = refused s (plain_fault why)
 
 -- the reply to a file that is kept
@@ -59,8 +59,8 @@ abbrev pub key_of : Upload → FileKey
 key_of upload = record { kind = upload.kind; name = upload.name }
 
 -- a file that comes at a moment and reads as these rows
-abbrev pub load_of : ℤ → Upload → List Row → Load
-load_of moment upload rows = record { moment = moment; key = key_of upload; body = upload.body; rows = rows }
+abbrev pub load_read_as : ℤ → Upload → List Row → Load
+load_read_as moment upload rows = record { moment = moment; key = key_of upload; body = upload.body; rows = rows }
 
 -- the key is that of a party, if the party is registered
 abbrev pub is_key_of : List ℕ → Option PartyRegistration → Bool
@@ -82,31 +82,31 @@ module _ (midnight : Midnights) (s : State) where
   may key (ask.Contracts account date) = is_operator key || is_holder account key
 
   -- what becomes of a new file that reads as these rows: it is refused with its first row that is refused
-  abbrev pub loaded : Load → Outcome
+  abbrev pub loaded : Load → Transition
   loaded load = elim (first_fault (timetable_at midnight s) s.history 1 (coming_at load.moment load.rows)) [
     | Some fault ↦ refused s fault
     | None ↦ record { reply = loaded_reply (kept_file (timetable_at midnight s) load); state = after_load midnight s load }
   ]
 
   -- what becomes of a new file: it is read whole before its rows are judged
-  abbrev pub load_new : ℤ → Upload → Outcome
+  abbrev pub load_new : ℤ → Upload → Transition
   load_new moment upload = elim (file_rows upload.kind upload.body) [
     | Err fault ↦ refused s fault
-    | Ok rows ↦ loaded (load_of moment upload rows)
+    | Ok rows ↦ loaded (load_read_as moment upload rows)
   ]
 
   -- what becomes of a file, by what is kept under its kind and name
-  abbrev pub load_beside : Option AcceptedFile → ℤ → Upload → Outcome
+  abbrev pub load_beside : Option AcceptedFile → ℤ → Upload → Transition
   load_beside (Some file) moment upload = unchanged s (repeat_reply file upload.body)
   load_beside None moment upload = load_new moment upload
 
   -- what becomes of a file: first its length is asked, then whether it is known
-  abbrev pub load : ℤ → Upload → Outcome
+  abbrev pub load : ℤ → Upload → Transition
   load moment upload = if nat_lt most_bytes (length upload.body) then refused_for s FileTooLarge
       else load_beside (find file_key_cmp (key_of upload) s.files) moment upload
 
   -- the contracts in force of an account on a date
-  abbrev pub contracts : Account → ℕ → Outcome
+  abbrev pub contracts : Account → ℕ → Transition
   contracts account date = unchanged s (reply.Contracts (record {
     account = account;
     date = date;
@@ -114,12 +114,12 @@ module _ (midnight : Midnights) (s : State) where
   }))
 
   -- what becomes of what is asked, if the key allows it
-  abbrev pub act : ℤ → Action → Outcome
+  abbrev pub act : ℤ → Action → Transition
   act moment (ask.Load upload) = load moment upload
   act moment (ask.Contracts account date) = contracts account date
 
   -- what becomes of a request that comes at a moment
-  abbrev pub step : ℤ → Request → Outcome
+  abbrev pub step : ℤ → Request → Transition
   step moment request = if may request.key request.action then act moment request.action else refused_for s Forbidden
 
   -- the reply to a request

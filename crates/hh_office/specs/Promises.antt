@@ -1,11 +1,11 @@
 -- What the office promises of a request and of lists of requests.
-use Rattle.std.specs.Prelude.{◌≡◌, ◌⊎◌, ℤ, List, map, filter, zip, length, Bool, true, false, not, Result, Ok, Err, IsTrue, IsFalse, MatchBool, if◌then◌else◌}
+use Rattle.std.specs.Prelude.{◌≡◌, ℤ, List, map, filter, zip, length, Bool, true, false, not, Result, Ok, Err, IsTrue, IsFalse, MatchBool, if◌then◌else◌}
 use Rattle.hh_time.specs.Days.{Midnights}
 use Rattle.hh_names.specs.declared.fault.Fault.{Fault}
 use Rattle.hh_names.specs.declared.fault.Refusal.{Refusal}
 use Rattle.hh_names.specs.declared.fault.Refusal.TheVariants.{Memory, Store}
 use Rattle.hh_store.specs.Changes.{StandsFor}
-use Rattle.hh_store.specs.Content.{Content, tables_of}
+use Rattle.hh_store.specs.Content.{tables_of}
 use Rattle.hh_store.specs.States.{State}
 use Rattle.hh_store.specs.Steps.{IsReached}
 use Rattle.hh_office.specs.declared.request.Action.{Action}
@@ -13,7 +13,7 @@ use Rattle.hh_office.specs.declared.request.Action.TheVariants as ask
 use Rattle.hh_office.specs.declared.request.Request.{Request}
 use Rattle.hh_office.specs.declared.reply.Reply.{Reply}
 use Rattle.hh_office.specs.declared.reply.Reply.TheVariants as reply
-use Rattle.hh_office.specs.Machine.{Outcome, Timed, answer, next, replies_to, state_after, step}
+use Rattle.hh_office.specs.Machine.{Transition, Timed, answer, next, replies_to, state_after, step}
 use Rattle.hh_office.specs.Views.{OfficeView, midnight_of}
 
 -- memory ran out, or the store refused
@@ -33,10 +33,10 @@ is_given_up _ = false
 
 -- ---- one request
 
--- The reply and the tables after it are those of an outcome; where the request was given up, nothing has changed.
-abbrev pub ComesTo : OfficeView → OfficeView → Reply → Outcome → Type 0
-ComesTo old new given outcome = MatchBool (is_given_up given) (new ≡ old)
-    ((given ≡ outcome.reply) × (new ≡ record old { content = tables_of (midnight_of old) outcome.state }))
+-- The reply and the tables after it are those of a transition; where the request was given up, nothing has changed.
+abbrev pub MakesTransition : OfficeView → OfficeView → Reply → Transition → Type 0
+MakesTransition old new given transition = MatchBool (is_given_up given) (new ≡ old)
+    ((given ≡ transition.reply) × (new ≡ record old { content = tables_of (midnight_of old) transition.state }))
 
 -- an office stands for a state if its tables do
 abbrev pub Stands : OfficeView → State → Type 0
@@ -45,7 +45,7 @@ Stands office s = StandsFor (midnight_of office) office.content s
 -- the office does with a request what the machine does with it in each state that the office stands for
 abbrev pub HandleStep : OfficeView → OfficeView → ℤ → Request → Reply → Type 0
 HandleStep old new moment request given =
-    (s : State) → Stands old s → ComesTo old new given (step (midnight_of old) s moment request)
+    (s : State) → Stands old s → MakesTransition old new given (step (midnight_of old) s moment request)
 
 -- the office stands after a request for the machine's state after it, or for the same state where the request was given up
 abbrev pub StandsAfter : OfficeView → OfficeView → ℤ → Request → Reply → Type 0
@@ -101,10 +101,10 @@ abbrev pub reply_of : Result Reply Fault → Reply
 reply_of (Ok given) = given
 reply_of (Err fault) = reply.Refused fault
 
--- the answer to a part of a request and the tables after it come to the machine's outcome in each state that the office stands for
-abbrev pub Does : OfficeView → OfficeView → Result Reply Fault → (Midnights → State → Outcome) → Type 0
-Does old new result outcome = (s : State) → Stands old s → ComesTo old new (reply_of result) (outcome (midnight_of old) s)
+-- the answer to a part of a request and the tables after it make the machine's transition in each state that the office stands for
+abbrev pub MakesInEachState : OfficeView → OfficeView → Result Reply Fault → (Midnights → State → Transition) → Type 0
+MakesInEachState old new result transition = (s : State) → Stands old s → MakesTransition old new (reply_of result) (transition (midnight_of old) s)
 
 -- the office tells what is so in each state that it stands for
-abbrev pub Tells : OfficeView → Bool → (Midnights → State → Bool) → Type 0
-Tells office told is_so = (s : State) → Stands office s → told ≡ is_so (midnight_of office) s
+abbrev pub TellsTruly : OfficeView → Bool → (Midnights → State → Bool) → Type 0
+TellsTruly office told is_so = (s : State) → Stands office s → told ≡ is_so (midnight_of office) s

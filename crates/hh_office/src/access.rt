@@ -2,7 +2,7 @@
 
 ghost use Rattle.std.specs.Prelude.{◌≡◌, IfOk};
 ghost use Rattle.hh_office.specs.Machine.{is_holder, is_operator, may};
-ghost use Rattle.hh_office.specs.Promises.{Tells};
+ghost use Rattle.hh_office.specs.Promises.{TellsTruly};
 
 use crate::office::Office;
 use crate::request::{Action, Request};
@@ -12,7 +12,7 @@ use hh_store::{StoreFault, Tables};
 impl<'z, T: Tables> Office<'z, T> {
     /// Whether the key of a request allows what it asks.
     pub(crate) fn may(&mut self, request: &Request) -> Result<bool, StoreFault>
-        ensures allowed { IfOk result (λ allowed. Tells self.old allowed
+        ensures allowed { IfOk result (λ allowed. TellsTruly self.old allowed
             (λ midnight s. may midnight s request.now.key request.now.action)) }
         ensures same { self.new ≡ self.old }
     {
@@ -27,7 +27,7 @@ impl<'z, T: Tables> Office<'z, T> {
 
     /// Whether a key is the operator's.
     fn is_operator(&mut self, key: &[u8]) -> Result<bool, StoreFault>
-        ensures told { IfOk result (λ told. Tells self.old told
+        ensures told { IfOk result (λ told. TellsTruly self.old told
             (λ midnight s. is_operator midnight s key.now)) }
         ensures same { self.new ≡ self.old }
     {
@@ -37,7 +37,7 @@ impl<'z, T: Tables> Office<'z, T> {
 
     /// Whether a key is that of an account's party.
     fn is_holder(&mut self, account: &Account, key: &[u8]) -> Result<bool, StoreFault>
-        ensures told { IfOk result (λ told. Tells self.old told
+        ensures told { IfOk result (λ told. TellsTruly self.old told
             (λ midnight s. is_holder midnight s account.now key.now)) }
         ensures same { self.new ≡ self.old }
     {

@@ -4,9 +4,9 @@ ghost use Rattle.std.specs.Prelude.{◌≡◌, ◌≤◌, length, None, IfOk, On
 ghost use Rattle.hh_rules.specs.RegisterView.{ServesFor};
 ghost use Rattle.hh_store.specs.Reads.{file_in, whole_register};
 ghost use Rattle.hh_texts.specs.Rows.{most_rows};
-ghost use Rattle.hh_office.specs.Loads.{Accepts, Judges, Writes, writes_of};
+ghost use Rattle.hh_office.specs.Loads.{Accepts, Judges, WritesLoad, writes_of};
 ghost use Rattle.hh_office.specs.Machine.{load, load_new, loaded_reply, repeat_reply};
-ghost use Rattle.hh_office.specs.Promises.{Does, reply_of};
+ghost use Rattle.hh_office.specs.Promises.{MakesInEachState, reply_of};
 
 use crate::office::Office;
 use crate::reply::{Loaded, Reply};
@@ -21,7 +21,7 @@ use std::alloc::{AllocError, Global};
 impl<'z, T: Tables> Office<'z, T> {
     /// What becomes of a file that is sent.
     pub(crate) fn load(&mut self, moment: i64, upload: &Upload) -> Result<Reply, Fault>
-        ensures { Does self.old self.new result (λ midnight s. load midnight s moment upload.now) }
+        ensures { MakesInEachState self.old self.new result (λ midnight s. load midnight s moment upload.now) }
     {
         if upload.body.as_slice().len() > MOST_BYTES {
             return Err(Fault::of(Refusal::FileTooLarge));
@@ -45,7 +45,7 @@ impl<'z, T: Tables> Office<'z, T> {
     /// What becomes of a file under whose kind and name none is kept.
     fn load_new(&mut self, moment: i64, upload: &Upload) -> Result<Reply, Fault>
         requires { file_in self.old.content upload.now.kind upload.now.name ≡ None }
-        ensures { Does self.old self.new result (λ midnight s.
+        ensures { MakesInEachState self.old self.new result (λ midnight s.
             load_new midnight s moment upload.now) }
     {
         kept_files();
@@ -72,7 +72,7 @@ impl<'z, T: Tables> Office<'z, T> {
         self.tables.register(rows)
     }
 
-    /// Writes what an accepted file's rows come to into the tables, once the reply is made.
+    /// WritesLoad what an accepted file's rows come to into the tables, once the reply is made.
     fn accept(&mut self, upload: &Upload, judged: FileRows) -> Result<Reply, Fault>
         requires { length judged.rows ≤ most_rows }
         ensures { Accepts self.old self.new (writes_of upload.now judged) (reply_of result) }
@@ -83,9 +83,9 @@ impl<'z, T: Tables> Office<'z, T> {
         Ok(reply)
     }
 
-    /// Writes a change into the tables: the last call of the store that a request makes.
+    /// WritesLoad a change into the tables: the last call of the store that a request makes.
     fn commit(&mut self, change: LoadChange) -> Result<(), StoreFault>
-        ensures written { OnOk result (Writes self.old self.new change) }
+        ensures written { OnOk result (WritesLoad self.old self.new change) }
         ensures same { OnErr result (self.new ≡ self.old) }
     {
         load_effect();

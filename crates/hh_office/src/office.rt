@@ -2,7 +2,7 @@
 
 ghost use Rattle.std.specs.Prelude.{◌≡◌, IfOk, OnErr};
 ghost use Rattle.hh_office.specs.Machine.{contracts, step};
-ghost use Rattle.hh_office.specs.Promises.{Does, HandleStep, RefusalLeaves, RepeatsOnce, RunAllStep, StandsAfter};
+ghost use Rattle.hh_office.specs.Promises.{MakesInEachState, HandleStep, RefusalLeaves, RepeatsOnce, RunAllStep, StandsAfter};
 
 use crate::reply::{ContractsReply, Reply};
 use crate::request::{Action, Request};
@@ -81,7 +81,7 @@ impl<'z, T: Tables> Office<'z, T> {
 
     /// What becomes of a request.
     fn act(&mut self, moment: i64, request: &Request) -> Result<Reply, Fault>
-        ensures { Does self.old self.new result (λ midnight s. step midnight s moment request.now) }
+        ensures { MakesInEachState self.old self.new result (λ midnight s. step midnight s moment request.now) }
     {
         if !self.may(request)? {
             return Err(Fault::of(Refusal::Forbidden));
@@ -94,7 +94,7 @@ impl<'z, T: Tables> Office<'z, T> {
 
     /// The contracts in force of an account on a date.
     fn contracts(&mut self, account: &Account, date: SettlementDate) -> Result<Reply, Fault>
-        ensures { Does self.old self.new result (λ midnight s.
+        ensures { MakesInEachState self.old self.new result (λ midnight s.
             contracts midnight s account.now date) }
     {
         let contracts = self.tables.contracts(account, date)?;

@@ -48,8 +48,8 @@ pub data Step : Type 0 where
   LoadFile : LoadStep → Step
 
 -- a step names its file as the register can
-abbrev pub IsNamed : Step → Type 0
-IsNamed (LoadFile load) = word_value is_file_name_byte 1 64 load.name ≡ Some load.name
+abbrev pub NamesFile : Step → Type 0
+NamesFile (LoadFile load) = word_value is_file_name_byte 1 64 load.name ≡ Some load.name
 
 -- the load that a line says
 abbrev pub load_of : LoadLine → LoadStep

@@ -1,7 +1,7 @@
 //! The lines of a script, of which there are several kinds.
 
 ghost use Rattle.std.specs.Prelude.{◌≡◌, option_map, IfSome};
-ghost use Rattle.hh_script.specs.Steps.{IsNamed, LoadFile, load_of, step_of, step_value};
+ghost use Rattle.hh_script.specs.Steps.{NamesFile, LoadFile, load_of, step_of, step_value};
 
 use crate::load::LoadLine;
 use crate::words::split_word;
@@ -17,7 +17,7 @@ impl<'a> ScriptLine<'a> {
     #[tactic(auto, unfolding(crate::specs::Steps::step_value))]
     pub(crate) fn read(line: &'a [u8]) -> Option<ScriptLine<'a>>
         ensures value { option_map step_of result ≡ step_value line.entry.now }
-        ensures named { IfSome result (λ line. IsNamed (step_of line)) }
+        ensures named { IfSome result (λ line. NamesFile (step_of line)) }
     {
         let (command, words) = split_word(line)?;
         if command == b"load".as_slice() {

@@ -1,6 +1,6 @@
 -- What becomes of the lines of a script, by what its parts do.
-use Rattle.std.proofs.Common.{◌≡◌, ℕ, ℤ, ◌+◌, ◌<◌, List, [], ◌∷◌, ◌++◌, length, map, take, refl, sym, ap, subst, ◌∙◌, Bool, true, false, cond, Option, Some, None, Result, Ok, Err, inl, inr, arith, ltb}
-use Rattle.std.specs.Prelude.{◌⊎◌, MatchBool, OnErr, OnOk, slice_index_or}
+use Rattle.std.proofs.Common.{◌≡◌, ℕ, ◌+◌, ◌<◌, List, [], ◌∷◌, ◌++◌, length, map, take, refl, sym, ap, subst, ◌∙◌, Bool, true, false, cond, Option, Some, None, Result, Ok, Err, inl, inr, arith, ltb}
+use Rattle.std.specs.Prelude.{MatchBool, OnErr, OnOk, slice_index_or}
 use Rattle.std.specs.FinMap.{find}
 use Rattle.std.specs.Io.KnownBytes.{Appends}
 use Rattle.std.proofs.lemmas.Bool.{lt-ltb, ltb-false, ltb-true}
@@ -18,7 +18,7 @@ use Rattle.hh_store.specs.States.{State, file_key_cmp}
 use Rattle.hh_office.specs.declared.request.Request.{Request}
 use Rattle.hh_office.specs.declared.request.Upload.{Upload}
 use Rattle.hh_office.specs.declared.reply.Reply.{Reply}
-use Rattle.hh_office.specs.Machine.{Outcome, key_of, load_beside, may, refused_for, step}
+use Rattle.hh_office.specs.Machine.{Transition, key_of, load_beside, may, refused_for, step}
 use Rattle.hh_office.specs.Promises.{HandleStep, Stands, StandsAfter, is_given_up}
 use Rattle.hh_office.specs.Views.{OfficeView, midnight_of}
 use Rattle.hh_session.specs.declared.told.Told.{Told}
@@ -28,12 +28,12 @@ use Rattle.hh_session.specs.Lines.{told_line}
 
 -- A load asks the machine for the same by so many bytes of its file that a larger one is told.
 module _ (midnight : Midnights) (s : State) (l : LoadStep) (all : List ℕ) where
-  -- the outcome for a file of which these bytes were read
-  abbrev asks : List ℕ → Outcome
+  -- the transition for a file of which these bytes were read
+  abbrev asks : List ℕ → Transition
   asks body = step midnight s l.moment (request_of l body)
 
   -- a file that is too large is refused as such, whatever it holds
-  abbrev refused_large : Outcome
+  abbrev refused_large : Transition
   refused_large = cond (may midnight s l.key (request_of l all).action) (refused_for s FileTooLarge) (refused_for s Forbidden)
 
   too_large : (body : List ℕ) → ltb most_bytes (length body) ≡ true → asks body ≡ refused_large
@@ -43,7 +43,7 @@ module _ (midnight : Midnights) (s : State) (l : LoadStep) (all : List ℕ) wher
       upload : List ℕ → Upload
       upload body = record { kind = l.kind; name = l.name; body = body }
 
-      within : List ℕ → Outcome
+      within : List ℕ → Transition
       within body = load_beside midnight s (find file_key_cmp (key_of (upload body)) s.files) l.moment (upload body)
 
   pub by_front : (most : ℕ) → most_bytes < most → asks (take most all) ≡ asks all
@@ -62,17 +62,17 @@ module _ (reads : List ℕ → Option (List ℕ) → Type 0) (old new : OfficeVi
   answered_by : (s t : State) (reply : Reply) (b : Bool) → is_given_up given ≡ b → (record { reply = reply; state = t }) ≡ step (midnight_of old) s l.moment (request_of l all)
       → MatchBool b (new ≡ old) ((given ≡ reply) × (new ≡ record old { content = tables_of (midnight_of old) t })) → Stands new (cond b s t)
       → (u : State) × LoadDoes reads (midnight_of old) s l (Replied given) u × StandsNow old new u
-  answered_by s t reply true up outcome same stands = (s, inr (up, refl), (stands, ap (λ (o : OfficeView). o.zone) same))
-  answered_by s t reply false up outcome comes stands = (
+  answered_by s t reply true up transition same stands = (s, inr (up, refl), (stands, ap (λ (o : OfficeView). o.zone) same))
+  answered_by s t reply false up transition comes stands = (
     t,
-    inl (all, read, (ap Replied (comes.0 ∙ ap (λ (o : Outcome). o.reply) outcome), ap (λ (o : Outcome). o.state) outcome)),
+    inl (all, read, (ap Replied (comes.0 ∙ ap (λ (o : Transition). o.reply) transition), ap (λ (o : Transition). o.state) transition)),
     (stands, ap (λ (o : OfficeView). o.zone) comes.1),
   )
 
   pub load_answered : HandleStep old new l.moment request given → StandsAfter old new l.moment request given → RunsLoad reads old new l (Replied given)
   load_answered steps after s stands =
-      let outcome : Outcome = step (midnight_of old) s l.moment request in
-      answered_by s outcome.state outcome.reply (is_given_up given) refl
+      let transition : Transition = step (midnight_of old) s l.moment request in
+      answered_by s transition.state transition.reply (is_given_up given) refl
       (ap (step (midnight_of old) s l.moment) is ∙ by_front (midnight_of old) s l all most enough) (steps s stands) (after s stands)
 
 -- What a line does, by what it came to and what went out.
@@ -104,10 +104,6 @@ appends_more None between after text line first second = tt
 appends_more (Some xs) None after text line first second = absurd first
 appends_more (Some xs) (Some ys) None text line first second = absurd second
 appends_more (Some xs) (Some ys) (Some zs) text line first second = second ∙ ap (λ bytes. bytes ++ line) first ∙ append_assoc xs text line
-
-appends_none : (before : Option (List ℕ)) → Appends before before []
-appends_none None = tt
-appends_none (Some xs) = sym (append-nil xs)
 
 module _ (reads : List ℕ → Option (List ℕ) → Type 0) (midnight : Midnights) where
   does_more : (s t u : State) (steps : List Step) (text : List ℕ) (step : Step) (told : Told) → ScriptDoes reads midnight s steps text t → StepDoes reads midnight t step told u
@@ -160,10 +156,6 @@ module _ (reads : List ℕ → Option (List ℕ) → Type 0) (old now new : Offi
           appends_more before between after text front went line_went,
         ),
       )
-
--- no lines
-pub script_none : (reads : List ℕ → Option (List ℕ) → Type 0) (office : OfficeView) (taken : Option (List ℕ)) → RunsScript reads office office taken taken []
-script_none reads office taken s stands = ([], s, (refl, refl), appends_none taken, (stands, refl))
 
 -- ---- results
 

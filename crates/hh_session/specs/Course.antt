@@ -8,7 +8,7 @@ use Rattle.hh_script.specs.Steps.{LoadFile, LoadStep, Step}
 use Rattle.hh_store.specs.States.{State}
 use Rattle.hh_office.specs.declared.request.Action.TheVariants as ask
 use Rattle.hh_office.specs.declared.request.Request.{Request}
-use Rattle.hh_office.specs.Machine.{Outcome, step}
+use Rattle.hh_office.specs.Machine.{Transition, step}
 use Rattle.hh_office.specs.declared.reply.Reply.TheVariants as reply
 use Rattle.hh_office.specs.Promises.{Stands, is_given_up, is_refused}
 use Rattle.hh_office.specs.Views.{OfficeView, midnight_of}
@@ -48,7 +48,7 @@ module _ (reads : List ℕ → Option (List ℕ) → Type 0) (midnight : Midnigh
   abbrev pub IsAnswered : State → LoadStep → Told → State → Type 0
   IsAnswered s load told t =
       (body : List ℕ) × reads load.path (Some body)
-      × (let outcome : Outcome = step midnight s load.moment (request_of load body) in (told ≡ Replied outcome.reply) × (t ≡ outcome.state))
+      × (let transition : Transition = step midnight s load.moment (request_of load body) in (told ≡ Replied transition.reply) × (t ≡ transition.state))
 
   -- what a load comes to in a state, and the state after it: its file cannot be read, it is answered, or it is given up
   abbrev pub LoadDoes : State → LoadStep → Told → State → Type 0

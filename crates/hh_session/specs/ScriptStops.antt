@@ -8,11 +8,11 @@ use Rattle.hh_session.specs.declared.script.ScriptStop.{ScriptStop}
 use Rattle.hh_session.specs.declared.script.ScriptStop.TheVariants.{File, Off, Refused}
 
 -- a script whose file gives no bytes
-abbrev pub input_stop : InputFault → ScriptStop
-input_stop input.Unreadable = File
-input_stop input.Memory = Refused memory_fault
+abbrev pub unread_stop : InputFault → ScriptStop
+unread_stop input.Unreadable = File
+unread_stop input.Memory = Refused memory_fault
 
 -- a script that is not read
-abbrev pub script_stop : ScriptFault → ScriptStop
-script_stop (script.Off line) = Off line
-script_stop script.Memory = Refused memory_fault
+abbrev pub fault_stop : ScriptFault → ScriptStop
+fault_stop (script.Off line) = Off line
+fault_stop script.Memory = Refused memory_fault

@@ -2,7 +2,7 @@
 
 ghost use Rattle.std.specs.Prelude.{◌≡◌, ℕ, List, Some, None, map, take, All, IfOk, IsErrOf, OnErr, OnOk};
 ghost use Rattle.hh_devices.specs.Devices.{Failed};
-ghost use Rattle.hh_script.specs.Steps.{IsNamed, LoadFile, load_of, step_of};
+ghost use Rattle.hh_script.specs.Steps.{NamesFile, LoadFile, load_of, step_of};
 ghost use Rattle.hh_session.specs.Course.{LeavesRefused, RunsLoad, RunsScript, RunsStep, StopsScript, StopsStep, request_of};
 
 use crate::tell::{LOADED_ROOM, tell, tell_no_memory};
@@ -34,7 +34,7 @@ pub fn run_lines<T: Tables, I: Inputs, O: Sink>(
     lines: &[ScriptLine<'_>],
     out: &mut O,
 ) -> Result<(), DeviceFailed>
-    requires { All (λ line. IsNamed (step_of line)) lines.now }
+    requires { All (λ line. NamesFile (step_of line)) lines.now }
     ensures done { OnOk result (RunsScript (I.reads_as inputs.now) office.old office.new
         (O.taken out.old) (O.taken out.new) (map step_of lines.now)) }
     ensures well { OnOk result (O.failures out.new ≡ O.failures out.old) }
@@ -56,7 +56,7 @@ fn run_line<T: Tables, I: Inputs, O: Sink>(
     line: &ScriptLine<'_>,
     out: &mut O,
 ) -> Result<(), DeviceFailed>
-    requires { IsNamed (step_of line.now) }
+    requires { NamesFile (step_of line.now) }
     ensures done { OnOk result (RunsStep (I.reads_as inputs.now) office.old office.new
         (O.taken out.old) (O.taken out.new) (step_of line.now)) }
     ensures well { OnOk result (O.failures out.new ≡ O.failures out.old) }
@@ -81,8 +81,9 @@ fn run_load<T: Tables, I: Inputs>(
     inputs: &I,
     load: &LoadLine<'_>,
 ) -> Told
-    requires { IsNamed (LoadFile (load_of load.now)) }
-    ensures runs { RunsLoad (I.reads_as inputs.now) office.old office.new (load_of load.now) result }
+    requires { NamesFile (LoadFile (load_of load.now)) }
+    ensures runs { RunsLoad (I.reads_as inputs.now) office.old office.new
+        (load_of load.now) result }
     ensures untouched { LeavesRefused office.old office.new result }
 {
     match read_request(alloc, inputs, load) {
@@ -98,7 +99,7 @@ fn read_request<I: Inputs>(
     inputs: &I,
     load: &LoadLine<'_>,
 ) -> Result<Request, InputFault>
-    requires { IsNamed (LoadFile (load_of load.now)) }
+    requires { NamesFile (LoadFile (load_of load.now)) }
     ensures request { IfOk result (λ request. (all : List ℕ)
         × I.reads_as inputs.now load.now.path.now (Some all)
         × (request ≡ request_of (load_of load.now) (take MOST_READ all))) }

@@ -2,7 +2,7 @@
 
 ghost use Rattle.std.specs.Prelude.{◌≡◌, ◌≢◌, ◌≤◌, Some, length, map, All, IfErr, IfOk, OnErr, OnOk};
 ghost use Rattle.hh_devices.specs.Devices.{Failed};
-ghost use Rattle.hh_script.specs.Steps.{IsNamed, step_of};
+ghost use Rattle.hh_script.specs.Steps.{NamesFile, step_of};
 ghost use Rattle.hh_session.specs.Script.{IsUnread, NewOfficeCuts, NewOfficeWrites, StopsAt, WritesScript, most_script_bytes};
 
 use crate::run::run_lines;
@@ -34,9 +34,9 @@ pub enum ScriptStop {
 
 impl From<InputFault> for ScriptStop {
     ghost use Rattle.std.specs.Prelude.{◌≡◌};
-    ghost use Rattle.hh_session.specs.ScriptStops.{input_stop};
+    ghost use Rattle.hh_session.specs.ScriptStops.{unread_stop};
 
-    ghost from_gives = { λ fault stop. stop ≡ input_stop fault };
+    ghost from_gives = { λ fault stop. stop ≡ unread_stop fault };
 
     fn from(fault: InputFault) -> ScriptStop {
         match fault {
@@ -48,9 +48,9 @@ impl From<InputFault> for ScriptStop {
 
 impl From<ScriptFault> for ScriptStop {
     ghost use Rattle.std.specs.Prelude.{◌≡◌};
-    ghost use Rattle.hh_session.specs.ScriptStops.{script_stop};
+    ghost use Rattle.hh_session.specs.ScriptStops.{fault_stop};
 
-    ghost from_gives = { λ fault stop. stop ≡ script_stop fault };
+    ghost from_gives = { λ fault stop. stop ≡ fault_stop fault };
 
     fn from(fault: ScriptFault) -> ScriptStop {
         match fault {
@@ -111,7 +111,7 @@ fn run_new_office<I: Inputs, O: Sink>(
     lines: &[ScriptLine<'_>],
     out: &mut O,
 ) -> Result<(), DeviceFailed>
-    requires { All (λ line. IsNamed (step_of line)) lines.now }
+    requires { All (λ line. NamesFile (step_of line)) lines.now }
     ensures done { OnOk result (NewOfficeWrites (I.reads_as inputs.now) settings
         (O.taken out.old) (O.taken out.new) (map step_of lines.now)) }
     ensures well { OnOk result (O.failures out.new ≡ O.failures out.old) }

@@ -1,5 +1,5 @@
 -- What holds of the states that the machine reaches, and that a load leaves the tables of the runs as they are.
-use Rattle.std.proofs.Common.{◌≡◌, ℕ, ◌+◌, ◌≤◌, List, [], ◌∷◌, ◌++◌, map, length, refl, sym, ap, ◌∙◌, Bool, true, false, cond, Option, Some, None, arith, length-append}
+use Rattle.std.proofs.Common.{◌≡◌, ℕ, ◌+◌, ◌≤◌, List, [], ◌∷◌, ◌++◌, map, length, refl, ap, Bool, true, false, cond, Option, Some, None, arith, length-append}
 use Rattle.std.specs.Prelude.{filter, ◌==◌}
 use Rattle.std.specs.List.{flat_map}
 use Rattle.std.proofs.lemmas.List.{take-append-le}
@@ -16,7 +16,7 @@ use Rattle.hh_store.specs.DaySettlement.{day_nets, settled_day}
 use Rattle.hh_store.specs.PeriodSettlement.{accounts_on}
 use Rattle.hh_store.specs.Runs.{Run, RunKey, last_of, nets_of, periods_of, postings_after, run_key_cmp, runs_of_date, seen_by, settled_by, summary_after, with_former}
 use Rattle.hh_store.specs.States.{State}
-use Rattle.hh_store.specs.Steps.{CanLoad, IsReached, Load, after_load, at_first, by_load, by_run, kept_file, new_run, rows_coming, timetable_at}
+use Rattle.hh_store.specs.Steps.{IsReached, at_first, by_load, by_run, kept_file, new_run, rows_coming, timetable_at}
 use Rattle.hh_store.proofs.KeyLaws.{exact_file_keys, file_key_total}
 use Rattle.hh_store.proofs.LoadLaws.{in_key_order-append, load_register}
 

@@ -11,12 +11,12 @@ use Rattle.hh_names.specs.Accounts.{account_cmp}
 use Rattle.hh_rules.specs.Lateness.{Timetable}
 use Rattle.hh_calc.specs.declared.result.AccountRow.{AccountRow}
 use Rattle.hh_runs.specs.declared.summary.Summary.{Summary}
-use Rattle.hh_store.specs.Changes.{RunEffect, StandsFor, effect_of_run, run_writes}
-use Rattle.hh_store.specs.Content.{Content, CreditKey, PostingKey, ResultKey, all_credits, all_postings, all_results, all_summaries, credit_entries, credit_key_cmp, posting_entries, posting_key_cmp, result_entries, result_key_cmp, runs_with_former, tables_of}
+use Rattle.hh_store.specs.Changes.{RunEffect}
+use Rattle.hh_store.specs.Content.{CreditKey, PostingKey, ResultKey, all_credits, all_postings, all_results, all_summaries, credit_entries, credit_key_cmp, posting_entries, posting_key_cmp, result_entries, result_key_cmp, runs_with_former, tables_of}
 use Rattle.hh_store.specs.PeriodSettlement.{unit_account_cmp}
 use Rattle.hh_store.specs.Runs.{Run, RunKey, latest_run, nets_of, postings_after, run_key_cmp, settled_by, summary_after, with_former}
 use Rattle.hh_store.specs.States.{State}
-use Rattle.hh_store.specs.Steps.{CanRun, after_run, by_run, new_run, new_summary, timetable_at}
+use Rattle.hh_store.specs.Steps.{after_run, new_run, new_summary, timetable_at}
 use Rattle.hh_store.proofs.ApartLaws.{Lacks, all-before-map, all-weaken, apart_from_blocks, first_part, have_one_key, in_key_order-append_all, lacks}
 use Rattle.hh_store.proofs.KeyLaws.{credit_key_total, exact_credit_keys, exact_posting_keys, exact_result_keys, exact_run_keys, posting_key_total, result_key_total, run_key_total}
 use Rattle.hh_store.proofs.LoadLaws.{in_key_order-append}
@@ -129,11 +129,3 @@ run_effect midnight s moment key can = λ i. record {
   credits = credits_path midnight s key can.0 i;
   postings = postings_path midnight s key can.0 i;
 }
-
--- tables that stand for a state stand, with what a new run writes, for the state after it
-pub stands_after_run : (midnight : Midnights) (content : Content) (s : State) (moment : ℤ) (key : RunKey) → StandsFor midnight content s → CanRun midnight s moment key
-    → StandsFor midnight (effect_of_run (run_writes midnight s key) content) (after_run s key)
-stands_after_run midnight content s moment key stands can = (
-  by_run s moment key stands.0 can,
-  ap (effect_of_run (run_writes midnight s key)) stands.1 ∙ sym (run_effect midnight s moment key can),
-)

@@ -1,7 +1,6 @@
 -- What a load and a run write into the tables of an office, and what the tables are then.
-use Rattle.std.specs.Prelude.{◌≡◌, ℕ, ℤ, List, [], ◌∷◌, map, filter, is_some, true, if◌then◌else◌}
-use Rattle.std.specs.declared.cmp.Ordering.{Ordering}
-use Rattle.std.specs.FinMap.{find, put}
+use Rattle.std.specs.Prelude.{◌≡◌, ℕ, ℤ, List, [], ◌∷◌, true}
+use Rattle.std.specs.FinMap.{put}
 use Rattle.hh_tables.specs.Tables.{put_all}
 use Rattle.hh_time.specs.Days.{Midnights}
 use Rattle.hh_names.specs.declared.values.Counterparties.{Counterparties}
@@ -16,7 +15,7 @@ use Rattle.hh_store.specs.declared.file_key.FileKey.{FileKey}
 use Rattle.hh_store.specs.Content.{Content, CreditKey, PostingKey, ResultKey, credit_entries, credit_key_cmp, posting_entries, posting_key_cmp, result_entries, result_key_cmp, tables_of}
 use Rattle.hh_store.specs.Runs.{Run, RunKey, latest_run, postings_after, run_key_cmp, settled_by}
 use Rattle.hh_store.specs.States.{AcceptedFile, State, file_key_cmp}
-use Rattle.hh_store.specs.Steps.{CanLoad, CanRun, IsReached, Load, after_load, after_run, kept_file, new_run, new_summary, registered_at, rows_coming, timetable_at}
+use Rattle.hh_store.specs.Steps.{CanLoad, CanRun, IsReached, Load, after_load, after_run, kept_file, new_run, new_summary, rows_coming, timetable_at}
 
 -- what a load writes: the file with the counts of its reply, its rows that are not late, and the references that it fixes
 pub record LoadWrites : Type 0 where

@@ -1,10 +1,10 @@
-use Rattle.std.proofs.Common.{◌≡◌, ◌+◌, ◌∷◌, [], ◌++◌, map, take, sym, ap, ◌∙◌, subst, arith, pos}
+use Rattle.std.proofs.Common.{◌+◌, [], map, take, sym, ◌∙◌, subst, arith, pos}
 use Rattle.std.specs.Prelude.{slice_index_or}
 use Rattle.hh_rows.specs.declared.file_kind.FileKind.TheVariants.{Parties}
 use Rattle.hh_script.specs.Steps.{step_of}
 use Rattle.hh_script.specs.declared.script_line.ScriptLine.{ScriptLine}
 use Rattle.hh_script.specs.declared.script_line.ScriptLine.TheVariants.{Load}
-use Rattle.hh_session.specs.Course.{RunsScript, StopsScript}
+use Rattle.hh_session.specs.Course.{RunsScript}
 use Rattle.hh_session.proofs.CourseLaws.{first_steps, one_more_step, passed_failure, script_more, script_stops}
 use Rattle.hh_session.proofs.run.run_lines.Goals as goal
 

@@ -1,4 +1,4 @@
-use Rattle.std.proofs.Common.{rules, subst, arith, w64, SFits, to_z, of_z}
+use Rattle.std.proofs.Common.{rules, subst, arith, w64, SFits}
 use Rattle.std.proofs.lemmas.Int.{to_z-of_z}
 use Rattle.hh_office.specs.Promises.{HandleStep, StandsAfter}
 use Rattle.hh_script.specs.Steps.{load_of}

@@ -1,4 +1,4 @@
-use Rattle.std.proofs.Common.{◌≡◌, ◌<◌, ◌≤◌, length, rules, refl, subst, sym, Some}
+use Rattle.std.proofs.Common.{◌<◌, ◌≤◌, length, rules, refl, subst, sym, Some}
 use Rattle.hh_session.proofs.ScriptLaws.{read_larger, read_whole}
 use Rattle.hh_session.proofs.script.read_whole.Goals as goal
 

@@ -1,4 +1,4 @@
-use Rattle.std.proofs.Common.{◌≡◌, subst, sym, ap, ◌∙◌, map}
+use Rattle.std.proofs.Common.{map}
 use Rattle.hh_script.specs.Steps.{step_of}
 use Rattle.hh_session.proofs.CourseLaws.{OnErr-map, OnOk-map}
 use Rattle.hh_session.proofs.ScriptLaws.{new_office_cuts, new_office_writes}

@@ -1,6 +1,6 @@
 use Rattle.std.proofs.Common.{ap, subst, ◌∙◌}
 use Rattle.hh_store.specs.Changes.{LoadWrites}
-use Rattle.hh_office.specs.Loads.{Writes, writes_of}
+use Rattle.hh_office.specs.Loads.{WritesLoad, writes_of}
 use Rattle.hh_office.specs.Machine.{loaded_reply}
 use Rattle.hh_office.proofs.StepLaws.{accepts}
 use Rattle.hh_office.proofs.office.Office.accept.Goals as goal
@@ -9,4 +9,4 @@ pub returns : goal.returns
 returns g c =
     let file = c.file.ensures ∙ ap (λ (w : LoadWrites). w.file) c.in_ok-change.ensures in
     accepts c.args.self.now c.commit.new.self (writes_of c.args.upload.now c.args.judged) c.loaded_reply-reply.result (c.loaded_reply-reply.ensures ∙ ap loaded_reply file)
-    (subst (Writes c.args.self.now c.commit.new.self) c.in_ok-change.ensures c.in_ok-commit.ensures.written)
+    (subst (WritesLoad c.args.self.now c.commit.new.self) c.in_ok-change.ensures c.in_ok-commit.ensures.written)

@@ -2,15 +2,15 @@ use Rattle.std.proofs.Common.{subst, Ok, Err, w64, to_z, of_z}
 use Rattle.hh_office.specs.declared.reply.Reply.TheVariants as reply
 use Rattle.std.proofs.lemmas.Int.{to_z-of_z}
 use Rattle.hh_office.specs.Machine.{step}
-use Rattle.hh_office.specs.Promises.{Does}
+use Rattle.hh_office.specs.Promises.{MakesInEachState}
 use Rattle.hh_office.proofs.HandleLaws.{refusal_leaves, stands_after}
 use Rattle.hh_office.proofs.OnceLaws.{repeats}
 use Rattle.hh_office.proofs.office.Office.handle.Goals as goal
 
 pub returns-in-Ok-clause-step : goal.returns-in-Ok-clause-step
 returns-in-Ok-clause-step g c =
-    subst (λ m. Does c.args.self.now c.act.new.self (Ok c.in-Ok.reply) (λ midnight s. step midnight s m c.args.request.now)) (to_z-of_z w64 c.args.moment c.ranges.moment)
-    (subst (λ r. Does c.args.self.now c.act.new.self r (λ midnight s. step midnight s (to_z w64 (of_z w64 c.args.moment)) c.args.request.now)) c.in-Ok.is c.act.ensures)
+    subst (λ m. MakesInEachState c.args.self.now c.act.new.self (Ok c.in-Ok.reply) (λ midnight s. step midnight s m c.args.request.now)) (to_z-of_z w64 c.args.moment c.ranges.moment)
+    (subst (λ r. MakesInEachState c.args.self.now c.act.new.self r (λ midnight s. step midnight s (to_z w64 (of_z w64 c.args.moment)) c.args.request.now)) c.in-Ok.is c.act.ensures)
 
 pub returns-in-Ok-clause-once : goal.returns-in-Ok-clause-once
 returns-in-Ok-clause-once g c =
@@ -18,8 +18,8 @@ returns-in-Ok-clause-once g c =
 
 pub returns-in-Err-clause-step : goal.returns-in-Err-clause-step
 returns-in-Err-clause-step g c =
-    subst (λ m. Does c.args.self.now c.act.new.self (Err c.in-Err.fault) (λ midnight s. step midnight s m c.args.request.now)) (to_z-of_z w64 c.args.moment c.ranges.moment)
-    (subst (λ r. Does c.args.self.now c.act.new.self r (λ midnight s. step midnight s (to_z w64 (of_z w64 c.args.moment)) c.args.request.now)) c.in-Err.is c.act.ensures)
+    subst (λ m. MakesInEachState c.args.self.now c.act.new.self (Err c.in-Err.fault) (λ midnight s. step midnight s m c.args.request.now)) (to_z-of_z w64 c.args.moment c.ranges.moment)
+    (subst (λ r. MakesInEachState c.args.self.now c.act.new.self r (λ midnight s. step midnight s (to_z w64 (of_z w64 c.args.moment)) c.args.request.now)) c.in-Err.is c.act.ensures)
 
 pub returns-in-Err-clause-once : goal.returns-in-Err-clause-once
 returns-in-Err-clause-once g c =

@@ -1,9 +1,9 @@
-use Rattle.std.proofs.Common.{ap, subst, sym, ◌∙◌, ◌≤◌, length, w64, to_z, of_z, Some, None, Ok}
+use Rattle.std.proofs.Common.{subst, sym, ◌∙◌, ◌≤◌, length, w64, to_z, of_z, Some, None, Ok}
 use Rattle.std.proofs.lemmas.Bool.{le-ltb}
 use Rattle.std.proofs.lemmas.Int.{to_z-of_z}
 use Rattle.hh_texts.specs.Rows.{most_bytes}
 use Rattle.hh_office.specs.Machine.{load_beside, load_new, repeat_reply, unchanged}
-use Rattle.hh_office.specs.Promises.{ComesTo, Does, reply_of}
+use Rattle.hh_office.specs.Promises.{MakesTransition, MakesInEachState, reply_of}
 use Rattle.hh_office.specs.Views.{midnight_of}
 use Rattle.hh_office.proofs.StepLaws.{comes_by_kept, comes_same, comes_unchanged}
 use Rattle.hh_office.proofs.office.Office.load.Goals as goal
@@ -16,7 +16,7 @@ returns-in-Some g c s stands =
     let small = le-ltb most_bytes (length upload.body) (subst (λ b. length b ≤ most_bytes) c.as_slice.ensures c.if-as_slice-gt-MOST_BYTES.false) in
     let new = c.kept_under.new.self in
     comes_by_kept office s c.args.moment upload stands c.kept_files.ensures (Some file) (sym c.in-Some.is ∙ c.in_ok-file.ensures.value) small new (reply_of (Ok c.repeated.result))
-    (subst (λ given. ComesTo office new given (load_beside (midnight_of office) s (Some file) c.args.moment upload)) (sym c.repeated.ensures)
+    (subst (λ given. MakesTransition office new given (load_beside (midnight_of office) s (Some file) c.args.moment upload)) (sym c.repeated.ensures)
     (comes_same office new (repeat_reply file upload.body) (unchanged s (repeat_reply file upload.body)) c.in_ok-file.ensures.same (comes_unchanged office s (repeat_reply file upload.body) stands)))
 
 pub returns-in-None : goal.returns-in-None
@@ -25,6 +25,6 @@ returns-in-None g c s stands =
     let upload = c.args.upload.now in
     let new = c.load_new.new.self in
     let small = le-ltb most_bytes (length upload.body) (subst (λ b. length b ≤ most_bytes) c.as_slice.ensures c.if-as_slice-gt-MOST_BYTES.false) in
-    let does = subst (λ o. Does o new c.load_new.result (λ midnight s. load_new midnight s (to_z w64 (of_z w64 c.args.moment)) upload)) c.in_ok-file.ensures.same c.load_new.ensures in
+    let does = subst (λ o. MakesInEachState o new c.load_new.result (λ midnight s. load_new midnight s (to_z w64 (of_z w64 c.args.moment)) upload)) c.in_ok-file.ensures.same c.load_new.ensures in
     comes_by_kept office s c.args.moment upload stands c.kept_files.ensures None (sym c.in-None.is ∙ c.in_ok-file.ensures.value) small new (reply_of c.load_new.result)
-    (subst (λ m. ComesTo office new (reply_of c.load_new.result) (load_new (midnight_of office) s m upload)) (to_z-of_z w64 c.args.moment c.ranges.moment) (does s stands))
+    (subst (λ m. MakesTransition office new (reply_of c.load_new.result) (load_new (midnight_of office) s m upload)) (to_z-of_z w64 c.args.moment c.ranges.moment) (does s stands))

@@ -1,5 +1,4 @@
 use Rattle.std.proofs.Common.{◌≡◌, ◌+◌, ◌∷◌, [], ◌++◌, length, take, subst, sym, ap, ◌∙◌, cond, arith, length-append}
-use Rattle.std.specs.Vec.{vec_capacity}
 use Rattle.std.proofs.lemmas.List.{take_more}
 use Rattle.hh_office.specs.Promises.{RunAllStep}
 use Rattle.hh_office.proofs.ListLaws.{run_more}
