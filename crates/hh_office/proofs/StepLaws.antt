@@ -26,8 +26,12 @@ use Rattle.hh_office.specs.declared.request.Request.{Request}
 use Rattle.hh_office.specs.declared.request.Upload.{Upload}
 use Rattle.hh_office.specs.Loads.{Accepts, Answers, WritesLoad, accepted, judged_upload, writes_of}
 use Rattle.hh_office.specs.Machine.{Transition, act, key_of, load_new, may, step, load, load_beside, load_read_as, loaded_reply, refused, refused_for, unchanged}
-use Rattle.hh_office.specs.Promises.{MakesTransition, Stands, UnlessFailed, is_failure, is_given_up, reply_of}
+use Rattle.hh_office.specs.Promises.{MakesTransition, Stands, UnlessFailed, gives_up, is_given_up, reply_of}
 use Rattle.hh_office.specs.Views.{OfficeView, midnight_of}
+
+by_either : (b : Bool) (P Q : Type 0) → P → Q → MatchBool b P Q
+by_either true P Q p q = p
+by_either false P Q p q = q
 
 by_failure : (b : Bool) (Q R A : Type 0) → A → (Q → R) → MatchBool b (Unit {0}) Q → MatchBool b A R
 by_failure true Q R A a f h = a
@@ -37,21 +41,21 @@ by_failure false Q R A a f h = f h
 pub comes_refused : (office : OfficeView) (s : State) (fault : Fault) (transition : Transition) → Stands office s
     → UnlessFailed fault (transition ≡ refused s fault) → MakesTransition office office (reply.Refused fault) transition
 comes_refused office s fault transition stands =
-    by_failure (is_failure fault.refusal) (transition ≡ refused s fault) _ (office ≡ office) refl
+    by_failure (gives_up fault) (transition ≡ refused s fault) _ (office ≡ office) refl
     (λ same. (
       sym (ap (λ (o : Transition). o.reply) same),
       ap (λ c. record office { content = c }) (stands.1 ∙ ap (λ (o : Transition). tables_of (midnight_of office) o.state) (sym same)),
     ))
 
-unless_failed : (r : Refusal) (P Q R : Type 0) → (Q → R) → ByRefusal r P Q → MatchBool (is_failure r) (Unit {0}) R
-unless_failed refusal.Memory P Q R f p = tt
-unless_failed refusal.Store P Q R f p = tt
-unless_failed r P Q R f q = f q
+-- what a refusal says, unless memory ran out, it says, unless it gives up
+unless_failed : (fault : Fault) (r : Refusal) (Q : Type 0) → ByRefusal r (fault ≡ memory_fault) Q → UnlessFailed fault Q
+unless_failed fault refusal.Memory Q is = subst (λ f. UnlessFailed f Q) (sym is) tt
+unless_failed fault r Q is = by_either (gives_up fault) (Unit {0}) Q tt is
 
 -- an answer that is given, unless memory ran out, is given, unless something failed
-pub answers : (result transition : Result FileRowsView Fault) → Gives faults (λ judged. judged) result transition → Answers result transition
-answers (Ok judged) transition gives = gives
-answers (Err fault) transition gives = unless_failed fault.refusal (fault ≡ memory_fault) (transition ≡ Err fault) _ (λ is. is) gives
+pub answers : (result expected : Result FileRowsView Fault) → Gives faults (λ judged. judged) result expected → Answers result expected
+answers (Ok judged) expected gives = gives
+answers (Err fault) expected gives = unless_failed fault fault.refusal (expected ≡ Err fault) gives
 
 -- the error of an answer, if it is one
 abbrev unwrap_err : {X : Type 0} → Fault → Result X Fault → Fault
@@ -142,7 +146,7 @@ module _ (office : OfficeView) (s : State) (moment : ℤ) (upload : Upload) (sta
   pub load_refused : (fault : Fault) → UnlessFailed fault (judged_upload (midnight_of office) s moment upload ≡ Err fault)
       → MakesTransition office office (reply.Refused fault) (load_new (midnight_of office) s moment upload)
   load_refused fault judges = comes_refused office s fault (load_new (midnight_of office) s moment upload) stands
-      (by_failure (is_failure fault.refusal) _ _ (Unit {0}) tt (by_judged (file_rows upload.kind upload.body) fault) judges)
+      (by_failure (gives_up fault) _ _ (Unit {0}) tt (by_judged (file_rows upload.kind upload.body) fault) judges)
 
   module _ (new : OfficeView) (judged : FileRowsView) (given : Reply) (holds : HoldsFiles) (free : file_in office.content upload.kind upload.name ≡ None)
       (accepts : Accepts office new (writes_of upload judged) given) where
@@ -185,10 +189,6 @@ commit_writes (Ok x) old new writes effect zone written = λ s load stands can i
 pub accepts : (old new : OfficeView) (writes : LoadWrites) (given : Reply) → given ≡ loaded_reply writes.file → WritesLoad old new writes → Accepts old new writes given
 accepts old new writes given reply written s load stands can is =
     subst (λ r. MakesTransition old new r (accepted old s load writes)) (sym reply) (refl, written s load stands can is)
-
-by_either : (b : Bool) (P Q : Type 0) → P → Q → MatchBool b P Q
-by_either true P Q p q = p
-by_either false P Q p q = q
 
 -- an office that stands for a state comes to a reply that leaves it
 pub comes_unchanged : (office : OfficeView) (s : State) (given : Reply) → Stands office s → MakesTransition office office given (unchanged s given)

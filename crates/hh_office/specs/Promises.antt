@@ -1,5 +1,5 @@
 -- What the office promises of a request and of lists of requests.
-use Rattle.std.specs.Prelude.{◌≡◌, ℤ, List, map, filter, zip, length, Bool, true, false, not, Result, Ok, Err, IsTrue, IsFalse, MatchBool, if◌then◌else◌}
+use Rattle.std.specs.Prelude.{◌≡◌, ℤ, List, map, filter, zip, length, Bool, true, false, not, ◌&&◌, is_none, Result, Ok, Err, IsTrue, IsFalse, MatchBool, if◌then◌else◌}
 use Rattle.hh_time.specs.Days.{Midnights}
 use Rattle.hh_names.specs.declared.fault.Fault.{Fault}
 use Rattle.hh_names.specs.declared.fault.Refusal.{Refusal}
@@ -22,13 +22,21 @@ is_failure Memory = true
 is_failure Store = true
 is_failure _ = false
 
--- this holds of a refusal, unless memory ran out or the store refused
-abbrev pub UnlessFailed : Fault → Type 0 → Type 0
-UnlessFailed fault holds = MatchBool (is_failure fault.refusal) (Unit {0}) holds
+-- a refusal of the whole, which names no place
+abbrev pub is_plain : Fault → Bool
+is_plain fault = is_none fault.row && is_none fault.column && is_none fault.unit && is_none fault.period
 
--- the request was given up, since memory ran out or the store refused
+-- the refusal of a request that was given up, since memory ran out or the store refused
+abbrev pub gives_up : Fault → Bool
+gives_up fault = is_failure fault.refusal && is_plain fault
+
+-- this holds of a refusal, unless it gives up
+abbrev pub UnlessFailed : Fault → Type 0 → Type 0
+UnlessFailed fault holds = MatchBool (gives_up fault) (Unit {0}) holds
+
+-- the request was given up
 abbrev pub is_given_up : Reply → Bool
-is_given_up (reply.Refused fault) = is_failure fault.refusal
+is_given_up (reply.Refused fault) = gives_up fault
 is_given_up _ = false
 
 -- ---- one request

@@ -21,7 +21,8 @@ use std::alloc::{AllocError, Global};
 impl<'z, T: Tables> Office<'z, T> {
     /// What becomes of a file that is sent.
     pub(crate) fn load(&mut self, moment: i64, upload: &Upload) -> Result<Reply, Fault>
-        ensures { MakesInEachState self.old self.new result (λ midnight s. load midnight s moment upload.now) }
+        ensures { MakesInEachState self.old self.new result (λ midnight s.
+            load midnight s moment upload.now) }
     {
         if upload.body.as_slice().len() > MOST_BYTES {
             return Err(Fault::of(Refusal::FileTooLarge));

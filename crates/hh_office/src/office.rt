@@ -81,7 +81,8 @@ impl<'z, T: Tables> Office<'z, T> {
 
     /// What becomes of a request.
     fn act(&mut self, moment: i64, request: &Request) -> Result<Reply, Fault>
-        ensures { MakesInEachState self.old self.new result (λ midnight s. step midnight s moment request.now) }
+        ensures { MakesInEachState self.old self.new result (λ midnight s.
+            step midnight s moment request.now) }
     {
         if !self.may(request)? {
             return Err(Fault::of(Refusal::Forbidden));

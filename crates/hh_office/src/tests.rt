@@ -8,7 +8,6 @@ use hh_store::PlainTables;
 use hh_time::{SettlementDate, london};
 use std::alloc::Global;
 use std::process::Abort;
-use std::test::Fail;
 
 /// The operator's key.
 const OPERATOR: &[u8] = b"op-settle001";
@@ -122,10 +121,13 @@ fn says(
 }
 
 /// An office after two parties, a unit of each and a contract between them.
-fn office(rt: &(impl AllocGlobal + Abort)) -> Option<Office<'static, PlainTables>> {
+fn office(rt: &(impl AllocGlobal + Abort)) -> Office<'static, PlainTables> {
+    let Some(operator_key) = OperatorKey::read(OPERATOR) else {
+        panic!(rt; "the operator's key is read");
+    };
     let settings = Settings {
         lead_minutes: LeadMinutes::default(),
-        operator_key: OperatorKey::read(OPERATOR)?,
+        operator_key,
     };
     let tables = PlainTables::new(rt.alloc(), settings);
     let mut office = Office::new(rt.alloc(), tables, london());
@@ -153,7 +155,7 @@ fn office(rt: &(impl AllocGlobal + Abort)) -> Option<Office<'static, PlainTables
         ),
     ];
     says(rt, &mut office, &files);
-    Some(office)
+    office
 }
 
 /// A row is a contract of this period and reference, over so many kWh.
@@ -163,33 +165,40 @@ fn is_contract(row: &ContractRow, period: u8, reference: &[u8], kwh: i64) -> boo
         && row.contract.volume.units() == kwh
 }
 
+/// The contracts that an office tells when it is asked for them.
+fn told_contracts(
+    office: &mut Office<'_, PlainTables>,
+    request: Option<Request>,
+) -> Option<ContractsReply> {
+    let request = request?;
+    match office.handle(MOMENT, &request) {
+        Reply::Contracts(reply) => Some(reply),
+        _ => None,
+    }
+}
+
 /// The contracts of an account on 2024-07-01 are these, in order.
 fn lists(
     rt: &(impl AllocGlobal + Abort),
     office: &mut Office<'_, PlainTables>,
     account: &[u8],
     want: &[(u8, &[u8], i64)],
-) -> Option<()> {
-    let request = enquiry(rt.alloc(), OPERATOR, account)?;
-    let given = office.handle(MOMENT, &request);
-    let Reply::Contracts(given) = &given else {
+) {
+    let request = enquiry(rt.alloc(), OPERATOR, account);
+    let Some(given) = told_contracts(office, request) else {
         panic!(rt; "contracts are told");
     };
-    assert!(rt; given.account() == Account::read(account)?);
-    assert!(rt; given.date() == SettlementDate::read(b"2024-07-01")?);
+    assert!(rt; Account::read(account) == Some(given.account()));
+    assert!(rt; SettlementDate::read(b"2024-07-01") == Some(given.date()));
     assert_eq!(rt; given.contracts().len(), want.len());
     for (row, (period, reference, kwh)) in given.contracts().iter().zip(want.iter()) {
-        assert!(rt;
-            is_contract(row, *period, reference, *kwh),
-            "{reference:?} {row:?}"
-        );
+        assert!(rt; is_contract(row, *period, reference, *kwh));
     }
-    Some(())
 }
 
 #[test]
-fn a_row_is_late_from_its_deadline_on(rt: HostRuntime) -> Result<(), Fail> {
-    let mut office = office(&rt).ok_or("office")?;
+fn a_row_is_late_from_its_deadline_on(rt: HostRuntime) {
+    let mut office = office(&rt);
     let contracts = FileKind::Contracts;
     let files: [(i64, FileKind, &[u8], &[u8], Said); 4] = [
         (
@@ -223,7 +232,7 @@ fn a_row_is_late_from_its_deadline_on(rt: HostRuntime) -> Result<(), Fail> {
     ];
     says(&rt, &mut office, &files);
     let before: [(u8, &[u8], i64); 2] = [(1, b"C1", 98_000), (2, b"C2", 5_000)];
-    lists(&rt, &mut office, b"GENCO-P", &before).ok_or("before")?;
+    lists(&rt, &mut office, b"GENCO-P", &before);
     let later: [(i64, FileKind, &[u8], &[u8], Said); 1] = [(
         MOMENT,
         contracts,
@@ -233,13 +242,12 @@ fn a_row_is_late_from_its_deadline_on(rt: HostRuntime) -> Result<(), Fail> {
     )];
     says(&rt, &mut office, &later);
     let after: [(u8, &[u8], i64); 2] = [(1, b"C1", 96_000), (2, b"C2", 5_000)];
-    lists(&rt, &mut office, b"SUPCO-C", &after).ok_or("after")?;
-    Ok(())
+    lists(&rt, &mut office, b"SUPCO-C", &after);
 }
 
 #[test]
-fn a_file_that_comes_again_gets_its_reply(rt: HostRuntime) -> Result<(), Fail> {
-    let mut office = office(&rt).ok_or("office")?;
+fn a_file_that_comes_again_gets_its_reply(rt: HostRuntime) {
+    let mut office = office(&rt);
     let contracts = FileKind::Contracts;
     let row = b"C1,GENCO-P,SUPCO-C,2024-07-01,1,98.000\n".as_slice();
     let other = b"C1,GENCO-P,SUPCO-C,2024-07-01,1,98.001\n".as_slice();
@@ -267,13 +275,12 @@ fn a_file_that_comes_again_gets_its_reply(rt: HostRuntime) -> Result<(), Fail> {
         (i64::MIN, contracts, b"A", other, Said::Loaded(1, 0)),
     ];
     says(&rt, &mut office, &files);
-    lists(&rt, &mut office, b"GENCO-P", &[(1, b"C1", 98_001)]).ok_or("list")?;
-    Ok(())
+    lists(&rt, &mut office, b"GENCO-P", &[(1, b"C1", 98_001)]);
 }
 
 #[test]
-fn a_refused_file_leaves_nothing(rt: HostRuntime) -> Result<(), Fail> {
-    let mut office = office(&rt).ok_or("office")?;
+fn a_refused_file_leaves_nothing(rt: HostRuntime) {
+    let mut office = office(&rt);
     let contracts = FileKind::Contracts;
     let reallocations = FileKind::Reallocations;
     let same =
@@ -327,8 +334,7 @@ fn a_refused_file_leaves_nothing(rt: HostRuntime) -> Result<(), Fail> {
     ];
     says(&rt, &mut office, &files);
     let kept: [(u8, &[u8], i64); 2] = [(1, b"C1", 99_000), (3, b"B2", 2_000)];
-    lists(&rt, &mut office, b"SUPCO-C", &kept).ok_or("list")?;
-    Ok(())
+    lists(&rt, &mut office, b"SUPCO-C", &kept);
 }
 
 /// A text with one more text so many times behind it.
@@ -340,23 +346,20 @@ fn repeated(alloc: Global, start: &[u8], text: &[u8], count: usize) -> Option<Ve
     Some(whole)
 }
 
-/// The office says this to a file of one byte so many times, sent with a key.
-fn says_of_length(
-    rt: &(impl AllocGlobal + Abort),
+/// What an office says to a file of one byte so many times, sent with a key.
+fn answer_to_length(
+    alloc: Global,
     office: &mut Office<'_, PlainTables>,
     key: &[u8],
     name: &[u8],
     len: usize,
-    want: Said,
-) -> Option<()> {
-    let body = repeated(rt.alloc(), b"", b"a", len)?;
-    let request = upload(rt.alloc(), key, FileKind::Parties, name, body);
-    assert_eq!(rt;
-        answer(office, MOMENT, request),
-        Some(want),
-        "{name:?} {len}"
-    );
-    Some(())
+) -> Option<Said> {
+    let body = repeated(alloc, b"", b"a", len)?;
+    answer(
+        office,
+        MOMENT,
+        upload(alloc, key, FileKind::Parties, name, body),
+    )
 }
 
 /// What an office says to a file of one row so many times.
@@ -372,8 +375,8 @@ fn answer_to_rows(
 }
 
 #[test]
-fn a_file_may_be_long(rt: HostRuntime) -> Result<(), Fail> {
-    let mut office = office(&rt).ok_or("office")?;
+fn a_file_may_be_long(rt: HostRuntime) {
+    let mut office = office(&rt);
     let cases: [(FileKind, &[u8], usize, Said); 3] = [
         (
             FileKind::Contracts,
@@ -393,13 +396,12 @@ fn a_file_may_be_long(rt: HostRuntime) -> Result<(), Fail> {
         let given = answer_to_rows(rt.alloc(), &mut office, kind, row, count);
         assert_eq!(rt; given, Some(want), "{kind:?}");
     }
-    lists(&rt, &mut office, b"GENCO-P", &[(1, b"C1", 98_000)]).ok_or("list")?;
-    Ok(())
+    lists(&rt, &mut office, b"GENCO-P", &[(1, b"C1", 98_000)]);
 }
 
 #[test]
-fn a_file_is_refused_in_order(rt: HostRuntime) -> Result<(), Fail> {
-    let mut office = office(&rt).ok_or("office")?;
+fn a_file_is_refused_in_order(rt: HostRuntime) {
+    let mut office = office(&rt);
     let cases: [(&[u8], &[u8], usize, Said); 10] = [
         (OPERATOR, b"new", 0, refused(Refusal::BadHeader)),
         (OPERATOR, b"new", 1_048_576, refused(Refusal::BadHeader)),
@@ -423,14 +425,14 @@ fn a_file_is_refused_in_order(rt: HostRuntime) -> Result<(), Fail> {
         (b"", b"new", 0, forbidden()),
     ];
     for (key, name, len, want) in cases {
-        says_of_length(&rt, &mut office, key, name, len, want).ok_or("memory")?;
+        let given = answer_to_length(rt.alloc(), &mut office, key, name, len);
+        assert_eq!(rt; given, Some(want), "{key:?} {name:?} {len}");
     }
-    Ok(())
 }
 
 #[test]
-fn a_key_allows_its_own_accounts(rt: HostRuntime) -> Result<(), Fail> {
-    let mut office = office(&rt).ok_or("office")?;
+fn a_key_allows_its_own_accounts(rt: HostRuntime) {
+    let mut office = office(&rt);
     let cases: [(&[u8], &[u8], Said); 11] = [
         (OPERATOR, b"GENCO-P", Said::Contracts(1)),
         (OPERATOR, b"GENCO-C", Said::Contracts(0)),
@@ -449,12 +451,11 @@ fn a_key_allows_its_own_accounts(rt: HostRuntime) -> Result<(), Fail> {
         let given = answer(&mut office, MOMENT, request);
         assert_eq!(rt; given, Some(want), "{key:?} {account:?}");
     }
-    Ok(())
 }
 
 #[test]
-fn contracts_stand_in_order(rt: HostRuntime) -> Result<(), Fail> {
-    let mut office = office(&rt).ok_or("office")?;
+fn contracts_stand_in_order(rt: HostRuntime) {
+    let mut office = office(&rt);
     let rows =
         b"c1,GENCO-P,SUPCO-C,2024-07-01,1,1\nC2,SUPCO-P,GENCO-P,2024-07-01,48,-2\nC2,SUPCO-P,GENCO-P,2024-07-01,2,3\nC10,GENCO-P,GENCO-C,2024-07-01,2,4\nC3,SUPCO-P,SUPCO-C,2024-07-01,2,5\nC10,GENCO-P,GENCO-C,2024-07-02,2,6\n".as_slice();
     let files: [(i64, FileKind, &[u8], &[u8], Said); 1] = [(
@@ -472,10 +473,9 @@ fn contracts_stand_in_order(rt: HostRuntime) -> Result<(), Fail> {
         (2, b"C2", 3_000),
         (48, b"C2", -2_000),
     ];
-    lists(&rt, &mut office, b"GENCO-P", &production).ok_or("production")?;
-    lists(&rt, &mut office, b"GENCO-C", &[(2, b"C10", 4_000)]).ok_or("consumption")?;
-    lists(&rt, &mut office, b"NOONE-C", &[]).ok_or("no party")?;
-    Ok(())
+    lists(&rt, &mut office, b"GENCO-P", &production);
+    lists(&rt, &mut office, b"GENCO-C", &[(2, b"C10", 4_000)]);
+    lists(&rt, &mut office, b"NOONE-C", &[]);
 }
 
 /// A file, enquiries before and after it, and a refused one, each at its moment.
@@ -498,10 +498,14 @@ fn requests(alloc: Global) -> Option<Vec<(i64, Request)>> {
 }
 
 #[test]
-fn runs_requests_in_order(rt: HostRuntime) -> Result<(), Fail> {
-    let mut office = office(&rt).ok_or("office")?;
-    let requests = requests(rt.alloc()).ok_or("requests")?;
-    let replies = office.run_all(&requests)?;
+fn runs_requests_in_order(rt: HostRuntime) {
+    let mut office = office(&rt);
+    let Some(requests) = requests(rt.alloc()) else {
+        panic!(&rt; "the requests are made");
+    };
+    let Ok(replies) = office.run_all(&requests) else {
+        panic!(&rt; "there is room for the replies");
+    };
     let want = [
         Said::Contracts(1),
         Said::Loaded(2, 0),
@@ -514,6 +518,5 @@ fn runs_requests_in_order(rt: HostRuntime) -> Result<(), Fail> {
     for (reply, want) in replies.iter().zip(want.iter()) {
         assert_eq!(rt; told(reply), *want);
     }
-    assert_eq!(rt; office.run_all(&[])?.len(), 0);
-    Ok(())
+    assert!(rt; office.run_all(&[]).is_ok_and(|replies| replies.is_empty()));
 }
