@@ -1,4 +1,4 @@
-"""Runs the commands of the README and of `examples/`, and compares what they print, word for word."""
+"""Runs the commands of the README, of `examples/` and of the guide, and compares what they print, word for word."""
 import re
 import shlex
 import subprocess
@@ -6,7 +6,7 @@ import unittest
 
 from programs import HOME, SETTLE, need
 
-DOCUMENTS = "README.md", "examples/README.md"
+DOCUMENTS = "README.md", "examples/README.md", "docs/guide.md"
 BLOCK = re.compile(r"^```[^\n`]*\n(.*?)^```[ \t]*$", re.MULTILINE | re.DOTALL)
 COMMAND = re.compile(r"\A(?:\./)?settle ([^\n]*)\n\Z")
 
