@@ -73,7 +73,7 @@ impl<'z, T: Tables> Office<'z, T> {
         self.tables.register(rows)
     }
 
-    /// WritesLoad what an accepted file's rows come to into the tables, once the reply is made.
+    /// Writes what an accepted file's rows come to into the tables, once the reply is made.
     fn accept(&mut self, upload: &Upload, judged: FileRows) -> Result<Reply, Fault>
         requires { length judged.rows ≤ most_rows }
         ensures { Accepts self.old self.new (writes_of upload.now judged) (reply_of result) }
@@ -84,7 +84,7 @@ impl<'z, T: Tables> Office<'z, T> {
         Ok(reply)
     }
 
-    /// WritesLoad a change into the tables: the last call of the store that a request makes.
+    /// Writes a change into the tables: the last call of the store that a request makes.
     fn commit(&mut self, change: LoadChange) -> Result<(), StoreFault>
         ensures written { OnOk result (WritesLoad self.old self.new change) }
         ensures same { OnErr result (self.new ≡ self.old) }
