@@ -293,4 +293,6 @@ fn write_rejection<S: Sink>(
 }
 
 #[cfg(test)]
+mod script_tests;
+#[cfg(test)]
 mod tests;
