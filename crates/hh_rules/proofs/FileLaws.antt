@@ -19,12 +19,12 @@ use Rattle.hh_rules.specs.declared.row_done.RowDone.{RowDone}
 use Rattle.hh_rules.specs.declared.row_done.RowDone.TheVariants.{Applied, Late}
 use Rattle.hh_rules.specs.Effects.{fixes_reference, row_done}
 use Rattle.hh_rules.specs.Entries.{reference_entry}
-use Rattle.hh_rules.specs.FileRows.{FileRowsView, JudgesFile, ServesAfterHistory, coming_at, file_outcome, first_fault, fixed_by, fixed_references, judged_file, judged_row, judged_row_at, late_count, refusal_after, register_of, timely_rows, with_done}
+use Rattle.hh_rules.specs.FileRows.{FileRowsView, JudgesFile, ServesAfterHistory, coming_at, file_outcome, first_fault, fixed_by, fixed_references, judged_file, judged_row, judged_row_at, late_count, no_rows, refusal_after, register_of, timely_rows, with_done, with_volumes_of}
 use Rattle.hh_rules.specs.History.{History, Registered, registered_in}
 use Rattle.hh_rules.specs.Lateness.{Timetable, Accepted, accepted_at, is_in_time}
-use Rattle.hh_rules.specs.RegisterView.{AgreesOn, RegisterView, ServesAfter, ServesFor, done_at, refusal_at, tables_in, timetable_in, timetable_of}
+use Rattle.hh_rules.specs.RegisterView.{AgreesOn, RegisterView, ServesAfter, ServesFor, done_at, refusal_at, register_after, tables_in, timetable_in, timetable_of}
 use Rattle.hh_rules.proofs.HistoryLaws.{filter-append}
-use Rattle.hh_rules.proofs.ServingLaws.{part_refuses}
+use Rattle.hh_rules.proofs.ServingLaws.{part_refuses, part_serves}
 use Rattle.hh_rules.proofs.StandingLaws.{standing-append}
 
 module _ (timetable : Timetable) where
@@ -179,26 +179,89 @@ module _ (zone : TimeZone) (first : RegisterView) (moment : ℤ) (rows : List Ro
 
   module _ (file : FileRowsView) (so_far : AreJudgedTo zone first moment rows i register file) where
     -- a row that is refused gives the answer to the file
-    pub file_refused : (e : Fault) → Refuses faults e (judged_row_at zone register moment (i + 1) r) → JudgesFile zone first moment rows (Err e)
+    file_refused : (e : Fault) → Refuses faults e (judged_row_at zone register moment (i + 1) r) → JudgesFile zone first moment rows (Err e)
     file_refused e refused history serves =
         other_outcome e.refusal _ _ _ (refused_here history file (so_far history serves) e (refusal_at zone register moment r) refl) refused
 
     -- a row that is accepted leaves it to those that follow
-    pub judged_to_more : judged_row_at zone register moment (i + 1) r ≡ Ok tt → (next : RegisterView) → ServesAfter zone register moment r next
-        → (done : RowDone) → done ≡ done_at zone register moment r → (more : FileRowsView) → more ≡ with_done r done file
-        → AreJudgedTo zone first moment rows (i + 1) next more
-    judged_to_more accepted next serves_after done became more added history serves =
-        judged_more history file (so_far history serves) (not_refused (refusal_at zone register moment r) accepted) next serves_after more (added ∙ ap (λ d. with_done r d file) became)
+    judged_to_more : judged_row_at zone register moment (i + 1) r ≡ Ok tt → (done : RowDone) → done ≡ done_at zone register moment r
+        → (more : FileRowsView) → more ≡ with_done r done file
+        → AreJudgedTo zone first moment rows (i + 1) (register_after zone register moment r) more
+    judged_to_more accepted done became more added history serves =
+        judged_more history file (so_far history serves) (not_refused (refusal_at zone register moment r) accepted) (register_after zone register moment r) (part_serves zone register moment r) more (added ∙ ap (λ d. with_done r d file) became)
       where
         not_refused : (why : Option Refusal) → judged_row (i + 1) why ≡ Ok tt → why ≡ None
         not_refused None answer = refl
         not_refused (Some why) answer = cc answer
 
+-- no row is judged by readings, prices and contract volumes
+refused_but_volumes : (zone : TimeZone) (other register : RegisterView) (moment : ℤ) (r : Row) → refusal_at zone (with_volumes_of other register) moment r ≡ refusal_at zone register moment r
+refused_but_volumes zone other register moment (row.Party r) = refl
+refused_but_volumes zone other register moment (row.Unit r) = refl
+refused_but_volumes zone other register moment (row.Meter r) = refl
+refused_but_volumes zone other register moment (row.Price r) = refl
+refused_but_volumes zone other register moment (row.Contract r) = refl
+refused_but_volumes zone other register moment (row.Reallocation r) = refl
+
+done_but_volumes : (zone : TimeZone) (other register : RegisterView) (moment : ℤ) (r : Row) → done_at zone (with_volumes_of other register) moment r ≡ done_at zone register moment r
+done_but_volumes zone other register moment (row.Party r) = refl
+done_but_volumes zone other register moment (row.Unit r) = refl
+done_but_volumes zone other register moment (row.Meter r) = refl
+done_but_volumes zone other register moment (row.Price r) = refl
+done_but_volumes zone other register moment (row.Contract r) = refl
+done_but_volumes zone other register moment (row.Reallocation r) = refl
+
+-- a file is judged so far, by a register that has all of this one but the readings, prices and contract volumes
+pub record AreJudgedBut (zone : TimeZone) (first : RegisterView) (moment : ℤ) (rows : List Row) (i : ℕ) (register : RegisterView) (file : FileRowsView) : Type 0 where
+  pub full : RegisterView
+  pub but_volumes : register ≡ with_volumes_of register full
+  pub judged : AreJudgedTo zone first moment rows i full file
+
+module _ (zone : TimeZone) (first : RegisterView) (moment : ℤ) (rows : List Row) (i : ℕ) (register : RegisterView) (r : Row) (inside : i < length rows) (is : r ≡ get_or rows i r)
+    (file : FileRowsView) (so_far : AreJudgedBut zone first moment rows i register file) where
+  refused_as : refusal_at zone register moment r ≡ refusal_at zone so_far.full moment r
+  refused_as = ap (λ g. refusal_at zone g moment r) so_far.but_volumes ∙ refused_but_volumes zone register so_far.full moment r
+
+  done_as : done_at zone register moment r ≡ done_at zone so_far.full moment r
+  done_as = ap (λ g. done_at zone g moment r) so_far.but_volumes ∙ done_but_volumes zone register so_far.full moment r
+
+  pub refused_but : (e : Fault) → Refuses faults e (judged_row_at zone register moment (i + 1) r) → JudgesFile zone first moment rows (Err e)
+  refused_but e refused =
+      file_refused zone first moment rows i so_far.full r inside is file so_far.judged e
+      (subst (λ why. Refuses faults e (judged_row (i + 1) why)) refused_as refused)
+
+  pub judged_but : judged_row_at zone register moment (i + 1) r ≡ Ok tt
+      → (next : RegisterView) → next ≡ with_volumes_of register (register_after zone register moment r)
+      → (done : RowDone) → done ≡ done_at zone register moment r → (more : FileRowsView) → more ≡ with_done r done file
+      → AreJudgedBut zone first moment rows (i + 1) next more
+  judged_but accepted next after done became more added = record {
+    full = register_after zone so_far.full moment r;
+    but_volumes = reached ∙ sym (ap (λ g. with_volumes_of g (register_after zone so_far.full moment r)) reached);
+    judged = judged_to_more zone first moment rows i so_far.full r inside is file so_far.judged
+        (ap (judged_row (i + 1)) (sym refused_as) ∙ accepted) done (became ∙ done_as) more added;
+  }
+    where
+      reached : next ≡ with_volumes_of register (register_after zone so_far.full moment r)
+      reached = after ∙ ap (λ g. with_volumes_of register (register_after zone g moment r)) so_far.but_volumes
+
+-- before the first row nothing is judged
+pub judged_from_start : (zone : TimeZone) (register : RegisterView) (moment : ℤ) (rows : List Row) (file : FileRowsView) → file ≡ no_rows
+    → AreJudgedBut zone register moment rows 0 register file
+judged_from_start zone register moment rows file none = record {
+  full = register;
+  but_volumes = refl;
+  judged = λ history serves. record {
+    serves = subst (λ h. ServesFor rows (register_of (timetable_of zone register) h) register) (sym (append-nil history)) serves;
+    fault = ap (λ h. first_fault (timetable_of zone register) h 1 (coming_at moment rows)) (append-nil history);
+    so_far = none;
+  };
+}
+
 -- when all rows are judged, the file is
 pub judged_to_end : (zone : TimeZone) (first : RegisterView) (moment : ℤ) (rows : List Row) (i : ℕ) (register : RegisterView) (file : FileRowsView)
-    → i ≡ length rows → AreJudgedTo zone first moment rows i register file → JudgesFile zone first moment rows (Ok file)
+    → i ≡ length rows → AreJudgedBut zone first moment rows i register file → JudgesFile zone first moment rows (Ok file)
 judged_to_end zone first moment rows i register file at_end all history serves =
-    let end = all history serves in
+    let end = all.judged history serves in
     ap (answer_by (file_outcome (timetable_of zone first) history (coming_at moment rows)))
     (sym end.fault ∙ ap (λ rs. first_fault (timetable_of zone first) (history ++ coming_at moment (take i rows)) (i + 1) (coming_at moment rs)) (drop_all i rows (omega arith)))
     ∙ ap Ok (ap (λ rs. file_outcome (timetable_of zone first) history (coming_at moment rs)) (sym (take_all i rows (omega arith))) ∙ sym end.so_far)

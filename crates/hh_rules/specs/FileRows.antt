@@ -14,7 +14,7 @@ use Rattle.hh_rules.specs.Entries.{reference_entry}
 use Rattle.hh_rules.specs.History.{History, registered_in}
 use Rattle.hh_rules.specs.Lateness.{Timetable, Accepted, accepted_at, is_in_time, timing_of}
 use Rattle.hh_rules.specs.Refusals.{refusals_of, whole_standing}
-use Rattle.hh_rules.specs.RegisterView.{RegisterView, ServesFor, refusal_at, timetable_of}
+use Rattle.hh_rules.specs.RegisterView.{RegisterView, ServesFor, refusal_at, tables_in, timetable_of, with_tables}
 
 -- rows that come at one moment
 abbrev pub coming_at : ℤ → List Row → History
@@ -92,6 +92,14 @@ judged_file timetable history rows = elim (first_fault timetable history 1 rows)
 abbrev pub register_of : Timetable → History → RegisterView
 register_of timetable history =
     record { lead_minutes = timetable.lead_minutes; standing = whole_standing (registered_in timetable history) }
+
+-- the register with the readings, prices and contract volumes in force of another: no row is judged by them
+abbrev pub with_volumes_of : RegisterView → RegisterView → RegisterView
+with_volumes_of other register = with_tables (record (tables_in register) {
+  meters = (tables_in other).meters;
+  prices = (tables_in other).prices;
+  contracts = (tables_in other).contracts;
+}) register
 
 -- the register serves for the rows after this history
 abbrev pub ServesAfterHistory : TimeZone → RegisterView → List Row → History → Type 0

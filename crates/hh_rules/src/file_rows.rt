@@ -1,14 +1,16 @@
 //! The rows of a file, judged one after the other.
 
-ghost use Rattle.std.specs.Prelude.{◌≡◌, ◌+◌, ◌<◌, length, IfOk, OnOk};
+ghost use Rattle.std.specs.Prelude.{◌≡◌, ◌+◌, ◌<◌, false, length, IfOk, OnOk};
 ghost use Rattle.hh_names.specs.Faults.{faults, Gives};
-ghost use Rattle.hh_rules.specs.FileRows.{judged_row_at, JudgesFile};
-ghost use Rattle.hh_rules.specs.RegisterView.{done_at, IsKeptIn, ServesAfter};
+ghost use Rattle.hh_rows.specs.declared.rows.Row.TheVariants as rows;
+ghost use Rattle.hh_rules.specs.Effects.{HasRoomFor, fixes_reference, row_done};
+ghost use Rattle.hh_rules.specs.FileRows.{judged_row_at, with_volumes_of, JudgesFile};
+ghost use Rattle.hh_rules.specs.RegisterView.{after_row, done_at, register_after, tables_in, IsKeptIn};
 
 use crate::register::Register;
 use crate::row_done::RowDone;
 use hh_names::{Counterparties, Fault, Reference};
-use hh_rows::Row;
+use hh_rows::{ContractRow, Row};
 use hh_time::Day;
 use jiff::tz::TimeZone;
 use std::alloc::{AllocError, Global};
@@ -38,15 +40,15 @@ impl Model for FileRows {
 impl FileRows {
     ghost use Rattle.hh_rules.specs.FileRows.{no_rows, with_done, with_fixed};
 
-    /// No rows. Takes no memory.
-    fn new(alloc: Global) -> FileRows
-        ensures { result ≡ no_rows }
+    /// No rows, with room for so many. `Err` only where memory is refused.
+    fn with_room(alloc: Global, count: usize) -> Result<FileRows, AllocError>
+        ensures { IfOk result (λ file. file ≡ no_rows) }
     {
-        FileRows {
-            rows: Vec::new(alloc),
+        Ok(FileRows {
+            rows: Vec::with_capacity(alloc, count)?,
             late: 0,
             references: Vec::new(alloc),
-        }
+        })
     }
 
     /// The rows that are not late, in their order.
@@ -127,33 +129,65 @@ impl Register {
         ensures count { IfOk result (λ file. length file.rows + file.late ≡ length rows.now) }
     {
         let mut last = None;
-        let mut file = FileRows::new(alloc);
+        let mut file = FileRows::with_room(alloc, rows.len())?;
         for (index, row) in rows.iter().enumerate() {
-            let done = self.take_row(&mut last, zone, moment, index as u32 + 1, *row)?;
+            let done = self.take_row(&mut last, zone, moment, index as u32 + 1, row)?;
             file.add(row, done)?;
         }
         Ok(file)
     }
 
-    /// Takes a row of this number in its file, as `apply_row` does.
+    /// Takes a row of this number in its file, as `apply_row` does, but for the readings, prices and
+    /// contract volumes in force: no row is judged by them.
     fn take_row(
         &mut self,
         last: &mut Option<Day>,
         zone: &TimeZone<'_>,
         moment: i64,
         number: u32,
-        row: Row,
+        row: &Row,
     ) -> Result<RowDone, Fault>
         requires { IsKeptIn zone.now last.old }
         ensures kept { IsKeptIn zone.now last.new }
         ensures judged { Gives faults (λ _. tt) result
-            (judged_row_at zone.now self.old moment number row) }
-        ensures serves { OnOk result (ServesAfter zone.now self.old moment row self.new) }
-        ensures done { IfOk result (λ done. done ≡ done_at zone.now self.old moment row) }
+            (judged_row_at zone.now self.old moment number row.now) }
+        ensures next { OnOk result (self.new
+            ≡ with_volumes_of self.old (register_after zone.now self.old moment row.now)) }
+        ensures done { IfOk result (λ done. done ≡ done_at zone.now self.old moment row.now) }
     {
-        match self.judge(last, zone, moment, &row) {
-            Ok(in_time) => Ok(self.accept(in_time, row)?),
+        match self.judge(last, zone, moment, row) {
+            Ok(in_time) => Ok(self.note(in_time, row)?),
             Err(refusal) => Err(Fault::at_row(refusal, number)),
         }
+    }
+
+    /// Changes what an accepted row changes of what rows are judged by, and says what became of it.
+    fn note(&mut self, in_time: bool, row: &Row) -> Result<RowDone, AllocError>
+        requires { HasRoomFor in_time row.now self.old.standing }
+        ensures ok { OnOk result (self.new
+            ≡ with_volumes_of self.old (after_row in_time row.now self.old)) }
+        ensures done { IfOk result (λ done.
+            done ≡ row_done in_time (fixes_reference (tables_in self.old) row.now)) }
+    {
+        let fixes_reference = self.fixes_reference(row);
+        match row {
+            Row::Party(row) => self.put_party(*row)?,
+            Row::Unit(row) => self.put_unit(*row)?,
+            Row::Contract(row) => self.put_reference(row)?,
+            Row::Reallocation(row) => self.put_reallocation(in_time, *row)?,
+            Row::Meter(_) | Row::Price(_) => {}
+        }
+        Ok(RowDone::of(in_time, fixes_reference))
+    }
+
+    /// Fixes the seller and the buyer of a row's reference, if it is new.
+    fn put_reference(&mut self, row: &ContractRow) -> Result<(), AllocError>
+        ensures ok { OnOk result (self.new
+            ≡ with_volumes_of self.old (after_row false (rows.Contract row.now) self.old)) }
+    {
+        if self.reference(&row.key.reference).is_some() {
+            return Ok(());
+        }
+        self.hold_reference(row.key.reference, row.contract.counterparties)
     }
 }

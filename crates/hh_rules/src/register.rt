@@ -200,7 +200,7 @@ impl Register {
     }
 
     /// Changes what an accepted row changes, and says what became of it.
-    pub(crate) fn accept(&mut self, in_time: bool, row: Row) -> Result<RowDone, AllocError>
+    fn accept(&mut self, in_time: bool, row: Row) -> Result<RowDone, AllocError>
         requires { HasRoomFor in_time row self.old.standing }
         ensures ok { OnOk result (self.new ≡ after_row in_time row self.old) }
         ensures done { IfOk result (λ done.
@@ -213,7 +213,7 @@ impl Register {
     }
 
     /// Whether a row is the first of its reference, whose seller and buyer it fixes.
-    fn fixes_reference(&self, row: &Row) -> bool
+    pub(crate) fn fixes_reference(&self, row: &Row) -> bool
         ensures { result ≡ fixes_reference (tables_in self.now) row.now }
     {
         match row {
@@ -251,7 +251,7 @@ impl Register {
     }
 
     /// Registers a party anew, or gives it a new registration.
-    fn put_party(&mut self, row: PartyRow) -> Result<(), AllocError>
+    pub(crate) fn put_party(&mut self, row: PartyRow) -> Result<(), AllocError>
         requires { HasRoomFor true (rows.Party row) self.old.standing }
         ensures ok { OnOk result (self.new ≡ after_row true (rows.Party row) self.old) }
         ensures err { OnErr result (self.new ≡ self.old) }
@@ -265,7 +265,7 @@ impl Register {
     }
 
     /// Registers a unit anew, or gives it a new registration.
-    fn put_unit(&mut self, row: UnitRow) -> Result<(), AllocError>
+    pub(crate) fn put_unit(&mut self, row: UnitRow) -> Result<(), AllocError>
         requires { HasRoomFor true (rows.Unit row) self.old.standing }
         ensures ok { OnOk result (self.new ≡ after_row true (rows.Unit row) self.old) }
         ensures err { OnErr result (self.new ≡ self.old) }

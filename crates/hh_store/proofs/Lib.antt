@@ -10,3 +10,4 @@ pub mod ReachLaws
 pub mod ReadLaws
 pub mod RunLaws
 mod RunRowLaws
+mod UntilLaws

@@ -1,14 +1,17 @@
 -- The part of a register that rows are judged by: it holds nothing but what the whole has.
-use Rattle.std.specs.Prelude.{◌≡◌, ◌⊎◌, ℕ, [], Bool, true, None}
+use Rattle.std.specs.Prelude.{◌≡◌, ◌⊎◌, ℕ, [], All, Bool, true, false, Option, Some, None}
+use Rattle.std.specs.Ordering.{is_gt}
 use Rattle.std.specs.BTreeSet.{BTreeSet, contains}
 use Rattle.std.specs.FinMap.{find}
 use Rattle.std.specs.declared.cmp.Ordering.{Ordering}
 use Rattle.hh_tables.specs.Tables.{Table}
 use Rattle.hh_names.specs.Accounts.{bytes_cmp}
+use Rattle.hh_names.specs.declared.values.Reading.{Reading}
 use Rattle.hh_names.specs.declared.values.Reallocation.{Reallocation}
 use Rattle.hh_rows.specs.Keys.{contract_key_cmp, settlement_period_cmp, unit_period_cmp}
 use Rattle.hh_rows.specs.declared.keys.ReallocationKey.{ReallocationKey}
 use Rattle.hh_rows.specs.declared.keys.UnitPeriod.{UnitPeriod}
+use Rattle.hh_rows.specs.declared.settlement_period.SettlementPeriod.{SettlementPeriod}
 use Rattle.hh_rows.specs.declared.rows.Row.{Row}
 use Rattle.hh_rows.specs.declared.rows.Row.TheVariants as row
 use Rattle.hh_rules.specs.History.{Registered}
@@ -76,3 +79,12 @@ is_named_in named e = contains unit_period_cmp named e.0.unit_period
 abbrev pub IsNamedIn : BTreeSet UnitPeriod → Row → Type 0
 IsNamedIn named (row.Reallocation r) = contains unit_period_cmp named r.key.unit_period ≡ true
 IsNamedIn named _ = Unit {0}
+
+-- whether one Settlement Period is after another
+abbrev pub is_after : SettlementPeriod → SettlementPeriod → Bool
+is_after a b = is_gt (settlement_period_cmp a b)
+
+-- no reading is of a Settlement Period after this one, if there is one
+abbrev pub AreUntil : Option SettlementPeriod → Table UnitPeriod Reading → Type 0
+AreUntil None readings = Unit {0}
+AreUntil (Some last) readings = All (λ e. is_after e.0.at last ≡ false) readings

@@ -1,15 +1,15 @@
 //! The part of a register in memory that rows are judged by.
 
-ghost use Rattle.std.specs.Prelude.{◌≡◌, ℕ, filter, All, IfOk, OnOk};
+ghost use Rattle.std.specs.Prelude.{◌≡◌, ℕ, false, filter, All, IfOk, OnOk, Some};
 ghost use Rattle.std.specs.FinMap.{find};
 ghost use Rattle.hh_tables.specs.Tables.{IsTable, put_all};
 ghost use Rattle.hh_rows.specs.Keys.{contract_key_cmp, reallocation_key_cmp, settlement_period_cmp, unit_period_cmp};
 ghost use Rattle.hh_rules.specs.RegisterView.{holding, tables_in, AgreesOnParty, AgreesOnReference, AgreesOnUnit, ServesFor};
-ghost use Rattle.hh_store.specs.Parts.{is_named_in, whole_of, with_reallocations, AgreesOnNames, Grows, IsNamedIn, IsPartOf};
+ghost use Rattle.hh_store.specs.Parts.{is_after, is_named_in, whole_of, with_reallocations, AgreesOnNames, AreUntil, Grows, IsNamedIn, IsPartOf};
 
 use crate::kept_register::KeptRegister;
 use crate::store_fault::StoreFault;
-use hh_names::{Contract, PartyId, Reallocation, Reference, Refusal, UnitId};
+use hh_names::{Contract, PartyId, Reading, Reallocation, Reference, Refusal, UnitId};
 use hh_rows::{
     ContractKey, ContractRow, LeadMinutes, MeterRow, PartyRow, PriceRow, ReallocationKey,
     ReallocationRow, Row, SettlementPeriod, UnitPeriod, UnitRow,
@@ -50,14 +50,35 @@ impl KeptRegister {
         let parties = count(self.parties.len())?;
         let units = count(self.units.len())?;
         let mut part = Register::part(alloc, lead_minutes, parties, units);
+        let last = self.last_reading_for(rows);
         for row in rows {
-            self.hold_names(&mut part, row)?;
+            self.hold_names(&mut part, &last, row)?;
         }
         Ok(part)
     }
 
-    /// Holds what a row names, and the row in force of its key if it isn't a reallocation.
-    fn hold_names(&self, part: &mut Register, row: &Row) -> Result<(), StoreFault>
+    /// A Settlement Period after which no reading counts, where the rows are readings and any counts.
+    fn last_reading_for(&self, rows: &[Row]) -> Option<SettlementPeriod>
+        ensures { AreUntil result self.now.meters }
+    {
+        match rows.first() {
+            Some(Row::Meter(_)) => {
+                let (first, rest) = self.meters.rows().split_first()?;
+                Some(last_period(first.0.at, rest))
+            }
+            _ => None,
+        }
+    }
+
+    /// Holds what a row names, and the row in force of its key if it isn't a reallocation. No reading
+    /// counts after `last`, if that is a Settlement Period.
+    fn hold_names(
+        &self,
+        part: &mut Register,
+        last: &Option<SettlementPeriod>,
+        row: &Row,
+    ) -> Result<(), StoreFault>
+        requires { AreUntil last.now self.now.meters }
         ensures grows { OnOk result (Grows self.now part.old part.new) }
         ensures agrees { (lead_minutes : ℕ) → IsPartOf (whole_of lead_minutes self.now) part.old
             → OnOk result (AgreesOnNames self.now (tables_in part.new) row.now) }
@@ -70,7 +91,7 @@ impl KeptRegister {
             }
             Row::Meter(row) => {
                 self.hold_unit(part, &row.key.unit)?;
-                self.hold_reading(part, &row.key)
+                self.hold_reading(part, last, &row.key)
             }
             Row::Price(row) => self.hold_price(part, &row.at),
             Row::Contract(row) => {
@@ -86,12 +107,15 @@ impl KeptRegister {
         }
     }
 
-    /// Holds a party, if it is registered.
+    /// Holds a party, if it is registered and not held yet.
     fn hold_party(&self, part: &mut Register, party: &PartyId) -> Result<(), StoreFault>
         ensures grows { OnOk result (Grows self.now part.old part.new) }
         ensures agrees { (lead_minutes : ℕ) → IsPartOf (whole_of lead_minutes self.now) part.old
             → OnOk result (AgreesOnParty self.now (tables_in part.new) party.now) }
     {
+        if part.party(party).is_some() {
+            return Ok(());
+        }
         match self.party(party) {
             Some(registration) => hold(
                 part,
@@ -104,12 +128,15 @@ impl KeptRegister {
         }
     }
 
-    /// Holds a unit, if it is registered.
+    /// Holds a unit, if it is registered and not held yet.
     fn hold_unit(&self, part: &mut Register, unit: &UnitId) -> Result<(), StoreFault>
         ensures grows { OnOk result (Grows self.now part.old part.new) }
         ensures agrees { (lead_minutes : ℕ) → IsPartOf (whole_of lead_minutes self.now) part.old
             → OnOk result (AgreesOnUnit self.now (tables_in part.new) unit.now) }
     {
+        if part.unit(unit).is_some() {
+            return Ok(());
+        }
         match self.unit(unit) {
             Some(registration) => hold(
                 part,
@@ -135,15 +162,33 @@ impl KeptRegister {
     }
 
     /// Holds the reading that counts for a unit in a Settlement Period, if there is one.
-    fn hold_reading(&self, part: &mut Register, key: &UnitPeriod) -> Result<(), StoreFault>
+    fn hold_reading(
+        &self,
+        part: &mut Register,
+        last: &Option<SettlementPeriod>,
+        key: &UnitPeriod,
+    ) -> Result<(), StoreFault>
+        requires { AreUntil last.now self.now.meters }
         ensures grows { OnOk result (Grows self.now part.old part.new) }
         ensures agrees { (lead_minutes : ℕ) → IsPartOf (whole_of lead_minutes self.now) part.old
             → OnOk result (find unit_period_cmp key.now (tables_in part.new).meters
             ≡ find unit_period_cmp key.now self.now.meters) }
     {
-        match self.meters.get(key) {
+        match self.reading_until(last, key) {
             Some(reading) => hold(part, Row::Meter(MeterRow { key: *key, reading })),
             None => Ok(()),
+        }
+    }
+
+    /// The reading that counts for a unit in a Settlement Period, if there is one. None counts after
+    /// `last`, if that is a Settlement Period: most readings come in the order of time.
+    fn reading_until(&self, last: &Option<SettlementPeriod>, key: &UnitPeriod) -> Option<Reading>
+        requires { AreUntil last.now self.now.meters }
+        ensures { result ≡ find unit_period_cmp key.now self.now.meters }
+    {
+        match last {
+            Some(last) if last.cmp(&key.at).is_lt() => None,
+            _ => self.meters.get(key),
         }
     }
 
@@ -216,6 +261,20 @@ impl KeptRegister {
         }
         rows
     }
+}
+
+/// The last of a Settlement Period and those of some readings.
+fn last_period(first: SettlementPeriod, readings: &[(UnitPeriod, Reading)]) -> SettlementPeriod
+    ensures first { is_after first result ≡ false }
+    ensures until { AreUntil (Some result) readings.now }
+{
+    let mut last = first;
+    for reading in readings {
+        if last.cmp(&reading.0.at).is_lt() {
+            last = reading.0.at;
+        }
+    }
+    last
 }
 
 /// How many there are; `Store` where they are more than any office has.
