@@ -118,16 +118,17 @@ impl KeptRegister {
             with_changed changed self.now ≡ registered_with change.now self.now) }
     {
         let rows = change.rows();
-        let parties = with_entries(alloc, &self.parties, &parties_of(alloc, rows)?)?;
-        let units = with_entries(alloc, &self.units, &units_of(alloc, rows)?)?;
-        let references = with_entries(alloc, &self.references, change.references())?;
-        let meters = with_entries(alloc, &self.meters, &meters_of(alloc, rows)?)?;
-        let prices = with_entries(alloc, &self.prices, &prices_of(alloc, rows)?)?;
-        let contracts = with_entries(alloc, &self.contracts, &contracts_of(alloc, rows)?)?;
+        let fixed = Vec::from_slice(alloc, change.references())?;
+        let parties = with_entries(alloc, &self.parties, parties_of(alloc, rows)?)?;
+        let units = with_entries(alloc, &self.units, units_of(alloc, rows)?)?;
+        let references = with_entries(alloc, &self.references, fixed)?;
+        let meters = with_entries(alloc, &self.meters, meters_of(alloc, rows)?)?;
+        let prices = with_entries(alloc, &self.prices, prices_of(alloc, rows)?)?;
+        let contracts = with_entries(alloc, &self.contracts, contracts_of(alloc, rows)?)?;
         let reallocations = with_entries(
             alloc,
             &self.reallocations,
-            &reallocations_of(alloc, rows)?,
+            reallocations_of(alloc, rows)?,
         )?;
         Ok(ChangedTables {
             parties,
@@ -158,10 +159,10 @@ impl KeptRegister {
 fn with_entries<K: Ord + Copy, V: Copy>(
     alloc: Global,
     table: &ListTable<K, V>,
-    entries: &[(K, V)],
+    entries: Vec<(K, V)>,
 ) -> Result<Option<ListTable<K, V>>, AllocError>
     ensures { IfOk result (λ changed.
-        unwrap_or changed table.now ≡ put_all K.cmp entries.now table.now) }
+        unwrap_or changed table.now ≡ put_all K.cmp entries.items table.now) }
 {
     if entries.is_empty() {
         return Ok(None);

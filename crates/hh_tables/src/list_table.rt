@@ -91,25 +91,22 @@ impl<K: Ord + Copy, V: Copy> ListTable<K, V> {
 
     /// A new table: this one, with rows in the place of those of their keys. Of several rows of one key
     /// the last counts. `Err` only where memory is refused.
-    pub fn with_rows(&self, alloc: Global, rows: &[(K, V)]) -> Result<ListTable<K, V>, AllocError>
-        ensures { IfOk result (λ table. table ≡ put_all K.cmp rows.now self.now) }
+    pub fn with_rows(&self, alloc: Global, rows: Vec<(K, V)>) -> Result<ListTable<K, V>, AllocError>
+        ensures { IfOk result (λ table. table ≡ put_all K.cmp rows.items self.now) }
     {
-        let sorted = in_order_of_keys(alloc, rows)?;
+        let sorted = in_order_of_keys(rows)?;
         let rows = merged(alloc, &self.rows, &sorted)?;
         Ok(ListTable { rows })
     }
 }
 
 /// Rows in the order of their keys, those of one key in the order in which they came.
-fn in_order_of_keys<K: Ord + Copy, V: Copy>(
-    alloc: Global,
-    rows: &[(K, V)],
-) -> Result<Vec<(K, V)>, AllocError>
+fn in_order_of_keys<K: Ord + Copy, V: Copy>(rows: Vec<(K, V)>) -> Result<Vec<(K, V)>, AllocError>
     ensures sorted { IfOk result (λ sorted. IsSortedByKey (λ row. row.0) K.cmp sorted.items) }
     ensures stable { IfOk result (λ sorted.
-        IsStableByKey (λ row. row.0) K.cmp rows.now sorted.items) }
+        IsStableByKey (λ row. row.0) K.cmp rows.items sorted.items) }
 {
-    let mut sorted = Vec::from_slice(alloc, rows)?;
+    let mut sorted = rows;
     sorted.sort_by_key(|row| row.0)?;
     Ok(sorted)
 }

@@ -33,9 +33,15 @@ fn last_rows_of_keys_count(rt: HostRuntime) -> Result<(), Fail> {
     let none: ListTable<u8, i64> = ListTable::new(rt.alloc());
     assert_eq!(rt; none.len(), 0);
     assert_eq!(rt; none.get(&3), None);
-    let some = none.with_rows(rt.alloc(), &[(3, 30), (1, 10), (3, 31)])?;
+    let some = none.with_rows(
+        rt.alloc(),
+        Vec::from_slice(rt.alloc(), &[(3, 30), (1, 10), (3, 31)])?,
+    )?;
     assert_eq!(rt; some.rows(), [(1, 10), (3, 31)].as_slice());
-    let more = some.with_rows(rt.alloc(), &[(4, 40), (2, 20), (1, 11), (2, 21)])?;
+    let more = some.with_rows(
+        rt.alloc(),
+        Vec::from_slice(rt.alloc(), &[(4, 40), (2, 20), (1, 11), (2, 21)])?,
+    )?;
     assert_eq!(rt;
         more.rows(),
         [(1, 11), (2, 21), (3, 31), (4, 40)].as_slice()
@@ -49,10 +55,10 @@ fn last_rows_of_keys_count(rt: HostRuntime) -> Result<(), Fail> {
 #[test]
 fn no_rows_leave_tables(rt: HostRuntime) -> Result<(), Fail> {
     let none: ListTable<u16, bool> = ListTable::new(rt.alloc());
-    let still_none = none.with_rows(rt.alloc(), &[])?;
+    let still_none = none.with_rows(rt.alloc(), Vec::from_slice(rt.alloc(), &[])?)?;
     assert_eq!(rt; still_none.len(), 0);
-    let one = none.with_rows(rt.alloc(), &[(2024, true)])?;
-    let still_one = one.with_rows(rt.alloc(), &[])?;
+    let one = none.with_rows(rt.alloc(), Vec::from_slice(rt.alloc(), &[(2024, true)])?)?;
+    let still_one = one.with_rows(rt.alloc(), Vec::from_slice(rt.alloc(), &[])?)?;
     assert_eq!(rt; still_one.rows(), [(2024, true)].as_slice());
     Ok(())
 }

@@ -15,10 +15,10 @@ returns c =
     let changed : ChangedTables = record { parties = c.in_ok-parties.parties; units = c.in_ok-units.units; references = c.in_ok-references.references; meters = c.in_ok-meters.meters; prices = c.in_ok-prices.prices; contracts = c.in_ok-contracts.contracts; reallocations = c.in_ok-reallocations.reallocations } in
     subst (λ t. with_changed changed t ≡ registered_with c.args.change.now t) c.self.view_is
     (changed_with c.args.change.now (record { parties = c.self.inside.parties; units = c.self.inside.units; references = c.self.inside.references; meters = c.self.inside.meters; prices = c.self.inside.prices; contracts = c.self.inside.contracts; reallocations = c.self.inside.reallocations }) changed
-    (c.in_ok-parties.ensures ∙ ap (λ es. put_all bytes_cmp es c.self.inside.parties) (c.deref.ensures.value ∙ c.in_ok-parties_of.ensures ∙ ap (filter_map party_entry) c.rows-rows.ensures))
-    (c.in_ok-units.ensures ∙ ap (λ es. put_all bytes_cmp es c.self.inside.units) (c.deref-2.ensures.value ∙ c.in_ok-units_of.ensures ∙ ap (filter_map unit_entry) c.rows-rows.ensures))
-    (c.in_ok-references.ensures ∙ ap (λ es. put_all bytes_cmp es c.self.inside.references) c.references.ensures)
-    (c.in_ok-meters.ensures ∙ ap (λ es. put_all unit_period_cmp es c.self.inside.meters) (c.deref-3.ensures.value ∙ c.in_ok-meters_of.ensures ∙ ap (filter_map meter_entry) c.rows-rows.ensures))
-    (c.in_ok-prices.ensures ∙ ap (λ es. put_all settlement_period_cmp es c.self.inside.prices) (c.deref-4.ensures.value ∙ c.in_ok-prices_of.ensures ∙ ap (filter_map price_entry) c.rows-rows.ensures))
-    (c.in_ok-contracts.ensures ∙ ap (λ es. put_all contract_key_cmp es c.self.inside.contracts) (c.deref-5.ensures.value ∙ c.in_ok-contracts_of.ensures ∙ ap (filter_map contract_entry) c.rows-rows.ensures))
-    (c.in_ok-reallocations.ensures ∙ ap (λ es. put_all reallocation_key_cmp es c.self.inside.reallocations) (c.deref-6.ensures.value ∙ c.in_ok-reallocations_of.ensures ∙ ap (filter_map reallocation_entry) c.rows-rows.ensures)))
+    (c.in_ok-parties.ensures ∙ ap (λ es. put_all bytes_cmp es c.self.inside.parties) (c.in_ok-parties_of.ensures ∙ ap (filter_map party_entry) c.rows-rows.ensures))
+    (c.in_ok-units.ensures ∙ ap (λ es. put_all bytes_cmp es c.self.inside.units) (c.in_ok-units_of.ensures ∙ ap (filter_map unit_entry) c.rows-rows.ensures))
+    (c.in_ok-references.ensures ∙ ap (λ es. put_all bytes_cmp es c.self.inside.references) (c.in_ok-fixed.ensures.items ∙ c.references.ensures))
+    (c.in_ok-meters.ensures ∙ ap (λ es. put_all unit_period_cmp es c.self.inside.meters) (c.in_ok-meters_of.ensures ∙ ap (filter_map meter_entry) c.rows-rows.ensures))
+    (c.in_ok-prices.ensures ∙ ap (λ es. put_all settlement_period_cmp es c.self.inside.prices) (c.in_ok-prices_of.ensures ∙ ap (filter_map price_entry) c.rows-rows.ensures))
+    (c.in_ok-contracts.ensures ∙ ap (λ es. put_all contract_key_cmp es c.self.inside.contracts) (c.in_ok-contracts_of.ensures ∙ ap (filter_map contract_entry) c.rows-rows.ensures))
+    (c.in_ok-reallocations.ensures ∙ ap (λ es. put_all reallocation_key_cmp es c.self.inside.reallocations) (c.in_ok-reallocations_of.ensures ∙ ap (filter_map reallocation_entry) c.rows-rows.ensures)))

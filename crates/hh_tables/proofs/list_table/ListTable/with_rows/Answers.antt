@@ -10,5 +10,5 @@ invariant_of-result g c =
 pub returns : goal.returns
 returns g c =
     c.in_ok-rows.ensures
-    ∙ put_all_lent g.met.K.Ord.total c.args.rows.now c.in_ok-sorted.sorted.items c.deref-2.result.now c.self.inside.rows.items c.deref.result.now c.args.self.now
+    ∙ put_all_lent g.met.K.Ord.total c.args.rows.items c.in_ok-sorted.sorted.items c.deref-2.result.now c.self.inside.rows.items c.deref.result.now c.args.self.now
     c.in_ok-sorted.ensures.stable c.deref-2.ensures.value c.deref.ensures.value c.self.view_is c.self.invariant
