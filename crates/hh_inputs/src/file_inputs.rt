@@ -12,7 +12,7 @@ use std::fs;
 use std::rt::Files;
 
 /// How many bytes of a file are read in one call.
-const PIECE: usize = 8192;
+const PIECE: usize = 65_536;
 
 /// What opens files by their paths.
 pub trait Opener {
