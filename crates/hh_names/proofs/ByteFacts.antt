@@ -1,12 +1,15 @@
 -- The order of bytes, in parts, from the numbers that they spell, and in padded buffers.
 use Rattle.std.proofs.Common.{◌≡◌, ℕ, zero, suc, ◌+◌, ◌*◌, ◌<◌, ◌≤◌, ◌++◌, List, [], ◌∷◌, length, get_or, take, drop, replicate, true, false, refl, sym, ap, ◌∙◌, arith}
 use Rattle.std.proofs.Math.Bool.{true≢false}
+use Rattle.std.proofs.lemmas.Bool.{and_parts}
 use Rattle.std.specs.declared.cmp.Ordering.{Ordering}
 use Rattle.std.specs.declared.cmp.Ordering.TheVariants.{Less, Equal, Greater}
 use Rattle.std.specs.Ordering.{MatchOrdering, is_ne, nat_cmp, ordering_then}
 use Rattle.std.specs.Cmp.{nat_cmp_is, nat_cmp_total, ranks, tied_itself}
 use Rattle.std.specs.Cmp.Lexicographic.{lists_total, slice_cmp}
+use Rattle.std.specs.List.{list_all}
 use Rattle.std.specs.Slice.Scan.{big_endian}
+use Rattle.hh_names.specs.Words.{is_not_zero}
 
 -- ---- one order and then another
 then_assoc : (a b c : Ordering) → ordering_then a (ordering_then b c) ≡ ordering_then (ordering_then a b) c
@@ -23,11 +26,6 @@ then_level : (a b : Ordering) → is_ne a ≡ false → ordering_then a b ≡ b
 then_level Less b e = absurd (true≢false e)
 then_level Equal b e = refl
 then_level Greater b e = absurd (true≢false e)
-
-pub then_unequal : (a b : Ordering) → (a ≡ Equal → ⊥) → ordering_then a b ≡ a
-then_unequal Less b n = refl
-then_unequal Equal b n = absurd (n refl)
-then_unequal Greater b n = refl
 
 -- ---- the first n bytes of each, and then the rest
 order_in_parts : (n : ℕ) (xs ys : List ℕ) → n ≤ length xs → n ≤ length ys
@@ -80,44 +78,27 @@ pub spelt_order : (xs ys : List ℕ) → length xs ≡ length ys → ((k : ℕ) 
     → slice_cmp nat_cmp xs ys ≡ nat_cmp (big_endian 0 xs) (big_endian 0 ys)
 spelt_order = spelt_after 0 0
 
--- ---- texts in buffers of one length, with zeros after them
+-- ---- texts without zeros, in buffers of one length, with zeros after them
 below_suc : (y : ℕ) → nat_cmp 0 (suc y) ≡ Less
 below_suc y = sym (nat_cmp_is 0 (suc y) Less (omega arith))
 
 above_suc : (x : ℕ) → nat_cmp (suc x) 0 ≡ Greater
 above_suc x = sym (nat_cmp_is (suc x) 0 Greater (omega arith))
 
-both_suc : (x y : ℕ) → nat_cmp x y ≡ nat_cmp (suc x) (suc y)
-both_suc x y = nat_cmp_is (suc x) (suc y) (nat_cmp x y) (by (nat_cmp x y) (ranks x y))
-  where
-    by : (r : Ordering) → MatchOrdering r (x < y) (x ≡ y) (y < x) → MatchOrdering r (suc x < suc y) (suc x ≡ suc y) (suc y < suc x)
-    by Less h = let l : x < y = h in omega arith
-    by Equal h = let l : x ≡ y = h in omega arith
-    by Greater h = let l : y < x = h in omega arith
-
 level_zeros : (i j : ℕ) → i ≡ j → slice_cmp nat_cmp (replicate i 0) (replicate j 0) ≡ Equal
 level_zeros i j e = ap (λ k. slice_cmp nat_cmp (replicate i 0) (replicate k 0)) (sym e) ∙ tied_itself (lists_total nat_cmp_total) (replicate i 0)
 
--- zeros alone are not above a text and zeros
-zeros_first : (ys : List ℕ) (i j : ℕ) → i ≡ length ys + j → ordering_then (slice_cmp nat_cmp (replicate i 0) (ys ++ replicate j 0)) Less ≡ Less
-zeros_first [] i j e = ap (λ r. ordering_then r Less) (level_zeros i j (omega arith))
-zeros_first (y ∷ ys) zero j e = absurd (omega arith)
-zeros_first (zero ∷ ys) (suc i) j e = zeros_first ys i j (omega arith)
-zeros_first (suc y ∷ ys) (suc i) j e = ap (λ r. ordering_then (ordering_then r (slice_cmp nat_cmp (replicate i 0) (ys ++ replicate j 0))) Less) (below_suc y)
-
-zeros_last : (xs : List ℕ) (i j : ℕ) → length xs + i ≡ j → ordering_then (slice_cmp nat_cmp (xs ++ replicate i 0) (replicate j 0)) Greater ≡ Greater
-zeros_last [] i j e = ap (λ r. ordering_then r Greater) (level_zeros i j (omega arith))
-zeros_last (x ∷ xs) i zero e = absurd (omega arith)
-zeros_last (zero ∷ xs) i (suc j) e = zeros_last xs i j (omega arith)
-zeros_last (suc x ∷ xs) i (suc j) e = ap (λ r. ordering_then (ordering_then r (slice_cmp nat_cmp (xs ++ replicate i 0) (replicate j 0))) Greater) (above_suc x)
-
--- the buffers decide, and where they are the same the lengths of the texts do
-pub padded_order : (xs ys : List ℕ) (i j : ℕ) → length xs + i ≡ length ys + j
-    → slice_cmp nat_cmp xs ys ≡ ordering_then (slice_cmp nat_cmp (xs ++ replicate i 0) (ys ++ replicate j 0)) (nat_cmp (length xs) (length ys))
-padded_order [] [] i j e = sym (ap (λ r. ordering_then r Equal) (level_zeros i j (omega arith)))
-padded_order [] (y ∷ ys) i j e = sym (ap (ordering_then (slice_cmp nat_cmp (replicate i 0) ((y ∷ ys) ++ replicate j 0))) (below_suc (length ys)) ∙ zeros_first (y ∷ ys) i j (omega arith))
-padded_order (x ∷ xs) [] i j e = sym (ap (ordering_then (slice_cmp nat_cmp ((x ∷ xs) ++ replicate i 0) (replicate j 0))) (above_suc (length xs)) ∙ zeros_last (x ∷ xs) i j (omega arith))
-padded_order (x ∷ xs) (y ∷ ys) i j e =
-    let buffers = slice_cmp nat_cmp (xs ++ replicate i 0) (ys ++ replicate j 0) in
-    ap (ordering_then (nat_cmp x y)) (padded_order xs ys i j (omega arith) ∙ ap (ordering_then buffers) (both_suc (length xs) (length ys)))
-    ∙ then_assoc (nat_cmp x y) buffers _
+-- the buffers are in the order of the texts
+pub padded_order : (xs ys : List ℕ) (i j : ℕ) → length xs + i ≡ length ys + j → list_all is_not_zero xs ≡ true → list_all is_not_zero ys ≡ true
+    → slice_cmp nat_cmp (xs ++ replicate i 0) (ys ++ replicate j 0) ≡ slice_cmp nat_cmp xs ys
+padded_order [] [] i j e p q = level_zeros i j (omega arith)
+padded_order [] (y ∷ ys) zero j e p q = absurd (omega arith)
+padded_order [] (zero ∷ ys) (suc i) j e p q = absurd (true≢false (sym q))
+padded_order [] (suc y ∷ ys) (suc i) j e p q = ap (λ r. ordering_then r (slice_cmp nat_cmp (replicate i 0) (ys ++ replicate j 0))) (below_suc y)
+padded_order (x ∷ xs) [] i zero e p q = absurd (omega arith)
+padded_order (zero ∷ xs) [] i (suc j) e p q = absurd (true≢false (sym p))
+padded_order (suc x ∷ xs) [] i (suc j) e p q = ap (λ r. ordering_then r (slice_cmp nat_cmp (xs ++ replicate i 0) (replicate j 0))) (above_suc x)
+padded_order (x ∷ xs) (y ∷ ys) i j e p q =
+    let left = and_parts (is_not_zero x) (list_all is_not_zero xs) p in
+    let right = and_parts (is_not_zero y) (list_all is_not_zero ys) q in
+    ap (ordering_then (nat_cmp x y)) (padded_order xs ys i j (omega arith) left.1 right.1)

@@ -1,37 +1,72 @@
 -- Words in buffers padded with zeros.
-use Rattle.std.proofs.Common.{◌≡◌, ℕ, suc, ◌-◌, ◌≤◌, ◌++◌, ◌&&◌, List, [], ◌∷◌, take, drop, length, Bool, true, false, refl, sym, ap, ◌∙◌, arith}
+use Rattle.std.proofs.Common.{◌≡◌, ℕ, zero, suc, ◌-◌, ◌≤◌, ◌++◌, ◌&&◌, List, [], ◌∷◌, drop, length, Bool, true, false, cond, refl, sym, ap, ◌∙◌, arith}
 use Rattle.std.proofs.Math.Bool.{true≢false}
 use Rattle.std.proofs.lemmas.Bool.{and_from, and_parts, eqb-true}
 use Rattle.std.proofs.lemmas.Bool.Decides.{nat_tests}
 use Rattle.std.specs.Prelude.{replicate, codes, bytes_eq, nat_eq, nat_le}
 use Rattle.std.specs.List.{list_all}
-use Rattle.std.proofs.Math.Seq.{take-append_seam}
 use Rattle.std.proofs.lemmas.List.{drop-replicate}
-use Rattle.std.specs.Ordering.{nat_cmp, ordering_then}
+use Rattle.std.proofs.lemmas.List.Sums.{take_while-cons}
+use Rattle.std.specs.Ordering.{nat_cmp}
 use Rattle.std.specs.Cmp.Lexicographic.{slice_cmp}
 use Rattle.hh_names.proofs.ByteFacts.{padded_order}
-use Rattle.hh_names.specs.Words.{IsPadded, is_letter_or_digit, is_operator_key, is_reference_byte, is_word}
+use Rattle.hh_names.specs.Words.{is_letter_or_digit, is_not_zero, is_operator_key, is_reference_byte, is_word, padded, word_in}
 
--- a text written over the front of a buffer of zeros
-pub padded_by : (most : ℕ) (text copied : List ℕ) → length text ≤ most → copied ≡ text
-    → (test : List ℕ → Bool) → test text ≡ true
-    → let buffer : List ℕ = copied ++ drop (length text) (replicate most 0) in
-    IsPadded most (length text) buffer × (test (take (length text) buffer) ≡ true)
-padded_by most text copied fits same test passes =
-    let zeros = drop (length text) (replicate most 0) in
-    let front : take (length text) (copied ++ zeros) ≡ text = ap (λ t. take (length text) (t ++ zeros)) same ∙ take-append_seam text zeros in
-    let whole : copied ++ zeros ≡ take (length text) (copied ++ zeros) ++ replicate (most - length text) 0 =
-    λ i. (same ∙ sym front) i ++ drop-replicate (length text) most 0 i in (
-      record { fits = fits; counted = ap length front; padded = whole },
-      ap test front ∙ passes,
-    )
+-- ---- bytes that are no zeros
+suc_is_not_zero : (b : ℕ) → is_not_zero (suc b) ≡ true
+suc_is_not_zero b = grind (arith, nat_tests)
 
--- the order of two texts, from their buffers and lengths
-pub order_of_padded : (most n m : ℕ) (a b : List ℕ) → IsPadded most n a → IsPadded most m b
-    → slice_cmp nat_cmp (take n a) (take m b) ≡ ordering_then (slice_cmp nat_cmp a b) (nat_cmp n m)
-order_of_padded most n m a b p q =
-    padded_order (take n a) (take m b) (most - n) (most - m) (omega (arith, p.fits, p.counted, q.fits, q.counted))
-    ∙ (λ i. ordering_then (slice_cmp nat_cmp (sym p.padded i) (sym q.padded i)) (nat_cmp (p.counted i) (q.counted i)))
+word_not_zero : (buffer : List ℕ) → list_all is_not_zero (word_in buffer) ≡ true
+word_not_zero [] = refl
+word_not_zero (b ∷ rest) = ap (list_all is_not_zero) (take_while-cons is_not_zero b rest) ∙ by (word_not_zero rest) (is_not_zero b) refl
+  where
+    by : list_all is_not_zero (word_in rest) ≡ true → (told : Bool) → is_not_zero b ≡ told → list_all is_not_zero (cond told (b ∷ word_in rest) []) ≡ true
+    by rest_not true e = and_from _ _ e rest_not
+    by rest_not false e = refl
+
+allowed_not_zero : (allows : ℕ → Bool) → allows 0 ≡ false → (text : List ℕ) → list_all allows text ≡ true → list_all is_not_zero text ≡ true
+allowed_not_zero allows no_zero [] h = refl
+allowed_not_zero allows no_zero (zero ∷ rest) h = absurd (true≢false (sym (and_parts (allows 0) (list_all allows rest) h).0 ∙ no_zero))
+allowed_not_zero allows no_zero (suc b ∷ rest) h = and_from _ _ (suc_is_not_zero b) (allowed_not_zero allows no_zero rest (and_parts (allows (suc b)) (list_all allows rest) h).1)
+
+-- ---- texts in buffers of zeros
+word_before_zeros : (text : List ℕ) (n : ℕ) → list_all is_not_zero text ≡ true → word_in (text ++ replicate n 0) ≡ text
+word_before_zeros [] zero h = refl
+word_before_zeros [] (suc n) h = refl
+word_before_zeros (b ∷ rest) n h =
+    let parts = and_parts (is_not_zero b) (list_all is_not_zero rest) h in
+    take_while-cons is_not_zero b (rest ++ replicate n 0) ∙ (λ i. cond (parts.0 i) (b ∷ word_before_zeros rest n parts.1 i) [])
+
+module _ (allows : ℕ → Bool) (no_zero : allows 0 ≡ false) (least most : ℕ) (text copied : List ℕ) (same : copied ≡ text) (passes : is_word allows least most text ≡ true) where
+  -- a buffer of zeros with the text copied over its front
+  abbrev written : List ℕ
+  written = copied ++ drop (length text) (replicate most 0)
+
+  is_padded : padded most text ≡ written
+  is_padded = sym (λ i. same i ++ drop-replicate (length text) most 0 i)
+
+  pub word_written : word_in written ≡ text
+  unfolding is_word
+  word_written =
+      let parts = and_parts (nat_le least (length text) && nat_le (length text) most) (list_all allows text) passes in
+      sym (ap word_in is_padded) ∙ word_before_zeros text (most - length text) (allowed_not_zero allows no_zero text parts.1)
+
+  pub invariant_written : (padded most (word_in written) ≡ written) × (is_word allows least most (word_in written) ≡ true)
+  invariant_written = (ap (padded most) word_written ∙ is_padded, ap (is_word allows least most) word_written ∙ passes)
+
+-- the order of two words is that of their buffers
+module _ (allows : ℕ → Bool) (least most : ℕ) where
+  fits_buffer : (text : List ℕ) → is_word allows least most text ≡ true → length text ≤ most
+  unfolding is_word
+  fits_buffer text passes = grind (arith, nat_tests)
+
+  pub order_in_buffers : (a b : List ℕ) → (padded most (word_in a) ≡ a) × (is_word allows least most (word_in a) ≡ true) → (padded most (word_in b) ≡ b) × (is_word allows least most (word_in b) ≡ true)
+      → slice_cmp nat_cmp a b ≡ slice_cmp nat_cmp (word_in a) (word_in b)
+  order_in_buffers a b p q =
+      let fits_a = fits_buffer (word_in a) p.1 in
+      let fits_b = fits_buffer (word_in b) q.1 in
+      (λ i. slice_cmp nat_cmp (sym p.0 i) (sym q.0 i))
+      ∙ padded_order (word_in a) (word_in b) (most - length (word_in a)) (most - length (word_in b)) (omega arith) (word_not_zero a) (word_not_zero b)
 
 -- an operator's key is a word of the bytes of references
 letters_allowed : (rest : List ℕ) → list_all is_letter_or_digit rest ≡ true → list_all is_reference_byte rest ≡ true

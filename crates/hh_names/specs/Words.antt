@@ -1,8 +1,7 @@
 -- Words of one alphabet: ids of parties and units, references, access keys and names of files.
-use Rattle.std.specs.Prelude.{◌≡◌, ℕ, ◌-◌, ◌≤◌, ◌++◌, take, drop, replicate, Bool, ◌&&◌, ◌||◌, ◌==◌, nat_le, List, length, Option, Some, None, codes, bytes_eq, if◌then◌else◌}
-use Rattle.std.proofs.Common.{sym, ap, ◌∙◌}
+use Rattle.std.specs.Prelude.{ℕ, ◌-◌, ◌++◌, take, drop, replicate, Bool, not, ◌&&◌, ◌||◌, ◌==◌, nat_le, List, length, Option, Some, None, codes, bytes_eq, if◌then◌else◌}
 use Rattle.std.specs.Char.{is_ascii_digit, is_ascii_uppercase, is_ascii_alphanumeric}
-use Rattle.std.specs.List.{list_all}
+use Rattle.std.specs.List.{list_all, take_while}
 
 -- least to most bytes, each of them allowed
 unfoldable pub is_word : (ℕ → Bool) → ℕ → ℕ → List ℕ → Bool
@@ -52,13 +51,14 @@ is_operator_key text = bytes_eq (take 3 text) (codes "op-") && is_word is_letter
 abbrev pub operator_key_value : List ℕ → Option (List ℕ)
 operator_key_value text = if is_operator_key text then Some text else None
 
--- the first bytes of a buffer of this length are a text of len bytes, and zeros follow
-pub record IsPadded (most len : ℕ) (buffer : List ℕ) : Type 0 where
-  pub fits : len ≤ most
-  pub counted : length (take len buffer) ≡ len
-  pub padded : buffer ≡ take len buffer ++ replicate (most - len) 0
+-- the bytes of the word in a buffer
+abbrev pub is_not_zero : ℕ → Bool
+is_not_zero b = not (b == 0)
 
--- so that the text gives the buffer back
-pub unpadded : (most len : ℕ) (buffer : List ℕ) → IsPadded most len buffer
-    → take len buffer ++ replicate (most - length (take len buffer)) 0 ≡ buffer
-unpadded most len buffer h = ap (λ n. take len buffer ++ replicate (most - n) 0) h.counted ∙ sym h.padded
+-- the word in a buffer: what stands before the first zero
+abbrev pub word_in : List ℕ → List ℕ
+word_in buffer = take_while is_not_zero buffer
+
+-- a word in a buffer of this length: zeros follow it
+abbrev pub padded : ℕ → List ℕ → List ℕ
+padded most text = text ++ replicate (most - length text) 0

@@ -1,6 +1,6 @@
 //! Words: ids of parties and units, references, access keys and names of files.
 
-ghost use Rattle.std.specs.Prelude.{◌≡◌, ℕ, Bool, true, nat_eq};
+ghost use Rattle.std.specs.Prelude.{◌≡◌, ℕ, Bool, true, false, refl, nat_eq};
 ghost use Rattle.std.specs.List.{list_all};
 ghost use Rattle.std.specs.Cmp.{partial_order_from_own_ties};
 ghost use Rattle.std.specs.Cmp.Rules.{comparing};
@@ -19,29 +19,33 @@ pub trait Alphabet {
 
     fn allows(byte: u8) -> bool
         ensures { result ≡ allows byte };
+
+    // Zeros fill the rest of a word's buffer.
+    ghost no_zero: { allows 0 ≡ false };
 }
 
-/// `LEAST` to `MOST` bytes of one alphabet, kept in place. Contracts see the list of the bytes.
+/// `LEAST` to `MOST` bytes of one alphabet, kept in place and followed by zeros. Contracts see the
+/// list of the bytes.
 #[derive(Clone, Copy, Debug)]
 pub struct Word<A: Alphabet, const LEAST: usize, const MOST: usize> {
     bytes: [u8; MOST],
-    len: usize,
     alphabet: PhantomData<A>,
 }
 
 impl<A: Alphabet, const LEAST: usize, const MOST: usize> Model for Word<A, LEAST, MOST> {
-    ghost use Rattle.std.specs.Prelude.{◌≡◌, List, ℕ, ◌-◌, ◌++◌, true, take, replicate, length};
-    ghost use Rattle.hh_names.specs.Words.{is_word, IsPadded, unpadded};
+    ghost use Rattle.std.specs.Prelude.{◌≡◌, List, ℕ, true};
+    ghost use Rattle.hh_names.specs.Words.{is_word, padded, word_in};
 
     ghost Value = { List ℕ };
 
-    ghost view = { λ w. take w.len w.bytes };
+    ghost view = { λ w. word_in w.bytes };
 
-    ghost invariant = { λ w. IsPadded MOST w.len w.bytes × (is_word A.allows LEAST MOST (take w.len w.bytes) ≡ true) };
+    ghost invariant = { λ w. (padded MOST (word_in w.bytes) ≡ w.bytes)
+        × (is_word A.allows LEAST MOST (word_in w.bytes) ≡ true) };
 
-    ghost inverse = { λ text. record { bytes = text ++ replicate (MOST - length text) 0; len = length text; alphabet = record {} } };
+    ghost inverse = { λ text. record { bytes = padded MOST text; alphabet = record {} } };
 
-    ghost inverse_ok = { λ w h. λ i. record { bytes = unpadded MOST w.len w.bytes h.0 i; len = h.0.counted i; alphabet = record {} } };
+    ghost inverse_ok = { λ w h. λ i. record { bytes = h.0 i; alphabet = record {} } };
 }
 
 impl<A: Alphabet, const LEAST: usize, const MOST: usize> Word<A, LEAST, MOST> {
@@ -49,7 +53,8 @@ impl<A: Alphabet, const LEAST: usize, const MOST: usize> Word<A, LEAST, MOST> {
     pub fn as_bytes(&self) -> &[u8]
         ensures { result.now ≡ self.now }
     {
-        &self.bytes[..self.len]
+        let len = self.bytes.iter().take_while(|byte| **byte != 0).count();
+        &self.bytes[..len]
     }
 
     /// The word that these bytes are, if they are one.
@@ -73,7 +78,6 @@ impl<A: Alphabet, const LEAST: usize, const MOST: usize> Word<A, LEAST, MOST> {
         bytes[..text.len()].copy_from_slice(text);
         Word {
             bytes,
-            len: text.len(),
             alphabet: PhantomData,
         }
     }
@@ -103,6 +107,8 @@ impl Alphabet for PartyIdAlphabet {
     fn allows(byte: u8) -> bool {
         byte.is_ascii_uppercase() || byte.is_ascii_digit()
     }
+
+    ghost no_zero = { refl };
 }
 
 /// A party's id: 1 to 10 capital letters or digits (profile).
@@ -118,6 +124,8 @@ impl Alphabet for UnitIdAlphabet {
     fn allows(byte: u8) -> bool {
         byte.is_ascii_uppercase() || byte.is_ascii_digit() || byte == b'_' || byte == b'-'
     }
+
+    ghost no_zero = { refl };
 }
 
 /// A BM Unit's id: 1 to 16 capital letters, digits, underscores or dashes (profile).
@@ -133,6 +141,8 @@ impl Alphabet for ReferenceAlphabet {
     fn allows(byte: u8) -> bool {
         byte.is_ascii_alphanumeric() || byte == b'_' || byte == b'-'
     }
+
+    ghost no_zero = { refl };
 }
 
 /// A contract's reference: 1 to 20 letters, digits, underscores or dashes (profile).
@@ -148,6 +158,8 @@ impl Alphabet for AccessKeyAlphabet {
     fn allows(byte: u8) -> bool {
         byte.is_ascii_alphanumeric()
     }
+
+    ghost no_zero = { refl };
 }
 
 /// The key that a party shows: 8 to 64 letters or digits (profile).
@@ -163,6 +175,8 @@ impl Alphabet for FileNameAlphabet {
     fn allows(byte: u8) -> bool {
         byte.is_ascii_alphanumeric() || byte == b'.' || byte == b'_' || byte == b'-'
     }
+
+    ghost no_zero = { refl };
 }
 
 /// The name by which a file is registered, never a path: 1 to 64 letters, digits, points, underscores
@@ -175,7 +189,7 @@ impl<A: Alphabet, const LEAST: usize, const MOST: usize> PartialEq for Word<A, L
     ghost laws = { Prim.search (comparing, rules) };
 
     fn eq(&self, other: &Word<A, LEAST, MOST>) -> bool {
-        self.as_bytes() == other.as_bytes()
+        self.cmp(other).is_eq()
     }
 }
 
@@ -192,12 +206,9 @@ impl<A: Alphabet, const LEAST: usize, const MOST: usize> Ord for Word<A, LEAST, 
 
     ghost matches_eq = { Prim.search (comparing, rules) };
 
-    // The buffers decide, and where only zeros tell the two words apart, their lengths.
+    // The buffers decide: zeros follow the words, and no word has one.
     fn cmp(&self, other: &Word<A, LEAST, MOST>) -> Ordering {
-        match order_of_bytes(&self.bytes, &other.bytes) {
-            Ordering::Equal => self.len.cmp(&other.len),
-            unequal => unequal,
-        }
+        order_of_bytes(&self.bytes, &other.bytes)
     }
 }
 

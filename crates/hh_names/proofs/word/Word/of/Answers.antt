@@ -1,9 +1,11 @@
-use Rattle.std.proofs.Common.{arith, rules}
-use Rattle.std.proofs.lemmas.Bool.Decides.{nat_tests}
-use Rattle.hh_names.specs.Words.{is_word}
-use Rattle.hh_names.proofs.WordFacts.{padded_by}
+use Rattle.std.proofs.Common.{◌≡◌, rules}
+use Rattle.hh_names.proofs.WordFacts.{invariant_written, word_written}
 use Rattle.hh_names.proofs.word.Word.of.Goals as goal
 
 pub invariant_of-result : goal.invariant_of-result
-unfolding is_word
-invariant_of-result g c = padded_by _ _ _ (grind (arith, nat_tests)) (search rules) (is_word g.A.Alphabet.allows g.row.LEAST g.row.MOST) c.requires
+invariant_of-result g c = invariant_written g.A.Alphabet.allows g.met.A.Alphabet.no_zero g.row.LEAST g.row.MOST _ _ (search rules) c.requires
+
+pub returns : goal.returns
+returns g c =
+    let copied : c.copy_from_slice.new.self ≡ c.args.text.now = search rules in
+    word_written g.A.Alphabet.allows g.met.A.Alphabet.no_zero g.row.LEAST g.row.MOST _ _ copied c.requires
