@@ -1,8 +1,11 @@
 //! The tables of an office, kept in memory.
 
-ghost use Rattle.std.specs.Prelude.{◌≡◌, IfOk};
+ghost use Rattle.std.specs.Prelude.{◌≡◌, IfErr, IfOk, IsOk, OnErr, OnOk};
 ghost use Rattle.hh_time.specs.Days.{Midnights};
+ghost use Rattle.hh_rules.specs.RegisterView.{ServesFor};
+ghost use Rattle.hh_store.specs.Changes.{IsLoadFrom, effect_of_load};
 ghost use Rattle.hh_store.specs.Content.{empty_content, tables_of};
+ghost use Rattle.hh_store.specs.Reads.{contracts_in, file_in, is_key_known, party_in, reference_in, unit_in, whole_register};
 ghost use Rattle.hh_store.specs.States.{empty_state};
 
 use crate::file_key::FileKey;
@@ -64,27 +67,51 @@ impl PlainTables {
 impl Tables for PlainTables {
     ghost content = { λ tables. tables };
 
-    fn settings(&mut self) -> Result<Settings, StoreFault> {
+    fn settings(&mut self) -> Result<Settings, StoreFault>
+        ensures value { IfOk result (λ settings. settings ≡ self.old.settings) }
+        ensures answers { IsOk result }
+        ensures same { self.new ≡ self.old }
+    {
         Ok(self.settings)
     }
 
-    fn party(&mut self, party: &PartyId) -> Result<Option<PartyRegistration>, StoreFault> {
+    fn party(&mut self, party: &PartyId) -> Result<Option<PartyRegistration>, StoreFault>
+        ensures value { IfOk result (λ found. found ≡ party_in self.old party.now) }
+        ensures answers { IsOk result }
+        ensures same { self.new ≡ self.old }
+    {
         Ok(self.register.party(party))
     }
 
-    fn unit(&mut self, unit: &UnitId) -> Result<Option<UnitRegistration>, StoreFault> {
+    fn unit(&mut self, unit: &UnitId) -> Result<Option<UnitRegistration>, StoreFault>
+        ensures value { IfOk result (λ found. found ≡ unit_in self.old unit.now) }
+        ensures answers { IsOk result }
+        ensures same { self.new ≡ self.old }
+    {
         Ok(self.register.unit(unit))
     }
 
-    fn reference(&mut self, reference: &Reference) -> Result<Option<Counterparties>, StoreFault> {
+    fn reference(&mut self, reference: &Reference) -> Result<Option<Counterparties>, StoreFault>
+        ensures value { IfOk result (λ found. found ≡ reference_in self.old reference.now) }
+        ensures answers { IsOk result }
+        ensures same { self.new ≡ self.old }
+    {
         Ok(self.register.reference(reference))
     }
 
-    fn key_known(&mut self, key: &[u8]) -> Result<bool, StoreFault> {
+    fn key_known(&mut self, key: &[u8]) -> Result<bool, StoreFault>
+        ensures value { IfOk result (λ known. known ≡ is_key_known self.old key.now) }
+        ensures answers { IsOk result }
+        ensures same { self.new ≡ self.old }
+    {
         Ok(self.register.key_known(key))
     }
 
-    fn file(&mut self, kind: FileKind, name: &FileName) -> Result<Option<KeptFile>, StoreFault> {
+    fn file(&mut self, kind: FileKind, name: &FileName) -> Result<Option<KeptFile>, StoreFault>
+        ensures value { IfOk result (λ found. found ≡ file_in self.old kind name.now) }
+        ensures memory_alone { IfErr result (λ fault. fault ≡ StoreFault.Memory) }
+        ensures same { self.new ≡ self.old }
+    {
         let key = FileKey { kind, name: *name };
         match self.files.find(&key) {
             Some(file) => Ok(Some(file.copy(self.alloc)?)),
@@ -92,7 +119,10 @@ impl Tables for PlainTables {
         }
     }
 
-    fn register(&mut self, rows: &[Row]) -> Result<Register, StoreFault> {
+    fn register(&mut self, rows: &[Row]) -> Result<Register, StoreFault>
+        ensures serves { IfOk result (ServesFor rows.now (whole_register self.old)) }
+        ensures same { self.new ≡ self.old }
+    {
         self.register
             .register_for(self.alloc, self.settings.lead_minutes, rows)
     }
@@ -101,11 +131,20 @@ impl Tables for PlainTables {
         &mut self,
         account: &Account,
         date: SettlementDate,
-    ) -> Result<Vec<ContractRow>, StoreFault> {
+    ) -> Result<Vec<ContractRow>, StoreFault>
+        ensures value { IfOk result (λ rows. rows.items ≡ contracts_in self.old account.now date) }
+        ensures memory_alone { IfErr result (λ fault. fault ≡ StoreFault.Memory) }
+        ensures same { self.new ≡ self.old }
+    {
         Ok(self.register.contracts(self.alloc, account, date)?)
     }
 
-    fn apply_load(&mut self, change: LoadChange) -> Result<(), StoreFault> {
+    fn apply_load(&mut self, change: LoadChange) -> Result<(), StoreFault>
+        ensures ok { (midnight : Midnights) → IsLoadFrom midnight self.old change
+            → OnOk result (self.new ≡ effect_of_load change self.old) }
+        ensures err { OnErr result (self.new ≡ self.old) }
+        ensures memory_alone { IfErr result (λ fault. fault ≡ StoreFault.Memory) }
+    {
         let changed = self.register.changed_by(self.alloc, &change)?;
         self.files.put_row(change.key(), change.into_file())?;
         self.register.take_over(changed);
