@@ -51,7 +51,7 @@ is_operator_key text = bytes_eq (take 3 text) (codes "op-") && is_word is_letter
 abbrev pub operator_key_value : List ℕ → Option (List ℕ)
 operator_key_value text = if is_operator_key text then Some text else None
 
--- the bytes of the word in a buffer
+-- a byte of a word, no filling
 abbrev pub is_not_zero : ℕ → Bool
 is_not_zero b = not (b == 0)
 

@@ -10,4 +10,5 @@ pub mod ReachLaws
 pub mod ReadLaws
 pub mod RunLaws
 mod RunRowLaws
+mod SoundLaws
 mod UntilLaws

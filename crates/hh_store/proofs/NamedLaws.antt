@@ -1,5 +1,5 @@
 -- The reallocations of the units in the Settlement Periods that rows name, and that a part that has them serves for the rows.
-use Rattle.std.proofs.Common.{◌≡◌, ℕ, ◌+◌, ◌<◌, List, [], ◌∷◌, ◌++◌, length, take, get_or, refl, sym, ap, subst, ◌∙◌, Bool, true, false, cond, Ordering, append_assoc}
+use Rattle.std.proofs.Common.{◌≡◌, ℕ, zero, suc, ◌+◌, ◌<◌, List, [], ◌∷◌, ◌++◌, length, take, get_or, refl, sym, ap, subst, ◌∙◌, Bool, true, false, cond, Ordering, append_assoc}
 use Rattle.std.specs.Prelude.{◌≢◌, filter, T}
 use Rattle.std.specs.BTreeMap.{is_at}
 use Rattle.std.specs.BTreeSet.{BTreeSet, Updates, contains}
@@ -41,6 +41,17 @@ module _ {K V : Type 0} (R : K → K → Ordering) (test : K × V → Bool) wher
     | true ↦ both _ _ (below-filter e.0 es (first _ _ h)) (sorted-filter es (second _ _ h))
     | false ↦ sorted-filter es (second _ _ h)
   ]
+
+module _ {K V : Type 0} (R : K → K → Ordering) where
+  below-take : (k : K) (es : Table K V) (i : ℕ) → T (below_all R k es) → T (below_all R k (take i es))
+  below-take k es zero h = tt
+  below-take k [] (suc i) h = tt
+  below-take k (e ∷ es) (suc i) h = both _ _ (first _ _ h) (below-take k es i (second _ _ h))
+
+  sorted-take : (es : Table K V) (i : ℕ) → T (is_sorted R es) → T (is_sorted R (take i es))
+  sorted-take es zero h = tt
+  sorted-take [] (suc i) h = tt
+  sorted-take (e ∷ es) (suc i) h = both _ _ (below-take e.0 es i (first _ _ h)) (sorted-take es i (second _ _ h))
 
 module _ {K V : Type 0} {R : K → K → Ordering} (o : IsTotalOrder R) where
   below_within : (k : K) (front : Table K V) (e : K × V) (rest : Table K V) → T (below_all R k (front ++ e ∷ rest)) → T (is_lt (R k e.0))
@@ -86,6 +97,12 @@ module _ (whole : Registered) (rising : IsTable reallocation_key_cmp whole.reall
   -- the part's reallocations, once those of what is named are put in
   put_held : put_all reallocation_key_cmp held [] ≡ held
   put_held = put_all_behind reallocation_key_total held [] (sorted-filter reallocation_key_cmp (is_named_in named) whole.reallocations (from_true _ rising))
+
+  -- and so once the first of them are
+  pub put_so_far : (i : ℕ) → put_all reallocation_key_cmp (filter (is_named_in named) (take i whole.reallocations)) [] ≡ filter (is_named_in named) (take i whole.reallocations)
+  put_so_far i =
+      put_all_behind reallocation_key_total (filter (is_named_in named) (take i whole.reallocations)) []
+      (sorted-filter reallocation_key_cmp (is_named_in named) (take i whole.reallocations) (sorted-take reallocation_key_cmp whole.reallocations i (from_true _ rising)))
 
   held_at : (at : UnitPeriod) → contains unit_period_cmp named at ≡ true
       → filter (λ e. eq_by_cmp unit_period_cmp e.0.unit_period at) held ≡ reallocations_at whole at

@@ -7,6 +7,7 @@ pub mod Parts
 pub mod PeriodSettlement
 pub mod Reads
 pub mod Runs
+pub mod Soundness
 pub mod States
 pub mod Steps
 pub mod StoreFaults

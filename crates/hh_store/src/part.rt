@@ -1,11 +1,12 @@
 //! The part of a register in memory that rows are judged by.
 
-ghost use Rattle.std.specs.Prelude.{◌≡◌, ℕ, false, filter, All, IfOk, OnOk, Some};
+ghost use Rattle.std.specs.Prelude.{◌≡◌, ◌≤◌, ℕ, [], false, filter, All, IfErr, IfOk, IsOk, OnOk, Some};
 ghost use Rattle.std.specs.FinMap.{find};
 ghost use Rattle.hh_tables.specs.Tables.{IsTable, put_all};
 ghost use Rattle.hh_rows.specs.Keys.{contract_key_cmp, reallocation_key_cmp, settlement_period_cmp, unit_period_cmp};
-ghost use Rattle.hh_rules.specs.RegisterView.{holding, tables_in, AgreesOnParty, AgreesOnReference, AgreesOnUnit, ServesFor};
+ghost use Rattle.hh_rules.specs.RegisterView.{held_row, holding, tables_in, AgreesOnParty, AgreesOnReference, AgreesOnUnit, ServesFor};
 ghost use Rattle.hh_store.specs.Parts.{is_after, is_named_in, whole_of, with_reallocations, AgreesOnNames, AreUntil, Grows, IsNamedIn, IsPartOf};
+ghost use Rattle.hh_store.specs.Soundness.{AreSound};
 
 use crate::kept_register::KeptRegister;
 use crate::store_fault::StoreFault;
@@ -20,14 +21,16 @@ use std::collections::BTreeSet;
 
 impl KeptRegister {
     /// A register that judges these rows, and is changed by them, as one of everything that is
-    /// registered and in force would.
+    /// registered and in force would. `Store` only where that is not sound.
     pub(crate) fn register_for(
         &self,
         alloc: Global,
         lead_minutes: LeadMinutes,
         rows: &[Row],
     ) -> Result<Register, StoreFault>
-        ensures { IfOk result (ServesFor rows.now (whole_of lead_minutes self.now)) }
+        ensures serves { IfOk result (ServesFor rows.now (whole_of lead_minutes self.now)) }
+        ensures memory_alone { AreSound self.now
+            → IfErr result (λ fault. fault ≡ StoreFault.Memory) }
     {
         let mut part = self.names_of(alloc, lead_minutes, rows)?;
         let named = periods_named(alloc, rows)?;
@@ -36,7 +39,7 @@ impl KeptRegister {
     }
 
     /// A register that has what these rows name, and the rows in force of their keys, but no
-    /// reallocation.
+    /// reallocation. `Store` only where what is registered and in force is not sound.
     fn names_of(
         &self,
         alloc: Global,
@@ -46,6 +49,8 @@ impl KeptRegister {
         ensures part { IfOk result (IsPartOf (whole_of lead_minutes self.now)) }
         ensures agrees { IfOk result (λ part.
             All (AgreesOnNames self.now (tables_in part)) rows.now) }
+        ensures memory_alone { AreSound self.now
+            → IfErr result (λ fault. fault ≡ StoreFault.Memory) }
     {
         let parties = count(self.parties.len())?;
         let units = count(self.units.len())?;
@@ -71,7 +76,8 @@ impl KeptRegister {
     }
 
     /// Holds what a row names, and the row in force of its key if it isn't a reallocation. No reading
-    /// counts after `last`, if that is a Settlement Period.
+    /// counts after `last`, if that is a Settlement Period. `Store` where no row has fixed the reference
+    /// of a contract in force.
     fn hold_names(
         &self,
         part: &mut Register,
@@ -82,6 +88,8 @@ impl KeptRegister {
         ensures grows { OnOk result (Grows self.now part.old part.new) }
         ensures agrees { (lead_minutes : ℕ) → IsPartOf (whole_of lead_minutes self.now) part.old
             → OnOk result (AgreesOnNames self.now (tables_in part.new) row.now) }
+        ensures memory_alone { AreSound self.now
+            → IfErr result (λ fault. fault ≡ StoreFault.Memory) }
     {
         match row {
             Row::Party(row) => self.hold_party(part, &row.party),
@@ -112,6 +120,7 @@ impl KeptRegister {
         ensures grows { OnOk result (Grows self.now part.old part.new) }
         ensures agrees { (lead_minutes : ℕ) → IsPartOf (whole_of lead_minutes self.now) part.old
             → OnOk result (AgreesOnParty self.now (tables_in part.new) party.now) }
+        ensures memory_alone { IfErr result (λ fault. fault ≡ StoreFault.Memory) }
     {
         if part.party(party).is_some() {
             return Ok(());
@@ -133,6 +142,7 @@ impl KeptRegister {
         ensures grows { OnOk result (Grows self.now part.old part.new) }
         ensures agrees { (lead_minutes : ℕ) → IsPartOf (whole_of lead_minutes self.now) part.old
             → OnOk result (AgreesOnUnit self.now (tables_in part.new) unit.now) }
+        ensures memory_alone { IfErr result (λ fault. fault ≡ StoreFault.Memory) }
     {
         if part.unit(unit).is_some() {
             return Ok(());
@@ -154,6 +164,7 @@ impl KeptRegister {
         ensures grows { OnOk result (Grows self.now part.old part.new) }
         ensures agrees { (lead_minutes : ℕ) → IsPartOf (whole_of lead_minutes self.now) part.old
             → OnOk result (AgreesOnReference self.now (tables_in part.new) reference.now) }
+        ensures memory_alone { IfErr result (λ fault. fault ≡ StoreFault.Memory) }
     {
         match self.reference(reference) {
             Some(counterparties) => Ok(part.hold_reference(*reference, counterparties)?),
@@ -173,6 +184,7 @@ impl KeptRegister {
         ensures agrees { (lead_minutes : ℕ) → IsPartOf (whole_of lead_minutes self.now) part.old
             → OnOk result (find unit_period_cmp key.now (tables_in part.new).meters
             ≡ find unit_period_cmp key.now self.now.meters) }
+        ensures memory_alone { IfErr result (λ fault. fault ≡ StoreFault.Memory) }
     {
         match self.reading_until(last, key) {
             Some(reading) => hold(part, Row::Meter(MeterRow { key: *key, reading })),
@@ -198,6 +210,7 @@ impl KeptRegister {
         ensures agrees { (lead_minutes : ℕ) → IsPartOf (whole_of lead_minutes self.now) part.old
             → OnOk result (find settlement_period_cmp at.now (tables_in part.new).prices
             ≡ find settlement_period_cmp at.now self.now.prices) }
+        ensures memory_alone { IfErr result (λ fault. fault ≡ StoreFault.Memory) }
     {
         match self.prices.get(at) {
             Some(price) => hold(part, Row::Price(PriceRow { at: *at, price })),
@@ -212,6 +225,8 @@ impl KeptRegister {
         ensures agrees { (lead_minutes : ℕ) → IsPartOf (whole_of lead_minutes self.now) part.old
             → OnOk result (find contract_key_cmp key.now (tables_in part.new).contracts
             ≡ find contract_key_cmp key.now self.now.contracts) }
+        ensures memory_alone { AreSound self.now
+            → IfErr result (λ fault. fault ≡ StoreFault.Memory) }
     {
         let Some(volume) = self.contracts.get(key) else {
             return Ok(());
@@ -227,7 +242,8 @@ impl KeptRegister {
         hold(part, Row::Contract(ContractRow { key, contract }))
     }
 
-    /// Holds all reallocations in force of the units in the Settlement Periods that are named.
+    /// Holds all reallocations in force of the units in the Settlement Periods that are named. `Store`
+    /// where more than 100 percent of a unit would be in force.
     fn hold_reallocations(
         &self,
         part: &mut Register,
@@ -237,6 +253,8 @@ impl KeptRegister {
             (put_all reallocation_key_cmp (filter (is_named_in named.now) self.now.reallocations)
             (tables_in part.old).reallocations) part.old) }
         ensures rising { IsTable reallocation_key_cmp self.now.reallocations }
+        ensures memory_alone { AreSound self.now → (tables_in part.old).reallocations ≡ []
+            → IfErr result (λ fault. fault ≡ StoreFault.Memory) }
     {
         for (key, reallocation) in self.reallocation_rows() {
             if named.contains(&key.unit_period) {
@@ -277,9 +295,10 @@ fn last_period(first: SettlementPeriod, readings: &[(UnitPeriod, Reading)]) -> S
     last
 }
 
-/// How many there are; `Store` where they are more than any office has.
+/// How many there are; `Store` where they are more than a `u32` counts, and than any office has.
 fn count(rows: usize) -> Result<u32, StoreFault>
-    ensures { IfOk result (λ count. count ≡ rows) }
+    ensures value { IfOk result (λ count. count ≡ rows) }
+    ensures counted { rows ≤ u32.MAX → IsOk result }
 {
     match u32::try_from(rows) {
         Ok(count) => Ok(count),
@@ -289,7 +308,9 @@ fn count(rows: usize) -> Result<u32, StoreFault>
 
 /// Holds a row; `Store` where more than 100 percent of a unit would be in force.
 fn hold(part: &mut Register, row: Row) -> Result<(), StoreFault>
-    ensures { OnOk result (part.new ≡ holding row part.old) }
+    ensures held { OnOk result (part.new ≡ holding row part.old) }
+    ensures memory_alone { IsOk (held_row row part.old)
+        → IfErr result (λ fault. fault ≡ StoreFault.Memory) }
 {
     match part.hold_row(row) {
         Ok(()) => Ok(()),

@@ -6,6 +6,7 @@ ghost use Rattle.hh_rules.specs.RegisterView.{ServesFor};
 ghost use Rattle.hh_store.specs.Changes.{IsLoadFrom, effect_of_load};
 ghost use Rattle.hh_store.specs.Content.{empty_content, tables_of};
 ghost use Rattle.hh_store.specs.Reads.{contracts_in, file_in, is_key_known, party_in, reference_in, unit_in, whole_register};
+ghost use Rattle.hh_store.specs.Soundness.{AreSound};
 ghost use Rattle.hh_store.specs.States.{empty_state};
 
 use crate::file_key::FileKey;
@@ -22,7 +23,9 @@ use hh_time::SettlementDate;
 use std::alloc::Global;
 use std::marker::Model;
 
-/// The tables of an office, kept as lists in memory. They hold no runs yet.
+/// The tables of an office, kept as lists in memory. They hold no runs yet. To read the settings, a
+/// party, a unit, a reference or a key never fails. The other calls fail only where memory is refused,
+/// `register` where what is registered and in force is sound.
 #[derive(Drop)]
 pub struct PlainTables {
     alloc: Global,
@@ -121,6 +124,8 @@ impl Tables for PlainTables {
 
     fn register(&mut self, rows: &[Row]) -> Result<Register, StoreFault>
         ensures serves { IfOk result (ServesFor rows.now (whole_register self.old)) }
+        ensures memory_alone { AreSound self.old.registered
+            → IfErr result (λ fault. fault ≡ StoreFault.Memory) }
         ensures same { self.new ≡ self.old }
     {
         self.register

@@ -6,11 +6,11 @@ use Rattle.hh_store.proofs.kept_register.KeptRegister.hold_party.Goals as goal
 
 pub returns-in-Some-clause-grows : goal.returns-in-Some-clause-grows
 returns-in-Some-clause-grows c =
-    once_held (Grows c.args.self.now c.args.part.now) _ _ c.hold.result c.hold.ensures (grows_party c.args.self.now c.args.part.now (record { party = c.args.party.now; registration = c.in-Some.registration }) (sym c.in-Some.ensures))
+    once_held (Grows c.args.self.now c.args.part.now) _ _ c.hold.result c.hold.ensures.held (grows_party c.args.self.now c.args.part.now (record { party = c.args.party.now; registration = c.in-Some.registration }) (sym c.in-Some.ensures))
 
 pub returns-in-Some-clause-agrees : goal.returns-in-Some-clause-agrees
 returns-in-Some-clause-agrees c lead_minutes part =
-    once_held (λ n. AgreesOnParty c.args.self.now (tables_in n) c.args.party.now) _ _ c.hold.result c.hold.ensures (agrees_party c.args.self.now c.args.part.now (record { party = c.args.party.now; registration = c.in-Some.registration }) (sym c.in-Some.ensures))
+    once_held (λ n. AgreesOnParty c.args.self.now (tables_in n) c.args.party.now) _ _ c.hold.result c.hold.ensures.held (agrees_party c.args.self.now c.args.part.now (record { party = c.args.party.now; registration = c.in-Some.registration }) (sym c.in-Some.ensures))
 
 pub returns-in-None-clause-grows : goal.returns-in-None-clause-grows
 returns-in-None-clause-grows c = grows_none c.args.self.now c.args.part.now

@@ -9,11 +9,11 @@ use Rattle.hh_store.proofs.kept_register.KeptRegister.hold_price.Goals as goal
 
 pub returns-in-Some-clause-grows : goal.returns-in-Some-clause-grows
 returns-in-Some-clause-grows c =
-    once_held (Grows c.args.self.now c.args.part.now) _ _ c.hold.result c.hold.ensures (grows_price c.args.self.now c.args.part.now (record { at = c.args.at.now; price = c.in-Some.price }) (sym (c.in-Some.ensures.value ∙ ap (λ (t : Registered). find settlement_period_cmp c.args.at.now t.prices) c.self.view_is)))
+    once_held (Grows c.args.self.now c.args.part.now) _ _ c.hold.result c.hold.ensures.held (grows_price c.args.self.now c.args.part.now (record { at = c.args.at.now; price = c.in-Some.price }) (sym (c.in-Some.ensures.value ∙ ap (λ (t : Registered). find settlement_period_cmp c.args.at.now t.prices) c.self.view_is)))
 
 pub returns-in-Some-clause-agrees : goal.returns-in-Some-clause-agrees
 returns-in-Some-clause-agrees c lead_minutes part =
-    once_held (λ n. find settlement_period_cmp c.args.at.now (tables_in n).prices ≡ find settlement_period_cmp c.args.at.now c.args.self.now.prices) _ _ c.hold.result c.hold.ensures (agrees_price c.args.self.now c.args.part.now (record { at = c.args.at.now; price = c.in-Some.price }) (sym (c.in-Some.ensures.value ∙ ap (λ (t : Registered). find settlement_period_cmp c.args.at.now t.prices) c.self.view_is)))
+    once_held (λ n. find settlement_period_cmp c.args.at.now (tables_in n).prices ≡ find settlement_period_cmp c.args.at.now c.args.self.now.prices) _ _ c.hold.result c.hold.ensures.held (agrees_price c.args.self.now c.args.part.now (record { at = c.args.at.now; price = c.in-Some.price }) (sym (c.in-Some.ensures.value ∙ ap (λ (t : Registered). find settlement_period_cmp c.args.at.now t.prices) c.self.view_is)))
 
 pub returns-in-None-clause-grows : goal.returns-in-None-clause-grows
 returns-in-None-clause-grows c = grows_none c.args.self.now c.args.part.now

@@ -9,8 +9,8 @@ pub loop-row-init : goal.loop-row-init
 loop-row-init c = record {
   part = subst (IsPartOf (whole_of c.args.lead_minutes c.args.self.now)) (sym c.part-part.ensures)
       (empty_is_part c.args.self.now c.args.lead_minutes c.in_ok-parties.parties c.in_ok-units.units
-      (c.in_ok-parties.ensures ∙ c.len.ensures ∙ ap (λ (t : Registered). length t.parties) c.self.view_is)
-      (c.in_ok-units.ensures ∙ c.len-2.ensures ∙ ap (λ (t : Registered). length t.units) c.self.view_is));
+      (c.in_ok-parties.ensures.value ∙ c.len.ensures ∙ ap (λ (t : Registered). length t.parties) c.self.view_is)
+      (c.in_ok-units.ensures.value ∙ c.len-2.ensures ∙ ap (λ (t : Registered). length t.units) c.self.view_is));
   agrees = λ k d below. absurd (omega arith);
 }
 
