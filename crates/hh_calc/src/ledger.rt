@@ -88,6 +88,15 @@ fn add_period(
     Ok(())
 }
 
+/// How many credits units give: one to each subsidiary, and one to the lead account.
+fn credit_count(units: &[UnitData]) -> usize {
+    units.iter().fold(0, |count: usize, unit| {
+        count
+            .saturating_add(unit.subsidiaries().len())
+            .saturating_add(1)
+    })
+}
+
 /// The credits of a period and the sums of its accounts.
 pub(crate) fn ledger_of(alloc: Global, period: &PeriodData) -> Result<Ledger, AllocError>
     requires ordered { AreInOrder period.now }
@@ -97,7 +106,7 @@ pub(crate) fn ledger_of(alloc: Global, period: &PeriodData) -> Result<Ledger, Al
     ensures sums { IfOk result (λ l. l.sums.items ≡ all_sums period.now) }
     ensures small { IfOk result (λ l. All (IsWithin greatest_sum) l.sums.items) }
 {
-    let mut credits = Vec::new(alloc);
+    let mut credits = Vec::with_capacity(alloc, credit_count(period.units()))?;
     let mut sums = vec![in alloc; AccountSums::NONE; period.accounts().len()]?;
     add_period(period, &mut credits, &mut sums)?;
     Ok(Ledger { credits, sums })

@@ -85,8 +85,10 @@ module _ (reads : List ℕ → Option (List ℕ) → Type 0) (old new : OfficeVi
       (no_memory, s, inr (refl, refl), went, (subst (λ o. Stands o s) (sym same) stands, ap (λ (o : OfficeView). o.zone) same))
 
   pub line_cut : BeginsLine before after told → StopsStep reads old new before after (LoadFile l)
-  line_cut (inl went) s stands = let (t, does, now) = runs s stands in (told, t, does, went)
-  line_cut (inr (refusal, went)) s stands = (no_memory, s, inr (refl, refl), went)
+  line_cut (inl went) s stands = let (t, does, now) = runs s stands in (told, t, does, went, now)
+  line_cut (inr (refusal, went)) s stands =
+      let same : new ≡ old = leaves s stands refusal in
+      (no_memory, s, inr (refl, refl), went, (subst (λ o. Stands o s) (sym same) stands, ap (λ (o : OfficeView). o.zone) same))
 
 -- a line for which memory is refused before anything is done
 pub memory_done : (reads : List ℕ → Option (List ℕ) → Type 0) (old : OfficeView) (before after : Option (List ℕ)) (step : Step)
@@ -95,7 +97,7 @@ memory_done reads old before after (LoadFile l) went s stands = (no_memory, s, i
 
 pub memory_cut : (reads : List ℕ → Option (List ℕ) → Type 0) (old : OfficeView) (before after : Option (List ℕ)) (step : Step)
     → AppendsFront before after (told_line no_memory) → StopsStep reads old old before after step
-memory_cut reads old before after (LoadFile l) went s stands = (no_memory, s, inr (refl, refl), went)
+memory_cut reads old before after (LoadFile l) went s stands = (no_memory, s, inr (refl, refl), went, (stands, refl))
 
 -- ---- lines one after the other
 
@@ -143,7 +145,7 @@ module _ (reads : List ℕ → Option (List ℕ) → Type 0) (old now new : Offi
   pub script_stops : (all : List Step) (count : ℕ) → take count all ≡ steps ++ step ∷ [] → StopsStep reads now new between after step → StopsScript reads old new before after all
   script_stops all count is stops s stands =
       let (text, t, does, went, (now_stands, zone)) = ran s stands in
-      let (told, u, line, (front, rest, cut, line_went)) = stops t now_stands in (
+      let (told, u, line, (front, rest, cut, line_went), (new_stands, new_zone)) = stops t now_stands in (
         count,
         text ++ told_line told,
         u,
@@ -155,6 +157,7 @@ module _ (reads : List ℕ → Option (List ℕ) → Type 0) (old now new : Offi
           ap (λ bytes. text ++ bytes) cut ∙ sym (append_assoc text front rest),
           appends_more before between after text front went line_went,
         ),
+        (new_stands, new_zone ∙ zone),
       )
 
 -- ---- results

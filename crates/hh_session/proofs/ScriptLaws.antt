@@ -50,5 +50,5 @@ module _ (reads : List ℕ → Option (List ℕ) → Type 0) (settings : Setting
 
   pub new_office_cuts : StopsScript reads first new before after steps → NewOfficeCuts reads settings before after steps
   new_office_cuts stops =
-      let (count, text, t, does, went) = stops (empty_state settings) (at_first settings, stands (midnight_of first)) in
+      let (count, text, t, does, went, now) = stops (empty_state settings) (at_first settings, stands (midnight_of first)) in
       (count, text, (zone, market, (t, does)), went)

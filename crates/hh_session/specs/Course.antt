@@ -85,17 +85,17 @@ module _ (reads : List ℕ → Option (List ℕ) → Type 0) (old new : OfficeVi
   RunsStep step = (s : State) → Stands old s
       → (told : Told) × (t : State) × StepDoes reads (midnight_of old) s step told t × Appends before after (told_line told) × StandsNow old new t
 
-  -- a step was run, and a beginning of its line went out
+  -- a step was run from each state that the office stood for, and a beginning of its line went out
   abbrev pub StopsStep : Step → Type 0
   StopsStep step = (s : State) → Stands old s
-      → (told : Told) × (t : State) × StepDoes reads (midnight_of old) s step told t × AppendsFront before after (told_line told)
+      → (told : Told) × (t : State) × StepDoes reads (midnight_of old) s step told t × AppendsFront before after (told_line told) × StandsNow old new t
 
   -- steps were run from each state that the office stood for, and what they write went out
   abbrev pub RunsScript : List Step → Type 0
   RunsScript steps = (s : State) → Stands old s
       → (text : List ℕ) × (t : State) × ScriptDoes reads (midnight_of old) s steps text t × Appends before after text × StandsNow old new t
 
-  -- the first of the steps were run, and a beginning of what they write went out
+  -- the first of the steps were run and no more, and a beginning of what they write went out
   abbrev pub StopsScript : List Step → Type 0
   StopsScript steps = (s : State) → Stands old s
-      → (count : ℕ) × (text : List ℕ) × (t : State) × ScriptDoes reads (midnight_of old) s (take count steps) text t × AppendsFront before after text
+      → (count : ℕ) × (text : List ℕ) × (t : State) × ScriptDoes reads (midnight_of old) s (take count steps) text t × AppendsFront before after text × StandsNow old new t

@@ -25,8 +25,8 @@ const MOST_READ: usize = MOST_BYTES + 1;
 ///
 /// # Errors
 ///
-/// The output failed or took nothing in this call. Some of the lines were run, and a beginning of what
-/// they write went out.
+/// The output failed or took nothing in this call. The first of the lines were run, and a beginning of
+/// what they write went out.
 pub fn run_lines<T: Tables, I: Inputs, O: Sink>(
     alloc: Global,
     office: &mut Office<'_, T>,
@@ -64,7 +64,7 @@ fn run_line<T: Tables, I: Inputs, O: Sink>(
         (O.taken out.old) (O.taken out.new) (step_of line.now)) }
     ensures failed { OnErr result (Failed (O.failures out.old) (O.failures out.new)) }
 {
-    // What an accepted file is told by: once the office has acted, memory can no longer be refused.
+    // Room for the line of an accepted file, taken before the office acts.
     match Vec::with_capacity(alloc, LOADED_ROOM) {
         Ok(room) => {
             let told = run_load(alloc, office, inputs, &line.load());

@@ -10,19 +10,19 @@ use Rattle.hh_settle.specs.Grammar.{settle_app}
 use Rattle.hh_settle.specs.declared.words.Command.{Command}
 use Rattle.hh_settle.specs.declared.words.Command.TheVariants.{Period, Script}
 
--- a command, its values as texts
+-- a command with its values
 pub data Line : Type 0 where
-  PeriodLine : Text → Text → Text → Line
-  ScriptLine : Settings → Text → Line
+  PeriodCommand : Text → Text → Text → Line
+  ScriptCommand : Settings → Text → Line
 
 -- a command's values
 abbrev pub line_of : Command → Line
-line_of (Period words) = PeriodLine words.meter.now words.contracts.now words.price.now
-line_of (Script words) = ScriptLine words.settings words.file.now
+line_of (Period words) = PeriodCommand words.meter.now words.contracts.now words.price.now
+line_of (Script words) = ScriptCommand words.settings words.file.now
 
 -- `period` needs its three values
 abbrev pub period_line : Option Text → Option Text → Option Text → Option Line
-period_line (Some meter) (Some contracts) (Some price) = Some (PeriodLine meter contracts price)
+period_line (Some meter) (Some contracts) (Some price) = Some (PeriodCommand meter contracts price)
 period_line _ _ _ = None
 
 -- what `period` was given
@@ -41,7 +41,7 @@ key_given (Some text) = operator_key_value text
 
 -- `script` needs the operator's key and its file
 abbrev pub script_line : Option (List ℕ) → Option ℕ → Option Text → Option Line
-script_line (Some key) (Some minutes) (Some file) = Some (ScriptLine (record { lead_minutes = minutes; operator_key = key }) file)
+script_line (Some key) (Some minutes) (Some file) = Some (ScriptCommand (record { lead_minutes = minutes; operator_key = key }) file)
 script_line _ _ _ = None
 
 -- what `script` was given

@@ -17,7 +17,7 @@ use Rattle.hh_session.specs.declared.script.ScriptStop.TheVariants as script
 use Rattle.hh_session.specs.Script.{IsUnread, StopsAt, WritesScript}
 use Rattle.hh_settle.specs.declared.program.Stop.{Stop}
 use Rattle.hh_settle.specs.declared.program.Stop.TheVariants as stop
-use Rattle.hh_settle.specs.Lines.{Line, PeriodLine, ScriptLine, line_value}
+use Rattle.hh_settle.specs.Lines.{Line, PeriodCommand, ScriptCommand, line_value}
 
 -- why a command stops whose file gives no bytes
 abbrev pub input_stop : InputFault → Stop
@@ -47,28 +47,48 @@ stop_line stop.File = codes "fault file\n"
 stop_line stop.Output = codes "fault output\n"
 stop_line (stop.Off line) = codes "line " ++ decimal line ++ codes " is off its form\n"
 
--- the bytes that a device tells before and after a command, and its counts of failures
-pub record Course : Type 0 where
+-- what changes in a device by a command: the bytes that it tells, and its count of failures
+pub record DeviceChange : Type 0 where
   pub old : Option (List ℕ)
   pub new : Option (List ℕ)
   pub old_failures : ℕ
   pub new_failures : ℕ
 
--- the course of a device from one state to another
-abbrev pub course : {S : Type 0} → (S → Option (List ℕ)) → (S → ℕ) → S → S → Course
-course taken failures old new = record { old = taken old; new = taken new; old_failures = failures old; new_failures = failures new }
+-- what changes in a device from one state to another
+abbrev pub change : {S : Type 0} → (S → Option (List ℕ)) → (S → ℕ) → S → S → DeviceChange
+change taken failures old new = record { old = taken old; new = taken new; old_failures = failures old; new_failures = failures new }
 
 -- the device failed
-abbrev pub HasFailed : Course → Type 0
+abbrev pub HasFailed : DeviceChange → Type 0
 HasFailed device = Failed device.old_failures device.new_failures
 
 -- a text went out that is not empty, unless the device failed
-abbrev pub IsTold : Course → Type 0
+abbrev pub IsTold : DeviceChange → Type 0
 IsTold device = HasFailed device ⊎ ((text : List ℕ) × (text ≢ []) × Appends device.old device.new text)
 
--- the line of the stop went out, or that of refused memory, unless the device failed
-abbrev pub Tells : Course → Stop → Type 0
-Tells device s = HasFailed device ⊎ Appends device.old device.new (stop_line s) ⊎ Appends device.old device.new (rejection_line memory_rejection)
+-- a stop is a refusal
+abbrev pub IsRefused : Stop → Type 0
+IsRefused (stop.Refused e) = Unit {0}
+IsRefused stop.File = ⊥
+IsRefused stop.Output = ⊥
+IsRefused (stop.Off line) = ⊥
+
+-- the line of the stop went out, or that of refused memory in the place of a refusal, unless the device failed
+abbrev pub Tells : DeviceChange → Stop → Type 0
+Tells device s = HasFailed device ⊎ Appends device.old device.new (stop_line s)
+    ⊎ (IsRefused s × Appends device.old device.new (rejection_line memory_rejection))
+
+-- the number of a script's line that is off its form went out, unless the device failed
+abbrev pub TellsOff : DeviceChange → ℕ → Type 0
+TellsOff device line = HasFailed device ⊎ Appends device.old device.new (stop_line (stop.Off line))
+
+-- a stop has status 1: a line of a script that is off its form has 2
+abbrev pub HasStatusOne : Stop → Type 0
+HasStatusOne s = (line : ℕ) → s ≢ stop.Off line
+
+-- a stop is a line of a script off its form, whose number is told
+abbrev pub IsOffAndTold : DeviceChange → Stop → Type 0
+IsOffAndTold device s = (line : ℕ) × (s ≡ stop.Off line) × TellsOff device line
 
 -- An output had these bytes before and has those after, and it failed if this holds. What may come to these outcomes stops so,
 -- or because a file cannot be read if that holds: then, and where it is refused, nothing went out; where the output failed, a
@@ -93,28 +113,28 @@ module _ (reads : List ℕ → Option (List ℕ) → Type 0) where
 
   -- the line is done, and known bytes grow by its text
   abbrev pub Does : Line → Option (List ℕ) → Option (List ℕ) → Type 0
-  Does (PeriodLine meter contracts price) old new = (text : List ℕ) × ComesTo meter contracts price (Ok text) × Appends old new text
-  Does (ScriptLine settings file) old new = WritesScript reads file settings old new
+  Does (PeriodCommand meter contracts price) old new = (text : List ℕ) × ComesTo meter contracts price (Ok text) × Appends old new text
+  Does (ScriptCommand settings file) old new = WritesScript reads file settings old new
 
   -- a line stops so, where the output had these bytes and has those, and failed if this holds
   abbrev pub StopsLine : Option (List ℕ) → Option (List ℕ) → Type 0 → Line → Stop → Type 0
-  StopsLine old new failed (PeriodLine meter contracts price) = StopsBy old new failed (ComesTo meter contracts price) (HasUnreadable meter contracts)
-  StopsLine old new failed (ScriptLine settings file) = λ s. (why : ScriptStop) × (s ≡ script_stop why) × StopsAt reads file settings old new failed why
+  StopsLine old new failed (PeriodCommand meter contracts price) = StopsBy old new failed (ComesTo meter contracts price) (HasUnreadable meter contracts)
+  StopsLine old new failed (ScriptCommand settings file) = λ s. (why : ScriptStop) × (s ≡ script_stop why) × StopsAt reads file settings old new failed why
 
   -- words form a line, and it is done
   abbrev pub DoesWords : List Text → Option (List ℕ) → Option (List ℕ) → Type 0
   DoesWords words old new = (line : Line) × (line_value words ≡ Some line) × Does line old new
 
   -- words stop as the line that they form, or because memory ran out before they were read
-  abbrev pub StopsWords : List Text → Course → Stop → Type 0
+  abbrev pub StopsWords : List Text → DeviceChange → Stop → Type 0
   StopsWords words out s = ((s ≡ stop.Refused memory_rejection) × (out.new ≡ out.old))
       ⊎ ((line : Line) × (line_value words ≡ Some line) × StopsLine out.old out.new (HasFailed out) line s)
 
-  -- words stop, and why is told
-  abbrev pub Stops : List Text → Course → Course → Type 0
-  Stops words out err = (s : Stop) × StopsWords words out s × Tells err s
+  -- words stop with status 1, and why is told
+  abbrev pub Stops : List Text → DeviceChange → DeviceChange → Type 0
+  Stops words out err = (s : Stop) × HasStatusOne s × StopsWords words out s × Tells err s
 
-  -- words form no line, or that of a script of which a line is off its form
-  abbrev pub AreWrong : List Text → Type 0
-  AreWrong words = (line_value words ≡ None) ⊎ ((settings : Settings) × (file : Text) × (line : ℕ)
-      × (line_value words ≡ Some (ScriptLine settings file)) × IsUnread reads file (script.Off line))
+  -- words form no line, or that of a script of which a line is off its form, whose number is told
+  abbrev pub AreWrong : List Text → DeviceChange → Type 0
+  AreWrong words err = (line_value words ≡ None) ⊎ ((settings : Settings) × (file : Text) × (line : ℕ)
+      × (line_value words ≡ Some (ScriptCommand settings file)) × IsUnread reads file (script.Off line) × TellsOff err line)

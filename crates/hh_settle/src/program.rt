@@ -6,7 +6,7 @@ ghost use Rattle.clap.specs.Words.{Text};
 ghost use Rattle.hh_devices.specs.Devices.{Failed};
 ghost use Rattle.hh_period.specs.Outcome.{memory_rejection};
 ghost use Rattle.hh_settle.specs.Lines.{line_of};
-ghost use Rattle.hh_settle.specs.Stops.{course, AreWrong, Does, DoesWords, IsTold, Stops, StopsLine, Tells, stop_line};
+ghost use Rattle.hh_settle.specs.Stops.{change, AreWrong, Does, DoesWords, HasStatusOne, IsOffAndTold, IsTold, Stops, StopsLine, Tells, TellsOff, stop_line};
 ghost use Rattle.hh_texts.specs.Rows.{most_bytes};
 
 use crate::words::{Command, PeriodWords, USAGE, WordsFault, read_words};
@@ -28,7 +28,7 @@ const DONE: u8 = 0;
 /// The exit status of a command that was refused, or met a fault of a file or of the output.
 const REFUSED: u8 = 1;
 
-/// The exit status of wrong words, or of a call for help.
+/// The exit status of wrong words, of a line of a script off its form, or of a call for help.
 const WRONG_WORDS: u8 = 2;
 
 /// What is told of words that are not text.
@@ -44,7 +44,7 @@ enum Stop {
     Refused(Rejection),
     File,
     Output,
-    /// A line of a script is off its form: the words are wrong.
+    /// A line of a script is off its form.
     Off { line: usize },
 }
 
@@ -97,8 +97,8 @@ impl From<ScriptStop> for Stop {
     }
 }
 
-/// Runs the line of words that the program was called with, as `command` does. No contract knows
-/// which words these are. Words that are not text are told as such, with status 2.
+/// Runs the line of words that the program was called with, as `command` does (profile). No contract
+/// knows which words these are. Words that are not text are told as such, with status 2.
 pub fn run<R: Env + AllocGlobal, I: Inputs, O: Sink, E: Sink>(
     rt: &R,
     inputs: &I,
@@ -115,10 +115,10 @@ pub fn run<R: Env + AllocGlobal, I: Inputs, O: Sink, E: Sink>(
 
     // Some words form a line that stops so, or memory ran out before they were read.
     ensures stopped { result ≡ 1 → (words : List Text) × Stops (I.reads_as inputs.now) words
-        (course O.taken O.failures out.old out.new) (course E.taken E.failures err.old err.new) }
+        (change O.taken O.failures out.old out.new) (change E.taken E.failures err.old err.new) }
 
     // The words form no line, or are not text.
-    ensures told { result ≡ 2 → IsTold (course E.taken E.failures err.old err.new) }
+    ensures told { result ≡ 2 → IsTold (change E.taken E.failures err.old err.new) }
     ensures untouched { result ≡ 2 → out.new ≡ out.old }
 {
     match arguments(rt) {
@@ -138,8 +138,9 @@ fn arguments<R: Env + AllocGlobal>(rt: &R) -> io::Result<Vec<String>> {
 }
 
 /// Runs one line of words, the program's own name in front, over files and two sinks, and answers
-/// the exit status: 0 done, 1 refused or a fault of a file or of the output, 2 wrong words, a line of
-/// a script off its form, or a call for help. What ends it is told on `err`; where `err` fails, the status alone tells it.
+/// the exit status (profile): 0 done, 1 refused or a fault of a file or of the output, 2 wrong words, a
+/// line of a script off its form, or a call for help. What ends it is told on `err`; where `err` fails,
+/// the status alone tells it.
 pub fn command<I: Inputs, O: Sink, E: Sink>(
     alloc: Global,
     inputs: &I,
@@ -157,18 +158,19 @@ pub fn command<I: Inputs, O: Sink, E: Sink>(
 
     // A stop is one that the words, the files and `out` have, and it is told, unless `err` failed.
     ensures stopped { result ≡ 1 → Stops (I.reads_as inputs.now) (map string_bytes words.now)
-        (course O.taken O.failures out.old out.new) (course E.taken E.failures err.old err.new) }
+        (change O.taken O.failures out.old out.new) (change E.taken E.failures err.old err.new) }
 
-    // Words that form no line are told, and so is a line of a script off its form, unless `err` failed.
-    ensures wrong { result ≡ 2 → AreWrong (I.reads_as inputs.now) (map string_bytes words.now) }
-    ensures told { result ≡ 2 → IsTold (course E.taken E.failures err.old err.new) }
+    // Words that form no line are told, and so is the number of a script's line that is off its form,
+    // unless `err` failed.
+    ensures wrong { result ≡ 2 → AreWrong (I.reads_as inputs.now) (map string_bytes words.now)
+        (change E.taken E.failures err.old err.new) }
+    ensures told { result ≡ 2 → IsTold (change E.taken E.failures err.old err.new) }
     ensures untouched { result ≡ 2 → out.new ≡ out.old }
 {
     match read_words(alloc, words) {
         Ok(command) => match perform(alloc, inputs, &command, out) {
             Ok(()) => DONE,
-            Err(Stop::Off { line }) => off(alloc, err, line),
-            Err(stop) => refused(alloc, err, stop),
+            Err(stop) => stopped(alloc, err, stop),
         },
         Err(WordsFault::Wrong(text)) => wrong(err, text.as_str()),
         Err(WordsFault::Memory) => refused(alloc, err, Stop::no_memory()),
@@ -226,26 +228,41 @@ fn settle_files<I: Inputs, O: Sink>(
 /// used, where nothing is said.
 fn wrong<E: Sink>(err: &mut E, text: &str) -> u8
     ensures status { result ≡ 2 }
-    ensures told { IsTold (course E.taken E.failures err.old err.new) }
+    ensures told { IsTold (change E.taken E.failures err.old err.new) }
 {
     let told = if text.is_empty() { USAGE } else { text };
     let _ = write_whole(err, told.as_bytes());
     WRONG_WORDS
 }
 
-/// Tells which line of a script is off its form, where the device for it does not fail.
-fn off<E: Sink>(alloc: Global, err: &mut E, line: usize) -> u8
-    ensures status { result ≡ 2 }
-    ensures told { IsTold (course E.taken E.failures err.old err.new) }
+/// Tells why a command stops, where the device for it does not fail, and answers the status of that.
+fn stopped<E: Sink>(alloc: Global, err: &mut E, stop: Stop) -> u8
+    ensures status { (1 ≤ result) × (result ≤ 2) }
+    ensures one { result ≡ 1 → HasStatusOne stop
+        × Tells (change E.taken E.failures err.old err.new) stop }
+    ensures two { result ≡ 2 → IsOffAndTold (change E.taken E.failures err.old err.new) stop }
+    ensures told { result ≡ 2 → IsTold (change E.taken E.failures err.old err.new) }
 {
-    let _ = write_stop(alloc, err, Stop::Off { line });
+    match stop {
+        Stop::Off { line } => off(err, line),
+        Stop::Refused(_) | Stop::File | Stop::Output => refused(alloc, err, stop),
+    }
+}
+
+/// Tells which line of a script is off its form, where the device for it does not fail.
+fn off<E: Sink>(err: &mut E, line: usize) -> u8
+    ensures status { result ≡ 2 }
+    ensures number { TellsOff (change E.taken E.failures err.old err.new) line }
+    ensures told { IsTold (change E.taken E.failures err.old err.new) }
+{
+    let _ = write_off(err, line);
     WRONG_WORDS
 }
 
 /// Tells why a command stops, where the device for it does not fail.
 fn refused<E: Sink>(alloc: Global, err: &mut E, stop: Stop) -> u8
     ensures status { result ≡ 1 }
-    ensures told { Tells (course E.taken E.failures err.old err.new) stop }
+    ensures told { Tells (change E.taken E.failures err.old err.new) stop }
 {
     let _ = write_stop(alloc, err, stop);
     REFUSED
@@ -254,7 +271,7 @@ fn refused<E: Sink>(alloc: Global, err: &mut E, stop: Stop) -> u8
 /// Writes why a command stops.
 fn write_stop<E: Sink>(alloc: Global, err: &mut E, stop: Stop) -> Result<(), DeviceFailed>
     ensures failed { OnErr result (Failed (E.failures err.old) (E.failures err.new)) }
-    ensures told { OnOk result (Tells (course E.taken E.failures err.old err.new) stop) }
+    ensures told { OnOk result (Tells (change E.taken E.failures err.old err.new) stop) }
 {
     match stop {
         Stop::Refused(rejection) => write_rejection(alloc, err, rejection),
@@ -283,7 +300,7 @@ fn write_rejection<S: Sink>(
     rejection: Rejection,
 ) -> Result<(), DeviceFailed>
     ensures failed { OnErr result (Failed (S.failures sink.old) (S.failures sink.new)) }
-    ensures told { OnOk result (Tells (course S.taken S.failures sink.old sink.new)
+    ensures told { OnOk result (Tells (change S.taken S.failures sink.old sink.new)
         (Stop.Refused rejection)) }
 {
     match format!(in alloc; "{rejection}\n") {
