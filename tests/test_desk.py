@@ -121,6 +121,13 @@ class Loads(Desk):
     def test_a_script_of_no_bytes(self):
         self.assertEqual(self.run_script(b""), (0, b"", b""))
 
+    def test_as_many_bytes_as_a_script_may_have(self):
+        most = 16_777_216
+        front, back = f"load {EARLY} {OPERATOR} parties /", "/nowhere.csv\n"
+        line = front + "x" * (most - len(front) - len(back)) + back
+        self.assertEqual(self.run_script(line), (0, b"fault file\n", b""))
+        self.assertEqual(self.run_script(line + "\n"), (1, b"", b"refused 10 FileTooLarge\n"))
+
     def test_a_relative_path_without_a_folder(self):
         self.file("f1.csv", text_of(*MARKET[0]))
         line = f"load {EARLY} {OPERATOR} parties f1.csv"
@@ -647,6 +654,13 @@ class WrongWords(Desk):
         for minutes in ("1441", "-1", "+5", "60.0", "", "x", "18446744073709551617"):
             with self.subTest(minutes):
                 self.is_wrong(self.run_script(script, "--lead-minutes", minutes))
+
+    def test_no_lead_minutes(self):
+        script = self.load(*MARKET[0]) + "\n"
+        for minutes in ("0", "-0"):
+            with self.subTest(minutes):
+                made = self.run_script(script, f"--lead-minutes={minutes}")
+                self.assertEqual(made, (0, b"applied=2 late=0\n", b""))
 
     def test_words(self):
         script = self.file("script", self.load(*MARKET[0]) + "\n")

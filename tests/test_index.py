@@ -65,7 +65,8 @@ class Index(unittest.TestCase):
         names = NAME.findall(cell)
         self.assertTrue(names)
         for name in names:
-            self.assertRegex(text_of("crates/*/src/**", ".rt"), rf"#\[test\]\n\s*fn {re.escape(name)}\(")
+            tests = text_of("crates/*/src/**", ".rt") + text_of("tests", ".py")
+            self.assertRegex(tests, rf"(?:#\[test\]\n\s*fn|\bdef) {re.escape(name)}\(")
 
     def check_page(self, cell):
         for file, anchor in LINK.findall(cell):

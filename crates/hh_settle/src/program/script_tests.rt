@@ -8,6 +8,9 @@ use std::fmt::Write;
 use std::process::Abort;
 use std::test::Fail;
 
+/// Room for all that a script writes.
+const ROOM: usize = 4096;
+
 /// A day's files, and beside them what an office accepts and refuses. The first period of 2024-07-01 has
 /// its deadline at 1719784800.
 const SCRIPT: &str = "load 1719700000 op-settle001 parties data/f1.csv
@@ -96,10 +99,12 @@ fn file<'a>(path: &'a str, text: &'a str) -> MemoryFile<'a> {
     }
 }
 
-/// Runs the script `s.script` of these files, and compares the exit status and both outputs.
+/// Runs the script `s.script` of these files with room for so many bytes on standard output, and
+/// compares the exit status and both outputs.
 fn runs<R: AllocGlobal + Abort>(
     rt: &R,
     files: &[MemoryFile<'_>],
+    room: usize,
     status: u8,
     out_text: &str,
     err_text: &str,
@@ -115,7 +120,7 @@ fn runs<R: AllocGlobal + Abort>(
             "s.script",
         ],
     )?;
-    let mut out = MemorySink::with_room(alloc, 4096)?;
+    let mut out = MemorySink::with_room(alloc, room)?;
     let mut err = MemorySink::with_room(alloc, 4096)?;
     let made = command(alloc, &MemoryInputs::new(files), &words, &mut out, &mut err);
     assert_eq!(rt; out.taken(), out_text.as_bytes());
@@ -188,7 +193,7 @@ fn loads_a_day(rt: HostRuntime) -> Result<(), Fail> {
             "reference,seller,buyer,date,period,mwh\nC5,GENCO-P,SUPCO-C,2024-07-01,1,10000.001\n",
         ),
     ];
-    runs(&rt, &files, 0, REPLIES, "")
+    runs(&rt, &files, ROOM, 0, REPLIES, "")
 }
 
 #[test]
@@ -197,6 +202,28 @@ fn runs_nothing_of_a_script_off_its_form(rt: HostRuntime) -> Result<(), Fail> {
         "s.script",
         "load 1719700000 op-settle001 parties f1.csv\n\nload 1719700000\n",
     )];
-    runs(&rt, &files, 2, "", "line 2 is off its form\n")?;
-    runs(&rt, &[], 1, "", "fault file\n")
+    runs(&rt, &files, ROOM, 2, "", "line 2 is off its form\n")?;
+    runs(&rt, &[], ROOM, 1, "", "fault file\n")
+}
+
+#[test]
+fn stops_where_the_output_is_full(rt: HostRuntime) -> Result<(), Fail> {
+    let files = [
+        file(
+            "s.script",
+            "load 1719700000 op-settle001 parties f1.csv\nload 1719700000 op-settle001 parties f1.csv\n",
+        ),
+        file("f1.csv", "party,from,to,key\nGENCO,2024-01-01,,genco0001\n"),
+    ];
+    let replies = "applied=1 late=0\napplied=1 late=0\n";
+    runs(&rt, &files, replies.len(), 0, replies, "")?;
+    runs(
+        &rt,
+        &files,
+        20,
+        1,
+        "applied=1 late=0\napp",
+        "fault output\n",
+    )?;
+    runs(&rt, &files, 0, 1, "", "fault output\n")
 }
