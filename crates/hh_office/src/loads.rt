@@ -27,6 +27,7 @@ impl<'z, T: Tables> Office<'z, T> {
         if upload.body.as_slice().len() > MOST_BYTES {
             return Err(Fault::of(Refusal::FileTooLarge));
         }
+        // Does nothing, but carries a law for the proof: the tables hold the files that were accepted.
         kept_files();
         match self.kept_under(upload)? {
             Some(file) => Ok(repeated(&file, upload)),
@@ -49,6 +50,7 @@ impl<'z, T: Tables> Office<'z, T> {
         ensures { MakesInEachState self.old self.new result (λ midnight s.
             load_new midnight s moment upload.now) }
     {
+        // Does nothing, but carries a law for the proof: the tables hold the files that were accepted.
         kept_files();
         let judged = self.judge(moment, upload)?;
         self.accept(upload, judged)
@@ -89,6 +91,7 @@ impl<'z, T: Tables> Office<'z, T> {
         ensures written { OnOk result (WritesLoad self.old self.new change) }
         ensures same { OnErr result (self.new ≡ self.old) }
     {
+        // Does nothing, but carries a law for the proof: the change makes the machine's tables.
         load_effect();
         self.tables.apply_load(change)
     }

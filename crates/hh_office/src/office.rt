@@ -14,7 +14,7 @@ use std::alloc::{AllocError, Global};
 use std::marker::Model;
 
 /// The settlement agent's office over its tables, in the zone whose local midnights begin its
-/// Settlement Days. Contracts see the zone and what the tables contain.
+/// Settlement Days (profile). Contracts see the zone and what the tables contain.
 #[derive(Drop)]
 pub struct Office<'z, T: Tables> {
     pub(crate) alloc: Global,
@@ -31,7 +31,7 @@ impl<'z, T: Tables> Model for Office<'z, T> {
 }
 
 impl<'z, T: Tables> Office<'z, T> {
-    /// An office over these tables, in this zone.
+    /// An office over these tables, in this zone (profile).
     pub fn new(alloc: Global, tables: T, zone: TimeZone<'z>) -> Office<'z, T>
         ensures { result ≡ record { zone = zone.entry; content = T.content tables } }
     {
@@ -57,8 +57,12 @@ impl<'z, T: Tables> Office<'z, T> {
         }
     }
 
-    /// Answers requests, each with the moment at which it comes, one after the other. The room for the
-    /// replies is taken first: where it is refused, nothing has run.
+    /// Answers requests, each with the moment at which it comes, in seconds since 1970-01-01T00:00:00Z,
+    /// one after the other (profile). The room for the replies is taken first.
+    ///
+    /// # Errors
+    ///
+    /// Memory was refused for the replies, and nothing has run.
     pub fn run_all(&mut self, requests: &[(i64, Request)]) -> Result<Vec<Reply>, AllocError>
         ensures run { IfOk result (λ replies.
             RunAllStep self.old self.new requests.now replies.items) }

@@ -79,7 +79,7 @@ impl ContractsReply {
     }
 }
 
-/// The reply to a request.
+/// The reply to a request (profile).
 #[derive(Debug, Drop)]
 pub enum Reply {
     /// A file was accepted, now or before.

@@ -7,7 +7,7 @@ use hh_rows::FileKind;
 use hh_time::SettlementDate;
 use std::marker::Model;
 
-/// Bytes as they came: a file's, or a key's. Contracts see the list of them.
+/// Bytes as they came: a file's, or a key's (profile). Contracts see the list of them.
 #[derive(Debug, Drop)]
 pub struct Bytes {
     items: Vec<u8>,
@@ -45,7 +45,7 @@ pub struct Upload {
     pub body: Bytes,
 }
 
-/// What is asked.
+/// What is asked (profile).
 #[derive(Debug, Drop)]
 pub enum Action {
     /// That a file be loaded (profile).
@@ -57,7 +57,7 @@ pub enum Action {
     },
 }
 
-/// What is asked, and the key that is shown with it.
+/// What is asked, and the key that is shown with it (profile).
 #[derive(Debug, Drop)]
 pub struct Request {
     pub key: Bytes,
