@@ -1,5 +1,5 @@
-//! What no clause says: that with ample memory requests are answered, and that the words of the
-//! clauses come to the market's replies.
+//! What no clause says: that with ample memory requests are answered, and that the replies to worked
+//! requests are those that the market's rules give.
 
 use super::*;
 use hh_names::{Account, Fault, FileName, OperatorKey, Refusal};
@@ -106,13 +106,17 @@ fn answer(
     Some(told(&office.handle(moment, &request)))
 }
 
+/// A file that is sent, by its moment, kind, name and rows, and what the office says to it.
+type Sent<'a> = (i64, FileKind, &'a [u8], &'a [u8], Said);
+
+/// A file that is sent at `MOMENT`.
+fn sent<'a>(kind: FileKind, name: &'a [u8], rows: &'a [u8], said: Said) -> Sent<'a> {
+    (MOMENT, kind, name, rows, said)
+}
+
 /// The office says to these files, sent at their moments with the operator's key, what stands beside
 /// them.
-fn says(
-    rt: &(impl AllocGlobal + Abort),
-    office: &mut Office<'_, PlainTables>,
-    files: &[(i64, FileKind, &[u8], &[u8], Said)],
-) {
+fn says(rt: &(impl AllocGlobal + Abort), office: &mut Office<'_, PlainTables>, files: &[Sent<'_>]) {
     for (moment, kind, name, rows, want) in files {
         let request = file(rt.alloc(), *kind, name, rows);
         let given = answer(office, *moment, request);
@@ -131,7 +135,7 @@ fn office(rt: &(impl AllocGlobal + Abort)) -> Office<'static, PlainTables> {
     };
     let tables = PlainTables::new(rt.alloc(), settings);
     let mut office = Office::new(rt.alloc(), tables, london());
-    let files: [(i64, FileKind, &[u8], &[u8], Said); 3] = [
+    let files: [Sent; 3] = [
         (
             MOMENT,
             FileKind::Parties,
@@ -158,11 +162,19 @@ fn office(rt: &(impl AllocGlobal + Abort)) -> Office<'static, PlainTables> {
     office
 }
 
-/// A row is a contract of this period and reference, over so many kWh.
-fn is_contract(row: &ContractRow, period: u8, reference: &[u8], kwh: i64) -> bool {
-    row.key.at.period.number() == period
-        && row.key.reference.as_bytes() == reference
-        && row.contract.volume.units() == kwh
+/// A contract on 2024-07-01, by its period, reference, seller, buyer and kWh.
+type Listed<'a> = (u8, &'a [u8], &'a [u8], &'a [u8], i64);
+
+/// A row is this contract.
+fn is_contract(row: &ContractRow, want: &Listed<'_>) -> bool {
+    let (period, reference, seller, buyer, kwh) = want;
+    let counterparties = row.contract.counterparties;
+    Some(row.key.at.date) == SettlementDate::read(b"2024-07-01")
+        && row.key.at.period.number() == *period
+        && row.key.reference.as_bytes() == *reference
+        && Some(counterparties.seller) == Account::read(seller)
+        && Some(counterparties.buyer) == Account::read(buyer)
+        && row.contract.volume.units() == *kwh
 }
 
 /// The contracts that an office tells when it is asked for them.
@@ -182,7 +194,7 @@ fn lists(
     rt: &(impl AllocGlobal + Abort),
     office: &mut Office<'_, PlainTables>,
     account: &[u8],
-    want: &[(u8, &[u8], i64)],
+    want: &[Listed<'_>],
 ) {
     let request = enquiry(rt.alloc(), OPERATOR, account);
     let Some(given) = told_contracts(office, request) else {
@@ -191,8 +203,8 @@ fn lists(
     assert!(rt; Account::read(account) == Some(given.account()));
     assert!(rt; SettlementDate::read(b"2024-07-01") == Some(given.date()));
     assert_eq!(rt; given.contracts().len(), want.len());
-    for (row, (period, reference, kwh)) in given.contracts().iter().zip(want.iter()) {
-        assert!(rt; is_contract(row, *period, reference, *kwh));
+    for (row, want) in given.contracts().iter().zip(want.iter()) {
+        assert!(rt; is_contract(row, want));
     }
 }
 
@@ -200,49 +212,38 @@ fn lists(
 fn a_row_is_late_from_its_deadline_on(rt: HostRuntime) {
     let mut office = office(&rt);
     let contracts = FileKind::Contracts;
-    let files: [(i64, FileKind, &[u8], &[u8], Said); 4] = [
-        (
-            DEADLINE - 1,
-            contracts,
-            b"1",
-            b"C1,GENCO-P,SUPCO-C,2024-07-01,1,98.000\n",
-            Said::Loaded(1, 0),
-        ),
-        (
-            DEADLINE,
-            contracts,
-            b"2",
-            b"C1,GENCO-P,SUPCO-C,2024-07-01,1,97.000\nC2,GENCO-P,SUPCO-C,2024-07-01,2,5\nC3,GENCO-P,SUPCO-C,2024-07-01,1,7\n",
-            Said::Loaded(1, 2),
-        ),
+    let in_time = b"C1,GENCO-P,SUPCO-C,2024-07-01,1,98.000\n".as_slice();
+    let some_late =
+        b"C1,GENCO-P,SUPCO-C,2024-07-01,1,97.000\nC2,GENCO-P,SUPCO-C,2024-07-01,2,5\nC3,GENCO-P,SUPCO-C,2024-07-01,1,7\n".as_slice();
+    let moved = b"C3,SUPCO-C,GENCO-P,2024-07-01,2,1\n".as_slice();
+    let reading = b"G1,2024-07-01,1,1,1,0\n".as_slice();
+    let after = DEADLINE + 1_000_000;
+    let files: [Sent; 4] = [
+        (DEADLINE - 1, contracts, b"1", in_time, Said::Loaded(1, 0)),
+        (DEADLINE, contracts, b"2", some_late, Said::Loaded(1, 2)),
         (
             DEADLINE,
             contracts,
             b"3",
-            b"C3,SUPCO-C,GENCO-P,2024-07-01,2,1\n",
+            moved,
             refused_at(Refusal::ReferenceMoved, 1),
         ),
-        (
-            DEADLINE + 1_000_000,
-            FileKind::Meters,
-            b"4",
-            b"G1,2024-07-01,1,1,1,0\n",
-            Said::Loaded(1, 0),
-        ),
+        (after, FileKind::Meters, b"4", reading, Said::Loaded(1, 0)),
     ];
     says(&rt, &mut office, &files);
-    let before: [(u8, &[u8], i64); 2] = [(1, b"C1", 98_000), (2, b"C2", 5_000)];
+    let before: [Listed; 2] = [
+        (1, b"C1", b"GENCO-P", b"SUPCO-C", 98_000),
+        (2, b"C2", b"GENCO-P", b"SUPCO-C", 5_000),
+    ];
     lists(&rt, &mut office, b"GENCO-P", &before);
-    let later: [(i64, FileKind, &[u8], &[u8], Said); 1] = [(
-        MOMENT,
-        contracts,
-        b"5",
-        b"C1,GENCO-P,SUPCO-C,2024-07-01,1,96.000\n",
-        Said::Loaded(1, 0),
-    )];
-    says(&rt, &mut office, &later);
-    let after: [(u8, &[u8], i64); 2] = [(1, b"C1", 96_000), (2, b"C2", 5_000)];
-    lists(&rt, &mut office, b"SUPCO-C", &after);
+    let row = b"C1,GENCO-P,SUPCO-C,2024-07-01,1,96.000\n".as_slice();
+    let earlier = sent(contracts, b"5", row, Said::Loaded(1, 0));
+    says(&rt, &mut office, &[earlier]);
+    let changed: [Listed; 2] = [
+        (1, b"C1", b"GENCO-P", b"SUPCO-C", 96_000),
+        (2, b"C2", b"GENCO-P", b"SUPCO-C", 5_000),
+    ];
+    lists(&rt, &mut office, b"SUPCO-C", &changed);
 }
 
 #[test]
@@ -251,7 +252,7 @@ fn a_file_that_comes_again_gets_its_reply(rt: HostRuntime) {
     let contracts = FileKind::Contracts;
     let row = b"C1,GENCO-P,SUPCO-C,2024-07-01,1,98.000\n".as_slice();
     let other = b"C1,GENCO-P,SUPCO-C,2024-07-01,1,98.001\n".as_slice();
-    let files: [(i64, FileKind, &[u8], &[u8], Said); 9] = [
+    let files: [Sent; 9] = [
         (DEADLINE - 1, contracts, b"a", row, Said::Loaded(1, 0)),
         (DEADLINE, contracts, b"a", row, Said::Loaded(1, 0)),
         (DEADLINE, contracts, b"b", other, Said::Loaded(0, 1)),
@@ -275,66 +276,50 @@ fn a_file_that_comes_again_gets_its_reply(rt: HostRuntime) {
         (i64::MIN, contracts, b"A", other, Said::Loaded(1, 0)),
     ];
     says(&rt, &mut office, &files);
-    lists(&rt, &mut office, b"GENCO-P", &[(1, b"C1", 98_001)]);
+    let kept: [Listed; 1] = [(1, b"C1", b"GENCO-P", b"SUPCO-C", 98_001)];
+    lists(&rt, &mut office, b"GENCO-P", &kept);
 }
 
 #[test]
 fn a_refused_file_leaves_nothing(rt: HostRuntime) {
     let mut office = office(&rt);
-    let contracts = FileKind::Contracts;
-    let reallocations = FileKind::Reallocations;
     let same =
         b"B1,GENCO-P,SUPCO-C,2024-07-01,1,1\nB2,GENCO-P,SUPCO-C,2024-07-01,1,1\nB3,GENCO-P,GENCO-P,2024-07-01,1,1\n".as_slice();
+    let good = b"B2,SUPCO-C,GENCO-P,2024-07-01,3,2\n".as_slice();
     let shares = b"G1,SUPCO-P,2024-07-01,1,60,0\nG1,SUPCO-C,2024-07-01,1,40,0\n".as_slice();
-    let files: [(i64, FileKind, &[u8], &[u8], Said); 8] = [
-        (
-            MOMENT,
-            contracts,
-            b"a",
-            same,
-            refused_at(Refusal::SameAccount, 3),
-        ),
-        (
-            MOMENT,
-            contracts,
-            b"a",
-            b"B2,SUPCO-C,GENCO-P,2024-07-01,3,2\n",
-            Said::Loaded(1, 0),
-        ),
-        (MOMENT, reallocations, b"a", shares, Said::Loaded(2, 0)),
-        (
-            MOMENT,
-            reallocations,
-            b"b",
-            b"G1,SUPCO-C,2024-07-01,1,40.00001,0\n",
-            refused_at(Refusal::OverHundred, 1),
-        ),
-        (MOMENT, FileKind::Meters, b"a", b"", Said::Loaded(0, 0)),
-        (
-            MOMENT,
-            FileKind::Meters,
-            b"b",
-            b"G1,2024-03-31,46,1,1,0\n",
-            Said::Loaded(1, 0),
-        ),
-        (
-            MOMENT,
-            FileKind::Meters,
-            b"c",
-            b"G1,2024-10-27,50,1,1,0\nG1,2024-03-31,47,1,1,0\n",
-            refused_at(Refusal::NoSuchPeriod, 2),
-        ),
-        (
-            MOMENT,
-            FileKind::Prices,
-            b"c",
-            b"2024-07-01,1,50\n2024-07-01,1\n",
-            refused_at(Refusal::BadRecord, 2),
-        ),
+    let over = b"G1,SUPCO-C,2024-07-01,1,40.00001,0\n".as_slice();
+    let reallocations = FileKind::Reallocations;
+    let same_account = refused_at(Refusal::SameAccount, 3);
+    let over_hundred = refused_at(Refusal::OverHundred, 1);
+    let files = [
+        sent(FileKind::Contracts, b"a", same, same_account),
+        sent(FileKind::Contracts, b"a", good, Said::Loaded(1, 0)),
+        sent(reallocations, b"a", shares, Said::Loaded(2, 0)),
+        sent(reallocations, b"b", over, over_hundred),
     ];
     says(&rt, &mut office, &files);
-    let kept: [(u8, &[u8], i64); 2] = [(1, b"C1", 99_000), (3, b"B2", 2_000)];
+    let kept: [Listed; 2] = [
+        (1, b"C1", b"GENCO-P", b"SUPCO-C", 99_000),
+        (3, b"B2", b"SUPCO-C", b"GENCO-P", 2_000),
+    ];
     lists(&rt, &mut office, b"SUPCO-C", &kept);
+}
+
+#[test]
+fn a_file_is_refused_at_its_first_bad_row(rt: HostRuntime) {
+    let mut office = office(&rt);
+    let last = b"G1,2024-03-31,46,1,1,0\n".as_slice();
+    let beyond = b"G1,2024-10-27,50,1,1,0\nG1,2024-03-31,47,1,1,0\n".as_slice();
+    let short = b"2024-07-01,1,50\n2024-07-01,1\n".as_slice();
+    let no_period = refused_at(Refusal::NoSuchPeriod, 2);
+    let bad_record = refused_at(Refusal::BadRecord, 2);
+    let files = [
+        sent(FileKind::Meters, b"a", b"", Said::Loaded(0, 0)),
+        sent(FileKind::Meters, b"b", last, Said::Loaded(1, 0)),
+        sent(FileKind::Meters, b"c", beyond, no_period),
+        sent(FileKind::Prices, b"c", short, bad_record),
+    ];
+    says(&rt, &mut office, &files);
 }
 
 /// A text with one more text so many times behind it.
@@ -396,7 +381,8 @@ fn a_file_may_be_long(rt: HostRuntime) {
         let given = answer_to_rows(rt.alloc(), &mut office, kind, row, count);
         assert_eq!(rt; given, Some(want), "{kind:?}");
     }
-    lists(&rt, &mut office, b"GENCO-P", &[(1, b"C1", 98_000)]);
+    let kept: [Listed; 1] = [(1, b"C1", b"GENCO-P", b"SUPCO-C", 98_000)];
+    lists(&rt, &mut office, b"GENCO-P", &kept);
 }
 
 #[test]
@@ -458,23 +444,18 @@ fn contracts_stand_in_order(rt: HostRuntime) {
     let mut office = office(&rt);
     let rows =
         b"c1,GENCO-P,SUPCO-C,2024-07-01,1,1\nC2,SUPCO-P,GENCO-P,2024-07-01,48,-2\nC2,SUPCO-P,GENCO-P,2024-07-01,2,3\nC10,GENCO-P,GENCO-C,2024-07-01,2,4\nC3,SUPCO-P,SUPCO-C,2024-07-01,2,5\nC10,GENCO-P,GENCO-C,2024-07-02,2,6\n".as_slice();
-    let files: [(i64, FileKind, &[u8], &[u8], Said); 1] = [(
-        MOMENT,
-        FileKind::Contracts,
-        b"a",
-        rows,
-        Said::Loaded(6, 0),
-    )];
-    says(&rt, &mut office, &files);
-    let production: [(u8, &[u8], i64); 5] = [
-        (1, b"C1", 99_000),
-        (1, b"c1", 1_000),
-        (2, b"C10", 4_000),
-        (2, b"C2", 3_000),
-        (48, b"C2", -2_000),
+    let file = sent(FileKind::Contracts, b"a", rows, Said::Loaded(6, 0));
+    says(&rt, &mut office, &[file]);
+    let production: [Listed; 5] = [
+        (1, b"C1", b"GENCO-P", b"SUPCO-C", 99_000),
+        (1, b"c1", b"GENCO-P", b"SUPCO-C", 1_000),
+        (2, b"C10", b"GENCO-P", b"GENCO-C", 4_000),
+        (2, b"C2", b"SUPCO-P", b"GENCO-P", 3_000),
+        (48, b"C2", b"SUPCO-P", b"GENCO-P", -2_000),
     ];
     lists(&rt, &mut office, b"GENCO-P", &production);
-    lists(&rt, &mut office, b"GENCO-C", &[(2, b"C10", 4_000)]);
+    let consumption: [Listed; 1] = [(2, b"C10", b"GENCO-P", b"GENCO-C", 4_000)];
+    lists(&rt, &mut office, b"GENCO-C", &consumption);
     lists(&rt, &mut office, b"NOONE-C", &[]);
 }
 
