@@ -9,7 +9,7 @@ use crate::script_line::ScriptLine;
 use crate::words::place_of;
 use std::alloc::{AllocError, AllocFailed, Global};
 
-/// Why a script is not read.
+/// Why a script is not read (profile).
 #[derive(Clone, Copy, Debug, PartialEq, Eq)]
 pub enum ScriptFault {
     /// The first line that is off its form, numbered from 1.

@@ -6,9 +6,10 @@ ghost use Rattle.hh_script.specs.Steps.{NamesFile, LoadFile, load_of, step_of, s
 use crate::load::LoadLine;
 use crate::words::split_word;
 
-/// What a line of a script asks for.
+/// What a line of a script asks for (profile).
 #[derive(Clone, Copy, Debug, PartialEq, Eq)]
 pub enum ScriptLine<'a> {
+    /// That a file be loaded (profile).
     Load(LoadLine<'a>),
 }
 
