@@ -1,5 +1,6 @@
 pub mod CountLaws
 pub mod RankLaws
+pub mod SplitLaws
 pub mod SumLaws
 pub mod QuotaLaws
 pub mod ShareFacts

@@ -1,6 +1,6 @@
 -- What the functions of the module shares keep, over plain lists.
 use Rattle.std.proofs.Common.{◌≡◌, ℕ, ◌+◌, ◌-◌, ◌<◌, ◌≤◌, List, [], ◌∷◌, ◌++◌, map, take, length, get_or, refl, sym, ap, ◌∙◌, subst, true, cond, arith}
-use Rattle.std.specs.Prelude.{nat_lt, ◌==◌, sum, sum_by, count_by, ℤ, replicate, if◌then◌else◌}
+use Rattle.std.specs.Prelude.{nat_lt, ◌==◌, sum, sum_by, ℤ, replicate, if◌then◌else◌}
 use Rattle.std.specs.List.{enumerate_from, list_all}
 use Rattle.std.proofs.lemmas.List.Sums.{get_or-le-sum_by}
 use Rattle.std.proofs.lemmas.List.Folds.{fold-map}
@@ -8,16 +8,10 @@ use Rattle.std.proofs.lemmas.List.FromFn.{length-enumerate_from}
 use Rattle.std.proofs.lemmas.List.{length-map, map-append, take_more, take_all, get_or-map}
 use Rattle.std.proofs.lemmas.Simd.{splat_is_map}
 use Rattle.hh_share.specs.declared.shares.Quota.{Quota}
-use Rattle.hh_share.specs.Shares.{lower_quota, remainder, leftover, comes_before, rank, share_of, share_size, effective, shares}
+use Rattle.hh_share.specs.Shares.{lower_quota, remainder, leftover, rank, share_of, share_size, effective, shares}
 use Rattle.hh_share.specs.Quotas.{quota_for, remainders_of}
-use Rattle.hh_share.proofs.CountLaws.{claimant_is, count_by-map, enumerate-map}
+use Rattle.hh_share.proofs.CountLaws.{claimant_is}
 use Rattle.hh_share.proofs.SumLaws.{share_size_within, lower_quotas_fit}
-
--- to count the quotas that come before one is to rank its remainder
-pub rank-quotas : (quotas : List Quota) (place over : ℕ) → count_by (λ b. comes_before (b.0, b.1.remainder) (place, over)) (enumerate_from 0 quotas) ≡ rank (remainders_of quotas) (place, over)
-rank-quotas quotas place over =
-    sym (ap (count_by (λ b. comes_before b (place, over))) (enumerate-map (λ (q : Quota). q.remainder) 0 quotas)
-    ∙ count_by-map (λ b. comes_before b (place, over)) (λ (b : ℕ × Quota). (b.0, b.1.remainder)) (enumerate_from 0 quotas))
 
 -- where all weights are 0 ones count
 pub all_ones : (n : ℕ) (ws : List ℕ) → n ≡ length ws → list_all (λ w. w == 0) ws ≡ true → replicate {A = ℕ} n 1 ≡ effective ws

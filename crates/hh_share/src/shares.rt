@@ -1,6 +1,6 @@
 //! Shares by largest remainders: Hamilton's method.
 
-ghost use Rattle.std.specs.Prelude.{◌≡◌, ◌==◌, ℕ, ◌<◌, ◌≤◌, ◌^◌, ◌-◌, ◌*◌, ◌/◌, ◌%◌, ◌≢◌, pos, unsigned_abs, nat_lt, if◌then◌else◌, ◌+◌, length, map, replicate, sum, sum_by, All, IfOk};
+ghost use Rattle.std.specs.Prelude.{◌≡◌, ◌==◌, ℕ, ◌<◌, ◌≤◌, ◌^◌, ◌-◌, ◌*◌, ◌/◌, ◌%◌, ◌≢◌, pos, unsigned_abs, nat_le, nat_lt, if◌then◌else◌, ◌+◌, length, map, replicate, count_by, sum, sum_by, All, IfOk};
 ghost use Rattle.std.specs.List.{list_all};
 ghost use Rattle.hh_share.specs.Shares.{effective, rank, shares, shares_by, with_sign_of, AreQuotasRounded, SumsTo};
 ghost use Rattle.hh_share.specs.Quotas.{quota_for, remainders_of};
@@ -90,20 +90,34 @@ fn pence_left(size: u64, quotas: &[Quota]) -> u64
     size - quotas.iter().map(|quota| quota.lower).sum::<u64>()
 }
 
-/// How many of the quotas come before one at this place with this remainder: those with a larger
-/// remainder, or with the same and at an earlier place.
-fn count_before(quotas: &[Quota], place: usize, remainder: u128) -> usize
-    ensures { result ≡ rank (remainders_of quotas.now) (place, remainder) }
+/// How many of the quotas have this remainder or a larger one.
+fn count_from(quotas: &[Quota], remainder: u128) -> usize
+    ensures { result ≡ count_by (nat_le remainder) (remainders_of quotas.now) }
 {
     quotas
         .iter()
-        .enumerate()
-        .map(|(other, quota)| {
-            usize::from(
-                (remainder < quota.remainder) | ((remainder == quota.remainder) & (other < place)),
-            )
-        })
+        .map(|quota| usize::from(remainder <= quota.remainder))
         .sum()
+}
+
+/// How many of the quotas have a larger remainder than this.
+fn count_above(quotas: &[Quota], remainder: u128) -> usize
+    ensures { result ≡ count_by (nat_lt remainder) (remainders_of quotas.now) }
+{
+    quotas
+        .iter()
+        .map(|quota| usize::from(remainder < quota.remainder))
+        .sum()
+}
+
+/// How many of the quotas come before one at this place with this remainder: those with a larger
+/// remainder, or with the same and at an earlier place.
+fn count_before(quotas: &[Quota], place: usize, remainder: u128) -> usize
+    requires { place ≤ length quotas.now }
+    ensures { result ≡ rank (remainders_of quotas.now) (place, remainder) }
+{
+    let (earlier, later) = quotas.split_at(place);
+    count_from(earlier, remainder) + count_above(later, remainder)
 }
 
 /// The size of a share: its whole pence, and one more where fewer come before it than pence are left.
