@@ -49,7 +49,7 @@ count-split (suc place) r m (x ∷ rs) =
     first false n k = refl
 
 -- the rank of a remainder at a place
-pub rank-split : (place r : ℕ) (rs : List ℕ) → rank rs (place, r) ≡ count_by (nat_le r) (take place rs) + count_by (nat_lt r) (drop place rs)
+rank-split : (place r : ℕ) (rs : List ℕ) → rank rs (place, r) ≡ count_by (nat_le r) (take place rs) + count_by (nat_lt r) (drop place rs)
 rank-split place r rs =
     count_by-count (λ b. comes_before b (place, r)) (enumerate_from 0 rs)
     ∙ ap (λ n. count (λ b. comes_before b (n, r)) (enumerate_from 0 rs)) (zero_add place)
