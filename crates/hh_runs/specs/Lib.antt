@@ -1,3 +1,4 @@
 pub mod DayNets
 pub mod NextRun
+pub mod Postings
 pub mod RunKinds

@@ -1,9 +1,19 @@
-//! The kinds of run, and what a run is summed up as.
+//! Runs: their kinds and order, what a run is summed up as, and what differs between two runs of a date.
 #![tactic(auto)]
 
+mod changes;
+mod day_net;
+mod next_run;
+mod order;
+mod posting;
 mod run_kind;
 mod summary;
 
+pub use changes::differences;
+pub use day_net::{DayCash, DayNet, DayNets};
+pub use next_run::NextRun;
+pub use order::next_kind;
+pub use posting::Posting;
 pub use run_kind::RunKind;
 pub use summary::Summary;
 

@@ -21,6 +21,8 @@ pub enum RunKind {
 }
 
 impl RunKind {
+    ghost use Rattle.hh_runs.specs.NextRun.{is_earlier_kind};
+
     /// The kind that a code names: `SF`, `R1`, `R2`, `R3`, `RF` or `DF` (profile). `None` for any
     /// other text.
     #[tactic(auto, unfolding(crate::specs::RunKinds::run_kind_value))]
@@ -36,6 +38,13 @@ impl RunKind {
             b"DF" => Some(RunKind::DF),
             _ => None,
         }
+    }
+
+    /// Whether the kind comes before another (profile).
+    pub(crate) fn is_before(self, other: RunKind) -> bool
+        ensures { result ≡ is_earlier_kind self other }
+    {
+        self.cmp(&other).is_lt()
     }
 
     /// The code that names the kind (profile).

@@ -1,6 +1,8 @@
-//! What no clause says: that the words of the clauses come to the market's codes.
+//! What no clause says: what the words of the clauses come to, and that with ample memory runs post.
 
 use super::*;
+use hh_names::{Account, Fault, Refusal};
+use std::alloc::Global;
 use std::test::Fail;
 
 #[test]
@@ -35,5 +37,107 @@ fn kinds_of_run_have_an_order(rt: HostRuntime) -> Result<(), Fail> {
     for (former, later) in pairs {
         assert!(rt; former < later);
     }
+    Ok(())
+}
+
+#[test]
+fn kinds_follow_in_order(rt: HostRuntime) -> Result<(), Fail> {
+    let none: [RunKind; 0] = [];
+    assert_eq!(rt; next_kind(&none, RunKind::SF), Ok(NextRun::New));
+    assert_eq!(rt;
+        next_kind(&none, RunKind::R1),
+        Err(Fault::of(Refusal::NoInitialRun))
+    );
+    let first = [RunKind::SF];
+    assert_eq!(rt; next_kind(&first, RunKind::SF), Ok(NextRun::Kept));
+    assert_eq!(rt; next_kind(&first, RunKind::DF), Ok(NextRun::New));
+    let late = [RunKind::SF, RunKind::RF];
+    assert_eq!(rt;
+        next_kind(&late, RunKind::R2),
+        Err(Fault::of(Refusal::RunOrder))
+    );
+    assert_eq!(rt; next_kind(&late, RunKind::RF), Ok(NextRun::Kept));
+    assert_eq!(rt; next_kind(&late, RunKind::DF), Ok(NextRun::New));
+    Ok(())
+}
+
+/// Day nets of these accounts, in pence; `None` where a text names no account, a net is too large, or
+/// memory is refused.
+fn nets(alloc: Global, pence: &[(&str, i64)]) -> Option<DayNets> {
+    let mut nets = DayNets::new(alloc);
+    for net in pence {
+        let account = Account::read(net.0.as_bytes())?;
+        nets.put_row(account, DayNet::new(net.1)?).ok()?;
+    }
+    Some(nets)
+}
+
+/// Whether a run with these nets, after one with those, posts these pence to these accounts.
+fn posts(alloc: Global, old: &[(&str, i64)], new: &[(&str, i64)], wanted: &[(&str, i64)]) -> bool {
+    let (Some(old), Some(new)) = (nets(alloc, old), nets(alloc, new)) else {
+        return false;
+    };
+    match differences(alloc, &old, &new) {
+        Ok(postings) => are_postings(&postings, wanted),
+        Err(_) => false,
+    }
+}
+
+/// Whether these are the postings of so many pence to these accounts.
+fn are_postings(postings: &[Posting], wanted: &[(&str, i64)]) -> bool {
+    postings.len() == wanted.len()
+        && postings.iter().zip(wanted).all(|pair| {
+            Account::read(pair.1.0.as_bytes()) == Some(pair.0.account)
+                && pair.0.pence.units() == pair.1.1
+        })
+}
+
+#[test]
+fn runs_post_what_differs(rt: HostRuntime) -> Result<(), Fail> {
+    let first = [
+        ("GENCO-P", 38),
+        ("GENCO-C", 0),
+        ("SUPCO-P", 0),
+        ("SUPCO-C", -38),
+    ];
+    let second = [
+        ("GENCO-P", 45),
+        ("GENCO-C", 0),
+        ("SUPCO-P", 0),
+        ("SUPCO-C", -45),
+    ];
+    let third = [
+        ("GENCO-P", 23_835),
+        ("NEWCO-P", -47_353),
+        ("SUPCO-C", 23_518),
+    ];
+    let cases: [(&[(&str, i64)], &[(&str, i64)], &[(&str, i64)]); 5] = [
+        (&[], &first, &[("GENCO-P", 38), ("SUPCO-C", -38)]),
+        (&first, &second, &[("GENCO-P", 7), ("SUPCO-C", -7)]),
+        (&second, &second, &[]),
+        (
+            &first,
+            &third,
+            &[
+                ("GENCO-P", 23_797),
+                ("NEWCO-P", -47_353),
+                ("SUPCO-C", 23_556),
+            ],
+        ),
+        (&first, &[], &[("GENCO-P", -38), ("SUPCO-C", 38)]),
+    ];
+    for (old, new, wanted) in cases {
+        assert!(rt; posts(rt.alloc(), old, new, wanted));
+    }
+    Ok(())
+}
+
+#[test]
+fn day_nets_have_a_greatest_size(rt: HostRuntime) -> Result<(), Fail> {
+    let greatest = 100_000_000_000_000;
+    assert!(rt; DayNet::new(greatest).is_some());
+    assert!(rt; DayNet::new(-greatest).is_some());
+    assert!(rt; DayNet::new(greatest + 1).is_none());
+    assert!(rt; DayNet::new(-greatest - 1).is_none());
     Ok(())
 }
