@@ -7,7 +7,7 @@ ghost use Rattle.hh_tables.specs.Tables.{put_all};
 ghost use Rattle.hh_runs.specs.DayNets.{day_cash, day_net_of, differences, net_change, with_change};
 ghost use Rattle.hh_runs.specs.Postings.{entry_of, posting_for};
 
-use crate::day_net::{DayNet, DayNets};
+use crate::day_net::{DayNet, DayNetTable};
 use crate::posting::Posting;
 use hh_names::Account;
 use hh_num::Pence;
@@ -18,7 +18,11 @@ use std::alloc::{AllocError, Global};
 /// another in the new one than in the old, 0 standing for an account that is not there, each with its
 /// new net less its old, in account order (profile). `Err` only where memory is refused.
 #[tactic(auto, using(crate::proofs::ChangeLaws::changes_in_order, crate::proofs::ChangeLaws::postings_are))]
-pub fn differences(alloc: Global, old: &DayNets, new: &DayNets) -> Result<Vec<Posting>, AllocError>
+pub fn differences(
+    alloc: Global,
+    old: &DayNetTable,
+    new: &DayNetTable,
+) -> Result<Vec<Posting>, AllocError>
     ensures { IfOk result (λ postings.
         map entry_of postings.items ≡ differences old.now new.now) }
 {
@@ -51,8 +55,8 @@ fn posting_of(change: (Account, Pence)) -> Option<Posting>
 /// The accounts of either run, each with its new net less its old, in account order.
 fn changes_of(
     alloc: Global,
-    old: &DayNets,
-    new: &DayNets,
+    old: &DayNetTable,
+    new: &DayNetTable,
 ) -> Result<ListTable<Account, Pence>, AllocError>
     ensures { IfOk result (λ changes. changes ≡ put_all account_cmp
         (map (with_change old.now new.now) (new.now ++ old.now)) []) }
@@ -63,8 +67,8 @@ fn changes_of(
 /// The accounts of the new run, then those of the old, each with its new net less its old.
 fn all_changes(
     alloc: Global,
-    old: &DayNets,
-    new: &DayNets,
+    old: &DayNetTable,
+    new: &DayNetTable,
 ) -> Result<Vec<(Account, Pence)>, AllocError>
     ensures { IfOk result (λ changes. changes.items
         ≡ map (with_change old.now new.now) (new.now ++ old.now)) }
@@ -79,8 +83,8 @@ fn all_changes(
 /// Appends the accounts of some nets, each with its new net less its old.
 fn push_changes(
     changes: &mut Vec<(Account, Pence)>,
-    old: &DayNets,
-    new: &DayNets,
+    old: &DayNetTable,
+    new: &DayNetTable,
     nets: &[(Account, DayNet)],
 ) -> Result<(), AllocError>
     ensures { OnOk result (changes.new.items
@@ -93,14 +97,14 @@ fn push_changes(
 }
 
 /// The new net of an account less its old one.
-fn change_of(old: &DayNets, new: &DayNets, account: &Account) -> Pence
+fn change_of(old: &DayNetTable, new: &DayNetTable, account: &Account) -> Pence
     ensures { result ≡ net_change old.now new.now account.now }
 {
     Pence::of(net_in(new, account) - net_in(old, account))
 }
 
 /// The day net of an account among these, in pence, 0 standing for an account that is not there.
-fn net_in(nets: &DayNets, account: &Account) -> i64
+fn net_in(nets: &DayNetTable, account: &Account) -> i64
     ensures value { result ≡ day_net_of nets.now account.now }
     ensures range { IsBetween day_cash.least day_cash.most result }
 {

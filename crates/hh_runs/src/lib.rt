@@ -10,7 +10,7 @@ mod run_kind;
 mod summary;
 
 pub use changes::differences;
-pub use day_net::{DayCash, DayNet, DayNets};
+pub use day_net::{DayCash, DayNet, DayNetTable};
 pub use next_run::NextRun;
 pub use order::next_kind;
 pub use posting::Posting;

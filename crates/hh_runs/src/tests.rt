@@ -63,8 +63,8 @@ fn kinds_follow_in_order(rt: HostRuntime) -> Result<(), Fail> {
 
 /// Day nets of these accounts, in pence; `None` where a text names no account, a net is too large, or
 /// memory is refused.
-fn nets(alloc: Global, pence: &[(&str, i64)]) -> Option<DayNets> {
-    let mut nets = DayNets::new(alloc);
+fn nets(alloc: Global, pence: &[(&str, i64)]) -> Option<DayNetTable> {
+    let mut nets = DayNetTable::new(alloc);
     for net in pence {
         let account = Account::read(net.0.as_bytes())?;
         nets.put_row(account, DayNet::new(net.1)?).ok()?;
