@@ -1,7 +1,7 @@
 //! What accounts pay over a Settlement Day in all.
 
 ghost use Rattle.std.proofs.Common.{rules};
-ghost use Rattle.hh_runs.specs.DayNetTable.{day_cash};
+ghost use Rattle.hh_runs.specs.DayNets.{day_cash};
 
 use hh_names::Account;
 use hh_num::{Quantity, Scaled};

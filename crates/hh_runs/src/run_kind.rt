@@ -1,10 +1,16 @@
 //! The kinds of run.
 
 ghost use Rattle.std.specs.Prelude.{◌≡◌};
-ghost use Rattle.hh_runs.specs.RunKinds.{run_kind_code, run_kind_value};
+ghost use Rattle.std.specs.Cmp.{partial_order_from_own_ties};
+ghost use Rattle.std.specs.Cmp.Rules.{comparing};
+ghost use Rattle.std.specs.Ordering.{as_partial_cmp, eq_by_cmp};
+ghost use Rattle.std.proofs.Common.{rules};
+ghost use Rattle.hh_runs.specs.RunKinds.{run_kind_cmp, run_kind_code, run_kind_number, run_kind_value};
+
+use std::cmp::Ordering;
 
 /// A kind of settlement run. The kinds stand in the order in which a date has them (profile).
-#[derive(Clone, Copy, Debug, PartialEq, Eq, PartialOrd, Ord)]
+#[derive(Clone, Copy, Debug)]
 pub enum RunKind {
     /// The initial settlement run, the first of each date.
     SF,
@@ -40,11 +46,25 @@ impl RunKind {
         }
     }
 
+    /// How many kinds come before this one.
+    fn number(self) -> u8
+        ensures { result ≡ run_kind_number self }
+    {
+        match self {
+            RunKind::SF => 0,
+            RunKind::R1 => 1,
+            RunKind::R2 => 2,
+            RunKind::R3 => 3,
+            RunKind::RF => 4,
+            RunKind::DF => 5,
+        }
+    }
+
     /// Whether the kind comes before another (profile).
     pub(crate) fn is_before(self, other: RunKind) -> bool
         ensures { result ≡ is_earlier_kind self other }
     {
-        self.cmp(&other).is_lt()
+        self.number() < other.number()
     }
 
     /// The code that names the kind (profile).
@@ -59,5 +79,43 @@ impl RunKind {
             RunKind::RF => "RF",
             RunKind::DF => "DF",
         }
+    }
+}
+
+impl PartialEq for RunKind {
+    ghost eq = { eq_by_cmp run_kind_cmp };
+
+    ghost laws = { Prim.search (comparing, rules) };
+
+    fn eq(&self, other: &RunKind) -> bool {
+        self.cmp(other).is_eq()
+    }
+}
+
+impl Eq for RunKind {
+    ghost laws = { Prim.search (comparing, rules) };
+}
+
+impl Ord for RunKind {
+    ghost cmp = { run_kind_cmp };
+
+    ghost total = { Prim.search (comparing, rules) };
+
+    ghost matches_partial_cmp = { Prim.search (comparing, rules) };
+
+    ghost matches_eq = { Prim.search (comparing, rules) };
+
+    fn cmp(&self, other: &RunKind) -> Ordering {
+        self.number().cmp(&other.number())
+    }
+}
+
+impl PartialOrd for RunKind {
+    ghost partial_cmp = { as_partial_cmp run_kind_cmp };
+
+    ghost laws = { partial_order_from_own_ties (Prim.search (comparing, rules)) (Prim.search (comparing, rules)) };
+
+    fn partial_cmp(&self, other: &RunKind) -> Option<Ordering> {
+        Some(self.cmp(other))
     }
 }

@@ -18,12 +18,13 @@ use Rattle.hh_calc.specs.declared.result.AccountRow.{AccountRow}
 use Rattle.hh_runs.specs.declared.run_kind.RunKind.{RunKind}
 use Rattle.hh_runs.specs.declared.run_kind.RunKind.TheVariants as kind
 use Rattle.hh_runs.specs.declared.summary.Summary.{Summary}
+use Rattle.hh_store.specs.declared.run_keys.RunKey.{RunKey}
 use Rattle.hh_store.specs.Changes.{effect_of_load, load_writes}
 use Rattle.hh_store.specs.Content.{Content, tables_of}
 use Rattle.hh_store.specs.DaySettlement.{from_one_to}
 use Rattle.hh_store.specs.PeriodSettlement.{settled, terms_at}
 use Rattle.hh_store.specs.Reads.{contracts_in, is_key_known}
-use Rattle.hh_store.specs.Runs.{RunKey, postings_after}
+use Rattle.hh_store.specs.Runs.{postings_after}
 use Rattle.hh_store.specs.States.{AcceptedFile, State, empty_state}
 use Rattle.hh_rules.specs.FileRows.{first_fault}
 use Rattle.hh_store.specs.Steps.{Load, after_load, after_run, kept_file, kept_summary, new_run, new_summary, registered_at, rows_coming, run_fault, timetable_at}

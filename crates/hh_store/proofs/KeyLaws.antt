@@ -13,9 +13,10 @@ use Rattle.hh_rows.specs.Kinds.{kind_value, kind_word}
 use Rattle.hh_runs.specs.declared.run_kind.RunKind.{RunKind}
 use Rattle.hh_runs.specs.RunKinds.{run_kind_cmp}
 use Rattle.hh_runs.proofs.RunKindLaws.{exact_run_kinds, run_kind_total}
+use Rattle.hh_store.specs.declared.run_keys.RunKey.{RunKey}
 use Rattle.hh_store.specs.Content.{credit_key_cmp, posting_key_cmp, result_key_cmp}
 use Rattle.hh_store.specs.PeriodSettlement.{UnitAccount, unit_account_cmp}
-use Rattle.hh_store.specs.Runs.{RunKey, run_key_cmp}
+use Rattle.hh_store.specs.Runs.{run_key_cmp}
 use Rattle.hh_store.specs.States.{file_key_cmp}
 
 pub file_key_total : IsTotalOrder file_key_cmp

@@ -10,11 +10,12 @@ use Rattle.hh_rules.specs.History.{History, registered_in}
 use Rattle.hh_rules.specs.Lateness.{Timetable}
 use Rattle.hh_runs.specs.DayNets.{differences}
 use Rattle.hh_runs.specs.declared.summary.Summary.{Summary}
+use Rattle.hh_store.specs.declared.run_keys.RunKey.{RunKey}
 use Rattle.hh_store.specs.Changes.{LoadEffect}
 use Rattle.hh_store.specs.Content.{credit_entries, credit_key_cmp, posting_entries, posting_key_cmp, result_entries, result_key_cmp}
 use Rattle.hh_store.specs.DaySettlement.{day_nets, settled_day}
 use Rattle.hh_store.specs.PeriodSettlement.{accounts_on}
-use Rattle.hh_store.specs.Runs.{Run, RunKey, last_of, nets_of, periods_of, postings_after, run_key_cmp, runs_of_date, seen_by, settled_by, summary_after, with_former}
+use Rattle.hh_store.specs.Runs.{Run, last_of, nets_of, periods_of, postings_after, run_key_cmp, runs_of_date, seen_by, settled_by, summary_after, with_former}
 use Rattle.hh_store.specs.States.{State}
 use Rattle.hh_store.specs.Steps.{IsReached, at_first, by_load, by_run, kept_file, new_run, rows_coming, timetable_at}
 use Rattle.hh_store.proofs.KeyLaws.{exact_file_keys, file_key_total}

@@ -11,10 +11,14 @@ use Rattle.hh_names.specs.Accounts.{account_cmp}
 use Rattle.hh_rules.specs.Lateness.{Timetable}
 use Rattle.hh_calc.specs.declared.result.AccountRow.{AccountRow}
 use Rattle.hh_runs.specs.declared.summary.Summary.{Summary}
+use Rattle.hh_store.specs.declared.run_keys.CreditKey.{CreditKey}
+use Rattle.hh_store.specs.declared.run_keys.PostingKey.{PostingKey}
+use Rattle.hh_store.specs.declared.run_keys.ResultKey.{ResultKey}
+use Rattle.hh_store.specs.declared.run_keys.RunKey.{RunKey}
 use Rattle.hh_store.specs.Changes.{RunEffect}
-use Rattle.hh_store.specs.Content.{CreditKey, PostingKey, ResultKey, all_credits, all_postings, all_results, all_summaries, credit_entries, credit_key_cmp, posting_entries, posting_key_cmp, result_entries, result_key_cmp, runs_with_former, tables_of}
+use Rattle.hh_store.specs.Content.{all_credits, all_postings, all_results, all_summaries, credit_entries, credit_key_cmp, posting_entries, posting_key_cmp, result_entries, result_key_cmp, runs_with_former, tables_of}
 use Rattle.hh_store.specs.PeriodSettlement.{unit_account_cmp}
-use Rattle.hh_store.specs.Runs.{Run, RunKey, latest_run, nets_of, postings_after, run_key_cmp, settled_by, summary_after, with_former}
+use Rattle.hh_store.specs.Runs.{Run, latest_run, nets_of, postings_after, run_key_cmp, settled_by, summary_after, with_former}
 use Rattle.hh_store.specs.States.{State}
 use Rattle.hh_store.specs.Steps.{after_run, new_run, new_summary, timetable_at}
 use Rattle.hh_store.proofs.ApartLaws.{Lacks, all-before-map, all-weaken, apart_from_blocks, first_part, have_one_key, in_key_order-append_all, lacks}

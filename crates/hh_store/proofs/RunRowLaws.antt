@@ -22,10 +22,14 @@ use Rattle.hh_calc.specs.declared.result.Figures.{Figures}
 use Rattle.hh_calc.specs.Formulas.{credits_of, figures, residual_shares}
 use Rattle.hh_calc.specs.Terms.{PeriodTerms, Settled}
 use Rattle.hh_runs.specs.DayNets.{DayNets, differences, net_change}
-use Rattle.hh_store.specs.Content.{CreditKey, PostingKey, ResultKey, credit_entries, credit_key, credit_key_cmp, posting_entries, posting_key_cmp, result_entries, result_key, result_key_cmp}
+use Rattle.hh_store.specs.declared.run_keys.CreditKey.{CreditKey}
+use Rattle.hh_store.specs.declared.run_keys.PostingKey.{PostingKey}
+use Rattle.hh_store.specs.declared.run_keys.ResultKey.{ResultKey}
+use Rattle.hh_store.specs.declared.run_keys.RunKey.{RunKey}
+use Rattle.hh_store.specs.Content.{credit_entries, credit_key, credit_key_cmp, posting_entries, posting_key_cmp, result_entries, result_key, result_key_cmp}
 use Rattle.hh_store.specs.DaySettlement.{from_one_to, periods_on, settled_at, settled_day}
 use Rattle.hh_store.specs.PeriodSettlement.{UnitAccount, account_rows, accounts_on, both_accounts, in_credit_order, keyed_credits, settled, terms_at, unit_account_cmp}
-use Rattle.hh_store.specs.Runs.{RunKey, run_key_cmp}
+use Rattle.hh_store.specs.Runs.{run_key_cmp}
 use Rattle.hh_store.proofs.ApartLaws.{NoneAlike, all-append, all-map, all-weaken, distinct-append, distinct-filter, distinct-map, distinct-weaken, distinct_blocks, first_part, have_one_key, second_part, sorted_distinct}
 use Rattle.hh_store.proofs.KeyLaws.{unit_account_total}
 

@@ -11,9 +11,13 @@ use Rattle.hh_rules.specs.FileRows.{fixed_references, timely_rows}
 use Rattle.hh_rules.specs.History.{Registered}
 use Rattle.hh_calc.specs.declared.result.AccountRow.{AccountRow}
 use Rattle.hh_runs.specs.declared.summary.Summary.{Summary}
+use Rattle.hh_store.specs.declared.run_keys.CreditKey.{CreditKey}
+use Rattle.hh_store.specs.declared.run_keys.PostingKey.{PostingKey}
+use Rattle.hh_store.specs.declared.run_keys.ResultKey.{ResultKey}
+use Rattle.hh_store.specs.declared.run_keys.RunKey.{RunKey}
 use Rattle.hh_store.specs.declared.file_key.FileKey.{FileKey}
-use Rattle.hh_store.specs.Content.{Content, CreditKey, PostingKey, ResultKey, credit_entries, credit_key_cmp, posting_entries, posting_key_cmp, result_entries, result_key_cmp, tables_of}
-use Rattle.hh_store.specs.Runs.{Run, RunKey, latest_run, postings_after, run_key_cmp, settled_by}
+use Rattle.hh_store.specs.Content.{Content, credit_entries, credit_key_cmp, posting_entries, posting_key_cmp, result_entries, result_key_cmp, tables_of}
+use Rattle.hh_store.specs.Runs.{Run, latest_run, postings_after, run_key_cmp, settled_by}
 use Rattle.hh_store.specs.States.{AcceptedFile, State, file_key_cmp}
 use Rattle.hh_store.specs.Steps.{CanLoad, CanRun, IsReached, Load, after_load, after_run, kept_file, new_run, new_summary, rows_coming, timetable_at}
 
@@ -99,6 +103,10 @@ module _ (midnight : Midnights) (content : Content) where
   -- the machine writes this for a load that it accepts in a state with these tables
   abbrev pub IsLoadFrom : LoadWrites → Type 0
   IsLoadFrom w = (s : State) × (load : Load) × StandsFor s × CanLoad midnight s load × (w ≡ load_writes midnight s load)
+
+  -- the machine writes this for a new run that it makes in a state with these tables
+  abbrev pub IsRunFrom : RunWrites → Type 0
+  IsRunFrom w = (s : State) × (moment : ℤ) × (key : RunKey) × StandsFor s × CanRun midnight s moment key × (w ≡ run_writes midnight s key)
 
 -- what a load writes makes the tables of a reached state those of the state after the load
 abbrev pub LoadEffect : Type 0

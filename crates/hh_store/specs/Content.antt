@@ -1,11 +1,10 @@
 -- The tables that an office keeps, and those that stand for a state.
-use Rattle.std.specs.Prelude.{ℕ, ℤ, List, [], map, Option}
+use Rattle.std.specs.Prelude.{ℤ, List, [], map, Option}
 use Rattle.std.specs.List.{flat_map}
 use Rattle.std.specs.Ordering.{nat_cmp, on, then_cmp}
 use Rattle.std.specs.declared.cmp.Ordering.{Ordering}
 use Rattle.hh_tables.specs.Tables.{Table, in_key_order}
 use Rattle.hh_time.specs.Days.{Midnights}
-use Rattle.hh_names.specs.declared.account.Account.{Account}
 use Rattle.hh_names.specs.Accounts.{account_cmp, bytes_cmp}
 use Rattle.hh_rows.specs.declared.settings.Settings.{Settings}
 use Rattle.hh_rows.specs.declared.settlement_period.SettlementPeriod.{SettlementPeriod}
@@ -17,26 +16,12 @@ use Rattle.hh_calc.specs.Terms.{Settled}
 use Rattle.hh_runs.specs.declared.summary.Summary.{Summary}
 use Rattle.hh_runs.specs.DayNets.{DayNets}
 use Rattle.hh_store.specs.declared.file_key.FileKey.{FileKey}
-use Rattle.hh_store.specs.Runs.{Run, RunKey, postings_after, run_key_cmp, settled_by, summary_after, with_former}
+use Rattle.hh_store.specs.declared.run_keys.CreditKey.{CreditKey}
+use Rattle.hh_store.specs.declared.run_keys.PostingKey.{PostingKey}
+use Rattle.hh_store.specs.declared.run_keys.ResultKey.{ResultKey}
+use Rattle.hh_store.specs.declared.run_keys.RunKey.{RunKey}
+use Rattle.hh_store.specs.Runs.{Run, postings_after, run_key_cmp, settled_by, summary_after, with_former}
 use Rattle.hh_store.specs.States.{AcceptedFile, State, file_key_cmp, office_timetable}
-
--- an account in a period of a run
-pub record ResultKey : Type 0 where
-  pub run : RunKey
-  pub period : ℕ
-  pub account : Account
-
--- an account that is credited from a unit in a period of a run
-pub record CreditKey : Type 0 where
-  pub run : RunKey
-  pub period : ℕ
-  pub unit : List ℕ
-  pub account : Account
-
--- an account to which a run posts
-pub record PostingKey : Type 0 where
-  pub run : RunKey
-  pub account : Account
 
 -- results in the order of their runs, then of their periods, then of their accounts
 abbrev pub result_key_cmp : ResultKey → ResultKey → Ordering

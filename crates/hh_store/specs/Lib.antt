@@ -2,6 +2,7 @@ pub mod Changes
 pub mod Content
 pub mod DaySettlement
 pub mod KeptContracts
+pub mod KeptRuns
 pub mod KeptTables
 pub mod Parts
 pub mod PeriodSettlement

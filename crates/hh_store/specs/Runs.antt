@@ -10,17 +10,12 @@ use Rattle.hh_rows.specs.declared.settlement_period.SettlementPeriod.{Settlement
 use Rattle.hh_rules.specs.History.{History, Registered, registered_in}
 use Rattle.hh_rules.specs.Lateness.{Timetable}
 use Rattle.hh_calc.specs.Terms.{Settled}
-use Rattle.hh_runs.specs.declared.run_kind.RunKind.{RunKind}
 use Rattle.hh_runs.specs.declared.summary.Summary.{Summary}
 use Rattle.hh_runs.specs.DayNets.{DayNets, differences}
 use Rattle.hh_runs.specs.RunKinds.{run_kind_cmp}
+use Rattle.hh_store.specs.declared.run_keys.RunKey.{RunKey}
 use Rattle.hh_store.specs.DaySettlement.{day_nets, periods_on, settled_day}
 use Rattle.hh_store.specs.PeriodSettlement.{accounts_on}
-
--- the date that a run settles, and its kind
-pub record RunKey : Type 0 where
-  pub date : ℕ
-  pub kind : RunKind
 
 -- runs in the order of their dates, then of their kinds
 abbrev pub run_key_cmp : RunKey → RunKey → Ordering

@@ -17,10 +17,11 @@ use Rattle.hh_rules.specs.Lateness.{Timetable}
 use Rattle.hh_runs.specs.declared.run_kind.RunKind.{RunKind}
 use Rattle.hh_runs.specs.declared.summary.Summary.{Summary}
 use Rattle.hh_runs.specs.NextRun.{order_refusals}
+use Rattle.hh_store.specs.declared.run_keys.RunKey.{RunKey}
 use Rattle.hh_store.specs.declared.file_key.FileKey.{FileKey}
 use Rattle.hh_store.specs.Content.{all_summaries}
 use Rattle.hh_store.specs.DaySettlement.{missing_meter, missing_price, periods_on, too_large}
-use Rattle.hh_store.specs.Runs.{Run, RunKey, latest_run, run_key_cmp, runs_of_date, summary_after}
+use Rattle.hh_store.specs.Runs.{Run, latest_run, run_key_cmp, runs_of_date, summary_after}
 use Rattle.hh_store.specs.States.{AcceptedFile, State, empty_state, file_key_cmp, office_timetable}
 
 -- a file that comes at a moment: the kind and name that it comes under, its bytes, and the rows that they read as

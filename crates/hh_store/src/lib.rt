@@ -7,9 +7,12 @@ mod file_key;
 mod kept_contracts;
 mod kept_file;
 mod kept_register;
+mod kept_runs;
 mod load_change;
 mod part;
 mod plain_tables;
+mod run_change;
+mod run_keys;
 mod store_fault;
 mod tables;
 
@@ -18,8 +21,12 @@ pub use file_key::FileKey;
 pub use kept_file::KeptFile;
 pub use load_change::LoadChange;
 pub use plain_tables::PlainTables;
+pub use run_change::RunChange;
+pub use run_keys::{CreditKey, PostingKey, ResultKey, RunKey};
 pub use store_fault::StoreFault;
 pub use tables::Tables;
 
+#[cfg(test)]
+mod run_tests;
 #[cfg(test)]
 mod tests;

@@ -3,27 +3,33 @@
 ghost use Rattle.std.specs.Prelude.{◌≡◌, IfErr, IfOk, IsOk, OnErr, OnOk};
 ghost use Rattle.hh_time.specs.Days.{Midnights};
 ghost use Rattle.hh_rules.specs.RegisterView.{ServesFor};
-ghost use Rattle.hh_store.specs.Changes.{IsLoadFrom, effect_of_load};
+ghost use Rattle.hh_store.specs.Changes.{IsLoadFrom, IsRunFrom, effect_of_load, effect_of_run};
 ghost use Rattle.hh_store.specs.Content.{empty_content, tables_of};
-ghost use Rattle.hh_store.specs.Reads.{contracts_in, file_in, is_key_known, party_in, reference_in, unit_in, whole_register};
+ghost use Rattle.hh_store.specs.Reads.{contracts_in, file_in, is_key_known, party_in, postings_in, reference_in, results_in, runs_in, unit_in, whole_register};
 ghost use Rattle.hh_store.specs.Soundness.{AreSound};
 ghost use Rattle.hh_store.specs.States.{empty_state};
 
 use crate::file_key::FileKey;
 use crate::kept_file::KeptFile;
 use crate::kept_register::KeptRegister;
+use crate::kept_runs::KeptRuns;
 use crate::load_change::LoadChange;
+use crate::run_change::RunChange;
+use crate::run_keys::RunKey;
 use crate::store_fault::StoreFault;
 use crate::tables::Tables;
-use hh_names::{Account, Counterparties, FileName, PartyId, Reference, UnitId};
+use hh_calc::AccountRow;
+use hh_names::{Account, Counterparties, FileName, PartyId, PeriodNumber, Reference, UnitId};
+use hh_num::Pence;
 use hh_rows::{ContractRow, FileKind, PartyRegistration, Row, Settings, UnitRegistration};
 use hh_rules::Register;
+use hh_runs::{RunKind, Summary};
 use hh_tables::ListTable;
 use hh_time::SettlementDate;
 use std::alloc::Global;
 use std::marker::Model;
 
-/// The tables of an office, kept as lists in memory. They hold no runs yet. To read the settings, a
+/// The tables of an office, kept as lists in memory. To read the settings, a
 /// party, a unit, a reference or a key never fails. The other calls fail only where memory is refused,
 /// `register` where what is registered and in force is sound.
 #[derive(Drop)]
@@ -32,10 +38,10 @@ pub struct PlainTables {
     settings: Settings,
     register: KeptRegister,
     files: ListTable<FileKey, KeptFile>,
+    runs: KeptRuns,
 }
 
 impl Model for PlainTables {
-    ghost use Rattle.std.specs.Prelude.{[]};
     ghost use Rattle.hh_store.specs.Content.{Content};
 
     ghost Value = { Content };
@@ -44,10 +50,10 @@ impl Model for PlainTables {
       settings = t.settings;
       registered = t.register;
       files = t.files;
-      runs = [];
-      results = [];
-      credits = [];
-      postings = [];
+      runs = t.runs.runs;
+      results = t.runs.results;
+      credits = t.runs.credits;
+      postings = t.runs.postings;
     } };
 }
 
@@ -63,6 +69,7 @@ impl PlainTables {
             settings,
             register: KeptRegister::new(alloc),
             files: ListTable::new(alloc),
+            runs: KeptRuns::new(alloc),
         }
     }
 }
@@ -144,6 +151,30 @@ impl Tables for PlainTables {
         Ok(self.register.contracts(self.alloc, account, date)?)
     }
 
+    fn runs(&mut self, date: SettlementDate) -> Result<Vec<(RunKind, Summary)>, StoreFault>
+        ensures value { IfOk result (λ runs. runs.items ≡ runs_in self.old date) }
+        ensures memory_alone { IfErr result (λ fault. fault ≡ StoreFault.Memory) }
+        ensures same { self.new ≡ self.old }
+    {
+        Ok(self.runs.runs_on(self.alloc, date)?)
+    }
+
+    fn results(&mut self, run: &RunKey) -> Result<Vec<(PeriodNumber, AccountRow)>, StoreFault>
+        ensures value { IfOk result (λ rows. rows.items ≡ results_in self.old run.now) }
+        ensures memory_alone { IfErr result (λ fault. fault ≡ StoreFault.Memory) }
+        ensures same { self.new ≡ self.old }
+    {
+        Ok(self.runs.results_of(self.alloc, run)?)
+    }
+
+    fn postings(&mut self, account: &Account) -> Result<Vec<(RunKey, Pence)>, StoreFault>
+        ensures value { IfOk result (λ rows. rows.items ≡ postings_in self.old account.now) }
+        ensures memory_alone { IfErr result (λ fault. fault ≡ StoreFault.Memory) }
+        ensures same { self.new ≡ self.old }
+    {
+        Ok(self.runs.postings_to(self.alloc, account)?)
+    }
+
     fn apply_load(&mut self, change: LoadChange) -> Result<(), StoreFault>
         ensures ok { (midnight : Midnights) → IsLoadFrom midnight self.old change
             → OnOk result (self.new ≡ effect_of_load change self.old) }
@@ -153,6 +184,16 @@ impl Tables for PlainTables {
         let changed = self.register.changed_by(self.alloc, &change)?;
         self.files.put_row(change.key(), change.into_file())?;
         self.register.take_over(changed);
+        Ok(())
+    }
+
+    fn apply_run(&mut self, change: RunChange) -> Result<(), StoreFault>
+        ensures ok { (midnight : Midnights) → IsRunFrom midnight self.old change
+            → OnOk result (self.new ≡ effect_of_run change self.old) }
+        ensures err { OnErr result (self.new ≡ self.old) }
+        ensures memory_alone { IfErr result (λ fault. fault ≡ StoreFault.Memory) }
+    {
+        self.runs.put(self.alloc, change)?;
         Ok(())
     }
 }

@@ -3,16 +3,21 @@
 ghost use Rattle.std.specs.Prelude.{◌≡◌, IfOk, OnOk, OnErr};
 ghost use Rattle.hh_time.specs.Days.{Midnights};
 ghost use Rattle.hh_rules.specs.RegisterView.{ServesFor};
-ghost use Rattle.hh_store.specs.Changes.{IsLoadFrom, effect_of_load};
+ghost use Rattle.hh_store.specs.Changes.{IsLoadFrom, IsRunFrom, effect_of_load, effect_of_run};
 ghost use Rattle.hh_store.specs.Content.{Content};
-ghost use Rattle.hh_store.specs.Reads.{contracts_in, file_in, is_key_known, party_in, reference_in, unit_in, whole_register};
+ghost use Rattle.hh_store.specs.Reads.{contracts_in, file_in, is_key_known, party_in, postings_in, reference_in, results_in, runs_in, unit_in, whole_register};
 
 use crate::kept_file::KeptFile;
 use crate::load_change::LoadChange;
+use crate::run_change::RunChange;
+use crate::run_keys::RunKey;
 use crate::store_fault::StoreFault;
-use hh_names::{Account, Counterparties, FileName, PartyId, Reference, UnitId};
+use hh_calc::AccountRow;
+use hh_names::{Account, Counterparties, FileName, PartyId, PeriodNumber, Reference, UnitId};
+use hh_num::Pence;
 use hh_rows::{ContractRow, FileKind, PartyRegistration, Row, Settings, UnitRegistration};
 use hh_rules::Register;
+use hh_runs::{RunKind, Summary};
 use hh_time::SettlementDate;
 
 /// The tables of an office. A call that reads leaves them as they are, and so does one that fails.
@@ -71,10 +76,34 @@ pub trait Tables {
             rows.items ≡ contracts_in (content self.old) account.now date) }
         ensures same { content self.new ≡ content self.old };
 
+    /// The runs of a date with their summaries, in the order of their kinds (profile).
+    fn runs(&mut self, date: SettlementDate) -> Result<Vec<(RunKind, Summary)>, StoreFault>
+        ensures value { IfOk result (λ runs. runs.items ≡ runs_in (content self.old) date) }
+        ensures same { content self.new ≡ content self.old };
+
+    /// The rows of a run's accounts, by Settlement Period, then by account; none where the run is not
+    /// there (profile).
+    fn results(&mut self, run: &RunKey) -> Result<Vec<(PeriodNumber, AccountRow)>, StoreFault>
+        ensures value { IfOk result (λ rows. rows.items ≡ results_in (content self.old) run.now) }
+        ensures same { content self.new ≡ content self.old };
+
+    /// What the runs have posted to an account, in pence, in the order of the runs (profile).
+    fn postings(&mut self, account: &Account) -> Result<Vec<(RunKey, Pence)>, StoreFault>
+        ensures value { IfOk result (λ rows.
+            rows.items ≡ postings_in (content self.old) account.now) }
+        ensures same { content self.new ≡ content self.old };
+
     /// Writes what an accepted file changes, whole or not at all. Of a change that the machine does
     /// not make, no more is promised than that a failure leaves the tables as they were (profile).
     fn apply_load(&mut self, change: LoadChange) -> Result<(), StoreFault>
         ensures ok { (midnight : Midnights) → IsLoadFrom midnight (content self.old) change
             → OnOk result (content self.new ≡ effect_of_load change (content self.old)) }
+        ensures err { OnErr result (content self.new ≡ content self.old) };
+
+    /// Writes what a new run changes, whole or not at all. Of a change that the machine does not make,
+    /// no more is promised than that a failure leaves the tables as they were (profile).
+    fn apply_run(&mut self, change: RunChange) -> Result<(), StoreFault>
+        ensures ok { (midnight : Midnights) → IsRunFrom midnight (content self.old) change
+            → OnOk result (content self.new ≡ effect_of_run change (content self.old)) }
         ensures err { OnErr result (content self.new ≡ content self.old) };
 }

@@ -1,0 +1,117 @@
+//! What a new run changes in the tables.
+
+ghost use Rattle.std.specs.Prelude.{◌≡◌};
+
+use crate::run_keys::{CreditKey, PostingKey, ResultKey, RunKey};
+use hh_calc::AccountRow;
+use hh_num::{Pence, Ticks};
+use hh_runs::Summary;
+use std::marker::Model;
+
+/// What is written into the tables for a new run (profile): its summary, the rows of its accounts, its
+/// credits and its postings, each under its key.
+#[derive(Debug, Drop)]
+pub struct RunChange {
+    key: RunKey,
+    summary: Summary,
+    results: Vec<(ResultKey, AccountRow)>,
+    credits: Vec<(CreditKey, Ticks)>,
+    postings: Vec<(PostingKey, Pence)>,
+}
+
+impl Model for RunChange {
+    ghost use Rattle.hh_store.specs.Changes.{RunWrites};
+
+    ghost Value = { RunWrites };
+
+    ghost view = { λ c. record {
+      key = c.key;
+      summary = c.summary;
+      results = c.results.items;
+      credits = c.credits.items;
+      postings = c.postings.items;
+    } };
+}
+
+impl RunChange {
+    /// What is written for a run of this date and kind with this summary and these rows.
+    pub fn new(
+        key: RunKey,
+        summary: Summary,
+        results: Vec<(ResultKey, AccountRow)>,
+        credits: Vec<(CreditKey, Ticks)>,
+        postings: Vec<(PostingKey, Pence)>,
+    ) -> RunChange
+        ensures { result ≡ record {
+          key = key;
+          summary = summary;
+          results = results.items;
+          credits = credits.items;
+          postings = postings.items;
+        } }
+    {
+        RunChange {
+            key,
+            summary,
+            results,
+            credits,
+            postings,
+        }
+    }
+
+    /// The run's date and kind.
+    pub fn key(&self) -> RunKey
+        ensures { result ≡ self.now.key }
+    {
+        self.key
+    }
+
+    /// The run's summary.
+    pub fn summary(&self) -> Summary
+        ensures { result ≡ self.now.summary }
+    {
+        self.summary
+    }
+
+    /// The rows of the run's accounts, by Settlement Period, then by account.
+    pub fn results(&self) -> &[(ResultKey, AccountRow)]
+        ensures { result.now ≡ self.now.results }
+    {
+        &self.results
+    }
+
+    /// The run's credits, by Settlement Period, then by unit, then by account: energy in ticks.
+    pub fn credits(&self) -> &[(CreditKey, Ticks)]
+        ensures { result.now ≡ self.now.credits }
+    {
+        &self.credits
+    }
+
+    /// The run's postings, by account, in pence.
+    pub fn postings(&self) -> &[(PostingKey, Pence)]
+        ensures { result.now ≡ self.now.postings }
+    {
+        &self.postings
+    }
+
+    /// The rows of the run's accounts, its credits and its postings.
+    pub(crate) fn into_rows(self) -> RunRows
+        ensures results { result.results.items ≡ self.results }
+        ensures credits { result.credits.items ≡ self.credits }
+        ensures postings { result.postings.items ≡ self.postings }
+    {
+        RunRows {
+            results: self.results,
+            credits: self.credits,
+            postings: self.postings,
+        }
+    }
+}
+
+/// The rows of a run, but for its summary.
+#[derive(Drop)]
+pub(crate) struct RunRows {
+    pub(crate) results: Vec<(ResultKey, AccountRow)>,
+    pub(crate) credits: Vec<(CreditKey, Ticks)>,
+    pub(crate) postings: Vec<(PostingKey, Pence)>,
+}
