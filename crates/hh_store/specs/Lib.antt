@@ -11,3 +11,4 @@ pub mod Soundness
 pub mod States
 pub mod Steps
 pub mod StoreFaults
+pub mod Sums

@@ -13,7 +13,10 @@ mod plain_tables;
 mod store_fault;
 mod tables;
 
-pub use effects::{kept_files, load_effect, run_effect};
+pub use effects::{
+    each_period_settled, kept_files, load_effect, nets_are_day_nets, postings_total, run_effect,
+    run_postings_balance, settled_adds_up,
+};
 pub use file_key::FileKey;
 pub use kept_file::KeptFile;
 pub use load_change::LoadChange;
