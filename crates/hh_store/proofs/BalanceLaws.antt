@@ -29,7 +29,7 @@ use Rattle.hh_store.specs.PeriodSettlement.{account_rows, settled, terms_at}
 use Rattle.hh_store.specs.Runs.{Run, RunKey, accounts_of, nets_of, postings_after, run_key_cmp, seen_by, settled_by}
 use Rattle.hh_store.specs.States.{State}
 use Rattle.hh_store.specs.Steps.{timetable_at}
-use Rattle.hh_store.specs.Sums.{NetsAreDayNets, RunPostingsSumToZero}
+use Rattle.hh_store.specs.Sums.{DayNetsAreSums, RunPostingsSumToZero}
 use Rattle.hh_store.proofs.AmountLaws.{in_key_order_moves, tied_absent, total_at}
 use Rattle.hh_store.proofs.ApartLaws.{NoneAlike, all-filter, all-weaken, distinct-map, have_one_key}
 use Rattle.hh_store.proofs.KeyLaws.{posting_key_total}
@@ -74,9 +74,11 @@ period_nets_sum p distinct =
 
 module _ (timetable : Timetable) (history : History) where
   module _ (run : Run) where
+    -- what was registered and in force when the run was ordered
     abbrev seen : Registered
     seen = seen_by timetable history run
 
+    -- a Settlement Period of the run's date
     abbrev period_at : ℕ → SettlementPeriod
     period_at n = record { date = run.key.date; period = n }
 
@@ -140,6 +142,7 @@ module _ {K : Type 0} {R : K → K → Ordering} (o : IsTotalOrder R) where
         | false ↦ λ apart. +ℤ_idl (cond (is_some (find R q es)) z (pos 0))
       ] refl
 
+  -- so do amounts whose keys are all there
   all_count : (es fs : List (K × ℤ)) → NoneAlike (have_one_key R) fs → AllByRecursion (λ e. is_some (find R e.0 fs) ≡ true) es
       → total (λ e. total (λ f. cond (eq_by_cmp R e.0 f.0) e.1 (pos 0)) fs) es ≡ total (λ e. e.1) es
   all_count [] fs distinct among = refl
@@ -154,6 +157,7 @@ module _ {K : Type 0} {R : K → K → Ordering} (o : IsTotalOrder R) where
       ∙ total-swap (λ (f e : K × ℤ). cond (eq_by_cmp R e.0 f.0) e.1 (pos 0)) fs es
       ∙ all_count es fs other_distinct among
 
+  -- a key that is found is found with one more entry in front
   found-cons : (q : K) (e : K × ℤ) (es : List (K × ℤ)) → is_some (find R q es) ≡ true → is_some (find R q (e ∷ es)) ≡ true
   found-cons q e es there = elim (eq_by_cmp R q e.0) as (λ b. is_some (cond b (Some e.1) (find R q es)) ≡ true) [ true ↦ refl | false ↦ there ]
 
@@ -175,11 +179,13 @@ module _ (old new : DayNets) (old_distinct : NoneAlike (have_one_key account_cmp
   abbrev every : DayNets
   every = in_key_order account_cmp (changes old new)
 
+  -- an account of either day has a change
   has_change : (a : Account) → is_some (find account_cmp a (new ++ old)) ≡ true → is_some (find account_cmp a every) ≡ true
   has_change a there =
       ap is_some (find-in_key_order account_total (changes old new) a ∙ found_change old new a (new ++ old))
       ∙ ap (λ b. is_some (cond b (Some (net_change old new a)) None)) there
 
+  -- so have all of them
   have_changes : AllByRecursion (λ e. is_some (find account_cmp e.0 every) ≡ true) (new ++ old)
   have_changes =
       all-weaken (λ e. is_some (find account_cmp e.0 (new ++ old)) ≡ true) (λ e. is_some (find account_cmp e.0 every) ≡ true) (λ e. has_change e.0)
@@ -212,6 +218,7 @@ module _ (timetable : Timetable) (s : State) (key : RunKey) where
         | false ↦ total-zero nets
       ]
 
+  -- so does what all runs post
   all_runs_balance : (pairs : List (Option Run × Run)) → total (λ r. total amount (posting_entries r.1.key (postings_after timetable s.history r.0 r.1))) pairs ≡ pos 0
   all_runs_balance [] = refl
   all_runs_balance (r ∷ pairs) = λ i. one_run_balances r i +ℤ all_runs_balance pairs i
@@ -225,6 +232,6 @@ run_postings_sum_to_zero midnight s key reached =
     ∙ total-flat_map (amount timetable s key) (λ (r : Option Run × Run). posting_entries r.1.key (postings_after timetable s.history r.0 r.1)) (runs_with_former s)
     ∙ all_runs_balance timetable s key (runs_with_former s)
 
--- the day net of an account in a run is what it pays in all the run's periods
-pub nets_are_day_nets : NetsAreDayNets
-nets_are_day_nets = run_net
+-- the day net of an account in a run is the sum of what it pays in the run's periods
+pub day_nets_are_sums : DayNetsAreSums
+day_nets_are_sums = run_net

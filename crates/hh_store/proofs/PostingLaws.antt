@@ -105,22 +105,25 @@ latest_run-append date (x ∷ runs) r =
     ∙ later_first (x.key.date == date) (r.key.date == date) (latest_run date runs)
     ∙ ap (cond (r.key.date == date) (Some r)) (sym (latest_run-cons date x runs))
   where
+    -- which of the two tests comes first makes no difference
     later_first : (b c : Bool) (o : Option Run) → cond b (option_or (cond c (Some r) o) (Some x)) (cond c (Some r) o) ≡ cond c (Some r) (cond b (option_or o (Some x)) o)
     later_first true true o = refl
     later_first false true o = refl
     later_first b false o = refl
 
--- how a run takes the place of the latest of its date in a sum: there was none, there was one, it is of another date
+-- a run takes the place of the latest of its date in a sum, the run before it being the only one of the date
 behind_none : (a b c : ℤ) → pos 0 +ℤ ((b -ℤ pos 0) +ℤ c) ≡ ((a +ℤ b) -ℤ a) +ℤ c
 behind_none a b c = omega (arith, ints)
 
+-- the same, with another run of the date between them
 behind_one : (a b c : ℤ) → pos 0 +ℤ ((b -ℤ a) +ℤ c) ≡ ((pos 0 +ℤ b) -ℤ a) +ℤ c
 behind_one a b c = omega (arith, ints)
 
+-- the same, the run before it being of another date
 other_date : (a b c d : ℤ) → a +ℤ ((b -ℤ c) +ℤ d) ≡ ((a +ℤ b) -ℤ c) +ℤ d
 other_date a b c d = omega (arith, ints)
 
--- and how such steps come together
+-- what is posted for a run is by how much the sum changes
 one_step : (a b before after : ℤ) → (a -ℤ b) +ℤ (after -ℤ ((before -ℤ b) +ℤ a)) ≡ after -ℤ before
 one_step a b before after = omega (arith, ints)
 
@@ -215,6 +218,7 @@ all-with_former : (P : Run → Type 0) (earlier runs : List Run) → AllByRecurs
 all-with_former P earlier [] h = tt
 all-with_former P earlier (r ∷ runs) h = (h.0, all-with_former P (earlier ++ r ∷ []) runs h.1)
 
+-- so no two of them are of one run key either
 distinct-with_former : (earlier runs : List Run) → NoneAlike have_one_run_key runs → NoneAlike (λ x y. have_one_run_key x.1 y.1) (with_former earlier runs)
 distinct-with_former earlier [] h = tt
 distinct-with_former earlier (r ∷ runs) h =
@@ -230,6 +234,7 @@ all_postings_distinct midnight s reached =
     (each timetable (runs_with_former s))
     (distinct-with_former [] s.runs (runs_distinct midnight s reached))
   where
+    -- of each run by itself
     each : (timetable : Timetable) (pairs : List (Option Run × Run)) → AllByRecursion (λ r. NoneAlike (have_one_key posting_key_cmp) (posting_entries r.1.key (postings_after timetable s.history r.0 r.1))) pairs
     each timetable [] = tt
     each timetable (r ∷ pairs) = (postings_distinct r.1.key (nets_of timetable s.history r.0) (nets_of timetable s.history (Some r.1)), each timetable pairs)

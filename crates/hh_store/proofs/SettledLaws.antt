@@ -84,17 +84,20 @@ abbrev have_one_place : CreditRow → CreditRow → Bool
 have_one_place c d = eq_by_cmp unit_account_cmp (c.unit, c.account) (d.unit, d.account)
 
 module _ (u : BmUnit) where
+  -- the credit to a subsidiary
   abbrev to_subsidiary : Subsidiary → CreditRow
   to_subsidiary s = record { unit = u.unit; account = s.account; credited = subsidiary_credit u s }
 
+  -- the credit to the lead account
   abbrev to_lead : CreditRow
   to_lead = record { unit = u.unit; account = u.lead; credited = lead_credit u }
 
-  -- the credits from a unit are from it
+  -- the credits to subsidiaries are from their unit
   all_own : (subsidiaries : List Subsidiary) → AllByRecursion (λ c. c.unit ≡ u.unit) (map to_subsidiary subsidiaries)
   all_own [] = tt
   all_own (s ∷ subsidiaries) = (refl, all_own subsidiaries)
 
+  -- and so are all credits from it
   own_credits : AllByRecursion (λ c. c.unit ≡ u.unit) (unit_credits u)
   own_credits = all-append (λ c. c.unit ≡ u.unit) (map to_subsidiary u.subsidiaries) (to_lead ∷ []) (all_own u.subsidiaries) (refl, tt)
 
@@ -102,6 +105,7 @@ module _ (u : BmUnit) where
   other_place : (a b : Account) → a ≢ b → eq_by_cmp unit_account_cmp (u.unit, a) (u.unit, b) ≡ false
   other_place a b apart = second_part (bytes_cmp u.unit u.unit) (account_cmp a b) (told_apart exact_accounts a b apart)
 
+  -- no two credits from a unit that credits no account twice are alike
   unit_credits_distinct : CreditsEachOnce u → NoneAlike have_one_place (unit_credits u)
   unit_credits_distinct once =
       distinct-append have_one_place (map to_subsidiary u.subsidiaries) (to_lead ∷ [])
@@ -112,7 +116,7 @@ module _ (u : BmUnit) where
       (recursion_from_All (λ s. AllByRecursion (λ d. have_one_place (to_subsidiary s) d ≡ false) (to_lead ∷ [])) u.subsidiaries
       (All-weaker (λ s. s.account ≢ u.lead) (λ s. AllByRecursion (λ d. have_one_place (to_subsidiary s) d ≡ false) (to_lead ∷ [])) (λ s apart. (other_place s.account u.lead apart, tt)) u.subsidiaries once.1)))
 
--- so no two credits of a period are alike
+-- no two credits of a period are alike
 period_credits_distinct : (p : PeriodTerms) → AllPairs (λ u v. u.unit ≢ v.unit) p.units → All CreditsEachOnce p.units → NoneAlike have_one_place (credits_of p.units)
 period_credits_distinct p distinct once =
     distinct_blocks (eq_by_cmp bytes_cmp) have_one_place (λ (u : BmUnit). u.unit) (λ (c : CreditRow). c.unit)
@@ -121,12 +125,15 @@ period_credits_distinct p distinct once =
     (recursion_from_All (λ u. NoneAlike have_one_place (unit_credits u)) p.units (All-weaker CreditsEachOnce (λ u. NoneAlike have_one_place (unit_credits u)) unit_credits_distinct p.units once))
     (told_apart_all (λ u v. eq_by_cmp bytes_cmp u.unit v.unit) (λ u v. u.unit ≢ v.unit) (λ u v apart. told_apart exact_bytes u.unit v.unit apart) p.units distinct)
 
+-- a credit by its unit and account
 abbrev keyed_credit : CreditRow → UnitAccount × ℤ
 keyed_credit c = ((c.unit, c.account), c.credited)
 
+-- the credit that stands under a unit and an account
 abbrev credit_under : UnitAccount × ℤ → CreditRow
 credit_under e = record { unit = e.0.0; account = e.0.1; credited = e.1 }
 
+-- by their units and accounts credits stay the same
 back_from_keys : (credits : List CreditRow) → map credit_under (keyed_credits credits) ≡ credits
 back_from_keys [] = refl
 back_from_keys (c ∷ credits) = ap (λ t. c ∷ t) (back_from_keys credits)

@@ -1,5 +1,4 @@
--- What the postings of runs come to: for each account its day nets in the latest runs of all dates. And that a settled period
--- is what its definition says.
+-- What the postings of runs come to, for an account and for a run; and what a settled period holds and adds up to.
 use Rattle.std.specs.Prelude.{◌≡◌, ◌≢◌, ℤ, pos, List, [], ◌∷◌, All, AllPairs, is_some, if◌then◌else◌, Some}
 use Rattle.std.specs.Ordering.{eq_by_cmp}
 use Rattle.hh_num.specs.Totals.{total}
@@ -44,21 +43,6 @@ abbrev pub PostingsTotal : Type 0
 PostingsTotal = (midnight : Midnights) (s : State) (a : Account) → IsReached midnight s
     → posted_to a (tables_of midnight s).postings ≡ moved (timetable_at midnight s) s a
 
--- no account is credited twice from a unit: its subsidiaries' accounts differ from each other and from its lead
-abbrev pub CreditsEachOnce : BmUnit → Type 0
-CreditsEachOnce u = AllPairs (λ s t. s.account ≢ t.account) u.subsidiaries × All (λ s. s.account ≢ u.lead) u.subsidiaries
-
--- a settled period is what a period comes to, where no unit stands twice and none credits an account twice
-abbrev pub SettlesEachPeriod : Type 0
-SettlesEachPeriod =
-    (p : PeriodTerms) → AreUnitsDistinct p → All CreditsEachOnce p.units → IsSettled p (settled p)
-
--- so it adds up, where besides the accounts are in order and each that has a part in the period is among them
-abbrev pub SettledAddsUp : Type 0
-SettledAddsUp =
-    (p : PeriodTerms) → AreInOrder p → AreNamed p → AreUnitsDistinct p → All CreditsEachOnce p.units
-    → AddsUp p (settled p)
-
 -- what the postings of a run come to
 abbrev pub posted_by : RunKey → Table PostingKey ℤ → ℤ
 posted_by run postings = total (λ e. if eq_by_cmp run_key_cmp e.0.run run then e.1 else pos 0) postings
@@ -68,8 +52,23 @@ abbrev pub RunPostingsSumToZero : Type 0
 RunPostingsSumToZero = (midnight : Midnights) (s : State) (run : RunKey) → IsReached midnight s
     → posted_by run (tables_of midnight s).postings ≡ pos 0
 
--- the day net of an account in a run is what it pays in all the Settlement Periods that the run settles
-abbrev pub NetsAreDayNets : Type 0
-NetsAreDayNets =
+-- the day net of an account in a run is the sum of what it pays in the Settlement Periods that the run settles
+abbrev pub DayNetsAreSums : Type 0
+DayNetsAreSums =
     (timetable : Timetable) (history : History) (run : Run) (a : Account)
     → day_net_of (nets_of timetable history (Some run)) a ≡ day_net (settled_by timetable history run) a
+
+-- no account is credited twice from a unit: its subsidiaries' accounts differ from each other and from its lead
+abbrev pub CreditsEachOnce : BmUnit → Type 0
+CreditsEachOnce u = AllPairs (λ s t. s.account ≢ t.account) u.subsidiaries × All (λ s. s.account ≢ u.lead) u.subsidiaries
+
+-- what is settled holds what a settled period is to hold, where no unit stands twice and none credits an account twice
+abbrev pub SettlesEachPeriod : Type 0
+SettlesEachPeriod =
+    (p : PeriodTerms) → AreUnitsDistinct p → All CreditsEachOnce p.units → IsSettled p (settled p)
+
+-- so it adds up, where besides the accounts are in order, with each lead, subsidiary, seller and buyer among them
+abbrev pub SettledAddsUp : Type 0
+SettledAddsUp =
+    (p : PeriodTerms) → AreInOrder p → AreNamed p → AreUnitsDistinct p → All CreditsEachOnce p.units
+    → AddsUp p (settled p)

@@ -1,10 +1,10 @@
-//! That what is written for a load and for a run makes the tables those of the machine, and that the
-//! files in the tables are those that were accepted.
+//! That what is written for a load and for a run makes the tables those of the machine, that the
+//! files in the tables are those that were accepted, and what postings and settled periods come to.
 
 ghost use Rattle.hh_store.specs.Changes.{LoadEffect, RunEffect};
 ghost use Rattle.hh_store.specs.Reads.{HoldsFiles};
 ghost use Rattle.hh_store.specs.Sums.{
-    NetsAreDayNets, PostingsTotal, RunPostingsSumToZero, SettledAddsUp, SettlesEachPeriod,
+    DayNetsAreSums, PostingsTotal, RunPostingsSumToZero, SettledAddsUp, SettlesEachPeriod,
 };
 
 /// That what is written for an accepted file makes the tables those of the machine after it: in each
@@ -36,17 +36,17 @@ pub fn postings_total()
     ensures { PostingsTotal }
 {}
 
-/// That a settled period is what a period comes to: its rows show the figures and the shares of the
-/// accounts, its credits are those of the units in order, and its residual is the period's; where no
-/// unit stands twice and none credits an account twice (profile).
+/// That what is settled of a period holds what a settled period is to hold: its rows show the
+/// figures and the shares of the accounts, its credits are those of the units in order, and its
+/// residual is the period's; where no unit stands twice and none credits an account twice (profile).
 #[tactic(auto, using(crate::proofs::SettledLaws::is_settled))]
 pub fn each_period_settled()
     ensures { SettlesEachPeriod }
 {}
 
-/// That a settled period adds up: contracts to zero, the credits from each unit to its loss-adjusted
-/// volume, charges and shares together to zero; where besides the accounts are in order and each lead,
-/// subsidiary, seller and buyer is one of them (profile).
+/// That what is settled of a period adds up: contracts to zero, the credits from each unit to its
+/// loss-adjusted volume, charges and shares together to zero; where besides the accounts are in
+/// order and each lead, subsidiary, seller and buyer is one of them (profile).
 #[tactic(auto, using(crate::proofs::SettledLaws::settled_adds_up))]
 pub fn settled_adds_up()
     ensures { SettledAddsUp }
@@ -59,8 +59,8 @@ pub fn run_postings_balance()
     ensures { RunPostingsSumToZero }
 {}
 
-/// That the day net of an account in a run is what it pays in all the Settlement Periods that the run
-/// settles (profile).
-pub fn nets_are_day_nets()
-    ensures { NetsAreDayNets }
+/// That the day net of an account in a run is the sum of what it pays in the Settlement Periods that
+/// the run settles (profile).
+pub fn day_nets_are_sums()
+    ensures { DayNetsAreSums }
 {}

@@ -14,7 +14,7 @@ mod store_fault;
 mod tables;
 
 pub use effects::{
-    each_period_settled, kept_files, load_effect, nets_are_day_nets, postings_total, run_effect,
+    day_nets_are_sums, each_period_settled, kept_files, load_effect, postings_total, run_effect,
     run_postings_balance, settled_adds_up,
 };
 pub use file_key::FileKey;
