@@ -1,4 +1,6 @@
+mod AmountLaws
 mod ApartLaws
+pub mod BalanceLaws
 mod ContractLaws
 mod Examples
 pub mod KeyLaws
@@ -6,9 +8,11 @@ mod KeptLaws
 mod LoadLaws
 mod NamedLaws
 mod PartLaws
+pub mod PostingLaws
 pub mod ReachLaws
 pub mod ReadLaws
 pub mod RunLaws
 mod RunRowLaws
+pub mod SettledLaws
 mod SoundLaws
 mod UntilLaws

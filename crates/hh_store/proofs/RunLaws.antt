@@ -84,7 +84,8 @@ module _ (midnight : Midnights) (s : State) (key : RunKey) where
     others_with_former : AllByRecursion (λ r. eq_by_cmp run_key_cmp key r.1.key ≡ false) (runs_with_former s)
     others_with_former = all-before-map (λ (e : RunKey × Summary). eq_by_cmp run_key_cmp key e.0 ≡ false) summary_entry (runs_with_former s) (lacks run_key_cmp key (all_summaries timetable s) new)
 
-    others : AllByRecursion (λ r. eq_by_cmp run_key_cmp key r.key ≡ false) s.runs
+    -- a run that is not there has another key than each that is
+    pub others : AllByRecursion (λ r. eq_by_cmp run_key_cmp key r.key ≡ false) s.runs
     others = all_runs (λ r. eq_by_cmp run_key_cmp key r.key ≡ false) [] s.runs others_with_former
 
     results_new : AllByRecursion (λ f. Lacks result_key_cmp f.0 (all_results timetable s)) (results_of run)

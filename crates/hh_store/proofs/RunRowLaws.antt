@@ -76,12 +76,14 @@ accounts_distinct timetable history date =
     each_own (e ∷ es) = (((second_part (bytes_cmp e.0 e.0) Less refl, tt), (tt, tt)), each_own es)
 
 module _ (figures_at : Account → Figures) (same : (a : Account) → (figures_at a).account ≡ a) where
-  rows_all : (P : Account → Type 0) (accounts : List Account) (shares : List ℤ) → AllByRecursion P accounts → AllByRecursion (λ r. P r.account) (account_rows (map figures_at accounts) shares)
+  -- what holds of accounts holds of the accounts of their rows
+  pub rows_all : (P : Account → Type 0) (accounts : List Account) (shares : List ℤ) → AllByRecursion P accounts → AllByRecursion (λ r. P r.account) (account_rows (map figures_at accounts) shares)
   rows_all P [] shares h = tt
   rows_all P (a ∷ accounts) [] h = tt
   rows_all P (a ∷ accounts) (share ∷ shares) h = (subst P (sym (same a)) h.0, rows_all P accounts shares h.1)
 
-  rows_distinct : (accounts : List Account) (shares : List ℤ) → NoneAlike is_same_account accounts → NoneAlike (λ r s. is_same_account r.account s.account) (account_rows (map figures_at accounts) shares)
+  -- rows of different accounts are of different accounts
+  pub rows_distinct : (accounts : List Account) (shares : List ℤ) → NoneAlike is_same_account accounts → NoneAlike (λ r s. is_same_account r.account s.account) (account_rows (map figures_at accounts) shares)
   rows_distinct [] shares h = tt
   rows_distinct (a ∷ accounts) [] h = tt
   rows_distinct (a ∷ accounts) (share ∷ shares) h = (

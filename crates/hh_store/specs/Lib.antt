@@ -12,3 +12,4 @@ pub mod Soundness
 pub mod States
 pub mod Steps
 pub mod StoreFaults
+pub mod Sums

@@ -16,7 +16,10 @@ mod run_keys;
 mod store_fault;
 mod tables;
 
-pub use effects::{kept_files, load_effect, run_effect};
+pub use effects::{
+    day_nets_are_sums, each_period_settled, kept_files, load_effect, postings_total, run_effect,
+    run_postings_balance, settled_adds_up,
+};
 pub use file_key::FileKey;
 pub use kept_file::KeptFile;
 pub use load_change::LoadChange;

@@ -1,0 +1,74 @@
+-- What the postings of runs come to, for an account and for a run; and what a settled period holds and adds up to.
+use Rattle.std.specs.Prelude.{◌≡◌, ◌≢◌, ℤ, pos, List, [], ◌∷◌, All, AllPairs, is_some, if◌then◌else◌, Some}
+use Rattle.std.specs.Ordering.{eq_by_cmp}
+use Rattle.hh_num.specs.Totals.{total}
+use Rattle.hh_tables.specs.Tables.{Table}
+use Rattle.hh_time.specs.Days.{Midnights}
+use Rattle.hh_names.specs.declared.account.Account.{Account}
+use Rattle.hh_rules.specs.History.{History}
+use Rattle.hh_rules.specs.Lateness.{Timetable}
+use Rattle.hh_calc.specs.Formulas.{of_account}
+use Rattle.hh_calc.specs.Ready.{AreInOrder, AreNamed, AreUnitsDistinct}
+use Rattle.hh_calc.specs.Settled.{AddsUp, IsSettled}
+use Rattle.hh_calc.specs.Terms.{BmUnit, PeriodTerms}
+use Rattle.hh_runs.specs.DayNets.{day_net_of}
+use Rattle.hh_store.specs.Content.{PostingKey, runs_with_former, tables_of}
+use Rattle.hh_store.specs.DaySettlement.{day_net}
+use Rattle.hh_store.specs.PeriodSettlement.{settled}
+use Rattle.hh_store.specs.Runs.{Run, RunKey, latest_run, nets_of, postings_after, run_key_cmp, settled_by}
+use Rattle.hh_store.specs.States.{State}
+use Rattle.hh_store.specs.Steps.{IsReached, timetable_at}
+
+-- the runs of a list after which no run of their date stands
+abbrev pub latest_runs : List Run → List Run
+latest_runs [] = []
+latest_runs (run ∷ later) =
+    if is_some (latest_run run.key.date later) then latest_runs later else run ∷ latest_runs later
+
+module _ (timetable : Timetable) (s : State) where
+  -- what all runs of a state post to an account
+  abbrev pub posted : Account → ℤ
+  posted a = total (λ r. day_net_of (postings_after timetable s.history r.0 r.1) a) (runs_with_former s)
+
+  -- what the latest runs of all dates move to an account: its day nets in them
+  abbrev pub moved : Account → ℤ
+  moved a = total (λ run. day_net_of (nets_of timetable s.history (Some run)) a) (latest_runs s.runs)
+
+-- what postings come to for an account
+abbrev pub posted_to : Account → Table PostingKey ℤ → ℤ
+posted_to a postings = total (λ e. of_account a e.0.account e.1) postings
+
+-- the postings in the tables of a reached state come to what the latest runs of all dates move, for each account
+abbrev pub PostingsTotal : Type 0
+PostingsTotal = (midnight : Midnights) (s : State) (a : Account) → IsReached midnight s
+    → posted_to a (tables_of midnight s).postings ≡ moved (timetable_at midnight s) s a
+
+-- what the postings of a run come to
+abbrev pub posted_by : RunKey → Table PostingKey ℤ → ℤ
+posted_by run postings = total (λ e. if eq_by_cmp run_key_cmp e.0.run run then e.1 else pos 0) postings
+
+-- the postings of each run in the tables of a reached state come to zero
+abbrev pub RunPostingsSumToZero : Type 0
+RunPostingsSumToZero = (midnight : Midnights) (s : State) (run : RunKey) → IsReached midnight s
+    → posted_by run (tables_of midnight s).postings ≡ pos 0
+
+-- the day net of an account in a run is the sum of what it pays in the Settlement Periods that the run settles
+abbrev pub DayNetsAreSums : Type 0
+DayNetsAreSums =
+    (timetable : Timetable) (history : History) (run : Run) (a : Account)
+    → day_net_of (nets_of timetable history (Some run)) a ≡ day_net (settled_by timetable history run) a
+
+-- no account is credited twice from a unit: its subsidiaries' accounts differ from each other and from its lead
+abbrev pub CreditsEachOnce : BmUnit → Type 0
+CreditsEachOnce u = AllPairs (λ s t. s.account ≢ t.account) u.subsidiaries × All (λ s. s.account ≢ u.lead) u.subsidiaries
+
+-- what is settled holds what a settled period is to hold, where no unit stands twice and none credits an account twice
+abbrev pub SettlesEachPeriod : Type 0
+SettlesEachPeriod =
+    (p : PeriodTerms) → AreUnitsDistinct p → All CreditsEachOnce p.units → IsSettled p (settled p)
+
+-- so it adds up, where besides the accounts are in order, with each lead, subsidiary, seller and buyer among them
+abbrev pub SettledAddsUp : Type 0
+SettledAddsUp =
+    (p : PeriodTerms) → AreInOrder p → AreNamed p → AreUnitsDistinct p → All CreditsEachOnce p.units
+    → AddsUp p (settled p)
