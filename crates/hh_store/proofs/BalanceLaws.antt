@@ -23,10 +23,12 @@ use Rattle.hh_calc.specs.Formulas.{figures, residual_shares}
 use Rattle.hh_calc.specs.Terms.{PeriodTerms, Settled}
 use Rattle.hh_calc.proofs.SpreadLaws.{total-IsPermutation, total-flat_map}
 use Rattle.hh_runs.specs.DayNets.{DayNets, day_net_of, differences, is_changed, net_change}
-use Rattle.hh_store.specs.Content.{PostingKey, all_postings, posting_entries, posting_key_cmp, runs_with_former}
+use Rattle.hh_store.specs.declared.run_keys.PostingKey.{PostingKey}
+use Rattle.hh_store.specs.declared.run_keys.RunKey.{RunKey}
+use Rattle.hh_store.specs.Content.{all_postings, posting_entries, posting_key_cmp, runs_with_former}
 use Rattle.hh_store.specs.DaySettlement.{day_net, from_one_to, period_net, settled_day}
 use Rattle.hh_store.specs.PeriodSettlement.{account_rows, settled, terms_at}
-use Rattle.hh_store.specs.Runs.{Run, RunKey, accounts_of, nets_of, postings_after, run_key_cmp, seen_by, settled_by}
+use Rattle.hh_store.specs.Runs.{Run, accounts_of, nets_of, postings_after, run_key_cmp, seen_by, settled_by}
 use Rattle.hh_store.specs.States.{State}
 use Rattle.hh_store.specs.Steps.{timetable_at}
 use Rattle.hh_store.specs.Sums.{DayNetsAreSums, RunPostingsSumToZero}

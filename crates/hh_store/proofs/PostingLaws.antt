@@ -23,7 +23,8 @@ use Rattle.hh_rules.specs.Lateness.{Timetable}
 use Rattle.hh_calc.specs.Formulas.{of_account}
 use Rattle.hh_calc.proofs.SpreadLaws.{total-IsPermutation, total-flat_map}
 use Rattle.hh_runs.specs.DayNets.{DayNets, day_net_of, differences, is_changed, net_change, with_change}
-use Rattle.hh_store.specs.Content.{PostingKey, all_postings, posting_entries, posting_key_cmp, runs_with_former}
+use Rattle.hh_store.specs.declared.run_keys.PostingKey.{PostingKey}
+use Rattle.hh_store.specs.Content.{all_postings, posting_entries, posting_key_cmp, runs_with_former}
 use Rattle.hh_store.specs.Runs.{Run, last_of, latest_run, nets_of, postings_after, run_key_cmp, runs_of_date, with_former}
 use Rattle.hh_store.specs.States.{State}
 use Rattle.hh_store.specs.Steps.{IsReached, at_first, by_load, by_run, new_run, timetable_at}

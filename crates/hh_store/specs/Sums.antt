@@ -12,10 +12,12 @@ use Rattle.hh_calc.specs.Ready.{AreInOrder, AreNamed, AreUnitsDistinct}
 use Rattle.hh_calc.specs.Settled.{AddsUp, IsSettled}
 use Rattle.hh_calc.specs.Terms.{BmUnit, PeriodTerms}
 use Rattle.hh_runs.specs.DayNets.{day_net_of}
-use Rattle.hh_store.specs.Content.{PostingKey, runs_with_former, tables_of}
+use Rattle.hh_store.specs.declared.run_keys.PostingKey.{PostingKey}
+use Rattle.hh_store.specs.declared.run_keys.RunKey.{RunKey}
+use Rattle.hh_store.specs.Content.{runs_with_former, tables_of}
 use Rattle.hh_store.specs.DaySettlement.{day_net}
 use Rattle.hh_store.specs.PeriodSettlement.{settled}
-use Rattle.hh_store.specs.Runs.{Run, RunKey, latest_run, nets_of, postings_after, run_key_cmp, settled_by}
+use Rattle.hh_store.specs.Runs.{Run, latest_run, nets_of, postings_after, run_key_cmp, settled_by}
 use Rattle.hh_store.specs.States.{State}
 use Rattle.hh_store.specs.Steps.{IsReached, timetable_at}
 
