@@ -1,4 +1,5 @@
 mod ApartLaws
+pub mod ConsistentLaws
 mod ContractLaws
 mod Examples
 pub mod KeyLaws
@@ -6,6 +7,7 @@ mod KeptLaws
 mod LoadLaws
 mod NamedLaws
 mod PartLaws
+mod PutLaws
 pub mod ReachLaws
 pub mod ReadLaws
 pub mod RunLaws

@@ -13,7 +13,7 @@ mod plain_tables;
 mod store_fault;
 mod tables;
 
-pub use effects::{kept_files, load_effect, run_effect};
+pub use effects::{consistent_runs, consistent_states, kept_files, load_effect, run_effect};
 pub use file_key::FileKey;
 pub use kept_file::KeptFile;
 pub use load_change::LoadChange;
