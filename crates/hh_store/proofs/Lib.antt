@@ -1,6 +1,7 @@
 mod AmountLaws
 mod ApartLaws
 pub mod BalanceLaws
+pub mod ConsistentLaws
 mod ContractLaws
 mod Examples
 pub mod KeyLaws
@@ -9,6 +10,7 @@ mod LoadLaws
 mod NamedLaws
 mod PartLaws
 pub mod PostingLaws
+mod PutLaws
 pub mod ReachLaws
 pub mod ReadLaws
 pub mod RunLaws

@@ -22,7 +22,7 @@ use Rattle.hh_store.proofs.KeyLaws.{exact_file_keys, file_key_total}
 use Rattle.hh_store.proofs.LoadLaws.{in_key_order-append, load_register}
 
 -- no run was ordered when there were more than n rows
-abbrev AreWithin : ℕ → List Run → Type 0
+abbrev pub AreWithin : ℕ → List Run → Type 0
 AreWithin n [] = Unit {0}
 AreWithin n (r ∷ runs) = (r.row_count ≤ n) × AreWithin n runs
 
@@ -68,7 +68,7 @@ reached_within midnight s (by_run t moment key reached can) =
 
 module _ (timetable : Timetable) (history more : History) where
   -- later rows change nothing that a run saw
-  seen_same : (r : Run) → r.row_count ≤ length history → seen_by timetable (history ++ more) r ≡ seen_by timetable history r
+  pub seen_same : (r : Run) → r.row_count ≤ length history → seen_by timetable (history ++ more) r ≡ seen_by timetable history r
   seen_same r h = ap (registered_in timetable) (take-append-le r.row_count history more h)
 
   settled_same : (r : Run) → r.row_count ≤ length history → settled_by timetable (history ++ more) r ≡ settled_by timetable history r

@@ -1,6 +1,7 @@
 //! The tables of an office: what they contain, and what is read from them and written into them.
 #![tactic(auto)]
 
+mod consistency;
 mod effects;
 mod entries;
 mod file_key;
@@ -14,12 +15,11 @@ mod plain_tables;
 mod run_change;
 mod run_keys;
 mod store_fault;
+mod sums;
 mod tables;
 
-pub use effects::{
-    day_nets_are_sums, each_period_settled, kept_files, load_effect, postings_total, run_effect,
-    run_postings_balance, settled_adds_up,
-};
+pub use consistency::{consistent_runs, consistent_states};
+pub use effects::{kept_files, load_effect, run_effect};
 pub use file_key::FileKey;
 pub use kept_file::KeptFile;
 pub use load_change::LoadChange;
@@ -27,6 +27,9 @@ pub use plain_tables::PlainTables;
 pub use run_change::RunChange;
 pub use run_keys::{CreditKey, PostingKey, ResultKey, RunKey};
 pub use store_fault::StoreFault;
+pub use sums::{
+    day_nets_are_sums, each_period_settled, postings_total, run_postings_balance, settled_adds_up,
+};
 pub use tables::Tables;
 
 #[cfg(test)]

@@ -1,0 +1,45 @@
+//! What postings and settled periods come to.
+
+ghost use Rattle.hh_store.specs.Sums.{
+  DayNetsAreSums,
+  PostingsTotal,
+  RunPostingsSumToZero,
+  SettledAddsUp,
+  SettlesEachPeriod,
+};
+
+/// That the postings in the tables come, for each account, to its day nets in the latest runs of all
+/// dates: in each state that the machine reaches (profile).
+#[tactic(auto, using(crate::proofs::PostingLaws::postings_total))]
+pub fn postings_total()
+    ensures { PostingsTotal }
+{}
+
+/// That what is settled of a period holds what a settled period is to hold: its rows show the
+/// figures and the shares of the accounts, its credits are those of the units in order, and its
+/// residual is the period's; where no unit stands twice and none credits an account twice (profile).
+#[tactic(auto, using(crate::proofs::SettledLaws::is_settled))]
+pub fn each_period_settled()
+    ensures { SettlesEachPeriod }
+{}
+
+/// That what is settled of a period adds up: contracts to zero, the credits from each unit to its
+/// loss-adjusted volume, charges and shares together to zero; where besides the accounts are in
+/// order and each lead, subsidiary, seller and buyer is one of them (profile).
+#[tactic(auto, using(crate::proofs::SettledLaws::settled_adds_up))]
+pub fn settled_adds_up()
+    ensures { SettledAddsUp }
+{}
+
+/// That the postings of each run in the tables come to zero: in each state that the machine reaches
+/// (profile).
+#[tactic(auto, using(crate::proofs::BalanceLaws::run_postings_sum_to_zero))]
+pub fn run_postings_balance()
+    ensures { RunPostingsSumToZero }
+{}
+
+/// That the day net of an account in a run is the sum of what it pays in the Settlement Periods that
+/// the run settles (profile).
+pub fn day_nets_are_sums()
+    ensures { DayNetsAreSums }
+{}
