@@ -1,6 +1,7 @@
 mod ApartLaws
 pub mod ConsistentLaws
 mod ContractLaws
+mod EffectiveLaws
 mod Examples
 pub mod KeyLaws
 mod KeptLaws
