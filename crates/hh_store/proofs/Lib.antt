@@ -3,6 +3,7 @@ mod ApartLaws
 pub mod BalanceLaws
 pub mod ConsistentLaws
 mod ContractLaws
+mod EffectiveLaws
 mod Examples
 pub mod KeyLaws
 mod KeptLaws
