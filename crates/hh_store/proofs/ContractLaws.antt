@@ -27,7 +27,7 @@ both_equal Equal p = refl
 both_equal Greater p = refl
 
 -- two Settlement Periods are one where their dates and their numbers are
-same_period : (a b : SettlementPeriod) → eq_by_cmp settlement_period_cmp a b ≡ ((a.date == b.date) && (a.period == b.period))
+pub same_period : (a b : SettlementPeriod) → eq_by_cmp settlement_period_cmp a b ≡ ((a.date == b.date) && (a.period == b.period))
 same_period a b =
     both_equal (nat_cmp a.date b.date) (nat_cmp a.period b.period)
     ∙ (λ i. unsigned_tied a.date b.date i && unsigned_tied a.period b.period i)

@@ -3,6 +3,7 @@ mod ApartLaws
 pub mod BalanceLaws
 pub mod ConsistentLaws
 mod ContractLaws
+mod DayLaws
 mod EffectiveLaws
 mod Examples
 pub mod KeyLaws
@@ -12,6 +13,7 @@ mod NamedLaws
 mod PartLaws
 pub mod PostingLaws
 mod PutLaws
+mod RangeLaws
 pub mod ReachLaws
 pub mod ReadLaws
 pub mod RunLaws

@@ -1,5 +1,6 @@
 pub mod Changes
 pub mod Content
+pub mod DayReads
 pub mod DaySettlement
 pub mod KeptContracts
 pub mod KeptRuns

@@ -2,10 +2,12 @@
 #![tactic(auto)]
 
 mod consistency;
+mod day_data;
 mod effects;
 mod entries;
 mod file_key;
 mod kept_contracts;
+mod kept_day;
 mod kept_file;
 mod kept_register;
 mod kept_runs;
@@ -19,6 +21,7 @@ mod sums;
 mod tables;
 
 pub use consistency::{consistent_runs, consistent_states};
+pub use day_data::DayData;
 pub use effects::{kept_files, load_effect, run_effect};
 pub use file_key::FileKey;
 pub use kept_file::KeptFile;

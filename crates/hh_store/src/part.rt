@@ -269,7 +269,7 @@ impl KeptRegister {
     }
 
     /// The reallocations in force, in the order of their keys.
-    fn reallocation_rows(&self) -> &[(ReallocationKey, Reallocation)]
+    pub(crate) fn reallocation_rows(&self) -> &[(ReallocationKey, Reallocation)]
         ensures rows { result.now ≡ self.now.reallocations }
         ensures rising { IsTable reallocation_key_cmp self.now.reallocations }
     {

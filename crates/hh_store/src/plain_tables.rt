@@ -5,10 +5,13 @@ ghost use Rattle.hh_time.specs.Days.{Midnights};
 ghost use Rattle.hh_rules.specs.RegisterView.{ServesFor};
 ghost use Rattle.hh_store.specs.Changes.{IsLoadFrom, IsRunFrom, effect_of_load, effect_of_run};
 ghost use Rattle.hh_store.specs.Content.{empty_content, tables_of};
+ghost use Rattle.hh_store.specs.DayReads.{IsDayData};
+ghost use Rattle.hh_store.specs.DaySettlement.{periods_on};
 ghost use Rattle.hh_store.specs.Reads.{contracts_in, file_in, is_key_known, party_in, postings_in, reference_in, results_in, runs_in, unit_in, whole_register};
 ghost use Rattle.hh_store.specs.Soundness.{AreSound};
 ghost use Rattle.hh_store.specs.States.{empty_state};
 
+use crate::day_data::DayData;
 use crate::file_key::FileKey;
 use crate::kept_file::KeptFile;
 use crate::kept_register::KeptRegister;
@@ -25,7 +28,7 @@ use hh_rows::{ContractRow, FileKind, PartyRegistration, Row, Settings, UnitRegis
 use hh_rules::Register;
 use hh_runs::{RunKind, Summary};
 use hh_tables::ListTable;
-use hh_time::SettlementDate;
+use hh_time::{Day, SettlementDate};
 use std::alloc::Global;
 use std::marker::Model;
 
@@ -149,6 +152,15 @@ impl Tables for PlainTables {
         ensures same { self.new ≡ self.old }
     {
         Ok(self.register.contracts(self.alloc, account, date)?)
+    }
+
+    fn day_data(&mut self, day: &Day) -> Result<DayData, StoreFault>
+        ensures value { IfOk result (IsDayData self.old.registered
+            (periods_on day.now.date day.now.count)) }
+        ensures memory_alone { IfErr result (λ fault. fault ≡ StoreFault.Memory) }
+        ensures same { self.new ≡ self.old }
+    {
+        Ok(self.register.day_data(self.alloc, day)?)
     }
 
     fn runs(&mut self, date: SettlementDate) -> Result<Vec<(RunKind, Summary)>, StoreFault>

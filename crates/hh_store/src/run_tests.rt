@@ -1,12 +1,13 @@
-//! What no clause says: that tables in memory take a run and give it back, with ample memory.
+//! What no clause says: that tables in memory hand over a day, take a run and give it back, with ample
+//! memory.
 
 use super::*;
 use hh_calc::AccountRow;
-use hh_names::{Account, OperatorKey, PartyId, PeriodNumber, Side, UnitId};
-use hh_num::{Pence, Ticks};
-use hh_rows::{LeadMinutes, Settings};
+use hh_names::{Account, FileName, OperatorKey, PartyId, PeriodNumber, Side, UnitId};
+use hh_num::{Pence, Price, Ticks};
+use hh_rows::{FileKind, LeadMinutes, PriceRow, Row, Settings, SettlementPeriod};
 use hh_runs::{RunKind, Summary};
-use hh_time::SettlementDate;
+use hh_time::{Day, SettlementDate, london};
 use std::alloc::Global;
 use std::test::Fail;
 
@@ -102,5 +103,42 @@ fn plain_tables_keep_a_run(rt: HostRuntime) -> Result<(), Fail> {
     assert!(rt; tables.runs(date).is_ok_and(|runs| runs.len() == 1));
     assert!(rt; tables.results(&run).is_ok_and(|rows| rows.len() == 1));
     assert!(rt; tables.postings(&account).is_ok_and(|rows| rows.len() == 1));
+    Ok(())
+}
+
+/// A price for each of the first 48 Settlement Periods of a date.
+fn prices(alloc: Global, date: &SettlementDate) -> Option<Vec<Row>> {
+    let mut rows = Vec::new(alloc);
+    for number in 1..49 {
+        let at = SettlementPeriod {
+            date: *date,
+            period: PeriodNumber::new(number)?,
+        };
+        let price = Price::of(5_000_000);
+        rows.push(Row::Price(PriceRow { at, price })).ok()?;
+    }
+    Some(rows)
+}
+
+/// How many Settlement Periods of a day may be settled; 0 where something is missing.
+fn ready_periods(tables: &mut PlainTables, day: &Day) -> usize {
+    match tables.day_data(day) {
+        Ok(DayData::Periods(terms)) => terms.len(),
+        _ => 0,
+    }
+}
+
+#[test]
+fn plain_tables_hand_over_a_day(rt: HostRuntime) -> Result<(), Fail> {
+    let mut tables = new_tables(rt.alloc()).ok_or("tables")?;
+    let date = SettlementDate::new(19_905).ok_or("date")?;
+    let day = Day::of(date, &london()).ok_or("day")?;
+    assert_eq!(rt; ready_periods(&mut tables, &day), 0);
+    let rows = prices(rt.alloc(), &date).ok_or("prices")?;
+    let file = KeptFile::new(Vec::new(rt.alloc()), 48, 0);
+    let name = FileName::read(b"f3.csv").ok_or("name")?;
+    let change = LoadChange::new(FileKind::Prices, name, file, rows, Vec::new(rt.alloc()));
+    assert!(rt; tables.apply_load(change).is_ok());
+    assert_eq!(rt; ready_periods(&mut tables, &day), 48);
     Ok(())
 }

@@ -5,8 +5,11 @@ ghost use Rattle.hh_time.specs.Days.{Midnights};
 ghost use Rattle.hh_rules.specs.RegisterView.{ServesFor};
 ghost use Rattle.hh_store.specs.Changes.{IsLoadFrom, IsRunFrom, effect_of_load, effect_of_run};
 ghost use Rattle.hh_store.specs.Content.{Content};
+ghost use Rattle.hh_store.specs.DayReads.{IsDayData};
+ghost use Rattle.hh_store.specs.DaySettlement.{periods_on};
 ghost use Rattle.hh_store.specs.Reads.{contracts_in, file_in, is_key_known, party_in, postings_in, reference_in, results_in, runs_in, unit_in, whole_register};
 
+use crate::day_data::DayData;
 use crate::kept_file::KeptFile;
 use crate::load_change::LoadChange;
 use crate::run_change::RunChange;
@@ -18,7 +21,7 @@ use hh_num::Pence;
 use hh_rows::{ContractRow, FileKind, PartyRegistration, Row, Settings, UnitRegistration};
 use hh_rules::Register;
 use hh_runs::{RunKind, Summary};
-use hh_time::SettlementDate;
+use hh_time::{Day, SettlementDate};
 
 /// The tables of an office. A call that reads leaves them as they are, and so does one that fails.
 /// `Memory` is answered where memory was refused, `Store` where the store refuses for another cause
@@ -74,6 +77,14 @@ pub trait Tables {
     ) -> Result<Vec<ContractRow>, StoreFault>
         ensures value { IfOk result (λ rows.
             rows.items ≡ contracts_in (content self.old) account.now date) }
+        ensures same { content self.new ≡ content self.old };
+
+    /// What the Settlement Periods of a day are settled from: the first that has no price, else the first
+    /// in which a unit of the date has no reading, with the first such unit by the bytes of its id, else
+    /// what each is settled from (Section T in shape).
+    fn day_data(&mut self, day: &Day) -> Result<DayData, StoreFault>
+        ensures value { IfOk result (IsDayData (content self.old).registered
+            (periods_on day.now.date day.now.count)) }
         ensures same { content self.new ≡ content self.old };
 
     /// The runs of a date with their summaries, in the order of their kinds (profile).
