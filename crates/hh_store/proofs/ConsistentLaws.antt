@@ -97,7 +97,7 @@ inside_wider a b c inner outer =
     and_from _ _ (le-leb c.from a.from (omega arith)) (le-leb a.to c.to (omega arith))
 
 -- a wider range holds what a range holds
-wider_holds : (a b : Range) (date : ℕ) → IsTrue (is_inside a b) → IsTrue (holds a date) → IsTrue (holds b date)
+pub wider_holds : (a b : Range) (date : ℕ) → IsTrue (is_inside a b) → IsTrue (holds a date) → IsTrue (holds b date)
 wider_holds a b date inside held =
     let wide = and_parts _ _ inside in
     let at = and_parts _ _ held in

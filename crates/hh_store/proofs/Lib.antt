@@ -13,8 +13,10 @@ pub mod PostingLaws
 mod PutLaws
 pub mod ReachLaws
 pub mod ReadLaws
+pub mod ReadyLaws
 pub mod RunLaws
 mod RunRowLaws
+pub mod RunSumLaws
 pub mod SettledLaws
 mod SoundLaws
 mod UntilLaws

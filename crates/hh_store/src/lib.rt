@@ -18,7 +18,7 @@ mod store_fault;
 mod sums;
 mod tables;
 
-pub use consistency::{consistent_runs, consistent_states};
+pub use consistency::{consistent_runs, consistent_states, periods_ready, run_periods_ready};
 pub use effects::{kept_files, load_effect, run_effect};
 pub use file_key::FileKey;
 pub use kept_file::KeptFile;
@@ -28,7 +28,8 @@ pub use run_change::RunChange;
 pub use run_keys::{CreditKey, PostingKey, ResultKey, RunKey};
 pub use store_fault::StoreFault;
 pub use sums::{
-    day_nets_are_sums, each_period_settled, postings_total, run_postings_balance, settled_adds_up,
+    cash_sums_to_zero, contracts_sum_to_zero, day_nets_are_sums, each_period_settled,
+    postings_total, run_postings_balance, runs_add_up, settled_adds_up,
 };
 pub use tables::Tables;
 
