@@ -3,6 +3,7 @@ mod ApartLaws
 pub mod BalanceLaws
 pub mod ConsistentLaws
 mod ContractLaws
+pub mod CreditSumLaws
 mod Examples
 pub mod KeyLaws
 mod KeptLaws

@@ -60,7 +60,7 @@ module _ {X : Type 0} (P : X → Type 0) where
   ] refl
 
   -- two facts of each element are one
-  all_both : (Q : X → Type 0) (xs : List X) → AllByRecursion P xs → AllByRecursion Q xs → AllByRecursion (λ x. P x × Q x) xs
+  pub all_both : (Q : X → Type 0) (xs : List X) → AllByRecursion P xs → AllByRecursion Q xs → AllByRecursion (λ x. P x × Q x) xs
   all_both Q [] h k = tt
   all_both Q (x ∷ xs) h k = ((h.0, k.0), all_both Q xs h.1 k.1)
 

@@ -37,7 +37,7 @@ use Rattle.hh_store.proofs.RunRowLaws.{all_of, results_distinct, results_own}
 use Rattle.hh_store.proofs.SettledLaws.{settled_adds_up}
 
 -- where what is registered and in force is consistent, what is settled of a Settlement Period adds up
-period_adds_up : (tables : Registered) → AreConsistent tables → (at : SettlementPeriod) → AddsUp (terms_at tables at) (settled (terms_at tables at))
+pub period_adds_up : (tables : Registered) → AreConsistent tables → (at : SettlementPeriod) → AddsUp (terms_at tables at) (settled (terms_at tables at))
 period_adds_up tables consistent at =
     let fit = terms_ready tables consistent at in
     settled_adds_up (terms_at tables at) fit.ready.0 fit.ready.1 fit.units fit.credits

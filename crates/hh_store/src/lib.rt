@@ -28,8 +28,8 @@ pub use run_change::RunChange;
 pub use run_keys::{CreditKey, PostingKey, ResultKey, RunKey};
 pub use store_fault::StoreFault;
 pub use sums::{
-    cash_sums_to_zero, contracts_sum_to_zero, day_nets_are_sums, each_period_settled,
-    postings_total, run_postings_balance, runs_add_up, settled_adds_up,
+    cash_sums_to_zero, contracts_sum_to_zero, credits_sum_exactly, day_nets_are_sums,
+    each_period_settled, postings_total, run_postings_balance, runs_add_up, settled_adds_up,
 };
 pub use tables::Tables;
 

@@ -3,6 +3,7 @@
 ghost use Rattle.hh_store.specs.Sums.{
   CashSumsToZero,
   ContractsSumToZero,
+  CreditsSumExactly,
   DayNetsAreSums,
   PostingsTotal,
   RunPostingsSumToZero,
@@ -66,4 +67,11 @@ pub fn contracts_sum_to_zero()
 #[tactic(auto, using(crate::proofs::RunSumLaws::cash_sums_to_zero))]
 pub fn cash_sums_to_zero()
     ensures { CashSumsToZero }
+{}
+
+/// That the credits in the tables from each unit come to its loss-adjusted volume, in each Settlement
+/// Period of each run, by the reading that counted when the run was ordered: in each state that the
+/// machine reaches (profile).
+pub fn credits_sum_exactly()
+    ensures { CreditsSumExactly }
 {}
