@@ -40,7 +40,7 @@ use Rattle.hh_store.proofs.RunRowLaws.{accounts_distinct, rows_all, rows_distinc
 use Rattle.hh_store.proofs.SettledLaws.{a_share_each, period_balances}
 
 -- where a test holds of none, nothing counts
-none_counts : {X : Type 0} (test : X → Bool) (f : X → ℤ) (xs : List X) → AllByRecursion (λ x. test x ≡ false) xs → total (λ x. cond (test x) (f x) (pos 0)) xs ≡ pos 0
+pub none_counts : {X : Type 0} (test : X → Bool) (f : X → ℤ) (xs : List X) → AllByRecursion (λ x. test x ≡ false) xs → total (λ x. cond (test x) (f x) (pos 0)) xs ≡ pos 0
 none_counts test f [] never = refl
 none_counts test f (x ∷ xs) never = λ i. cond (never.0 i) (f x) (pos 0) +ℤ none_counts test f xs never.1 i
 

@@ -5,6 +5,7 @@ pub mod ConsistentLaws
 mod ContractLaws
 mod DayLaws
 mod EffectiveLaws
+pub mod CreditSumLaws
 mod Examples
 pub mod KeyLaws
 mod KeptLaws
@@ -16,8 +17,10 @@ mod PutLaws
 mod RangeLaws
 pub mod ReachLaws
 pub mod ReadLaws
+pub mod ReadyLaws
 pub mod RunLaws
 mod RunRowLaws
+pub mod RunSumLaws
 pub mod SettledLaws
 mod SoundLaws
 mod UntilLaws

@@ -35,7 +35,7 @@ module _ {K V : Type 0} (R : K → K → Ordering) (test : K × V → Bool) wher
     | false ↦ below-filter k es (second _ _ h)
   ]
 
-  sorted-filter : (es : Table K V) → T (is_sorted R es) → T (is_sorted R (filter test es))
+  pub sorted-filter : (es : Table K V) → T (is_sorted R es) → T (is_sorted R (filter test es))
   sorted-filter [] h = tt
   sorted-filter (e ∷ es) h = elim (test e) as (λ b. T (is_sorted R (cond b (e ∷ filter test es) (filter test es)))) [
     | true ↦ both _ _ (below-filter e.0 es (first _ _ h)) (sorted-filter es (second _ _ h))

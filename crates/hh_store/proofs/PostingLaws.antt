@@ -202,7 +202,7 @@ module _ (timetable : Timetable) (s : State) where
       (λ r. total-map amount (entry r) (nets r) ∙ total_at account_total a (nets r) (differences_distinct (nets_of timetable s.history r.0) (nets_of timetable s.history (Some r.1))))
 
 -- whether two runs are of one date and kind
-abbrev have_one_run_key : Run → Run → Bool
+abbrev pub have_one_run_key : Run → Run → Bool
 have_one_run_key x y = eq_by_cmp run_key_cmp x.key y.key
 
 -- in each reached state no run stands twice

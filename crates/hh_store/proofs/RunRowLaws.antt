@@ -34,7 +34,7 @@ use Rattle.hh_store.proofs.ApartLaws.{NoneAlike, all-append, all-map, all-weaken
 use Rattle.hh_store.proofs.KeyLaws.{unit_account_total}
 
 -- whether two numbers are one
-abbrev is_same_number : ℕ → ℕ → Bool
+abbrev pub is_same_number : ℕ → ℕ → Bool
 is_same_number = eq_by_cmp nat_cmp
 
 other_number : (a b : ℕ) → a ≢ b → is_same_number a b ≡ false
@@ -57,7 +57,7 @@ numbers_distinct (suc n) =
     (all-weaken (λ m. m ≤ n) (λ m. AllByRecursion (λ x. is_same_number m x ≡ false) (suc n ∷ [])) (λ m below. (other_number m (suc n) (λ is. absurd (omega arith)), tt)) (from_one_to n) (at_most n))
 
 -- no period of a date comes twice
-periods_distinct : (date count : ℕ) → NoneAlike (λ x y. is_same_number x.period y.period) (periods_on date count)
+pub periods_distinct : (date count : ℕ) → NoneAlike (λ x y. is_same_number x.period y.period) (periods_on date count)
 periods_distinct date count = distinct-map (λ (x y : SettlementPeriod). is_same_number x.period y.period) (λ p. record { date = date; period = p }) (from_one_to count) (numbers_distinct count)
 
 -- no account of a date comes twice
@@ -113,7 +113,7 @@ credits_in_period key at credits h =
     (distinct-weaken (λ c d. eq_by_cmp unit_account_cmp (c.unit, c.account) (d.unit, d.account)) (λ c d. eq_by_cmp credit_key_cmp (credit_key key at c) (credit_key key at d))
     (λ c d apart. second_part (run_key_cmp key key) (ordering_then (nat_cmp at.period at.period) (unit_account_cmp (c.unit, c.account) (d.unit, d.account))) (second_part (nat_cmp at.period at.period) (unit_account_cmp (c.unit, c.account) (d.unit, d.account)) apart)) credits h)
 
-all_of : {X : Type 0} (P : X → Type 0) → ((x : X) → P x) → (xs : List X) → AllByRecursion P xs
+pub all_of : {X : Type 0} (P : X → Type 0) → ((x : X) → P x) → (xs : List X) → AllByRecursion P xs
 all_of P each [] = tt
 all_of P each (x ∷ xs) = (each x, all_of P each xs)
 

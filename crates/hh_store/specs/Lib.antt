@@ -7,6 +7,7 @@ pub mod KeptRuns
 pub mod KeptTables
 pub mod Parts
 pub mod PeriodSettlement
+pub mod Readiness
 pub mod Reads
 pub mod Runs
 pub mod Soundness

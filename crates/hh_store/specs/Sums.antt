@@ -1,23 +1,28 @@
 -- What the postings of runs come to, for an account and for a run; and what a settled period holds and adds up to.
-use Rattle.std.specs.Prelude.{◌≡◌, ◌≢◌, ℤ, pos, List, [], ◌∷◌, All, AllPairs, is_some, if◌then◌else◌, Some}
+use Rattle.std.specs.Prelude.{◌≡◌, ◌≢◌, ℕ, ◌==◌, ◌&&◌, ℤ, pos, ◌+ℤ◌, List, [], ◌∷◌, All, AllPairs, is_some, if◌then◌else◌, Some}
+use Rattle.std.specs.List.{AllByRecursion}
 use Rattle.std.specs.Ordering.{eq_by_cmp}
+use Rattle.std.specs.Str.{bytes_eq}
 use Rattle.hh_num.specs.Totals.{total}
 use Rattle.hh_tables.specs.Tables.{Table}
 use Rattle.hh_time.specs.Days.{Midnights}
 use Rattle.hh_names.specs.declared.account.Account.{Account}
 use Rattle.hh_rules.specs.History.{History}
 use Rattle.hh_rules.specs.Lateness.{Timetable}
-use Rattle.hh_calc.specs.Formulas.{of_account}
+use Rattle.hh_calc.specs.declared.result.AccountRow.{AccountRow}
+use Rattle.hh_calc.specs.Formulas.{loss_adjusted, of_account}
 use Rattle.hh_calc.specs.Ready.{AreInOrder, AreNamed, AreUnitsDistinct}
 use Rattle.hh_calc.specs.Settled.{AddsUp, IsSettled}
 use Rattle.hh_calc.specs.Terms.{BmUnit, PeriodTerms}
 use Rattle.hh_runs.specs.DayNets.{day_net_of}
+use Rattle.hh_store.specs.declared.run_keys.CreditKey.{CreditKey}
 use Rattle.hh_store.specs.declared.run_keys.PostingKey.{PostingKey}
 use Rattle.hh_store.specs.declared.run_keys.RunKey.{RunKey}
 use Rattle.hh_store.specs.Content.{runs_with_former, tables_of}
 use Rattle.hh_store.specs.DaySettlement.{day_net}
-use Rattle.hh_store.specs.PeriodSettlement.{settled}
-use Rattle.hh_store.specs.Runs.{Run, latest_run, nets_of, postings_after, run_key_cmp, settled_by}
+use Rattle.hh_store.specs.PeriodSettlement.{settled, terms_at}
+use Rattle.hh_store.specs.Reads.{results_in}
+use Rattle.hh_store.specs.Runs.{Run, latest_run, nets_of, periods_of, postings_after, run_key_cmp, seen_by, settled_by}
 use Rattle.hh_store.specs.States.{State}
 use Rattle.hh_store.specs.Steps.{IsReached, timetable_at}
 
@@ -74,3 +79,36 @@ abbrev pub SettledAddsUp : Type 0
 SettledAddsUp =
     (p : PeriodTerms) → AreInOrder p → AreNamed p → AreUnitsDistinct p → All CreditsEachOnce p.units
     → AddsUp p (settled p)
+
+-- in each state that the machine reaches, each Settlement Period that a run settles adds up, from what the run saw
+abbrev pub RunsAddUp : Type 0
+RunsAddUp = (midnight : Midnights) (s : State) → IsReached midnight s
+    → AllByRecursion (λ r. AllByRecursion (λ q. AddsUp (terms_at (seen_by (timetable_at midnight s) s.history r) q.0) q.1)
+    (settled_by (timetable_at midnight s) s.history r)) s.runs
+
+-- what an amount of the rows of a Settlement Period comes to, among the rows of a run
+abbrev pub period_total : (AccountRow → ℤ) → ℕ → List (ℕ × AccountRow) → ℤ
+period_total amount period rows = total (λ r. if r.0 == period then amount r.1 else pos 0) rows
+
+-- in the tables of a reached state, contracts come to zero in each Settlement Period of each run
+abbrev pub ContractsSumToZero : Type 0
+ContractsSumToZero = (midnight : Midnights) (s : State) (run : RunKey) (period : ℕ) → IsReached midnight s
+    → period_total (λ r. r.contracts) period (results_in (tables_of midnight s) run) ≡ pos 0
+
+-- and so do charges and shares together
+abbrev pub CashSumsToZero : Type 0
+CashSumsToZero = (midnight : Midnights) (s : State) (run : RunKey) (period : ℕ) → IsReached midnight s
+    → period_total (λ r. r.charge +ℤ r.share) period (results_in (tables_of midnight s) run) ≡ pos 0
+
+-- what is credited from a unit in a Settlement Period of a run
+abbrev pub credited_from : List ℕ → ℕ → RunKey → Table CreditKey ℤ → ℤ
+credited_from unit period run credits =
+    total (λ e. if eq_by_cmp run_key_cmp e.0.run run && (e.0.period == period) && bytes_eq e.0.unit unit then e.1 else pos 0) credits
+
+-- In the tables of a reached state, the credits from each unit in each Settlement Period of each run come to the unit's
+-- loss-adjusted volume, by the reading that counted when the run was ordered.
+abbrev pub CreditsSumExactly : Type 0
+CreditsSumExactly = (midnight : Midnights) (s : State) → IsReached midnight s
+    → AllByRecursion (λ r. AllByRecursion (λ at. All
+    (λ u. credited_from u.unit at.period r.key (tables_of midnight s).credits ≡ loss_adjusted u)
+    (terms_at (seen_by (timetable_at midnight s) s.history r) at).units) (periods_of midnight r)) s.runs

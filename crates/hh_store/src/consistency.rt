@@ -1,5 +1,7 @@
-//! That what is registered and in force fits together.
+//! That what is registered and in force fits together, and so gives each Settlement Period what it
+//! may be settled from.
 
+ghost use Rattle.hh_store.specs.Readiness.{PeriodsReady, RunPeriodsReady};
 ghost use Rattle.hh_store.specs.Soundness.{ConsistentRuns, ConsistentStates};
 
 /// That what is registered and in force fits together, however the files came. In each state that
@@ -15,4 +17,18 @@ pub fn consistent_states()
 /// its runs, what was registered and in force by the rows that had been accepted then (profile).
 pub fn consistent_runs()
     ensures { ConsistentRuns }
+{}
+
+/// That each Settlement Period has what it may be settled from. In each state that the machine
+/// reaches the accounts of its date are in order, with each lead, subsidiary, seller and buyer among
+/// them; no unit stands twice, has more subsidiaries than there may be, or credits an account twice
+/// (profile).
+pub fn periods_ready()
+    ensures { PeriodsReady }
+{}
+
+/// That it had it when each run was ordered: in each state that the machine reaches, for each of its
+/// runs, by what was registered and in force then (profile).
+pub fn run_periods_ready()
+    ensures { RunPeriodsReady }
 {}

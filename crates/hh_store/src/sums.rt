@@ -1,9 +1,13 @@
 //! What postings and settled periods come to.
 
 ghost use Rattle.hh_store.specs.Sums.{
+  CashSumsToZero,
+  ContractsSumToZero,
+  CreditsSumExactly,
   DayNetsAreSums,
   PostingsTotal,
   RunPostingsSumToZero,
+  RunsAddUp,
   SettledAddsUp,
   SettlesEachPeriod,
 };
@@ -42,4 +46,32 @@ pub fn run_postings_balance()
 /// the run settles (profile).
 pub fn day_nets_are_sums()
     ensures { DayNetsAreSums }
+{}
+
+/// That what each run settled adds up: in each state that the machine reaches, for each of its runs,
+/// each Settlement Period of the run's date, from what was registered and in force when the run was
+/// ordered (profile).
+pub fn runs_add_up()
+    ensures { RunsAddUp }
+{}
+
+/// That contracts come to zero in each Settlement Period of each run in the tables: in each state that
+/// the machine reaches (profile).
+#[tactic(auto, using(crate::proofs::RunSumLaws::contracts_sum_to_zero))]
+pub fn contracts_sum_to_zero()
+    ensures { ContractsSumToZero }
+{}
+
+/// That charges and shares together come to zero in each Settlement Period of each run in the tables:
+/// in each state that the machine reaches (profile).
+#[tactic(auto, using(crate::proofs::RunSumLaws::cash_sums_to_zero))]
+pub fn cash_sums_to_zero()
+    ensures { CashSumsToZero }
+{}
+
+/// That the credits in the tables from each unit come to its loss-adjusted volume, in each Settlement
+/// Period of each run, by the reading that counted when the run was ordered: in each state that the
+/// machine reaches (profile).
+pub fn credits_sum_exactly()
+    ensures { CreditsSumExactly }
 {}
