@@ -22,3 +22,21 @@ mod tables;
 
 pub use consistency::{consistent_runs, consistent_states, periods_ready, run_periods_ready};
 pub use day_data::DayData;
+pub use effects::{kept_files, load_effect, run_effect};
+pub use file_key::FileKey;
+pub use kept_file::KeptFile;
+pub use load_change::LoadChange;
+pub use plain_tables::PlainTables;
+pub use run_change::RunChange;
+pub use run_keys::{CreditKey, PostingKey, ResultKey, RunKey};
+pub use store_fault::StoreFault;
+pub use sums::{
+    cash_sums_to_zero, contracts_sum_to_zero, credits_sum_exactly, day_nets_are_sums,
+    each_period_settled, postings_total, run_postings_balance, runs_add_up, settled_adds_up,
+};
+pub use tables::Tables;
+
+#[cfg(test)]
+mod run_tests;
+#[cfg(test)]
+mod tests;
