@@ -1,6 +1,7 @@
 mod AmountLaws
 mod ApartLaws
 pub mod BalanceLaws
+pub mod CompleteLaws
 pub mod ConsistentLaws
 mod ContractLaws
 mod DayLaws

@@ -1,5 +1,5 @@
 -- What the postings of runs come to, for an account and for a run; and what a settled period holds and adds up to.
-use Rattle.std.specs.Prelude.{◌≡◌, ◌≢◌, ℕ, ◌==◌, ◌&&◌, ℤ, pos, ◌+ℤ◌, List, [], ◌∷◌, All, AllPairs, is_some, if◌then◌else◌, Some}
+use Rattle.std.specs.Prelude.{◌≡◌, ◌≢◌, ℕ, ◌==◌, ◌&&◌, ℤ, pos, ◌+ℤ◌, ◌*ℤ◌, List, [], ◌∷◌, All, AllPairs, is_some, if◌then◌else◌, Some}
 use Rattle.std.specs.List.{AllByRecursion}
 use Rattle.std.specs.Ordering.{eq_by_cmp}
 use Rattle.std.specs.Str.{bytes_eq}
@@ -7,7 +7,9 @@ use Rattle.hh_num.specs.Totals.{total}
 use Rattle.hh_tables.specs.Tables.{Table}
 use Rattle.hh_time.specs.Days.{Midnights}
 use Rattle.hh_names.specs.declared.account.Account.{Account}
-use Rattle.hh_rules.specs.History.{History}
+use Rattle.hh_names.specs.declared.values.Reading.{Reading}
+use Rattle.hh_rows.specs.declared.settlement_period.SettlementPeriod.{SettlementPeriod}
+use Rattle.hh_rules.specs.History.{History, Registered}
 use Rattle.hh_rules.specs.Lateness.{Timetable}
 use Rattle.hh_calc.specs.declared.result.AccountRow.{AccountRow}
 use Rattle.hh_calc.specs.Formulas.{loss_adjusted, of_account}
@@ -20,7 +22,7 @@ use Rattle.hh_store.specs.declared.run_keys.PostingKey.{PostingKey}
 use Rattle.hh_store.specs.declared.run_keys.RunKey.{RunKey}
 use Rattle.hh_store.specs.Content.{runs_with_former, tables_of}
 use Rattle.hh_store.specs.DaySettlement.{day_net}
-use Rattle.hh_store.specs.PeriodSettlement.{settled, terms_at}
+use Rattle.hh_store.specs.PeriodSettlement.{reading_of, settled, terms_at, units_on}
 use Rattle.hh_store.specs.Reads.{results_in}
 use Rattle.hh_store.specs.Runs.{Run, latest_run, nets_of, periods_of, postings_after, run_key_cmp, seen_by, settled_by}
 use Rattle.hh_store.specs.States.{State}
@@ -112,3 +114,19 @@ CreditsSumExactly = (midnight : Midnights) (s : State) → IsReached midnight s
     → AllByRecursion (λ r. AllByRecursion (λ at. All
     (λ u. credited_from u.unit at.period r.key (tables_of midnight s).credits ≡ loss_adjusted u)
     (terms_at (seen_by (timetable_at midnight s) s.history r) at).units) (periods_of midnight r)) s.runs
+
+-- A unit has a reading that counts in a Settlement Period, and what is credited from the unit there, in a run, is that reading's
+-- metered energy times its loss multiplier.
+pub record IsCreditedByReading (tables : Registered) (credits : Table CreditKey ℤ) (run : RunKey) (at : SettlementPeriod)
+    (unit : List ℕ) : Type 0 where
+  pub reading : Reading
+  pub counting : reading_of tables (record { unit = unit; at = at }) ≡ Some reading
+  pub exact : credited_from unit at.period run credits ≡ reading.metered *ℤ reading.tlm
+
+-- In the tables of a reached state, so it is for each run, in each Settlement Period of the run's date, with each unit that was
+-- registered for that date when the run was ordered.
+abbrev pub EachUnitCredited : Type 0
+EachUnitCredited = (midnight : Midnights) (s : State) → IsReached midnight s
+    → AllByRecursion (λ r. let saw : Registered = seen_by (timetable_at midnight s) s.history r in
+    AllByRecursion (λ at. AllByRecursion (λ e. IsCreditedByReading saw (tables_of midnight s).credits r.key at e.0)
+    (units_on saw at.date)) (periods_of midnight r)) s.runs

@@ -1,7 +1,7 @@
 //! That what is registered and in force fits together, and so gives each Settlement Period what it
 //! may be settled from.
 
-ghost use Rattle.hh_store.specs.Readiness.{PeriodsReady, RunPeriodsReady};
+ghost use Rattle.hh_store.specs.Readiness.{PeriodsReady, RunPeriodsReady, RunsComplete};
 ghost use Rattle.hh_store.specs.Soundness.{ConsistentRuns, ConsistentStates};
 
 /// That what is registered and in force fits together, however the files came. In each state that
@@ -31,4 +31,11 @@ pub fn periods_ready()
 /// runs, by what was registered and in force then (profile).
 pub fn run_periods_ready()
     ensures { RunPeriodsReady }
+{}
+
+/// That no run lacked anything when it was ordered. In each state that the machine reaches, for each of
+/// its runs, by what was registered and in force then: each Settlement Period of the run's date had a
+/// price, each unit of that date had a reading in each, and none passed a limit of settlement (profile).
+pub fn runs_complete()
+    ensures { RunsComplete }
 {}

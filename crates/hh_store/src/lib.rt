@@ -20,7 +20,9 @@ mod store_fault;
 mod sums;
 mod tables;
 
-pub use consistency::{consistent_runs, consistent_states, periods_ready, run_periods_ready};
+pub use consistency::{
+    consistent_runs, consistent_states, periods_ready, run_periods_ready, runs_complete,
+};
 pub use day_data::DayData;
 pub use effects::{kept_files, load_effect, run_effect};
 pub use file_key::FileKey;
@@ -32,7 +34,8 @@ pub use run_keys::{CreditKey, PostingKey, ResultKey, RunKey};
 pub use store_fault::StoreFault;
 pub use sums::{
     cash_sums_to_zero, contracts_sum_to_zero, credits_sum_exactly, day_nets_are_sums,
-    each_period_settled, postings_total, run_postings_balance, runs_add_up, settled_adds_up,
+    each_period_settled, each_unit_credited, postings_total, run_postings_balance, runs_add_up,
+    settled_adds_up,
 };
 pub use tables::Tables;
 

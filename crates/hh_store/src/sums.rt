@@ -5,6 +5,7 @@ ghost use Rattle.hh_store.specs.Sums.{
   ContractsSumToZero,
   CreditsSumExactly,
   DayNetsAreSums,
+  EachUnitCredited,
   PostingsTotal,
   RunPostingsSumToZero,
   RunsAddUp,
@@ -74,4 +75,12 @@ pub fn cash_sums_to_zero()
 /// machine reaches (profile).
 pub fn credits_sum_exactly()
     ensures { CreditsSumExactly }
+{}
+
+/// That each unit is credited by its reading. In each state that the machine reaches, for each run, in
+/// each Settlement Period of the run's date, each unit that was registered for that date when the run was
+/// ordered has a reading that counted then, and the credits in the tables from the unit come to that
+/// reading's metered energy times its loss multiplier (profile).
+pub fn each_unit_credited()
+    ensures { EachUnitCredited }
 {}
