@@ -13,7 +13,10 @@ pub mod PostingLaws
 mod PutLaws
 pub mod ReachLaws
 pub mod ReadLaws
+pub mod ResultLaws
+mod RisingLaws
 pub mod RunLaws
+pub mod RunReadLaws
 mod RunRowLaws
 pub mod SettledLaws
 mod SoundLaws

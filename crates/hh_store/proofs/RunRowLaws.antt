@@ -44,7 +44,7 @@ other_number a b apart = elim (nat_cmp a b) as (λ o. nat_cmp a b ≡ o → is_e
   | Greater ↦ λ is. refl
 ] refl
 
-at_most : (n : ℕ) → AllByRecursion (λ m. m ≤ n) (from_one_to n)
+pub at_most : (n : ℕ) → AllByRecursion (λ m. m ≤ n) (from_one_to n)
 at_most zero = tt
 at_most (suc n) =
     all-append (λ m. m ≤ suc n) (from_one_to n) (suc n ∷ [])
@@ -113,7 +113,7 @@ credits_in_period key at credits h =
     (distinct-weaken (λ c d. eq_by_cmp unit_account_cmp (c.unit, c.account) (d.unit, d.account)) (λ c d. eq_by_cmp credit_key_cmp (credit_key key at c) (credit_key key at d))
     (λ c d apart. second_part (run_key_cmp key key) (ordering_then (nat_cmp at.period at.period) (unit_account_cmp (c.unit, c.account) (d.unit, d.account))) (second_part (nat_cmp at.period at.period) (unit_account_cmp (c.unit, c.account) (d.unit, d.account)) apart)) credits h)
 
-all_of : {X : Type 0} (P : X → Type 0) → ((x : X) → P x) → (xs : List X) → AllByRecursion P xs
+pub all_of : {X : Type 0} (P : X → Type 0) → ((x : X) → P x) → (xs : List X) → AllByRecursion P xs
 all_of P each [] = tt
 all_of P each (x ∷ xs) = (each x, all_of P each xs)
 

@@ -7,6 +7,7 @@ pub mod KeptTables
 pub mod Parts
 pub mod PeriodSettlement
 pub mod Reads
+pub mod RunReads
 pub mod Runs
 pub mod Soundness
 pub mod States
