@@ -91,13 +91,13 @@ ordered_complete midnight s moment key none =
     let tables : Registered = registered_at midnight s in
     let periods : List SettlementPeriod = periods_on key.date (period_count midnight key.date) in
     let others : List (Option Fault) = option_map (period_fault MissingPrice) (missing_price tables periods)
-        ∷ option_map missing_meter_fault (missing_meter tables periods)
-        ∷ option_map (period_fault TooLarge) (too_large tables periods)
-        ∷ [] in
+    ∷ option_map missing_meter_fault (missing_meter tables periods)
+    ∷ option_map (period_fault TooLarge) (too_large tables periods)
+    ∷ [] in
     let all = none_there
-        (option_map plain_fault (first_met (order_refusals (kinds_on s key.date) key.kind))
-        ∷ (if is_over midnight key.date moment then None else Some (plain_fault DayNotOver))
-        ∷ others) none in
+    (option_map plain_fault (first_met (order_refusals (kinds_on s key.date) key.kind))
+    ∷ (if is_over midnight key.date moment then None else Some (plain_fault DayNotOver))
+    ∷ others) none in
     record {
       prices = nothing_made (period_fault MissingPrice) (missing_price tables periods) all.1.1.0;
       readings = nothing_made missing_meter_fault (missing_meter tables periods) all.1.1.1.0;
@@ -117,9 +117,11 @@ runs_complete midnight s (at_first settings) = tt
 runs_complete midnight s (by_load t load reached can) =
     still_complete midnight (timetable_at midnight t) t.history (rows_coming load) t.runs (reached_within midnight t reached) (runs_complete midnight t reached)
 runs_complete midnight s (by_run t moment key reached can) =
-    all-append (λ r. IsComplete (seen_by (timetable_at midnight t) t.history r) (periods_of midnight r)) t.runs (new_run t key ∷ []) (runs_complete midnight t reached)
-    (subst (λ h. IsComplete (registered_in (timetable_at midnight t) h) (periods_on key.date (period_count midnight key.date)))
-    (sym (take_all (length t.history) t.history (omega arith))) (ordered_complete midnight t moment key can.1), tt)
+    all-append (λ r. IsComplete (seen_by (timetable_at midnight t) t.history r) (periods_of midnight r)) t.runs (new_run t key ∷ []) (runs_complete midnight t reached) (
+      subst (λ h. IsComplete (registered_in (timetable_at midnight t) h) (periods_on key.date (period_count midnight key.date)))
+          (sym (take_all (length t.history) t.history (omega arith))) (ordered_complete midnight t moment key can.1),
+      tt,
+    )
 
 module _ (tables : Registered) (credits : Table CreditKey ℤ) (run : RunKey) where
   -- what is credited from a unit in a Settlement Period is its loss-adjusted volume

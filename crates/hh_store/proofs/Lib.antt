@@ -19,7 +19,10 @@ mod RangeLaws
 pub mod ReachLaws
 pub mod ReadLaws
 pub mod ReadyLaws
+pub mod ResultLaws
+mod RisingLaws
 pub mod RunLaws
+pub mod RunReadLaws
 mod RunRowLaws
 pub mod RunSumLaws
 pub mod SettledLaws

@@ -28,7 +28,7 @@ use Rattle.hh_store.specs.Content.{all_postings, posting_entries, posting_key_cm
 use Rattle.hh_store.specs.Runs.{Run, last_of, latest_run, nets_of, postings_after, run_key_cmp, runs_of_date, with_former}
 use Rattle.hh_store.specs.States.{State}
 use Rattle.hh_store.specs.Steps.{IsReached, at_first, by_load, by_run, new_run, timetable_at}
-use Rattle.hh_store.specs.Sums.{PostingsTotal, latest_runs, moved, posted, posted_to}
+use Rattle.hh_store.specs.Sums.{PostingsTotal, latest_runs, moved_by_runs, posted, posted_to}
 use Rattle.hh_store.proofs.AmountLaws.{absent, find-filter, if_passing, in_key_order_moves, total_at}
 use Rattle.hh_store.proofs.ApartLaws.{NoneAlike, all-weaken, distinct-append, distinct-filter, distinct_blocks, first_part, have_one_key, sorted_distinct}
 use Rattle.hh_store.proofs.KeyLaws.{posting_key_total, run_key_total}
@@ -183,7 +183,7 @@ module _ (net : Option Run → ℤ) (nothing : net None ≡ pos 0) where
 
 module _ (timetable : Timetable) (s : State) where
   -- what all runs post to an account is what the latest runs of all dates move to it
-  pub posted_is_moved : (a : Account) → posted timetable s a ≡ moved timetable s a
+  pub posted_is_moved : (a : Account) → posted timetable s a ≡ moved_by_runs timetable s a
   posted_is_moved a =
       let net : Option Run → ℤ = λ o. day_net_of (nets_of timetable s.history o) a in
       total-same (λ r. day_net_of (postings_after timetable s.history r.0 r.1) a) (λ r. net (Some r.1) -ℤ net r.0) (runs_with_former s)

@@ -44,7 +44,7 @@ other_number a b apart = elim (nat_cmp a b) as (λ o. nat_cmp a b ≡ o → is_e
   | Greater ↦ λ is. refl
 ] refl
 
-at_most : (n : ℕ) → AllByRecursion (λ m. m ≤ n) (from_one_to n)
+pub at_most : (n : ℕ) → AllByRecursion (λ m. m ≤ n) (from_one_to n)
 at_most zero = tt
 at_most (suc n) =
     all-append (λ m. m ≤ suc n) (from_one_to n) (suc n ∷ [])

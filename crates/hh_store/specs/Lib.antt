@@ -9,6 +9,7 @@ pub mod Parts
 pub mod PeriodSettlement
 pub mod Readiness
 pub mod Reads
+pub mod RunReads
 pub mod Runs
 pub mod Soundness
 pub mod States

@@ -1,4 +1,4 @@
--- That each Settlement Period has what it may be settled from.
+-- That what each Settlement Period is settled from fits together, and that no run lacked anything.
 use Rattle.std.specs.Prelude.{◌≡◌, All, List, None}
 use Rattle.std.specs.List.{AllByRecursion}
 use Rattle.hh_time.specs.Days.{Midnights}

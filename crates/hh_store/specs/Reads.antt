@@ -92,7 +92,7 @@ module _ (content : Content) where
   abbrev pub results_in : RunKey → List (ℕ × AccountRow)
   results_in run = filter_map (result_in run) content.results
 
-  -- what the runs have posted to an account, in the order of the runs
+  -- what the runs have posted to an account, by the dates of the runs, then by their kinds
   abbrev pub postings_in : Account → List (RunKey × ℤ)
   postings_in account = filter_map (posting_to account) content.postings
 

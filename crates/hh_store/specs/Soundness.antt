@@ -73,8 +73,8 @@ pub record AreTables (tables : Registered) : Type 0 where
   pub contracts : IsTable contract_key_cmp tables.contracts
   pub reallocations : IsTable reallocation_key_cmp tables.reallocations
 
--- What is registered and in force fits together: there are no more parties and units than there may be, each unit lies inside
--- its lead party, each contract has its counterparties, each reallocation is to a subsidiary, of no unit is more than 100
+-- What is registered and in force fits together: there are no more parties and units than there may be, each unit's range lies
+-- inside its lead party's, each contract has its counterparties, each reallocation is to a subsidiary, of no unit is more than 100
 -- percent in force in a Settlement Period, and each reading is of a unit that is effective on the date.
 pub record AreConsistent (tables : Registered) : Type 0 where
   pub rising : AreTables tables

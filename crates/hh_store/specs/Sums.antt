@@ -40,8 +40,8 @@ module _ (timetable : Timetable) (s : State) where
   posted a = total (λ r. day_net_of (postings_after timetable s.history r.0 r.1) a) (runs_with_former s)
 
   -- what the latest runs of all dates move to an account: its day nets in them
-  abbrev pub moved : Account → ℤ
-  moved a = total (λ run. day_net_of (nets_of timetable s.history (Some run)) a) (latest_runs s.runs)
+  abbrev pub moved_by_runs : Account → ℤ
+  moved_by_runs a = total (λ run. day_net_of (nets_of timetable s.history (Some run)) a) (latest_runs s.runs)
 
 -- what postings come to for an account
 abbrev pub posted_to : Account → Table PostingKey ℤ → ℤ
@@ -50,7 +50,7 @@ posted_to a postings = total (λ e. of_account a e.0.account e.1) postings
 -- the postings in the tables of a reached state come to what the latest runs of all dates move, for each account
 abbrev pub PostingsTotal : Type 0
 PostingsTotal = (midnight : Midnights) (s : State) (a : Account) → IsReached midnight s
-    → posted_to a (tables_of midnight s).postings ≡ moved (timetable_at midnight s) s a
+    → posted_to a (tables_of midnight s).postings ≡ moved_by_runs (timetable_at midnight s) s a
 
 -- what the postings of a run come to
 abbrev pub posted_by : RunKey → Table PostingKey ℤ → ℤ

@@ -1,12 +1,12 @@
-//! That what is registered and in force fits together, and so gives each Settlement Period what it
-//! may be settled from.
+//! That what is registered and in force fits together, and with it what each Settlement Period is
+//! settled from; and that no run lacked anything.
 
 ghost use Rattle.hh_store.specs.Readiness.{PeriodsReady, RunPeriodsReady, RunsComplete};
 ghost use Rattle.hh_store.specs.Soundness.{ConsistentRuns, ConsistentStates};
 
 /// That what is registered and in force fits together, however the files came. In each state that
-/// the machine reaches there are no more parties and units than there may be, each unit lies inside
-/// its lead party, each contract has two counterparties that are effective on its date, each
+/// the machine reaches there are no more parties and units than there may be, each unit's range lies
+/// inside its lead party's, each contract has two counterparties that are effective on its date, each
 /// reallocation is to a subsidiary that is, of no unit is more than 100 percent in force in a
 /// Settlement Period, and each reading is of a unit that is effective on its date (profile).
 pub fn consistent_states()
@@ -19,7 +19,7 @@ pub fn consistent_runs()
     ensures { ConsistentRuns }
 {}
 
-/// That each Settlement Period has what it may be settled from. In each state that the machine
+/// That what each Settlement Period is settled from fits together. In each state that the machine
 /// reaches the accounts of its date are in order, with each lead, subsidiary, seller and buyer among
 /// them; no unit stands twice, has more subsidiaries than there may be, or credits an account twice
 /// (profile).
@@ -27,7 +27,7 @@ pub fn periods_ready()
     ensures { PeriodsReady }
 {}
 
-/// That it had it when each run was ordered: in each state that the machine reaches, for each of its
+/// That it did so when each run was ordered: in each state that the machine reaches, for each of its
 /// runs, by what was registered and in force then (profile).
 pub fn run_periods_ready()
     ensures { RunPeriodsReady }

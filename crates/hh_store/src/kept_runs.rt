@@ -142,7 +142,8 @@ impl KeptRuns {
         alloc: Global,
         run: &RunKey,
     ) -> Result<Vec<(PeriodNumber, AccountRow)>, AllocError>
-        ensures { IfOk result (λ rows. rows.items ≡ filter_map (result_in run.now) self.now.results) }
+        ensures { IfOk result (λ rows.
+            rows.items ≡ filter_map (result_in run.now) self.now.results) }
     {
         let mut found = Vec::new(alloc);
         for (key, row) in self.results.rows() {
@@ -153,7 +154,8 @@ impl KeptRuns {
         Ok(found)
     }
 
-    /// What the runs posted to an account, in the order of the runs. `Err` only where memory is refused.
+    /// What the runs posted to an account, by the dates of the runs, then by their kinds. `Err` only where
+    /// memory is refused.
     pub(crate) fn postings_to(
         &self,
         alloc: Global,

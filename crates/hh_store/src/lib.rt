@@ -16,6 +16,7 @@ mod part;
 mod plain_tables;
 mod run_change;
 mod run_keys;
+mod run_reads;
 mod store_fault;
 mod sums;
 mod tables;
@@ -31,6 +32,10 @@ pub use load_change::LoadChange;
 pub use plain_tables::PlainTables;
 pub use run_change::RunChange;
 pub use run_keys::{CreditKey, PostingKey, ResultKey, RunKey};
+pub use run_reads::{
+    day_nets_from_results, kept_kinds_of_dates, kept_postings, kept_results, kept_runs_of_dates,
+    kept_summaries, no_other_results,
+};
 pub use store_fault::StoreFault;
 pub use sums::{
     cash_sums_to_zero, contracts_sum_to_zero, credits_sum_exactly, day_nets_are_sums,

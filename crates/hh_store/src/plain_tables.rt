@@ -32,9 +32,9 @@ use hh_time::{Day, SettlementDate};
 use std::alloc::Global;
 use std::marker::Model;
 
-/// The tables of an office, kept as lists in memory. To read the settings, a
-/// party, a unit, a reference or a key never fails. The other calls fail only where memory is refused,
-/// `register` where what is registered and in force is sound.
+/// The tables of an office, kept as lists in memory. To read the settings, a party, a unit, a reference
+/// or a key never fails. The other calls fail only where memory is refused, and so does `register`, if
+/// what is registered and in force is sound.
 #[derive(Drop)]
 pub struct PlainTables {
     alloc: Global,

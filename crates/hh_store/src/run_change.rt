@@ -73,21 +73,21 @@ impl RunChange {
         self.summary
     }
 
-    /// The rows of the run's accounts, by Settlement Period, then by account.
+    /// The rows of the run's accounts, as they were handed over.
     pub fn results(&self) -> &[(ResultKey, AccountRow)]
         ensures { result.now ≡ self.now.results }
     {
         &self.results
     }
 
-    /// The run's credits, by Settlement Period, then by unit, then by account: energy in ticks.
+    /// The run's credits, as they were handed over: energy in ticks.
     pub fn credits(&self) -> &[(CreditKey, Ticks)]
         ensures { result.now ≡ self.now.credits }
     {
         &self.credits
     }
 
-    /// The run's postings, by account, in pence.
+    /// The run's postings, as they were handed over, in pence.
     pub fn postings(&self) -> &[(PostingKey, Pence)]
         ensures { result.now ≡ self.now.postings }
     {

@@ -98,7 +98,8 @@ pub trait Tables {
         ensures value { IfOk result (λ rows. rows.items ≡ results_in (content self.old) run.now) }
         ensures same { content self.new ≡ content self.old };
 
-    /// What the runs have posted to an account, in pence, in the order of the runs (profile).
+    /// What the runs have posted to an account, in pence, by the dates of the runs, then by their kinds
+    /// (profile).
     fn postings(&mut self, account: &Account) -> Result<Vec<(RunKey, Pence)>, StoreFault>
         ensures value { IfOk result (λ rows.
             rows.items ≡ postings_in (content self.old) account.now) }
