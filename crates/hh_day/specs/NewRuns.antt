@@ -1,0 +1,92 @@
+-- A new run: the Settlement Periods of its date, settled, and what is written for it.
+use Rattle.std.specs.Prelude.{◌≡◌, ℕ, ℤ, List, [], ◌∷◌, length, map, All, None, Some}
+use Rattle.hh_num.specs.Totals.{total}
+use Rattle.hh_time.specs.Days.{Midnights, period_count}
+use Rattle.hh_names.specs.declared.account.Account.{Account}
+use Rattle.hh_rows.specs.declared.settlement_period.SettlementPeriod.{SettlementPeriod}
+use Rattle.hh_rules.specs.History.{Registered}
+use Rattle.hh_calc.specs.declared.result.AccountRow.{AccountRow}
+use Rattle.hh_calc.specs.Settled.{IsSettled}
+use Rattle.hh_calc.specs.Terms.{PeriodTerms, Settled}
+use Rattle.hh_runs.specs.declared.summary.Summary.{Summary}
+use Rattle.hh_runs.specs.DayNets.{DayNets, day_net_of, differences}
+use Rattle.hh_store.specs.declared.run_keys.RunKey.{RunKey}
+use Rattle.hh_store.specs.Changes.{RunWrites, run_writes}
+use Rattle.hh_store.specs.Content.{credit_entries, posting_entries, result_entries, tables_of}
+use Rattle.hh_store.specs.DaySettlement.{periods_on, settled_day, too_large}
+use Rattle.hh_store.specs.PeriodSettlement.{settled, terms_at}
+use Rattle.hh_store.specs.Readiness.{AreTermsConsistent}
+use Rattle.hh_store.specs.Reads.{results_in}
+use Rattle.hh_store.specs.RunReads.{paid_in, rows_by_period}
+use Rattle.hh_store.specs.Runs.{latest_run}
+use Rattle.hh_store.specs.States.{State}
+use Rattle.hh_store.specs.Steps.{CanRun, IsReached, registered_at}
+use Rattle.hh_day.specs.declared.settle.SettledDay.{SettledDay}
+use Rattle.hh_day.specs.declared.settle.SettledDay.TheVariants.{Settled as all_settled, TooLarge}
+
+-- what these Settlement Periods come to: the first that passes a limit of settlement, else the settlement of each
+abbrev pub IsSettledDay : Registered → List SettlementPeriod → SettledDay → Type 0
+IsSettledDay tables periods (TooLarge at) = too_large tables periods ≡ Some at
+IsSettledDay tables periods (all_settled day) =
+    (too_large tables periods ≡ None) × (day.items ≡ settled_day tables periods)
+
+-- These Settlement Periods are settled from these terms, by whatever is registered and in force, where the terms of each fit
+-- together.
+abbrev pub SettlesDay : List SettlementPeriod → List PeriodTerms → SettledDay → Type 0
+SettlesDay periods terms outcome =
+    (tables : Registered) → terms ≡ map (terms_at tables) periods → All AreTermsConsistent terms
+    → IsSettledDay tables periods outcome
+
+-- how many accounts a run settles: those of its first Settlement Period
+abbrev pub account_count : List (SettlementPeriod × Settled) → ℕ
+account_count [] = 0
+account_count (q ∷ day) = length q.1.accounts
+
+-- what a run is summed up as, by the settlements of its periods and by what it posts
+abbrev pub summary_of : List (SettlementPeriod × Settled) → DayNets → Summary
+summary_of day postings = record {
+  periods = length day;
+  accounts = account_count day;
+  residual = total (λ q. q.1.residual) day;
+  postings = length postings;
+}
+
+-- what is written for a run whose periods are settled so and that posts this
+abbrev pub writes_of_run : RunKey → List (SettlementPeriod × Settled) → DayNets → RunWrites
+writes_of_run run day postings = record {
+  key = run;
+  summary = summary_of day postings;
+  results = result_entries run day;
+  credits = credit_entries run day;
+  postings = posting_entries run postings;
+}
+
+-- This is written for a run whose periods are settled so, where the run of the date before it had these rows: it posts to each
+-- account what the account pays by the new rows less what it paid by the old ones.
+pub record IsWrittenFor (run : RunKey) (day : List (SettlementPeriod × Settled)) (former : List (ℕ × AccountRow))
+    (writes : RunWrites) : Type 0 where
+  pub old : DayNets
+  pub new : DayNets
+  pub paid_before : (a : Account) → day_net_of old a ≡ paid_in a former
+  pub paid_now : (a : Account) → day_net_of new a ≡ paid_in a (rows_by_period day)
+  pub written : writes ≡ writes_of_run run day (differences old new)
+
+-- the rows of the latest run of a date, in the tables of a state; none where the date has no run
+abbrev pub former_rows : Midnights → State → ℕ → List (ℕ × AccountRow)
+former_rows midnight s date = elim (latest_run date s.runs) [ None ↦ [] | Some run ↦ results_in (tables_of midnight s) run.key ]
+
+-- the Settlement Periods of a date with their settlements, by what is registered and in force in a state
+abbrev pub day_in : Midnights → State → ℕ → List (SettlementPeriod × Settled)
+day_in midnight s date = settled_day (registered_at midnight s) (periods_on date (period_count midnight date))
+
+-- a period that is settled is settled in one way, where what it is settled from fits together
+abbrev pub SettledInOneWay : Type 0
+SettledInOneWay = (p : PeriodTerms) (s : Settled) → AreTermsConsistent p → IsSettled p s → s ≡ settled p
+
+-- What is written for a new run of the settled periods of its date is what the machine writes for it: in each state that the
+-- machine reaches, and for each run that is not there and not refused there.
+abbrev pub WritesTheRun : Type 0
+WritesTheRun = (midnight : Midnights) (s : State) (moment : ℤ) (key : RunKey) (writes : RunWrites)
+    → IsReached midnight s → CanRun midnight s moment key
+    → IsWrittenFor key (day_in midnight s key.date) (former_rows midnight s key.date) writes
+    → writes ≡ run_writes midnight s key

@@ -1,0 +1,27 @@
+//! That a period is settled in one way, that what is written for a run is what the machine writes, and
+//! what the tables of an office add up to.
+
+ghost use Rattle.hh_day.specs.Headline.{ReachedConserve};
+ghost use Rattle.hh_day.specs.NewRuns.{SettledInOneWay, WritesTheRun};
+
+/// That a period that is settled is settled in one way, where what it is settled from fits together
+/// (profile).
+pub fn settled_in_one_way()
+    ensures { SettledInOneWay }
+{}
+
+/// That what is written for a new run of the settled periods of its date is what the machine writes for
+/// it: in each state that the machine reaches, and for each run that is not there and not refused there
+/// (profile).
+pub fn writes_the_run()
+    ensures { WritesTheRun }
+{}
+
+/// That the sums of the headline hold of the tables of each state that the machine reaches: in each
+/// Settlement Period of each run contracts come to zero, and so do charges and shares together; each unit's
+/// credited energy comes exactly to its loss-adjusted metered volume, by the reading that counted when the
+/// run was ordered; each account's postings come to what it pays in the latest run of every date; and the
+/// postings of each run come to zero (profile).
+pub fn reached_conserve()
+    ensures { ReachedConserve }
+{}

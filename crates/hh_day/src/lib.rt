@@ -1,0 +1,11 @@
+//! A new run of a date: its Settlement Periods settled, and what is written for it; and what the tables
+//! of an office add up to.
+#![tactic(auto)]
+
+mod laws;
+mod run;
+mod settle;
+
+pub use laws::{reached_conserve, settled_in_one_way, writes_the_run};
+pub use run::run_change;
+pub use settle::{SettledDay, SettledPeriod, settle_day};
