@@ -18,7 +18,8 @@ use Rattle.hh_office.specs.declared.request.Action.TheVariants as ask
 use Rattle.hh_office.specs.declared.request.Request.{Request}
 use Rattle.hh_office.specs.declared.request.Upload.{Upload}
 use Rattle.hh_office.specs.declared.reply.Reply.{Reply}
-use Rattle.hh_office.specs.Machine.{Transition, act, answer, key_of, load, load_beside, load_new, load_read_as, loaded, loaded_reply, may, next, refused, refused_for, step}
+use Rattle.hh_office.specs.Machine.{act, answer, key_of, load, load_beside, load_new, load_read_as, loaded, loaded_reply, may, next, step}
+use Rattle.hh_office.specs.Transitions.{Transition, refused, refused_for}
 use Rattle.hh_office.specs.Promises.{HandleStep, RefusalLeaves, Stands, StandsAfter, is_given_up, is_refused}
 use Rattle.hh_office.specs.Views.{OfficeView, midnight_of}
 use Rattle.hh_office.proofs.OnceLaws.{next_reached}

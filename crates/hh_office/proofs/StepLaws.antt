@@ -25,7 +25,8 @@ use Rattle.hh_office.specs.declared.reply.Reply.TheVariants as reply
 use Rattle.hh_office.specs.declared.request.Request.{Request}
 use Rattle.hh_office.specs.declared.request.Upload.{Upload}
 use Rattle.hh_office.specs.Loads.{Accepts, Answers, WritesLoad, accepted, judged_upload, writes_of}
-use Rattle.hh_office.specs.Machine.{Transition, act, key_of, load_new, may, step, load, load_beside, load_read_as, loaded_reply, refused, refused_for, unchanged}
+use Rattle.hh_office.specs.Machine.{act, key_of, load_new, may, step, load, load_beside, load_read_as, loaded_reply}
+use Rattle.hh_office.specs.Transitions.{Transition, refused, refused_for, unchanged}
 use Rattle.hh_office.specs.Promises.{MakesTransition, Stands, UnlessFailed, gives_up, is_given_up, reply_of}
 use Rattle.hh_office.specs.Views.{OfficeView, midnight_of}
 

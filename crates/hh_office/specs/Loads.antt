@@ -10,7 +10,8 @@ use Rattle.hh_store.specs.States.{State}
 use Rattle.hh_store.specs.Steps.{CanLoad, Load, after_load, timetable_at}
 use Rattle.hh_office.specs.declared.reply.Reply.{Reply}
 use Rattle.hh_office.specs.declared.request.Upload.{Upload}
-use Rattle.hh_office.specs.Machine.{Transition, key_of, loaded_reply}
+use Rattle.hh_office.specs.Machine.{key_of, loaded_reply}
+use Rattle.hh_office.specs.Transitions.{Transition}
 use Rattle.hh_office.specs.Promises.{MakesTransition, Stands, UnlessFailed}
 use Rattle.hh_office.specs.Views.{OfficeView, midnight_of}
 

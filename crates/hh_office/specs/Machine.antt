@@ -15,7 +15,7 @@ use Rattle.hh_rules.specs.FileRows.{coming_at, first_fault}
 use Rattle.hh_texts.specs.Files.{file_rows}
 use Rattle.hh_texts.specs.Rows.{most_bytes}
 use Rattle.hh_store.specs.declared.file_key.FileKey.{FileKey}
-use Rattle.hh_store.specs.Reads.{contracts_of}
+use Rattle.hh_store.specs.Reads.{is_key_known_in}
 use Rattle.hh_store.specs.States.{AcceptedFile, State, file_key_cmp}
 use Rattle.hh_store.specs.Steps.{Load, after_load, kept_file, registered_at, timetable_at}
 use Rattle.hh_office.specs.declared.request.Action.{Action}
@@ -24,27 +24,13 @@ use Rattle.hh_office.specs.declared.request.Request.{Request}
 use Rattle.hh_office.specs.declared.request.Upload.{Upload}
 use Rattle.hh_office.specs.declared.reply.Reply.{Reply}
 use Rattle.hh_office.specs.declared.reply.Reply.TheVariants as reply
+use Rattle.hh_office.specs.Enquiries.{account_reply, balance_reply, contracts_reply, runs_reply}
+use Rattle.hh_office.specs.Runs.{run}
+use Rattle.hh_office.specs.Transitions.{Transition, refused, refused_for, unchanged}
 
 -- a request with the moment at which it comes
 abbrev pub Timed : Type 0
 Timed = ℤ × Request
-
--- what becomes of a request in a state: the reply, and the state after it
-pub record Transition : Type 0 where
-  pub reply : Reply
-  pub state : State
-
--- a reply that leaves the state as it is
-abbrev pub unchanged : State → Reply → Transition
-unchanged s r = record { reply = r; state = s }
-
--- a refusal, which leaves the state as it is
-abbrev pub refused : State → Fault → Transition
-refused s fault = unchanged s (reply.Refused fault)
-
--- the same of the whole request
-abbrev pub refused_for : State → Refusal → Transition
-refused_for s why = refused s (plain_fault why)
 
 -- the reply to a file that is kept
 abbrev pub loaded_reply : AcceptedFile → Reply
@@ -76,10 +62,18 @@ module _ (midnight : Midnights) (s : State) where
   abbrev pub is_holder : Account → List ℕ → Bool
   is_holder account key = is_key_of key (find bytes_cmp account.party (registered_at midnight s).parties)
 
-  -- who may ask for what: the operator for everything, a party for the contracts of its own accounts
+  -- whether a key is that of a registered party
+  abbrev pub is_party_key : List ℕ → Bool
+  is_party_key key = is_key_known_in (registered_at midnight s) key
+
+  -- who may ask for what: the operator for everything, a party for what its own accounts have, and for the runs of dates
   abbrev pub may : List ℕ → Action → Bool
   may key (ask.Load upload) = is_operator key
+  may key (ask.Run run) = is_operator key
+  may key (ask.Account account date) = is_operator key || is_holder account key
+  may key (ask.Balance account) = is_operator key || is_holder account key
   may key (ask.Contracts account date) = is_operator key || is_holder account key
+  may key (ask.Runs date) = is_operator key || is_party_key key
 
   -- what becomes of a new file that reads as these rows: it is refused with its first row that is refused
   abbrev pub loaded : Load → Transition
@@ -105,18 +99,14 @@ module _ (midnight : Midnights) (s : State) where
   load moment upload = if nat_lt most_bytes (length upload.body) then refused_for s FileTooLarge
       else load_beside (find file_key_cmp (key_of upload) s.files) moment upload
 
-  -- the contracts in force of an account on a date
-  abbrev pub contracts : Account → ℕ → Transition
-  contracts account date = unchanged s (reply.Contracts (record {
-    account = account;
-    date = date;
-    contracts = contracts_of account date (registered_at midnight s);
-  }))
-
   -- what becomes of what is asked, if the key allows it
   abbrev pub act : ℤ → Action → Transition
   act moment (ask.Load upload) = load moment upload
-  act moment (ask.Contracts account date) = contracts account date
+  act moment (ask.Run key) = run midnight s moment key
+  act moment (ask.Account account date) = unchanged s (account_reply midnight s account date)
+  act moment (ask.Balance account) = unchanged s (balance_reply midnight s account)
+  act moment (ask.Contracts account date) = unchanged s (contracts_reply midnight s account date)
+  act moment (ask.Runs date) = unchanged s (runs_reply midnight s date)
 
   -- what becomes of a request that comes at a moment
   abbrev pub step : ℤ → Request → Transition

@@ -13,7 +13,8 @@ use Rattle.hh_office.specs.declared.request.Action.TheVariants as ask
 use Rattle.hh_office.specs.declared.request.Request.{Request}
 use Rattle.hh_office.specs.declared.reply.Reply.{Reply}
 use Rattle.hh_office.specs.declared.reply.Reply.TheVariants as reply
-use Rattle.hh_office.specs.Machine.{Transition, Timed, answer, next, replies_to, state_after, step}
+use Rattle.hh_office.specs.Machine.{Timed, answer, next, replies_to, state_after, step}
+use Rattle.hh_office.specs.Transitions.{Transition, unchanged}
 use Rattle.hh_office.specs.Views.{OfficeView, midnight_of}
 
 -- memory ran out, or the store refused
@@ -116,3 +117,11 @@ MakesInEachState old new result transition = (s : State) → Stands old s → Ma
 -- the office tells what is so in each state that it stands for
 abbrev pub TellsTruly : OfficeView → Bool → (Midnights → State → Bool) → Type 0
 TellsTruly office told is_so = (s : State) → Stands office s → told ≡ is_so (midnight_of office) s
+
+-- an answer is this reply, unless the request was given up
+abbrev pub RepliesAs : Result Reply Fault → Reply → Type 0
+RepliesAs result expected = MatchBool (is_given_up (reply_of result)) (Unit {0}) (reply_of result ≡ expected)
+
+-- The office answers this and stays as it is: in each state that it stands for it is the reply, unless the request was given up.
+abbrev pub TellsInEachState : OfficeView → OfficeView → Result Reply Fault → (Midnights → State → Reply) → Type 0
+TellsInEachState old new result reply = MakesInEachState old new result (λ midnight s. unchanged s (reply midnight s))

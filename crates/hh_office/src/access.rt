@@ -1,7 +1,7 @@
 //! Who may ask for what.
 
-ghost use Rattle.std.specs.Prelude.{◌≡◌, IfOk};
-ghost use Rattle.hh_office.specs.Machine.{is_holder, is_operator, may};
+ghost use Rattle.std.specs.Prelude.{◌≡◌, ◌||◌, IfOk};
+ghost use Rattle.hh_office.specs.Machine.{is_holder, is_operator, is_party_key, may};
 ghost use Rattle.hh_office.specs.Promises.{TellsTruly};
 
 use crate::office::Office;
@@ -18,11 +18,30 @@ impl<'z, T: Tables> Office<'z, T> {
     {
         let key = request.key.as_slice();
         match &request.action {
-            Action::Load(_) => self.is_operator(key),
-            Action::Contracts { account, .. } => {
-                Ok(self.is_operator(key)? || self.is_holder(account, key)?)
-            }
+            Action::Load(_) | Action::Run(_) => self.is_operator(key),
+            Action::Account { account, .. }
+            | Action::Balance { account }
+            | Action::Contracts { account, .. } => self.may_see(account, key),
+            Action::Runs { .. } => Ok(self.is_operator(key)? || self.is_party_key(key)?),
         }
+    }
+
+    /// Whether a key is the operator's or that of an account's party.
+    fn may_see(&mut self, account: &Account, key: &[u8]) -> Result<bool, StoreFault>
+        ensures told { IfOk result (λ told. TellsTruly self.old told
+            (λ midnight s. is_operator midnight s key.now || is_holder midnight s account.now key.now)) }
+        ensures same { self.new ≡ self.old }
+    {
+        Ok(self.is_operator(key)? || self.is_holder(account, key)?)
+    }
+
+    /// Whether a key is that of a registered party.
+    fn is_party_key(&mut self, key: &[u8]) -> Result<bool, StoreFault>
+        ensures told { IfOk result (λ told. TellsTruly self.old told
+            (λ midnight s. is_party_key midnight s key.now)) }
+        ensures same { self.new ≡ self.old }
+    {
+        self.tables.key_known(key)
     }
 
     /// Whether a key is the operator's.

@@ -2,13 +2,15 @@
 #![tactic(auto)]
 
 mod access;
+mod enquiries;
 mod loads;
 mod office;
 mod reply;
 mod request;
+mod runs;
 
 pub use office::Office;
-pub use reply::{ContractsReply, Loaded, Reply};
+pub use reply::{AccountReply, ContractsReply, Loaded, Reply, RunsReply};
 pub use request::{Action, Bytes, Request, Upload};
 
 #[cfg(test)]

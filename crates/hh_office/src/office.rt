@@ -1,14 +1,13 @@
 //! The office: requests in, replies out, tables kept.
 
 ghost use Rattle.std.specs.Prelude.{◌≡◌, IfOk, OnErr};
-ghost use Rattle.hh_office.specs.Machine.{contracts, step};
+ghost use Rattle.hh_office.specs.Machine.{step};
 ghost use Rattle.hh_office.specs.Promises.{MakesInEachState, HandleStep, RefusalLeaves, RepeatsOnce, RunAllStep, StandsAfter};
 
-use crate::reply::{ContractsReply, Reply};
+use crate::reply::Reply;
 use crate::request::{Action, Request};
-use hh_names::{Account, Fault, Refusal};
+use hh_names::{Fault, Refusal};
 use hh_store::Tables;
-use hh_time::SettlementDate;
 use jiff::tz::TimeZone;
 use std::alloc::{AllocError, Global};
 use std::marker::Model;
@@ -93,16 +92,11 @@ impl<'z, T: Tables> Office<'z, T> {
         }
         match &request.action {
             Action::Load(upload) => self.load(moment, upload),
+            Action::Run(run) => self.run(moment, *run),
+            Action::Account { account, date } => self.account(account, *date),
+            Action::Balance { account } => self.balance(account),
             Action::Contracts { account, date } => self.contracts(account, *date),
+            Action::Runs { date } => self.runs(*date),
         }
-    }
-
-    /// The contracts in force of an account on a date.
-    fn contracts(&mut self, account: &Account, date: SettlementDate) -> Result<Reply, Fault>
-        ensures { MakesInEachState self.old self.new result (λ midnight s.
-            contracts midnight s account.now date) }
-    {
-        let contracts = self.tables.contracts(account, date)?;
-        Ok(Reply::Contracts(ContractsReply::new(*account, date, contracts)))
     }
 }

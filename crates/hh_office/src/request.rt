@@ -4,6 +4,7 @@ ghost use Rattle.std.specs.Prelude.{◌≡◌};
 
 use hh_names::{Account, FileName};
 use hh_rows::FileKind;
+use hh_store::RunKey;
 use hh_time::SettlementDate;
 use std::marker::Model;
 
@@ -50,11 +51,22 @@ pub struct Upload {
 pub enum Action {
     /// That a file be loaded (profile).
     Load(Upload),
+    /// That a run of a date and kind be made (profile).
+    Run(RunKey),
+    /// What an account has and pays in the latest run of a date (Section T in shape).
+    Account {
+        account: Account,
+        date: SettlementDate,
+    },
+    /// What the runs of all dates have moved to an account (profile).
+    Balance { account: Account },
     /// Which contracts of an account are in force on a date (Section P in shape).
     Contracts {
         account: Account,
         date: SettlementDate,
     },
+    /// Which runs a date has (profile).
+    Runs { date: SettlementDate },
 }
 
 /// What is asked, and the key that is shown with it (profile).

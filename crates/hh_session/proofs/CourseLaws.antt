@@ -18,7 +18,8 @@ use Rattle.hh_store.specs.States.{State, file_key_cmp}
 use Rattle.hh_office.specs.declared.request.Request.{Request}
 use Rattle.hh_office.specs.declared.request.Upload.{Upload}
 use Rattle.hh_office.specs.declared.reply.Reply.{Reply}
-use Rattle.hh_office.specs.Machine.{Transition, key_of, load_beside, may, refused_for, step}
+use Rattle.hh_office.specs.Machine.{key_of, load_beside, may, step}
+use Rattle.hh_office.specs.Transitions.{Transition, refused_for}
 use Rattle.hh_office.specs.Promises.{HandleStep, Stands, StandsAfter, is_given_up}
 use Rattle.hh_office.specs.Views.{OfficeView, midnight_of}
 use Rattle.hh_session.specs.declared.told.Told.{Told}

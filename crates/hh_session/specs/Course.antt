@@ -8,7 +8,8 @@ use Rattle.hh_script.specs.Steps.{LoadFile, LoadStep, Step}
 use Rattle.hh_store.specs.States.{State}
 use Rattle.hh_office.specs.declared.request.Action.TheVariants as ask
 use Rattle.hh_office.specs.declared.request.Request.{Request}
-use Rattle.hh_office.specs.Machine.{Transition, step}
+use Rattle.hh_office.specs.Machine.{step}
+use Rattle.hh_office.specs.Transitions.{Transition}
 use Rattle.hh_office.specs.declared.reply.Reply.TheVariants as reply
 use Rattle.hh_office.specs.Promises.{Stands, is_given_up, is_refused}
 use Rattle.hh_office.specs.Views.{OfficeView, midnight_of}

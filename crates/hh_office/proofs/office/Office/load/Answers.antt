@@ -2,7 +2,8 @@ use Rattle.std.proofs.Common.{subst, sym, ◌∙◌, ◌≤◌, length, w64, to_
 use Rattle.std.proofs.lemmas.Bool.{le-ltb}
 use Rattle.std.proofs.lemmas.Int.{to_z-of_z}
 use Rattle.hh_texts.specs.Rows.{most_bytes}
-use Rattle.hh_office.specs.Machine.{load_beside, load_new, repeat_reply, unchanged}
+use Rattle.hh_office.specs.Machine.{load_beside, load_new, repeat_reply}
+use Rattle.hh_office.specs.Transitions.{unchanged}
 use Rattle.hh_office.specs.Promises.{MakesTransition, MakesInEachState, reply_of}
 use Rattle.hh_office.specs.Views.{midnight_of}
 use Rattle.hh_office.proofs.StepLaws.{comes_by_kept, comes_same, comes_unchanged}

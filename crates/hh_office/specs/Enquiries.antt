@@ -1,0 +1,62 @@
+-- What is asked of accounts and runs, and what the machine replies.
+use Rattle.std.specs.Prelude.{ℕ, ℤ, ◌+ℤ◌, List, [], ◌∷◌, filter, Option, Some, None}
+use Rattle.hh_num.specs.Totals.{total}
+use Rattle.hh_time.specs.Days.{Midnights}
+use Rattle.hh_names.specs.declared.account.Account.{Account}
+use Rattle.hh_names.specs.declared.fault.Refusal.TheVariants.{NoRun}
+use Rattle.hh_names.specs.Accounts.{is_same_account}
+use Rattle.hh_names.specs.Faults.{plain_fault}
+use Rattle.hh_calc.specs.declared.result.AccountRow.{AccountRow}
+use Rattle.hh_store.specs.declared.run_keys.RunKey.{RunKey}
+use Rattle.hh_store.specs.Reads.{contracts_of}
+use Rattle.hh_store.specs.RunReads.{rows_by_period}
+use Rattle.hh_store.specs.Runs.{Run, latest_run, settled_by}
+use Rattle.hh_store.specs.States.{State}
+use Rattle.hh_store.specs.Steps.{kinds_on, registered_at, timetable_at}
+use Rattle.hh_store.specs.Sums.{moved_by_runs}
+use Rattle.hh_office.specs.declared.reply.Reply.{Reply}
+use Rattle.hh_office.specs.declared.reply.Reply.TheVariants as reply
+
+-- what rows of an account come to: the sum of their charges and shares
+abbrev pub net_of_rows : List (ℕ × AccountRow) → ℤ
+net_of_rows rows = total (λ e. e.1.charge +ℤ e.1.share) rows
+
+-- the rows of an account among those of a run
+abbrev pub rows_of_account : Account → List (ℕ × AccountRow) → List (ℕ × AccountRow)
+rows_of_account a rows = filter (λ e. is_same_account e.1.account a) rows
+
+-- the reply by the rows that an account has in a run: it is refused if there are none
+abbrev pub reply_by_rows : Account → RunKey → List (ℕ × AccountRow) → Reply
+reply_by_rows a run [] = reply.Refused (plain_fault NoRun)
+reply_by_rows a run (row ∷ rows) =
+    reply.Account (record { account = a; run = run; net = net_of_rows (row ∷ rows); rows = row ∷ rows })
+
+module _ (midnight : Midnights) (s : State) where
+  -- the rows of a run's accounts, by Settlement Period, then by account
+  abbrev pub rows_in_run : Run → List (ℕ × AccountRow)
+  rows_in_run run = rows_by_period (settled_by (timetable_at midnight s) s.history run)
+
+  -- the reply on an account by the latest run of a date: it is refused if there is none, or none of the account's rows in it
+  abbrev pub reply_by_run : Account → Option Run → Reply
+  reply_by_run a None = reply.Refused (plain_fault NoRun)
+  reply_by_run a (Some run) = reply_by_rows a run.key (rows_of_account a (rows_in_run run))
+
+  -- what an account has and pays in the latest run of a date
+  abbrev pub account_reply : Account → ℕ → Reply
+  account_reply a date = reply_by_run a (latest_run date s.runs)
+
+  -- what the runs of all dates have moved to an account: its day nets in the latest run of every date
+  abbrev pub balance_reply : Account → Reply
+  balance_reply a = reply.Balance a (moved_by_runs (timetable_at midnight s) s a)
+
+  -- the contracts in force of an account on a date
+  abbrev pub contracts_reply : Account → ℕ → Reply
+  contracts_reply a date = reply.Contracts (record {
+    account = a;
+    date = date;
+    contracts = contracts_of a date (registered_at midnight s);
+  })
+
+  -- the runs of a date
+  abbrev pub runs_reply : ℕ → Reply
+  runs_reply date = reply.Runs (record { date = date; kinds = kinds_on s date })

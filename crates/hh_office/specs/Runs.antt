@@ -1,0 +1,26 @@
+-- Runs that are ordered: what becomes of them.
+use Rattle.std.specs.Prelude.{ℤ, Option, Some, None}
+use Rattle.hh_time.specs.Days.{Midnights}
+use Rattle.hh_runs.specs.declared.summary.Summary.{Summary}
+use Rattle.hh_store.specs.declared.run_keys.RunKey.{RunKey}
+use Rattle.hh_store.specs.States.{State}
+use Rattle.hh_store.specs.Steps.{after_run, kept_summary, new_summary, run_fault}
+use Rattle.hh_office.specs.declared.reply.Reply.TheVariants as reply
+use Rattle.hh_office.specs.Transitions.{Transition, refused, unchanged}
+
+module _ (midnight : Midnights) (s : State) where
+  -- what becomes of a run that is not there: it is made, unless it is refused
+  abbrev pub new_run : ℤ → RunKey → Transition
+  new_run moment key = elim (run_fault midnight s moment key) [
+    | Some fault ↦ refused s fault
+    | None ↦ record { reply = reply.Ran key (new_summary midnight s key); state = after_run s key }
+  ]
+
+  -- what becomes of a run, by the summary that is kept of it: a run that is there stays as it is
+  abbrev pub run_beside : Option Summary → ℤ → RunKey → Transition
+  run_beside (Some summary) moment key = unchanged s (reply.Ran key summary)
+  run_beside None moment key = new_run moment key
+
+  -- what becomes of a run: first it is asked whether it is there
+  abbrev pub run : ℤ → RunKey → Transition
+  run moment key = run_beside (kept_summary midnight s key) moment key

@@ -1,0 +1,162 @@
+//! What is asked of accounts, contracts and runs.
+
+ghost use Rattle.std.specs.Prelude.{◌≡◌, map, IfOk, IfSome};
+ghost use Rattle.hh_num.specs.Totals.{total};
+ghost use Rattle.hh_office.specs.Enquiries.{account_reply, balance_reply, contracts_reply, net_of_rows, reply_by_rows, rows_of_account, runs_reply};
+ghost use Rattle.hh_office.specs.Promises.{RepliesAs, TellsInEachState};
+ghost use Rattle.hh_office.specs.Reads.{latest_key};
+
+use crate::office::Office;
+use crate::reply::{AccountReply, ContractsReply, Reply, RunsReply};
+use hh_calc::AccountRow;
+use hh_names::{Account, Fault, PeriodNumber, Refusal};
+use hh_num::Pence;
+use hh_runs::{DayNet, RunKind, Summary};
+use hh_store::{RunKey, Tables, kept_kinds_of_dates, kept_postings, kept_results};
+use hh_time::SettlementDate;
+use std::alloc::{AllocError, Global};
+
+impl<'z, T: Tables> Office<'z, T> {
+    /// What an account has and pays in the latest run of a date.
+    pub(crate) fn account(
+        &mut self,
+        account: &Account,
+        date: SettlementDate,
+    ) -> Result<Reply, Fault>
+        ensures { TellsInEachState self.old self.new result (λ midnight s.
+            account_reply midnight s account.now date) }
+    {
+        // Do nothing, but carry laws for the proof: the tables hold the machine's runs and their rows.
+        kept_kinds_of_dates();
+        kept_results();
+        let runs = self.tables.runs(date)?;
+        let Some(run) = latest_of(date, &runs) else {
+            return Err(Fault::of(Refusal::NoRun));
+        };
+        let rows = self.tables.results(&run)?;
+        reply_by_rows(self.alloc, account, run, &rows)
+    }
+
+    /// What the runs of all dates have moved to an account.
+    pub(crate) fn balance(&mut self, account: &Account) -> Result<Reply, Fault>
+        ensures { TellsInEachState self.old self.new result (λ midnight s.
+            balance_reply midnight s account.now) }
+    {
+        // Does nothing, but carries a law for the proof: postings come to what the latest runs move.
+        kept_postings();
+        let postings = self.tables.postings(account)?;
+        let Some(moved) = sum_of(&postings) else {
+            return Err(Fault::of(Refusal::Store));
+        };
+        Ok(Reply::Balance {
+            account: *account,
+            moved,
+        })
+    }
+
+    /// The contracts in force of an account on a date.
+    pub(crate) fn contracts(
+        &mut self,
+        account: &Account,
+        date: SettlementDate,
+    ) -> Result<Reply, Fault>
+        ensures { TellsInEachState self.old self.new result (λ midnight s.
+            contracts_reply midnight s account.now date) }
+    {
+        let contracts = self.tables.contracts(account, date)?;
+        Ok(Reply::Contracts(ContractsReply::new(
+            *account, date, contracts,
+        )))
+    }
+
+    /// The runs of a date.
+    pub(crate) fn runs(&mut self, date: SettlementDate) -> Result<Reply, Fault>
+        ensures { TellsInEachState self.old self.new result (λ midnight s.
+            runs_reply midnight s date) }
+    {
+        // Does nothing, but carries a law for the proof: the tables hold the machine's runs.
+        kept_kinds_of_dates();
+        let runs = self.tables.runs(date)?;
+        let kinds = kinds_of(self.alloc, &runs)?;
+        Ok(Reply::Runs(RunsReply::new(date, kinds)))
+    }
+}
+
+/// The latest of the runs of a date, which stand in the order of their kinds.
+pub(crate) fn latest_of(date: SettlementDate, runs: &[(RunKind, Summary)]) -> Option<RunKey>
+    ensures { result ≡ latest_key date runs.now }
+{
+    let (kind, _) = runs.last()?;
+    Some(RunKey { date, kind: *kind })
+}
+
+/// The kinds of runs, in their order.
+pub(crate) fn kinds_of(
+    alloc: Global,
+    runs: &[(RunKind, Summary)],
+) -> Result<Vec<RunKind>, AllocError>
+    ensures { IfOk result (λ kinds. kinds.items ≡ map (λ r. r.0) runs.now) }
+{
+    runs.iter().map(|run| run.0).collect(alloc)
+}
+
+/// The reply on an account by the rows of a run.
+fn reply_by_rows(
+    alloc: Global,
+    account: &Account,
+    run: RunKey,
+    rows: &[(PeriodNumber, AccountRow)],
+) -> Result<Reply, Fault>
+    ensures { RepliesAs result
+        (reply_by_rows account.now run (rows_of_account account.now rows.now)) }
+{
+    let found = rows_of(alloc, account, rows)?;
+    if found.is_empty() {
+        return Err(Fault::of(Refusal::NoRun));
+    }
+    let Some(net) = net_of(&found) else {
+        return Err(Fault::of(Refusal::Store));
+    };
+    Ok(Reply::Account(AccountReply::new(*account, run, net, found)))
+}
+
+/// The rows of an account among those of a run.
+fn rows_of(
+    alloc: Global,
+    account: &Account,
+    rows: &[(PeriodNumber, AccountRow)],
+) -> Result<Vec<(PeriodNumber, AccountRow)>, AllocError>
+    ensures { IfOk result (λ found. found.items ≡ rows_of_account account.now rows.now) }
+{
+    let mut found = Vec::new(alloc);
+    for row in rows {
+        if row.1.account == *account {
+            found.push(*row)?;
+        }
+    }
+    Ok(found)
+}
+
+/// What the rows of an account come to, if a day net may be as great.
+fn net_of(rows: &[(PeriodNumber, AccountRow)]) -> Option<DayNet>
+    ensures { IfSome result (λ net. net ≡ net_of_rows rows.now) }
+{
+    let mut net = 0i64;
+    for (_, row) in rows {
+        net = net
+            .checked_add(row.charge.units())?
+            .checked_add(row.share.units())?;
+    }
+    DayNet::new(net)
+}
+
+/// What postings come to, if an amount of cash may be as great.
+fn sum_of(postings: &[(RunKey, Pence)]) -> Option<Pence>
+    ensures { IfSome result (λ sum. sum ≡ total (λ e. e.1) postings.now) }
+{
+    let mut sum = 0i64;
+    for (_, pence) in postings {
+        sum = sum.checked_add(pence.units())?;
+    }
+    Pence::new(sum)
+}
