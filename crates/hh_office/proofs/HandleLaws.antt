@@ -12,7 +12,7 @@ use Rattle.hh_texts.specs.Files.{file_rows}
 use Rattle.hh_texts.specs.Rows.{most_bytes}
 use Rattle.hh_store.specs.Content.{tables_of}
 use Rattle.hh_store.specs.States.{AcceptedFile, State, file_key_cmp}
-use Rattle.hh_store.specs.Steps.{IsReached, Load, after_load, kept_file, timetable_at}
+use Rattle.hh_store.specs.Steps.{IsReached, Load, after_load, kept_file, timetable_at, after_run, kept_summary, new_summary, run_fault}
 use Rattle.hh_office.specs.declared.request.Action.{Action}
 use Rattle.hh_office.specs.declared.request.Action.TheVariants as ask
 use Rattle.hh_office.specs.declared.request.Request.{Request}
@@ -23,6 +23,10 @@ use Rattle.hh_office.specs.Transitions.{Transition, refused, refused_for}
 use Rattle.hh_office.specs.Promises.{HandleStep, RefusalLeaves, Stands, StandsAfter, is_given_up, is_refused}
 use Rattle.hh_office.specs.Views.{OfficeView, midnight_of}
 use Rattle.hh_office.proofs.OnceLaws.{next_reached}
+use Rattle.hh_store.specs.declared.run_keys.RunKey.{RunKey}
+use Rattle.hh_runs.specs.declared.summary.Summary.{Summary}
+use Rattle.hh_office.specs.Runs.{run_beside}
+use Rattle.hh_office.specs.declared.reply.Reply.TheVariants as reply
 
 -- the office after a request, by whether it was given up
 stands_by : (b : Bool) (old new : OfficeView) (s t : State) (P : Type 0) → Stands old s → IsReached (midnight_of old) t
@@ -58,12 +62,24 @@ module _ (midnight : Midnights) (s : State) where
   leaves_beside moment upload None = leaves_new moment upload
   leaves_beside moment upload (Some file) = λ _. refl
 
+  leaves_run : (moment : ℤ) (key : RunKey) (found : Option Summary) → Leaves s (run_beside midnight s found moment key)
+  leaves_run moment key (Some summary) = λ _. refl
+  leaves_run moment key None =
+      elim (run_fault midnight s moment key) as (λ o. Leaves s (elim o as (λ _. Transition) [
+        | Some fault ↦ refused s fault
+        | None ↦ record { reply = reply.Ran key (new_summary midnight s key); state = after_run s key }
+      ])) [ None ↦ λ is. absurd (false_is_not_true is) | Some fault ↦ λ _. refl ]
+
   leaves_act : (moment : ℤ) (action : Action) → Leaves s (act midnight s moment action)
   leaves_act moment (ask.Load upload) =
       let found : Option AcceptedFile = find file_key_cmp (key_of upload) s.files in
       elim (nat_lt most_bytes (length upload.body)) as (λ b. Leaves s (cond b (refused_for s FileTooLarge) (load_beside midnight s found moment upload)))
       [ true ↦ λ _. refl | false ↦ leaves_beside moment upload found ]
+  leaves_act moment (ask.Run key) = leaves_run moment key (kept_summary midnight s key)
+  leaves_act moment (ask.Account account date) = λ _. refl
+  leaves_act moment (ask.Balance account) = λ _. refl
   leaves_act moment (ask.Contracts account date) = λ _. refl
+  leaves_act moment (ask.Runs date) = λ _. refl
 
   leaves_step : (moment : ℤ) (request : Request) → Leaves s (step midnight s moment request)
   leaves_step moment request =

@@ -1,7 +1,7 @@
 -- A file that was accepted stays, and gets the same reply when it comes again.
 use Rattle.std.proofs.Common.{◌≡◌, ℕ, ℤ, List, [], ◌∷◌, ◌++◌, length, refl, sym, ap, subst, ◌∙◌, Bool, true, false, cond, Option, Some, None, Result, Ok, Err, Ordering}
 use Rattle.std.specs.Prelude.{IsFalse, MatchBool, nat_lt}
-use Rattle.std.specs.Cmp.{eq_by_cmp_equiv}
+use Rattle.std.specs.Cmp.{eq_by_cmp_equiv, Equal-is}
 use Rattle.std.specs.FinMap.{find}
 use Rattle.std.specs.Option.{option_or}
 use Rattle.std.specs.Ordering.{eq_by_cmp}
@@ -17,25 +17,35 @@ use Rattle.hh_rows.specs.declared.settings.Settings.{Settings}
 use Rattle.hh_rules.specs.FileRows.{coming_at, first_fault}
 use Rattle.hh_texts.specs.Files.{file_rows}
 use Rattle.hh_texts.specs.Rows.{most_bytes}
-use Rattle.hh_store.specs.Content.{tables_of}
+use Rattle.hh_store.specs.Content.{tables_of, Content}
 use Rattle.hh_store.specs.declared.file_key.FileKey.{FileKey}
 use Rattle.hh_store.specs.States.{AcceptedFile, State, file_key_cmp}
-use Rattle.hh_store.specs.Steps.{CanLoad, IsReached, Load, after_load, by_load, kept_file, timetable_at}
-use Rattle.hh_store.proofs.KeyLaws.{file_key_total}
+use Rattle.hh_store.specs.Steps.{CanLoad, IsReached, Load, after_load, by_load, kept_file, timetable_at, CanRun, after_run, by_run, kept_summary, new_summary, run_fault}
+use Rattle.hh_store.proofs.KeyLaws.{file_key_total, exact_run_keys, run_key_total}
 use Rattle.hh_office.specs.declared.request.Action.{Action}
 use Rattle.hh_office.specs.declared.request.Action.TheVariants as ask
 use Rattle.hh_office.specs.declared.request.Request.{Request}
 use Rattle.hh_office.specs.declared.request.Upload.{Upload}
 use Rattle.hh_office.specs.declared.reply.Reply.{Reply}
 use Rattle.hh_office.specs.declared.reply.Reply.TheVariants as reply
-use Rattle.hh_office.specs.Machine.{Timed, act, is_operator, key_of, load, load_beside, load_new, load_read_as, loaded, loaded_reply, may, next, repeat_reply, state_after, step}
+use Rattle.hh_office.specs.Machine.{Timed, act, is_operator, key_of, load, load_beside, load_new, load_read_as, loaded, loaded_reply, may, next, repeat_reply, state_after, step, answer}
 use Rattle.hh_office.specs.Transitions.{Transition, refused, refused_for, unchanged}
-use Rattle.hh_office.specs.Promises.{MakesTransition, HandleStep, RepeatsOnce, is_given_up, is_refused}
+use Rattle.hh_office.specs.Promises.{MakesTransition, HandleStep, RepeatsOnce, is_given_up, is_refused, Stands}
 use Rattle.hh_office.specs.Views.{OfficeView, midnight_of}
+use Rattle.hh_store.specs.declared.run_keys.RunKey.{RunKey}
+use Rattle.hh_runs.specs.declared.summary.Summary.{Summary}
+use Rattle.hh_office.specs.Runs.{new_run, run, run_beside}
+use Rattle.hh_store.specs.RunReads.{HoldsSummaries}
+use Rattle.hh_store.specs.Changes.{LoadEffect, RunEffect}
+use Rattle.hh_store.specs.Runs.{run_key_cmp}
+use Rattle.std.proofs.lemmas.Option.{none-some}
+use Rattle.std.specs.FinMap.Entries.{find-put}
 
--- what holds of a state and of each state after an accepted load holds of the state after any request
+-- what holds of a state, of each state after an accepted load and of each state after a run that is made holds of the state after
+-- any request
 module _ (midnight : Midnights) (s : State) (P : State → Type 0) (same : P s)
-    (more : (load : Load) → CanLoad midnight s load → P (after_load midnight s load)) where
+    (more : (load : Load) → CanLoad midnight s load → P (after_load midnight s load))
+    (more_run : (moment : ℤ) (key : RunKey) → CanRun midnight s moment key → P (after_run s key)) where
   by_loaded : (load : Load) → find file_key_cmp load.key s.files ≡ None → P (loaded midnight s load).state
   by_loaded load new =
       elim (first_fault (timetable_at midnight s) s.history 1 (coming_at load.moment load.rows)) as (λ o.
@@ -55,12 +65,30 @@ module _ (midnight : Midnights) (s : State) (P : State → Type 0) (same : P s)
   by_beside moment upload None is = by_new moment upload is
   by_beside moment upload (Some file) is = same
 
+  by_new_run : (moment : ℤ) (key : RunKey) → kept_summary midnight s key ≡ None → P (new_run midnight s moment key).state
+  by_new_run moment key new =
+      elim (run_fault midnight s moment key) as (λ o.
+      run_fault midnight s moment key ≡ o
+      → P (elim o as (λ _. Transition) [
+        | Some fault ↦ refused s fault
+        | None ↦ record { reply = reply.Ran key (new_summary midnight s key); state = after_run s key }
+      ]).state) [ None ↦ λ none. more_run moment key (new, none) | Some fault ↦ λ _. same ] refl
+
+  by_run_beside : (moment : ℤ) (key : RunKey) (found : Option Summary) → kept_summary midnight s key ≡ found
+      → P (run_beside midnight s found moment key).state
+  by_run_beside moment key None is = by_new_run moment key is
+  by_run_beside moment key (Some summary) is = same
+
   by_act : (moment : ℤ) (action : Action) → P (act midnight s moment action).state
   by_act moment (ask.Load upload) =
       let found : Option AcceptedFile = find file_key_cmp (key_of upload) s.files in
       elim (nat_lt most_bytes (length upload.body)) as (λ b. P (cond b (refused_for s FileTooLarge) (load_beside midnight s found moment upload)).state)
       [ true ↦ same | false ↦ by_beside moment upload found refl ]
+  by_act moment (ask.Run key) = by_run_beside moment key (kept_summary midnight s key) refl
+  by_act moment (ask.Account account date) = same
+  by_act moment (ask.Balance account) = same
   by_act moment (ask.Contracts account date) = same
+  by_act moment (ask.Runs date) = same
 
   pub next_by : (moment : ℤ) (request : Request) → P (next midnight s moment request)
   next_by moment request =
@@ -75,11 +103,12 @@ after_by midnight P keeps s (t ∷ ts) holds = after_by midnight P keeps (next m
 
 -- the machine reaches the state after each request
 pub next_reached : (midnight : Midnights) (s : State) (moment : ℤ) (request : Request) → IsReached midnight s → IsReached midnight (next midnight s moment request)
-next_reached midnight s moment request reached = next_by midnight s (IsReached midnight) reached (λ load can. by_load s load reached can) moment request
+next_reached midnight s moment request reached = 
+    next_by midnight s (IsReached midnight) reached (λ load can. by_load s load reached can) (λ at key can. by_run s at key reached can) moment request
 
 -- the settings stay
 same_settings : (midnight : Midnights) (s : State) (moment : ℤ) (request : Request) (settings : Settings) → s.settings ≡ settings → (next midnight s moment request).settings ≡ settings
-same_settings midnight s moment request settings is = next_by midnight s (λ t. t.settings ≡ settings) is (λ load can. is) moment request
+same_settings midnight s moment request settings is = next_by midnight s (λ t. t.settings ≡ settings) is (λ load can. is) (λ at key can. is) moment request
 
 -- what is found in a list with one more entry
 find-push : {K V : Type 0} (R : K → K → Ordering) (q : K) (es : List (K × V)) (e : K × V) → find R q (es ++ e ∷ []) ≡ option_or (find R q es) (find R q (e ∷ []))
@@ -97,7 +126,7 @@ stays : (midnight : Midnights) (key : FileKey) (file : AcceptedFile) (s : State)
 stays midnight key file s moment request kept =
     next_by midnight s (IsKept key file) kept
     (λ load can. find-push file_key_cmp key s.files (load.key, kept_file (timetable_at midnight s) load)
-    ∙ ap (λ o. option_or o (find file_key_cmp key ((load.key, kept_file (timetable_at midnight s) load) ∷ []))) kept) moment request
+    ∙ ap (λ o. option_or o (find file_key_cmp key ((load.key, kept_file (timetable_at midnight s) load) ∷ []))) kept) (λ at run can. kept) moment request
 
 -- a file that is accepted is kept, with its reply
 abbrev Keeps : Upload → Transition → Type 0
@@ -194,10 +223,131 @@ repeats_upload key upload old new moment given steps s earlier between reached l
     subst (λ r. MatchBool (is_given_up given) (Unit {0}) (given ≡ r) × (new ≡ old)) same
     (unchanged_by (is_given_up given) old new t (given ≡ repeat_reply file upload.body) stands.1 comes)
 
+-- A run is ordered with a key.
+module _ (midnight : Midnights) (shown : List ℕ) (key : RunKey) where
+  abbrev ordered : Request
+  ordered = record { key = shown; action = ask.Run key }
+
+  -- the run is there with this summary, in a state that the machine reaches
+  abbrev IsMade : Summary → State → Type 0
+  IsMade summary s = IsReached midnight s × (kept_summary midnight s key ≡ Some summary)
+
+  -- where it is made, it is there with its reply
+  abbrev WasMadeHere : State → Transition → Type 0
+  WasMadeHere s transition = IsFalse (is_refused transition.reply)
+      → (summary : Summary) × IsMade summary transition.state × (reply.Ran key summary ≡ transition.reply)
+
+  -- where it is made, the key is the operator's besides
+  abbrev WasMade : State → Transition → Type 0
+  WasMade s transition = IsFalse (is_refused transition.reply)
+      → (is_operator midnight s shown ≡ true)
+      × ((summary : Summary) × IsMade summary transition.state × (reply.Ran key summary ≡ transition.reply))
+
+  -- it is ordered again where it is there
+  repeated : (s : State) (moment : ℤ) (summary : Summary) → kept_summary midnight s key ≡ Some summary → is_operator midnight s shown ≡ true
+      → step midnight s moment ordered ≡ unchanged s (reply.Ran key summary)
+  repeated s moment summary kept operator =
+      ap (λ b. cond b (run midnight s moment key) (refused_for s Forbidden)) operator ∙ ap (λ found. run_beside midnight s found moment key) kept
+
+  -- The tables hold the summaries of a state's runs, and what a load and a run write makes those of the state after it.
+  module _ (holds : HoldsSummaries) (loads : LoadEffect) (runs : RunEffect) where
+    -- a summary is that of the tables
+    kept_in : (t : State) (summary : Option Summary) → find run_key_cmp key (tables_of midnight t).runs ≡ summary → kept_summary midnight t key ≡ summary
+    kept_in t summary found = sym (holds midnight t key) ∙ found
+
+    -- a run that is there stays with a load
+    stays_with_load : (summary : Summary) (s : State) (load : Load) → CanLoad midnight s load → IsMade summary s → IsMade summary (after_load midnight s load)
+    stays_with_load summary s load can (reached, kept) = (
+      by_load s load reached can,
+      kept_in (after_load midnight s load) (Some summary)
+      (ap (λ (c : Content). find run_key_cmp key c.runs) (loads midnight s load reached can) ∙ holds midnight s key ∙ kept),
+    )
+
+    -- what is found under the key once a run is made
+    found_after : (s : State) (moment : ℤ) (made : RunKey) → CanRun midnight s moment made
+        → kept_summary midnight (after_run s made) key ≡ cond (eq_by_cmp run_key_cmp key made) (Some (new_summary midnight s made)) (kept_summary midnight s key)
+    found_after s moment made can =
+        kept_in (after_run s made) _ (ap (λ (c : Content). find run_key_cmp key c.runs) (runs midnight s moment made can)
+        ∙ find-put run_key_cmp run_key_total key made (new_summary midnight s made) (tables_of midnight s).runs
+        ∙ ap (cond (eq_by_cmp run_key_cmp key made) (Some (new_summary midnight s made))) (holds midnight s key))
+
+    -- a run that is there is not the one that is made
+    other_run : (summary : Summary) (s : State) (moment : ℤ) (made : RunKey) → CanRun midnight s moment made → kept_summary midnight s key ≡ Some summary
+        → eq_by_cmp run_key_cmp key made ≡ false
+    other_run summary s moment made can kept =
+        elim (eq_by_cmp run_key_cmp key made) as (λ b. eq_by_cmp run_key_cmp key made ≡ b → b ≡ false) [
+          | false ↦ λ _. refl
+          | true ↦ λ same. absurd (none-some summary (sym can.0 ∙ ap (kept_summary midnight s) (sym (exact_run_keys key made ((Equal-is (run_key_cmp key made)).0 same))) ∙ kept))
+        ] refl
+
+    -- a run that is there stays with a run that is made
+    stays_with_run : (summary : Summary) (s : State) (moment : ℤ) (made : RunKey) → CanRun midnight s moment made → IsMade summary s → IsMade summary (after_run s made)
+    stays_with_run summary s moment made can (reached, kept) = (
+      by_run s moment made reached can,
+      found_after s moment made can
+          ∙ ap (λ b. cond b (Some (new_summary midnight s made)) (kept_summary midnight s key)) (other_run summary s moment made can kept)
+          ∙ kept,
+    )
+
+    -- a run that is there stays
+    stays_made : (summary : Summary) (s : State) (moment : ℤ) (request : Request) → IsMade summary s → IsMade summary (next midnight s moment request)
+    stays_made summary s moment request made =
+        next_by midnight s (IsMade summary) made (λ load can. stays_with_load summary s load can made)
+        (λ at other can. stays_with_run summary s at other can made) moment request
+
+    -- a run that is made is there
+    made_new : (s : State) (moment : ℤ) → IsReached midnight s → kept_summary midnight s key ≡ None → WasMadeHere s (new_run midnight s moment key)
+    made_new s moment reached new =
+        elim (run_fault midnight s moment key) as (λ o. run_fault midnight s moment key ≡ o → WasMadeHere s (elim o as (λ _. Transition) [
+          | Some fault ↦ refused s fault
+          | None ↦ record { reply = reply.Ran key (new_summary midnight s key); state = after_run s key }
+        ])) [
+          | Some fault ↦ λ _. not_refused
+          | None ↦ λ none _. (new_summary midnight s key, (by_run s moment key reached (new, none), found_after s moment key (new, none)
+              ∙ ap (λ b. cond b (Some (new_summary midnight s key)) (kept_summary midnight s key)) ((eq_by_cmp_equiv run_key_total).refl key)), refl)
+        ] refl
+
+    made_beside : (s : State) (moment : ℤ) (found : Option Summary) → IsReached midnight s → kept_summary midnight s key ≡ found
+        → WasMadeHere s (run_beside midnight s found moment key)
+    made_beside s moment None reached is = made_new s moment reached is
+    made_beside s moment (Some summary) reached is = λ _. (summary, (reached, is), refl)
+
+    was_made : (s : State) (moment : ℤ) → IsReached midnight s → WasMade s (step midnight s moment ordered)
+    was_made s moment reached =
+        elim (is_operator midnight s shown) as (λ b. is_operator midnight s shown ≡ b → WasMade s (cond b (run midnight s moment key) (refused_for s Forbidden))) [
+          | false ↦ λ _. not_refused
+          | true ↦ λ operator fine. (operator, made_beside s moment (kept_summary midnight s key) reached refl fine)
+        ] refl
+
+    -- an office that steps as the machine answers a repeated run as before
+    pub repeats_run : (old new : OfficeView) (moment : ℤ) (given : Reply) → midnight ≡ midnight_of old
+        → ((s : State) → Stands old s → MakesTransition old new given (step midnight s moment ordered))
+        → (s : State) (earlier : ℤ) (between : List Timed) → IsReached midnight s → IsFalse (is_refused (answer midnight s earlier ordered))
+        → Stands old (state_after midnight (next midnight s earlier ordered) between)
+        → MatchBool (is_given_up given) (Unit {0}) (given ≡ answer midnight s earlier ordered) × (new ≡ old)
+    repeats_run old new moment given zone steps s earlier between reached fine stands =
+        let (operator, (summary, made, same)) = was_made s earlier reached fine in
+        let after : State = next midnight s earlier ordered in
+        let t : State = state_after midnight after between in
+        let made_now : IsMade summary t = after_by midnight (IsMade summary) (stays_made summary) after between made in
+        let settings : t.settings ≡ s.settings =
+        after_by midnight (λ u. u.settings ≡ s.settings) (λ u m r. same_settings midnight u m r s.settings) after between (same_settings midnight s earlier ordered s.settings refl) in
+        let operator_now : is_operator midnight t shown ≡ true = ap (λ (c : Settings). bytes_eq c.operator_key shown) settings ∙ operator in
+        let comes : MakesTransition old new given (unchanged t (reply.Ran key summary)) =
+        subst (MakesTransition old new given) (repeated t moment summary made_now.1 operator_now) (steps t stands) in
+        subst (λ r. MatchBool (is_given_up given) (Unit {0}) (given ≡ r) × (new ≡ old)) same
+        (unchanged_by (is_given_up given) old new t (given ≡ reply.Ran key summary) stands.1 comes)
+
 -- the same of any request
-pub repeats : (old new : OfficeView) (moment : ℤ) (request : Request) (given : Reply) → HandleStep old new moment request given → RepeatsOnce old new request given
-repeats old new moment request given steps =
+pub repeats : (holds : HoldsSummaries) (loads : LoadEffect) (runs : RunEffect) (old new : OfficeView) (moment : ℤ) (request : Request) (given : Reply)
+    → HandleStep old new moment request given → RepeatsOnce old new request given
+repeats holds loads runs old new moment request given steps =
     elim request.action as (λ a. HandleStep old new moment (record { key = request.key; action = a }) given → RepeatsOnce old new (record { key = request.key; action = a }) given) [
       | ask.Load upload ↦ repeats_upload request.key upload old new moment given
-      | ask.Contracts account date ↦ λ _ s earlier between reached loads. not_refused (sym loads)
+      | ask.Run key ↦ λ does s earlier between reached changes fine stands.
+          repeats_run (midnight_of old) request.key key holds loads runs old new moment given refl does s earlier between reached fine stands
+      | ask.Account account date ↦ λ _ s earlier between reached changes. not_refused (sym changes)
+      | ask.Balance account ↦ λ _ s earlier between reached changes. not_refused (sym changes)
+      | ask.Contracts account date ↦ λ _ s earlier between reached changes. not_refused (sym changes)
+      | ask.Runs date ↦ λ _ s earlier between reached changes. not_refused (sym changes)
     ] steps

@@ -89,17 +89,18 @@ RunAllStep old new requests replies = (s : State) → Stands old s → RunsAs ol
 
 -- ---- repeats
 
--- whether a file is sent
-abbrev pub is_load : Action → Bool
-is_load (ask.Load upload) = true
-is_load _ = false
+-- whether a file is sent or a run is ordered
+abbrev pub is_change : Action → Bool
+is_change (ask.Load upload) = true
+is_change (ask.Run key) = true
+is_change _ = false
 
--- A file that was accepted in some state and comes again, after whatever requests, gets the same reply, unless it is given up, and
--- nothing changes.
+-- A file that was accepted in some state, or a run that was made, and comes again, after whatever requests, gets the same reply,
+-- unless it is given up, and nothing changes.
 abbrev pub RepeatsOnce : OfficeView → OfficeView → Request → Reply → Type 0
 RepeatsOnce old new request given =
     (s : State) (earlier : ℤ) (between : List Timed) → IsReached (midnight_of old) s
-    → IsTrue (is_load request.action) → IsFalse (is_refused (answer (midnight_of old) s earlier request))
+    → IsTrue (is_change request.action) → IsFalse (is_refused (answer (midnight_of old) s earlier request))
     → Stands old (state_after (midnight_of old) (next (midnight_of old) s earlier request) between)
     → MatchBool (is_given_up given) (Unit {0}) (given ≡ answer (midnight_of old) s earlier request) × (new ≡ old)
 

@@ -86,8 +86,11 @@ impl<'z, T: Tables> Office<'z, T> {
 pub(crate) fn latest_of(date: SettlementDate, runs: &[(RunKind, Summary)]) -> Option<RunKey>
     ensures { result ≡ latest_key date runs.now }
 {
-    let (kind, _) = runs.last()?;
-    Some(RunKey { date, kind: *kind })
+    let latest = runs.last()?;
+    Some(RunKey {
+        date,
+        kind: latest.0,
+    })
 }
 
 /// The kinds of runs, in their order.
@@ -142,10 +145,10 @@ fn net_of(rows: &[(PeriodNumber, AccountRow)]) -> Option<DayNet>
     ensures { IfSome result (λ net. net ≡ net_of_rows rows.now) }
 {
     let mut net = 0i64;
-    for (_, row) in rows {
+    for row in rows {
         net = net
-            .checked_add(row.charge.units())?
-            .checked_add(row.share.units())?;
+            .checked_add(row.1.charge.units())?
+            .checked_add(row.1.share.units())?;
     }
     DayNet::new(net)
 }
@@ -155,8 +158,8 @@ fn sum_of(postings: &[(RunKey, Pence)]) -> Option<Pence>
     ensures { IfSome result (λ sum. sum ≡ total (λ e. e.1) postings.now) }
 {
     let mut sum = 0i64;
-    for (_, pence) in postings {
-        sum = sum.checked_add(pence.units())?;
+    for posting in postings {
+        sum = sum.checked_add(posting.1.units())?;
     }
     Pence::new(sum)
 }

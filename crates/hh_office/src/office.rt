@@ -7,7 +7,7 @@ ghost use Rattle.hh_office.specs.Promises.{MakesInEachState, HandleStep, Refusal
 use crate::reply::Reply;
 use crate::request::{Action, Request};
 use hh_names::{Fault, Refusal};
-use hh_store::Tables;
+use hh_store::{Tables, kept_summaries, load_effect, run_effect};
 use jiff::tz::TimeZone;
 use std::alloc::{AllocError, Global};
 use std::marker::Model;
@@ -50,6 +50,11 @@ impl<'z, T: Tables> Office<'z, T> {
         ensures untouched { RefusalLeaves self.old self.new result }
         ensures once { RepeatsOnce self.old self.new request.now result }
     {
+        // Do nothing, but carry laws for the proof: the tables hold the machine's runs, and what is written
+        // makes the machine's tables.
+        kept_summaries();
+        load_effect();
+        run_effect();
         match self.act(moment, request) {
             Ok(reply) => reply,
             Err(fault) => Reply::Refused(fault),

@@ -14,7 +14,7 @@ returns-in-Ok-clause-step g c =
 
 pub returns-in-Ok-clause-once : goal.returns-in-Ok-clause-once
 returns-in-Ok-clause-once g c =
-    repeats c.args.self.now c.act.new.self c.args.moment c.args.request.now c.in-Ok.reply (returns-in-Ok-clause-step g c)
+    repeats c.kept_summaries.ensures c.load_effect.ensures c.run_effect.ensures c.args.self.now c.act.new.self c.args.moment c.args.request.now c.in-Ok.reply (returns-in-Ok-clause-step g c)
 
 pub returns-in-Err-clause-step : goal.returns-in-Err-clause-step
 returns-in-Err-clause-step g c =
@@ -23,7 +23,7 @@ returns-in-Err-clause-step g c =
 
 pub returns-in-Err-clause-once : goal.returns-in-Err-clause-once
 returns-in-Err-clause-once g c =
-    repeats c.args.self.now c.act.new.self c.args.moment c.args.request.now (reply.Refused c.in-Err.fault) (returns-in-Err-clause-step g c)
+    repeats c.kept_summaries.ensures c.load_effect.ensures c.run_effect.ensures c.args.self.now c.act.new.self c.args.moment c.args.request.now (reply.Refused c.in-Err.fault) (returns-in-Err-clause-step g c)
 
 pub returns-in-Ok-clause-stands : goal.returns-in-Ok-clause-stands
 returns-in-Ok-clause-stands g c =
