@@ -4,11 +4,16 @@
 ghost use Rattle.hh_day.specs.Headline.{ReachedConserve};
 ghost use Rattle.hh_day.specs.NewRuns.{SettledInOneWay, WritesTheRun};
 
+use hh_store::each_period_settled;
+
 /// That a period that is settled is settled in one way, where what it is settled from fits together
 /// (profile).
 pub fn settled_in_one_way()
     ensures { SettledInOneWay }
-{}
+{
+    // Does nothing, but carries a law for the proof.
+    each_period_settled();
+}
 
 /// That what is written for a new run of the settled periods of its date is what the machine writes for
 /// it: in each state that the machine reaches, and for each run that is not there and not refused there
