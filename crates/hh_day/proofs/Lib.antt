@@ -1,1 +1,2 @@
+pub mod ConserveLaws
 pub mod OneWayLaws

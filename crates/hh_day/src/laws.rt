@@ -4,7 +4,10 @@
 ghost use Rattle.hh_day.specs.Headline.{ReachedConserve};
 ghost use Rattle.hh_day.specs.NewRuns.{SettledInOneWay, WritesTheRun};
 
-use hh_store::each_period_settled;
+use hh_store::{
+    cash_sums_to_zero, contracts_sum_to_zero, day_nets_from_results, each_period_settled,
+    each_unit_credited, postings_total, run_postings_balance,
+};
 
 /// That a period that is settled is settled in one way, where what it is settled from fits together
 /// (profile).
@@ -29,4 +32,12 @@ pub fn writes_the_run()
 /// postings of each run come to zero (profile).
 pub fn reached_conserve()
     ensures { ReachedConserve }
-{}
+{
+    // These do nothing, but each carries a law for the proof.
+    contracts_sum_to_zero();
+    cash_sums_to_zero();
+    each_unit_credited();
+    postings_total();
+    day_nets_from_results();
+    run_postings_balance();
+}
