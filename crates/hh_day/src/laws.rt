@@ -4,18 +4,30 @@
 ghost use Rattle.hh_day.specs.Headline.{ReachedConserve};
 ghost use Rattle.hh_day.specs.NewRuns.{SettledInOneWay, WritesTheRun};
 
+use hh_store::{
+    cash_sums_to_zero, contracts_sum_to_zero, day_nets_are_sums, day_nets_from_results,
+    each_period_settled, each_unit_credited, postings_total, run_postings_balance,
+};
+
 /// That a period that is settled is settled in one way, where what it is settled from fits together
 /// (profile).
 pub fn settled_in_one_way()
     ensures { SettledInOneWay }
-{}
+{
+    // Does nothing, but carries a law for the proof.
+    each_period_settled();
+}
 
 /// That what is written for a new run of the settled periods of its date is what the machine writes for
 /// it: in each state that the machine reaches, and for each run that is not there and not refused there
 /// (profile).
 pub fn writes_the_run()
     ensures { WritesTheRun }
-{}
+{
+    // These do nothing, but each carries a law for the proof.
+    day_nets_from_results();
+    day_nets_are_sums();
+}
 
 /// That the sums of the headline hold of the tables of each state that the machine reaches: in each
 /// Settlement Period of each run contracts come to zero, and so do charges and shares together; each unit's
@@ -24,4 +36,12 @@ pub fn writes_the_run()
 /// postings of each run come to zero (profile).
 pub fn reached_conserve()
     ensures { ReachedConserve }
-{}
+{
+    // These do nothing, but each carries a law for the proof.
+    contracts_sum_to_zero();
+    cash_sums_to_zero();
+    each_unit_credited();
+    postings_total();
+    day_nets_from_results();
+    run_postings_balance();
+}

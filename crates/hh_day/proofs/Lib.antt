@@ -1,0 +1,4 @@
+pub mod ConserveLaws
+mod DifferenceLaws
+pub mod OneWayLaws
+pub mod WriteLaws
