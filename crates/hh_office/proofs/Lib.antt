@@ -1,4 +1,6 @@
+pub mod EnquiryLaws
 pub mod HandleLaws
 pub mod ListLaws
 pub mod OnceLaws
+pub mod RunLaws
 pub mod StepLaws

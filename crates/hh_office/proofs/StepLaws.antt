@@ -27,7 +27,7 @@ use Rattle.hh_office.specs.declared.request.Upload.{Upload}
 use Rattle.hh_office.specs.Loads.{Accepts, Answers, WritesLoad, accepted, judged_upload, writes_of}
 use Rattle.hh_office.specs.Machine.{act, key_of, load_new, may, step, load, load_beside, load_read_as, loaded_reply}
 use Rattle.hh_office.specs.Transitions.{Transition, refused, refused_for, unchanged}
-use Rattle.hh_office.specs.Promises.{MakesTransition, Stands, UnlessFailed, gives_up, is_given_up, reply_of}
+use Rattle.hh_office.specs.Promises.{MakesTransition, Stands, UnlessFailed, gives_up, is_given_up, reply_of, RepliesAs}
 use Rattle.hh_office.specs.Views.{OfficeView, midnight_of}
 
 by_either : (b : Bool) (P Q : Type 0) → P → Q → MatchBool b P Q
@@ -194,6 +194,17 @@ accepts old new writes given reply written s load stands can is =
 -- an office that stands for a state comes to a reply that leaves it
 pub comes_unchanged : (office : OfficeView) (s : State) (given : Reply) → Stands office s → MakesTransition office office given (unchanged s given)
 comes_unchanged office s given stands = by_either (is_given_up given) _ _ refl (refl, ap (λ c. record office { content = c }) stands.1)
+
+-- a reply that is given unless the request was given up, by whether it was
+replied_by : (b : Bool) (office : OfficeView) (s : State) (given expected : Reply) → Stands office s → MatchBool b (Unit {0}) (given ≡ expected)
+    → MatchBool b (office ≡ office) ((given ≡ expected) × (office ≡ record office { content = tables_of (midnight_of office) s }))
+replied_by true office s given expected stands is = refl
+replied_by false office s given expected stands is = (is, ap (λ c. record office { content = c }) stands.1)
+
+-- an office that stands for a state comes to the reply that is expected, unless the request was given up
+pub comes_replied : (office : OfficeView) (s : State) (result : Result Reply Fault) (expected : Reply) → Stands office s → RepliesAs result expected
+    → MakesTransition office office (reply_of result) (unchanged s expected)
+comes_replied office s result expected stands = replied_by (is_given_up (reply_of result)) office s (reply_of result) expected stands
 
 -- A file that is not too large comes to an office that stands for a state.
 module _ (office : OfficeView) (s : State) (moment : ℤ) (upload : Upload) (stands : Stands office s) (holds : HoldsFiles)

@@ -4,5 +4,6 @@ pub mod Machine
 pub mod Promises
 pub mod Reads
 pub mod Runs
+pub mod Settling
 pub mod Transitions
 pub mod Views

@@ -1,10 +1,11 @@
 //! What is asked of accounts, contracts and runs.
 
-ghost use Rattle.std.specs.Prelude.{◌≡◌, map, IfOk, IfSome};
+ghost use Rattle.std.specs.Prelude.{◌≡◌, map, IfOk, IfSome, Some};
 ghost use Rattle.hh_num.specs.Totals.{total};
 ghost use Rattle.hh_office.specs.Enquiries.{account_reply, balance_reply, contracts_reply, net_of_rows, reply_by_rows, rows_of_account, runs_reply};
 ghost use Rattle.hh_office.specs.Promises.{RepliesAs, TellsInEachState};
 ghost use Rattle.hh_office.specs.Reads.{latest_key};
+ghost use Rattle.hh_store.specs.Reads.{results_in, runs_in};
 
 use crate::office::Office;
 use crate::reply::{AccountReply, ContractsReply, Reply, RunsReply};
@@ -12,7 +13,7 @@ use hh_calc::AccountRow;
 use hh_names::{Account, Fault, PeriodNumber, Refusal};
 use hh_num::Pence;
 use hh_runs::{DayNet, RunKind, Summary};
-use hh_store::{RunKey, Tables, kept_kinds_of_dates, kept_postings, kept_results};
+use hh_store::{RunKey, StoreFault, Tables, kept_kinds_of_dates, kept_postings, kept_results};
 use hh_time::SettlementDate;
 use std::alloc::{AllocError, Global};
 
@@ -26,15 +27,51 @@ impl<'z, T: Tables> Office<'z, T> {
         ensures { TellsInEachState self.old self.new result (λ midnight s.
             account_reply midnight s account.now date) }
     {
+        // Does nothing, but carries a law for the proof: the tables hold the machine's runs.
+        kept_kinds_of_dates();
+        match self.latest_run(date)? {
+            Some(run) => self.account_in(account, date, run),
+            None => Err(Fault::of(Refusal::NoRun)),
+        }
+    }
+
+    /// What an account has and pays in the latest run of a date, which is this.
+    fn account_in(
+        &mut self,
+        account: &Account,
+        date: SettlementDate,
+        run: RunKey,
+    ) -> Result<Reply, Fault>
+        requires { Some run ≡ latest_key date (runs_in self.old.content date) }
+        ensures { TellsInEachState self.old self.new result (λ midnight s.
+            account_reply midnight s account.now date) }
+    {
         // Do nothing, but carry laws for the proof: the tables hold the machine's runs and their rows.
         kept_kinds_of_dates();
         kept_results();
-        let runs = self.tables.runs(date)?;
-        let Some(run) = latest_of(date, &runs) else {
-            return Err(Fault::of(Refusal::NoRun));
-        };
-        let rows = self.tables.results(&run)?;
+        let rows = self.rows_of_run(&run)?;
         reply_by_rows(self.alloc, account, run, &rows)
+    }
+
+    /// The latest run of a date, if it has one.
+    fn latest_run(&mut self, date: SettlementDate) -> Result<Option<RunKey>, StoreFault>
+        ensures value { IfOk result (λ latest.
+            latest ≡ latest_key date (runs_in self.old.content date)) }
+        ensures same { self.new ≡ self.old }
+    {
+        let runs = self.tables.runs(date)?;
+        Ok(latest_of(date, &runs))
+    }
+
+    /// The rows of a run's accounts, by Settlement Period, then by account.
+    pub(crate) fn rows_of_run(
+        &mut self,
+        run: &RunKey,
+    ) -> Result<Vec<(PeriodNumber, AccountRow)>, StoreFault>
+        ensures value { IfOk result (λ rows. rows.items ≡ results_in self.old.content run.now) }
+        ensures same { self.new ≡ self.old }
+    {
+        self.tables.results(run)
     }
 
     /// What the runs of all dates have moved to an account.

@@ -1,12 +1,36 @@
 //! Runs that are ordered.
 
+ghost use Rattle.std.specs.Prelude.{◌≡◌, IfErr, IfOk, OnErr, OnOk};
+ghost use Rattle.std.specs.FinMap.{find};
+ghost use Rattle.hh_runs.specs.RunKinds.{run_kind_cmp};
+ghost use Rattle.hh_store.specs.DaySettlement.{periods_on};
+ghost use Rattle.hh_store.specs.Reads.{runs_in};
+ghost use Rattle.hh_store.specs.Steps.{missing_meter_fault, period_fault};
+ghost use Rattle.hh_time.specs.Days.{is_over, period_count};
+ghost use Rattle.hh_time.specs.Zone.{midnight_in};
 ghost use Rattle.hh_office.specs.Promises.{MakesInEachState};
+ghost use Rattle.hh_office.specs.declared.reply.Reply.TheVariants.{Ran};
+ghost use Rattle.hh_office.specs.Reads.{latest_key};
 ghost use Rattle.hh_office.specs.Runs.{run};
+ghost use Rattle.hh_office.specs.Settling.{AreTermsOf, IsEarly, IsNext, IsOverDay, Lacks, RefusesIn, SettlesIn, TellsOrder, WritesRun, rows_before};
+ghost use Rattle.hh_office.specs.Views.{midnight_of};
+ghost use Rattle.jiff.specs.Words.{plain_zone};
 
+use crate::enquiries::{kinds_of, latest_of};
 use crate::office::Office;
 use crate::reply::Reply;
-use hh_names::{Fault, Refusal};
-use hh_store::{RunKey, Tables};
+use hh_calc::{AccountRow, PeriodData};
+use hh_day::{SettledDay, SettledPeriod, run_change, settle_day, writes_the_run};
+use hh_names::{Fault, PeriodNumber, Refusal};
+use hh_rows::{SettlementPeriod, UnitPeriod};
+use hh_runs::{NextRun, RunKind, Summary, next_kind};
+use hh_store::{
+    DayData, RunChange, RunKey, StoreFault, Tables, kept_kinds_of_dates, kept_summaries,
+    periods_ready, run_effect,
+};
+use hh_time::{Day, SettlementDate};
+use jiff::tz::TimeZone;
+use std::alloc::Global;
 
 impl<'z, T: Tables> Office<'z, T> {
     /// What becomes of a run that is ordered.
@@ -14,6 +38,172 @@ impl<'z, T: Tables> Office<'z, T> {
         ensures { MakesInEachState self.old self.new result (λ midnight s.
             run midnight s moment key) }
     {
-        Err(Fault::of(Refusal::Memory))
+        // Do nothing, but carry laws for the proof: the tables hold the machine's runs.
+        kept_summaries();
+        kept_kinds_of_dates();
+        let runs = self.runs_of(key.date)?;
+        match order_of(self.alloc, &runs, key.kind)? {
+            Some(summary) => Ok(Reply::Ran { run: key, summary }),
+            None => self.new_run(moment, key, latest_of(key.date, &runs)),
+        }
+    }
+
+    /// The runs of a date, in the order of their kinds.
+    fn runs_of(&mut self, date: SettlementDate) -> Result<Vec<(RunKind, Summary)>, StoreFault>
+        ensures value { IfOk result (λ runs. runs.items ≡ runs_in self.old.content date) }
+        ensures same { self.new ≡ self.old }
+    {
+        self.tables.runs(date)
+    }
+
+    /// What becomes of a run that is not there and may come next on its date, where this is the date's
+    /// latest run.
+    fn new_run(
+        &mut self,
+        moment: i64,
+        key: RunKey,
+        former: Option<RunKey>,
+    ) -> Result<Reply, Fault>
+        requires next { IsNext self.old.content key }
+        requires former { former ≡ latest_key key.date (runs_in self.old.content key.date) }
+        ensures { MakesInEachState self.old self.new result (λ midnight s.
+            run midnight s moment key) }
+    {
+        // Do nothing, but carry laws for the proof: the tables hold the machine's runs, and what is written
+        // for a run is what the machine writes.
+        kept_summaries();
+        kept_kinds_of_dates();
+        writes_the_run();
+        let settled = self.settle(moment, key.date)?;
+        let former = self.rows_before(former)?;
+        let change = run_change(self.alloc, key, &settled, &former)?;
+        let reply = ran(&change);
+        self.commit_run(change)?;
+        Ok(reply)
+    }
+
+    /// The Settlement Periods of a date, settled from what is in force, where the date is over and
+    /// nothing is missing.
+    fn settle(&mut self, moment: i64, date: SettlementDate) -> Result<Vec<SettledPeriod>, Fault>
+        ensures settled { IfOk result (λ day. SettlesIn self.old moment date day.items) }
+        ensures refused { IfErr result (RefusesIn self.old moment date) }
+        ensures same { self.new ≡ self.old }
+    {
+        // Does nothing, but carries a law for the proof: what each period is settled from fits together.
+        periods_ready();
+        let day = day_over(&self.zone, moment, date)?;
+        let terms = self.terms_of(&day)?;
+        match settle_day(self.alloc, &day, &terms)? {
+            SettledDay::Settled(periods) => Ok(periods),
+            SettledDay::TooLarge(at) => Err(period_fault(Refusal::TooLarge, &at)),
+        }
+    }
+
+    /// What each Settlement Period of a day is settled from.
+    fn terms_of(&mut self, day: &Day) -> Result<Vec<PeriodData>, Fault>
+        ensures terms { IfOk result (λ terms. AreTermsOf self.old.content.registered
+            (periods_on day.now.date day.now.count) terms.items) }
+        ensures lacking { IfErr result (Lacks self.old.content.registered
+            (periods_on day.now.date day.now.count)) }
+        ensures same { self.new ≡ self.old }
+    {
+        match self.tables.day_data(day)? {
+            DayData::MissingPrice(at) => Err(period_fault(Refusal::MissingPrice, &at)),
+            DayData::MissingMeter(key) => Err(missing_meter_fault(&key)),
+            DayData::Periods(terms) => Ok(terms),
+        }
+    }
+
+    /// The rows of the accounts in a run; none where there is no run.
+    fn rows_before(
+        &mut self,
+        run: Option<RunKey>,
+    ) -> Result<Vec<(PeriodNumber, AccountRow)>, StoreFault>
+        ensures value { IfOk result (λ rows. rows.items ≡ rows_before self.old.content run) }
+        ensures same { self.new ≡ self.old }
+    {
+        match run {
+            Some(run) => self.rows_of_run(&run),
+            None => Ok(Vec::new(self.alloc)),
+        }
+    }
+
+    /// Writes a run into the tables: the last call of the store that a request makes.
+    fn commit_run(&mut self, change: RunChange) -> Result<(), StoreFault>
+        ensures written { OnOk result (WritesRun self.old self.new change) }
+        ensures same { OnErr result (self.new ≡ self.old) }
+    {
+        // Does nothing, but carries a law for the proof: the change makes the machine's tables.
+        run_effect();
+        self.tables.apply_run(change)
+    }
+}
+
+/// What is kept of a run among those of its date; nothing where it is not there and may be made.
+fn order_of(
+    alloc: Global,
+    runs: &[(RunKind, Summary)],
+    kind: RunKind,
+) -> Result<Option<Summary>, Fault>
+    ensures { TellsOrder runs.now kind result }
+{
+    let kinds = kinds_of(alloc, runs)?;
+    match next_kind(&kinds, kind) {
+        Ok(NextRun::Kept) => Ok(summary_of(runs, kind)),
+        Ok(NextRun::New) => Ok(None),
+        Err(fault) => Err(fault),
+    }
+}
+
+/// The summary of the run of a kind among those of a date, if it is there.
+fn summary_of(runs: &[(RunKind, Summary)], kind: RunKind) -> Option<Summary>
+    ensures { result ≡ find run_kind_cmp kind runs.now }
+{
+    for run in runs {
+        if kind.cmp(&run.0).is_eq() {
+            return Some(run.1);
+        }
+    }
+    None
+}
+
+/// The reply to a run that is made.
+fn ran(change: &RunChange) -> Reply
+    ensures { result ≡ Ran change.now.key change.now.summary }
+{
+    Reply::Ran {
+        run: change.key(),
+        summary: change.summary(),
+    }
+}
+
+/// The day of a date that is over at a moment.
+fn day_over(zone: &TimeZone<'_>, moment: i64, date: SettlementDate) -> Result<Day, Fault>
+    ensures over { IfOk result (λ day. IsOverDay (midnight_in (plain_zone zone.now)) moment date day) }
+    ensures early { IfErr result (IsEarly (midnight_in (plain_zone zone.now)) moment date) }
+{
+    match Day::of(date, zone) {
+        Some(day) if day.is_over(moment) => Ok(day),
+        _ => Err(Fault::of(Refusal::DayNotOver)),
+    }
+}
+
+/// A refusal of a Settlement Period.
+fn period_fault(why: Refusal, at: &SettlementPeriod) -> Fault
+    ensures { result ≡ period_fault why at.now }
+{
+    Fault {
+        period: Some(at.period),
+        ..Fault::of(why)
+    }
+}
+
+/// A unit has no reading in a Settlement Period.
+fn missing_meter_fault(key: &UnitPeriod) -> Fault
+    ensures { result ≡ missing_meter_fault key.now }
+{
+    Fault {
+        unit: Some(key.unit),
+        ..period_fault(Refusal::MissingMeter, &key.at)
     }
 }

@@ -1,0 +1,30 @@
+use Rattle.std.proofs.Common.{subst, sym, ap, ◌∙◌}
+use Rattle.hh_names.specs.declared.fault.Refusal.TheVariants.{NoRun}
+use Rattle.hh_names.specs.Faults.{plain_fault}
+use Rattle.hh_store.specs.Reads.{runs_in}
+use Rattle.hh_office.specs.Enquiries.{account_reply}
+use Rattle.hh_office.specs.Promises.{MakesTransition, TellsInEachState}
+use Rattle.hh_office.specs.Reads.{latest_key}
+use Rattle.hh_office.specs.Transitions.{unchanged}
+use Rattle.hh_office.specs.Views.{OfficeView, midnight_of}
+use Rattle.hh_office.specs.declared.reply.Reply.TheVariants as reply
+use Rattle.hh_office.proofs.EnquiryLaws.{account_none}
+use Rattle.hh_office.proofs.StepLaws.{comes_same}
+use Rattle.hh_office.proofs.office.Office.account.Goals as goal
+
+pub account_in-requires : goal.account_in-requires
+account_in-requires g c =
+    sym c.in-Some.is ∙ c.in_ok-run.ensures.value ∙ ap (λ (o : OfficeView). latest_key c.args.date (runs_in o.content c.args.date)) (sym c.in_ok-run.ensures.same)
+
+pub returns-in-Some : goal.returns-in-Some
+returns-in-Some g c s stands =
+    subst (λ o. TellsInEachState o c.account_in.new.self c.account_in.result (λ midnight s. account_reply midnight s c.args.account.now c.args.date)) c.in_ok-run.ensures.same
+    c.account_in.ensures s stands
+
+pub returns-in-None : goal.returns-in-None
+returns-in-None g c s stands =
+    let office = c.args.self.now in
+    let transition = unchanged s (account_reply (midnight_of office) s c.args.account.now c.args.date) in
+    subst (λ f. MakesTransition office c.latest_run.new.self (reply.Refused f) transition) (sym c.of.ensures)
+    (comes_same office c.latest_run.new.self (reply.Refused (plain_fault NoRun)) transition c.in_ok-run.ensures.same
+    (account_none office s stands c.kept_kinds_of_dates.ensures c.args.account.now c.args.date (sym c.in-None.is ∙ c.in_ok-run.ensures.value)))

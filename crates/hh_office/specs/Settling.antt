@@ -1,0 +1,98 @@
+-- How a run that is ordered is made from the tables, step by step.
+use Rattle.std.specs.Prelude.{◌≡◌, ℕ, ℤ, List, [], ◌∷◌, map, Bool, true, false, Option, Some, None, Result, Ok, Err, if◌then◌else◌, option_map}
+use Rattle.std.specs.FinMap.{find}
+use Rattle.std.specs.Option.{option_or}
+use Rattle.hh_time.specs.declared.day.Day.{Day}
+use Rattle.hh_time.specs.Days.{Midnights, is_over, period_count}
+use Rattle.hh_names.specs.declared.fault.Fault.{Fault}
+use Rattle.hh_names.specs.declared.fault.Refusal.TheVariants.{DayNotOver, MissingPrice, TooLarge}
+use Rattle.hh_names.specs.Faults.{first_met, plain_fault}
+use Rattle.hh_rows.specs.declared.settlement_period.SettlementPeriod.{SettlementPeriod}
+use Rattle.hh_rules.specs.History.{Registered}
+use Rattle.hh_calc.specs.declared.result.AccountRow.{AccountRow}
+use Rattle.hh_calc.specs.Terms.{PeriodTerms, Settled}
+use Rattle.hh_runs.specs.declared.run_kind.RunKind.{RunKind}
+use Rattle.hh_runs.specs.declared.summary.Summary.{Summary}
+use Rattle.hh_runs.specs.NextRun.{order_refusals}
+use Rattle.hh_runs.specs.RunKinds.{run_kind_cmp}
+use Rattle.hh_store.specs.declared.run_keys.RunKey.{RunKey}
+use Rattle.hh_store.specs.Changes.{RunWrites, run_writes}
+use Rattle.hh_store.specs.Content.{Content, tables_of}
+use Rattle.hh_store.specs.DaySettlement.{missing_meter, missing_price, periods_on, too_large}
+use Rattle.hh_store.specs.PeriodSettlement.{terms_at}
+use Rattle.hh_store.specs.Reads.{results_in, runs_in}
+use Rattle.hh_store.specs.States.{State}
+use Rattle.hh_store.specs.Steps.{CanRun, after_run, first_there, missing_meter_fault, period_fault, registered_at}
+use Rattle.hh_day.specs.NewRuns.{day_in}
+use Rattle.hh_office.specs.Promises.{Stands, UnlessFailed}
+use Rattle.hh_office.specs.Views.{OfficeView, midnight_of}
+
+-- the refusal of a further run of a date that has these runs, for the order of runs
+abbrev pub order_fault : List (RunKind × Summary) → RunKind → Option Fault
+order_fault runs kind = option_map plain_fault (first_met (order_refusals (map (λ r. r.0) runs) kind))
+
+-- What is kept of a run among those of its date; where it is not there, it is refused for the order of runs or it may be made.
+abbrev pub TellsOrder : List (RunKind × Summary) → RunKind → Result (Option Summary) Fault → Type 0
+TellsOrder runs kind (Ok found) = (found ≡ find run_kind_cmp kind runs) × (found ≡ None → order_fault runs kind ≡ None)
+TellsOrder runs kind (Err fault) =
+    UnlessFailed fault ((find run_kind_cmp kind runs ≡ None) × (order_fault runs kind ≡ Some fault))
+
+-- a run may be made on its date, for the order of runs
+abbrev pub IsNext : Content → RunKey → Type 0
+IsNext content key =
+    (find run_kind_cmp key.kind (runs_in content key.date) ≡ None) × (order_fault (runs_in content key.date) key.kind ≡ None)
+
+-- what Settlement Periods lack: the first price, else the first reading
+abbrev pub lack_fault : Registered → List SettlementPeriod → Option Fault
+lack_fault tables periods =
+    option_or (option_map (period_fault MissingPrice) (missing_price tables periods)) (option_map missing_meter_fault (missing_meter tables periods))
+
+-- nothing is missing for these Settlement Periods, and they are settled from these terms
+abbrev pub AreTermsOf : Registered → List SettlementPeriod → List PeriodTerms → Type 0
+AreTermsOf tables periods terms = (lack_fault tables periods ≡ None) × (terms ≡ map (terms_at tables) periods)
+
+-- something is missing for these Settlement Periods, unless the request was given up
+abbrev pub Lacks : Registered → List SettlementPeriod → Fault → Type 0
+Lacks tables periods fault = UnlessFailed fault (lack_fault tables periods ≡ Some fault)
+
+-- a day is that of a date, has the date's periods, and is over at a moment
+abbrev pub IsOverDay : Midnights → ℤ → ℕ → Day → Type 0
+IsOverDay midnight moment date day =
+    (day.date ≡ date) × (period_count midnight date ≡ day.count) × (is_over midnight date moment ≡ true)
+
+-- a date is not over at a moment, or has no periods
+abbrev pub IsEarly : Midnights → ℤ → ℕ → Fault → Type 0
+IsEarly midnight moment date fault = (is_over midnight date moment ≡ false) × (fault ≡ plain_fault DayNotOver)
+
+-- why the Settlement Periods of a date are not settled, if they are not
+abbrev pub settle_fault : Midnights → State → ℤ → ℕ → Option Fault
+settle_fault midnight s moment date =
+    let periods : List SettlementPeriod = periods_on date (period_count midnight date) in
+    first_there (
+    (if is_over midnight date moment then None else Some (plain_fault DayNotOver))
+    ∷ option_map (period_fault MissingPrice) (missing_price (registered_at midnight s) periods)
+    ∷ option_map missing_meter_fault (missing_meter (registered_at midnight s) periods)
+    ∷ option_map (period_fault TooLarge) (too_large (registered_at midnight s) periods)
+    ∷ [])
+
+module _ (office : OfficeView) (moment : ℤ) (date : ℕ) where
+  -- the Settlement Periods of a date are settled so in each state that the office stands for, and nothing is against it
+  abbrev pub SettlesIn : List (SettlementPeriod × Settled) → Type 0
+  SettlesIn day = (s : State) → Stands office s
+      → (settle_fault (midnight_of office) s moment date ≡ None) × (day ≡ day_in (midnight_of office) s date)
+
+  -- they are not settled for this reason, unless the request was given up
+  abbrev pub RefusesIn : Fault → Type 0
+  RefusesIn fault = (s : State) → Stands office s
+      → UnlessFailed fault (settle_fault (midnight_of office) s moment date ≡ Some fault)
+
+-- what is written makes the tables, for each run for which the machine writes this, those of the state after it
+abbrev pub WritesRun : OfficeView → OfficeView → RunWrites → Type 0
+WritesRun old new writes =
+    (s : State) (moment : ℤ) (key : RunKey) → Stands old s → CanRun (midnight_of old) s moment key
+    → writes ≡ run_writes (midnight_of old) s key → new ≡ record old { content = tables_of (midnight_of old) (after_run s key) }
+
+-- the rows of the run of a date before a new one, in the tables of an office; none where there is none
+abbrev pub rows_before : Content → Option RunKey → List (ℕ × AccountRow)
+rows_before content None = []
+rows_before content (Some run) = results_in content run
