@@ -1,2 +1,3 @@
 pub mod Headline
 pub mod NewRuns
+pub mod PeriodSteps
