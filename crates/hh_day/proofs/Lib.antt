@@ -1,1 +1,3 @@
+pub mod EntryLaws
+pub mod NetLaws
 pub mod SettleLaws
