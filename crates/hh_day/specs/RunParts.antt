@@ -19,3 +19,8 @@ AreNetsOf rows nets = (a : Account) → day_net_of nets a ≡ total (λ e. moved
 -- the net of the account of a row is another by what the row moves, and those of the other accounts are as they were
 abbrev pub AddsRow : AccountRow → DayNets → DayNets → Type 0
 AddsRow row old new = (a : Account) → day_net_of new a ≡ day_net_of old a +ℤ moved_by_row a row
+
+-- how many credits the first Settlement Period of a day has
+abbrev pub credit_count : List (SettlementPeriod × Settled) → ℕ
+credit_count [] = 0
+credit_count (q ∷ day) = length q.1.credits

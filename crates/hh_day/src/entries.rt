@@ -2,6 +2,8 @@
 
 ghost use Rattle.std.specs.Prelude.{◌≡◌, ◌++◌, map, IfOk, OnOk};
 ghost use Rattle.hh_runs.specs.Postings.{entry_of};
+ghost use Rattle.hh_day.specs.NewRuns.{account_count};
+ghost use Rattle.hh_day.specs.RunParts.{credit_count};
 ghost use Rattle.hh_store.specs.Content.{credit_entries, credit_key, posting_entries, result_entries, result_key};
 
 use crate::settle::SettledPeriod;
@@ -20,12 +22,23 @@ pub(crate) fn result_entries(
 ) -> Result<Vec<(ResultKey, AccountRow)>, AllocError>
     ensures { IfOk result (λ entries. entries.items ≡ result_entries run.now day.now) }
 {
-    let mut entries = Vec::new(alloc);
+    let room = account_count(day).saturating_mul(day.len());
+    let mut entries = Vec::with_capacity(alloc, room)?;
     for settled in day {
         let rows = settled.result().accounts();
         push_results(&mut entries, run, &settled.at(), rows)?;
     }
     Ok(entries)
+}
+
+/// How many accounts a run settles: those of its first Settlement Period.
+pub(crate) fn account_count(day: &[SettledPeriod]) -> usize
+    ensures { result ≡ account_count day.now }
+{
+    match day.first() {
+        Some(settled) => settled.result().accounts().len(),
+        None => 0,
+    }
 }
 
 /// Appends the rows of a Settlement Period of a run under their keys.
@@ -63,12 +76,23 @@ pub(crate) fn credit_entries(
 ) -> Result<Vec<(CreditKey, Ticks)>, AllocError>
     ensures { IfOk result (λ entries. entries.items ≡ credit_entries run.now day.now) }
 {
-    let mut entries = Vec::new(alloc);
+    let room = credit_count(day).saturating_mul(day.len());
+    let mut entries = Vec::with_capacity(alloc, room)?;
     for settled in day {
         let credits = settled.result().credits();
         push_credits(&mut entries, run, &settled.at(), credits)?;
     }
     Ok(entries)
+}
+
+/// How many credits the first Settlement Period of a day has.
+fn credit_count(day: &[SettledPeriod]) -> usize
+    ensures { result ≡ credit_count day.now }
+{
+    match day.first() {
+        Some(settled) => settled.result().credits().len(),
+        None => 0,
+    }
 }
 
 /// Appends the credits of a Settlement Period of a run under their keys.

@@ -3,9 +3,9 @@
 ghost use Rattle.std.specs.Prelude.{◌≡◌, map, IfOk, IfSome};
 ghost use Rattle.hh_num.specs.Totals.{total};
 ghost use Rattle.hh_runs.specs.Postings.{entry_of};
-ghost use Rattle.hh_day.specs.NewRuns.{account_count, summary_of, IsWrittenFor};
+ghost use Rattle.hh_day.specs.NewRuns.{summary_of, IsWrittenFor};
 
-use crate::entries::{credit_entries, posting_entries, result_entries};
+use crate::entries::{account_count, credit_entries, posting_entries, result_entries};
 use crate::nets::nets_of;
 use crate::settle::SettledPeriod;
 use hh_calc::AccountRow;
@@ -55,16 +55,6 @@ fn summary_of(day: &[SettledPeriod], postings: &[Posting]) -> Option<Summary>
         residual: residual_of(day)?,
         postings: u16::try_from(postings.len()).ok()?,
     })
-}
-
-/// How many accounts a run settles: those of its first Settlement Period.
-fn account_count(day: &[SettledPeriod]) -> usize
-    ensures { result ≡ account_count day.now }
-{
-    match day.first() {
-        Some(settled) => settled.result().accounts().len(),
-        None => 0,
-    }
 }
 
 /// The sum of the residuals of Settlement Periods, unless it lies off the range of pence.

@@ -1,4 +1,4 @@
-use Rattle.std.proofs.Common.{sym, ap, ◌∙◌}
+use Rattle.std.proofs.Common.{ap, ◌∙◌}
 use Rattle.hh_num.specs.Totals.{total}
 use Rattle.hh_day.specs.RunParts.{moved_by_row}
 use Rattle.hh_day.proofs.NetLaws.{paid_by_entries}
