@@ -57,7 +57,7 @@ fn summary_of(day: &[SettledPeriod], postings: &[Posting]) -> Option<Summary>
     })
 }
 
-/// The sum of the residuals of Settlement Periods, unless it lies off the range of pence.
+/// The sum of the residuals of Settlement Periods; none where it leaves the range of pence on the way.
 fn residual_of(day: &[SettledPeriod]) -> Option<Pence>
     ensures { IfSome result (λ sum. sum ≡ total (λ q. q.1.residual) day.now) }
 {
