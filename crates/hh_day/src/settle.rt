@@ -94,8 +94,8 @@ fn settle_periods(
     ensures { IfOk result (SettlesDay periods.now terms.now) }
 {
     let mut settled = Vec::with_capacity(alloc, periods.len())?;
-    for (at, terms) in periods.iter().zip(terms) {
-        let Some(period) = settle_at(alloc, at, terms)? else {
+    for (at, period_terms) in periods.iter().zip(terms) {
+        let Some(period) = settle_at(alloc, at, period_terms)? else {
             return Ok(SettledDay::TooLarge(*at));
         };
         settled.push(period)?;
