@@ -12,7 +12,7 @@ use std::alloc::Global;
 ///
 /// # Errors
 ///
-/// `Memory` where memory is refused; `Store` where an account pays more than a day net may be.
+/// `Memory` where memory is refused; `Store` where what an account pays lies off the range of day nets.
 pub(crate) fn nets_of<K>(alloc: Global, rows: &[(K, AccountRow)]) -> Result<DayNetTable, StoreFault>
     ensures { IfOk result (AreNetsOf rows.now) }
 {

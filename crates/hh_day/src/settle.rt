@@ -111,6 +111,7 @@ fn settle_at(
 ) -> Result<Option<SettledPeriod>, StoreFault>
     ensures { IfOk result (SettlesPeriod at.now terms.now) }
 {
+    // Does nothing, but carries a law for the proof.
     settled_in_one_way();
     if !terms.is_ready() {
         return Err(StoreFault::Store);
