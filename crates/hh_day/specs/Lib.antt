@@ -1,2 +1,4 @@
 pub mod Headline
 pub mod NewRuns
+pub mod PeriodSteps
+pub mod RunParts

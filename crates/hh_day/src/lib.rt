@@ -2,7 +2,9 @@
 //! of an office add up to.
 #![tactic(auto)]
 
+mod entries;
 mod laws;
+mod nets;
 mod run;
 mod settle;
 

@@ -1,11 +1,17 @@
 //! What is written for a new run.
 
-ghost use Rattle.std.specs.Prelude.{IfOk};
-ghost use Rattle.hh_day.specs.NewRuns.{IsWrittenFor};
+ghost use Rattle.std.specs.Prelude.{◌≡◌, map, IfOk, IfSome};
+ghost use Rattle.hh_num.specs.Totals.{total};
+ghost use Rattle.hh_runs.specs.Postings.{entry_of};
+ghost use Rattle.hh_day.specs.NewRuns.{summary_of, IsWrittenFor};
 
+use crate::entries::{account_count, credit_entries, posting_entries, result_entries};
+use crate::nets::nets_of;
 use crate::settle::SettledPeriod;
 use hh_calc::AccountRow;
 use hh_names::PeriodNumber;
+use hh_num::Pence;
+use hh_runs::{Posting, Summary, differences};
 use hh_store::{RunChange, RunKey, StoreFault};
 use std::alloc::Global;
 
@@ -26,5 +32,38 @@ pub fn run_change(
 ) -> Result<RunChange, StoreFault>
     ensures { IfOk result (IsWrittenFor run day.now former.now) }
 {
-    Err(StoreFault::Memory)
+    let results = result_entries(alloc, &run, day)?;
+    let former_nets = nets_of(alloc, former)?;
+    let new_nets = nets_of(alloc, &results)?;
+    let postings = differences(alloc, &former_nets, &new_nets)?;
+    let Some(summary) = summary_of(day, &postings) else {
+        return Err(StoreFault::Store);
+    };
+    let credits = credit_entries(alloc, &run, day)?;
+    let posted = posting_entries(alloc, &run, &postings)?;
+    Ok(RunChange::new(run, summary, results, credits, posted))
+}
+
+/// What a run is summed up as, by its settled Settlement Periods and its postings; none where a count or
+/// the sum of the residuals lies off its range.
+fn summary_of(day: &[SettledPeriod], postings: &[Posting]) -> Option<Summary>
+    ensures { IfSome result (λ summary. summary ≡ summary_of day.now (map entry_of postings.now)) }
+{
+    Some(Summary {
+        periods: u8::try_from(day.len()).ok()?,
+        accounts: u16::try_from(account_count(day)).ok()?,
+        residual: residual_of(day)?,
+        postings: u16::try_from(postings.len()).ok()?,
+    })
+}
+
+/// The sum of the residuals of Settlement Periods; none where it leaves the range of pence on the way.
+fn residual_of(day: &[SettledPeriod]) -> Option<Pence>
+    ensures { IfSome result (λ sum. sum ≡ total (λ q. q.1.residual) day.now) }
+{
+    let mut sum = 0i64;
+    for settled in day {
+        sum = sum.checked_add(settled.result().residual().units())?;
+    }
+    Some(Pence::of(sum))
 }

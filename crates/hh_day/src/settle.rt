@@ -1,14 +1,17 @@
 //! The Settlement Periods of a date, settled.
 
-ghost use Rattle.std.specs.Prelude.{IfOk};
+ghost use Rattle.std.specs.Prelude.{◌≡◌, IfOk};
 ghost use Rattle.hh_day.specs.NewRuns.{SettlesDay};
+ghost use Rattle.hh_day.specs.PeriodSteps.{SettlesPeriod};
 ghost use Rattle.hh_store.specs.DaySettlement.{periods_on};
 
-use hh_calc::{PeriodData, PeriodResult};
+use crate::laws::settled_in_one_way;
+use hh_calc::{CalcFault, PeriodData, PeriodResult, settle_period};
+use hh_names::PeriodNumber;
 use hh_rows::SettlementPeriod;
 use hh_store::StoreFault;
 use hh_time::Day;
-use std::alloc::Global;
+use std::alloc::{AllocError, Global};
 use std::marker::Model;
 
 /// A Settlement Period with its settlement. Contracts see the two.
@@ -27,6 +30,22 @@ impl Model for SettledPeriod {
     ghost view = { λ p. (p.at, p.result) };
 }
 
+impl SettledPeriod {
+    /// The Settlement Period.
+    pub fn at(&self) -> SettlementPeriod
+        ensures { result ≡ self.now.0 }
+    {
+        self.at
+    }
+
+    /// Its settlement.
+    pub fn result(&self) -> &PeriodResult
+        ensures { result.now ≡ self.now.1 }
+    {
+        &self.result
+    }
+}
+
 /// What the Settlement Periods of a date come to (Section T in shape).
 #[derive(Debug, Drop)]
 pub enum SettledDay {
@@ -43,12 +62,63 @@ pub enum SettledDay {
 ///
 /// `Memory` where memory is refused; `Store` where the terms of a period don't fit together, which those
 /// of a state that the machine reaches do.
-pub fn settle_day(
-    alloc: Global,
-    day: &Day,
-    terms: &[PeriodData],
-) -> Result<SettledDay, StoreFault>
+pub fn settle_day(alloc: Global, day: &Day, terms: &[PeriodData]) -> Result<SettledDay, StoreFault>
     ensures { IfOk result (SettlesDay (periods_on day.now.date day.now.count) terms.now) }
 {
-    Err(StoreFault::Memory)
+    let periods = periods_of(alloc, day)?;
+    settle_periods(alloc, &periods, terms)
+}
+
+/// The Settlement Periods of a day, from the first on.
+fn periods_of(alloc: Global, day: &Day) -> Result<Vec<SettlementPeriod>, AllocError>
+    ensures { IfOk result (λ periods. periods.items ≡ periods_on day.now.date day.now.count) }
+{
+    let mut periods = Vec::with_capacity(alloc, usize::from(day.count))?;
+    for before in 0..day.count {
+        if let Some(period) = PeriodNumber::new(before + 1) {
+            periods.push(SettlementPeriod {
+                date: day.date,
+                period,
+            })?;
+        }
+    }
+    Ok(periods)
+}
+
+/// Settles Settlement Periods, each from its terms.
+fn settle_periods(
+    alloc: Global,
+    periods: &[SettlementPeriod],
+    terms: &[PeriodData],
+) -> Result<SettledDay, StoreFault>
+    ensures { IfOk result (SettlesDay periods.now terms.now) }
+{
+    let mut settled = Vec::with_capacity(alloc, periods.len())?;
+    for (at, period_terms) in periods.iter().zip(terms) {
+        let Some(period) = settle_at(alloc, at, period_terms)? else {
+            return Ok(SettledDay::TooLarge(*at));
+        };
+        settled.push(period)?;
+    }
+    Ok(SettledDay::Settled(settled))
+}
+
+/// Settles a Settlement Period from its terms, unless it passes a limit of settlement.
+fn settle_at(
+    alloc: Global,
+    at: &SettlementPeriod,
+    terms: &PeriodData,
+) -> Result<Option<SettledPeriod>, StoreFault>
+    ensures { IfOk result (SettlesPeriod at.now terms.now) }
+{
+    // Does nothing, but carries a law for the proof.
+    settled_in_one_way();
+    if !terms.is_ready() {
+        return Err(StoreFault::Store);
+    }
+    match settle_period(alloc, terms) {
+        Ok(result) => Ok(Some(SettledPeriod { at: *at, result })),
+        Err(CalcFault::TooLarge) => Ok(None),
+        Err(CalcFault::Memory) => Err(StoreFault::Memory),
+    }
 }

@@ -1,0 +1,26 @@
+-- The parts of what is written for a run: what rows come to for each account, and the credits of a day's first period.
+use Rattle.std.specs.Prelude.{◌≡◌, ℕ, ℤ, ◌+ℤ◌, List, [], ◌∷◌, length}
+use Rattle.hh_num.specs.Totals.{total}
+use Rattle.hh_names.specs.declared.account.Account.{Account}
+use Rattle.hh_rows.specs.declared.settlement_period.SettlementPeriod.{SettlementPeriod}
+use Rattle.hh_calc.specs.declared.result.AccountRow.{AccountRow}
+use Rattle.hh_calc.specs.Formulas.{of_account}
+use Rattle.hh_calc.specs.Terms.{Settled}
+use Rattle.hh_runs.specs.DayNets.{DayNets, day_net_of}
+
+-- what a row moves for an account: its charge and its share, where the row is the account's
+abbrev pub moved_by_row : Account → AccountRow → ℤ
+moved_by_row a row = of_account a row.account (row.charge +ℤ row.share)
+
+-- these are the day nets of accounts by these rows, under whatever keys they stand
+abbrev pub AreNetsOf : {K : Type 0} → List (K × AccountRow) → DayNets → Type 0
+AreNetsOf rows nets = (a : Account) → day_net_of nets a ≡ total (λ e. moved_by_row a e.1) rows
+
+-- the net of the account of a row is another by what the row moves, and those of the other accounts are as they were
+abbrev pub AddsRow : AccountRow → DayNets → DayNets → Type 0
+AddsRow row old new = (a : Account) → day_net_of new a ≡ day_net_of old a +ℤ moved_by_row a row
+
+-- how many credits the first Settlement Period of a day has
+abbrev pub credit_count : List (SettlementPeriod × Settled) → ℕ
+credit_count [] = 0
+credit_count (q ∷ day) = length q.1.credits

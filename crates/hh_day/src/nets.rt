@@ -1,0 +1,49 @@
+//! What accounts pay by rows, in all.
+
+ghost use Rattle.std.specs.Prelude.{◌≡◌, ◌+ℤ◌, pos, unwrap_or, IfOk, IfSome, OnOk};
+ghost use Rattle.hh_day.specs.RunParts.{AddsRow, AreNetsOf};
+
+use hh_calc::AccountRow;
+use hh_runs::{DayNet, DayNetTable};
+use hh_store::StoreFault;
+use std::alloc::Global;
+
+/// What the accounts of these rows pay by them, each under whatever key.
+///
+/// # Errors
+///
+/// `Memory` where memory is refused; `Store` where what an account pays lies off the range of day nets.
+pub(crate) fn nets_of<K>(alloc: Global, rows: &[(K, AccountRow)]) -> Result<DayNetTable, StoreFault>
+    ensures { IfOk result (AreNetsOf rows.now) }
+{
+    let mut nets = DayNetTable::new(alloc);
+    for row in rows {
+        add_row(&mut nets, &row.1)?;
+    }
+    Ok(nets)
+}
+
+/// Adds what a row moves to the net of its account.
+fn add_row(nets: &mut DayNetTable, row: &AccountRow) -> Result<(), StoreFault>
+    ensures { OnOk result (AddsRow row.now nets.old nets.new) }
+{
+    let Some(net) = net_with(nets.get(&row.account), row) else {
+        return Err(StoreFault::Store);
+    };
+    nets.put_row(row.account, net)?;
+    Ok(())
+}
+
+/// The net of an account, none standing for 0, with the charge and the share of a row; none where it lies
+/// off the range of day nets.
+fn net_with(net: Option<DayNet>, row: &AccountRow) -> Option<DayNet>
+    ensures { IfSome result (λ sum.
+        sum ≡ unwrap_or net (pos 0) +ℤ (row.now.charge +ℤ row.now.share)) }
+{
+    let before = match net {
+        Some(net) => net.units(),
+        None => 0,
+    };
+    let paid = row.charge.units().checked_add(row.share.units())?;
+    DayNet::new(before.checked_add(paid)?)
+}
