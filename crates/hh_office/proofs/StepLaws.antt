@@ -30,7 +30,7 @@ use Rattle.hh_office.specs.Transitions.{Transition, refused, refused_for, unchan
 use Rattle.hh_office.specs.Promises.{MakesTransition, Stands, UnlessFailed, gives_up, is_given_up, reply_of, RepliesAs}
 use Rattle.hh_office.specs.Views.{OfficeView, midnight_of}
 
-by_either : (b : Bool) (P Q : Type 0) → P → Q → MatchBool b P Q
+pub by_either : (b : Bool) (P Q : Type 0) → P → Q → MatchBool b P Q
 by_either true P Q p q = p
 by_either false P Q p q = q
 

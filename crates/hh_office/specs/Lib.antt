@@ -1,6 +1,7 @@
 pub mod Enquiries
 pub mod Loads
 pub mod Machine
+pub mod PartyViews
 pub mod Promises
 pub mod Reads
 pub mod Runs

@@ -23,7 +23,9 @@ use Rattle.hh_store.specs.PeriodSettlement.{terms_at}
 use Rattle.hh_store.specs.Reads.{results_in, runs_in}
 use Rattle.hh_store.specs.States.{State}
 use Rattle.hh_store.specs.Steps.{CanRun, after_run, first_there, missing_meter_fault, period_fault, registered_at}
-use Rattle.hh_day.specs.NewRuns.{day_in}
+use Rattle.hh_day.specs.NewRuns.{IsWrittenFor, day_in}
+use Rattle.hh_office.specs.declared.reply.Reply.{Reply}
+use Rattle.hh_office.specs.declared.reply.Reply.TheVariants as reply
 use Rattle.hh_office.specs.Promises.{Stands, UnlessFailed}
 use Rattle.hh_office.specs.Views.{OfficeView, midnight_of}
 
@@ -96,3 +98,12 @@ WritesRun old new writes =
 abbrev pub rows_before : Content → Option RunKey → List (ℕ × AccountRow)
 rows_before content None = []
 rows_before content (Some run) = results_in content run
+
+-- A run of these settled periods is made, where this is the latest run of its date: what is written for it goes into the tables,
+-- and the reply is its summary.
+pub record MakesRun (old new : OfficeView) (key : RunKey) (day : List (SettlementPeriod × Settled)) (former : Option RunKey)
+    (given : Reply) : Type 0 where
+  pub writes : RunWrites
+  pub written : IsWrittenFor key day (rows_before old.content former) writes
+  pub kept : WritesRun old new writes
+  pub replied : given ≡ reply.Ran writes.key writes.summary

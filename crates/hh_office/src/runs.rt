@@ -1,7 +1,7 @@
 //! Runs that are ordered.
 
-ghost use Rattle.std.specs.Prelude.{◌≡◌, IfErr, IfOk, OnErr, OnOk};
-ghost use Rattle.std.specs.FinMap.{find};
+ghost use Rattle.std.specs.Prelude.{◌≡◌, find, option_map, IfErr, IfOk, OnErr, OnOk};
+ghost use Rattle.std.specs.Ordering.{eq_by_cmp};
 ghost use Rattle.hh_runs.specs.RunKinds.{run_kind_cmp};
 ghost use Rattle.hh_store.specs.DaySettlement.{periods_on};
 ghost use Rattle.hh_store.specs.Reads.{runs_in};
@@ -12,7 +12,7 @@ ghost use Rattle.hh_office.specs.Promises.{MakesInEachState};
 ghost use Rattle.hh_office.specs.declared.reply.Reply.TheVariants.{Ran};
 ghost use Rattle.hh_office.specs.Reads.{latest_key};
 ghost use Rattle.hh_office.specs.Runs.{run};
-ghost use Rattle.hh_office.specs.Settling.{AreTermsOf, IsEarly, IsNext, IsOverDay, Lacks, RefusesIn, SettlesIn, TellsOrder, WritesRun, rows_before};
+ghost use Rattle.hh_office.specs.Settling.{AreTermsOf, IsEarly, IsNext, IsOverDay, Lacks, MakesRun, RefusesIn, SettlesIn, TellsOrder, WritesRun, rows_before};
 ghost use Rattle.hh_office.specs.Views.{midnight_of};
 ghost use Rattle.jiff.specs.Words.{plain_zone};
 
@@ -75,8 +75,22 @@ impl<'z, T: Tables> Office<'z, T> {
         kept_kinds_of_dates();
         writes_the_run();
         let settled = self.settle(moment, key.date)?;
-        let former = self.rows_before(former)?;
-        let change = run_change(self.alloc, key, &settled, &former)?;
+        Ok(self.make_run(key, &settled, former)?)
+    }
+
+    /// Makes a run of these settled Settlement Periods, where this is the latest run of its date: the reply
+    /// is made before the run is written.
+    fn make_run(
+        &mut self,
+        key: RunKey,
+        day: &[SettledPeriod],
+        former: Option<RunKey>,
+    ) -> Result<Reply, StoreFault>
+        ensures made { IfOk result (MakesRun self.old self.new key day.now former) }
+        ensures same { OnErr result (self.new ≡ self.old) }
+    {
+        let rows = self.rows_before(former)?;
+        let change = run_change(self.alloc, key, day, &rows)?;
         let reply = ran(&change);
         self.commit_run(change)?;
         Ok(reply)
@@ -157,14 +171,18 @@ fn order_of(
 
 /// The summary of the run of a kind among those of a date, if it is there.
 fn summary_of(runs: &[(RunKind, Summary)], kind: RunKind) -> Option<Summary>
-    ensures { result ≡ find run_kind_cmp kind runs.now }
+    ensures { result ≡ option_map (λ r. r.1)
+        (find (λ r. eq_by_cmp run_kind_cmp kind r.0) runs.now) }
 {
-    for run in runs {
-        if kind.cmp(&run.0).is_eq() {
-            return Some(run.1);
-        }
-    }
-    None
+    let run = runs.iter().find(|run| is_of(run, kind))?;
+    Some(run.1)
+}
+
+/// Whether a run is of a kind.
+fn is_of(run: &(RunKind, Summary), kind: RunKind) -> bool
+    ensures { result ≡ eq_by_cmp run_kind_cmp kind run.now.0 }
+{
+    kind.cmp(&run.0).is_eq()
 }
 
 /// The reply to a run that is made.
