@@ -1,3 +1,4 @@
 pub mod LineFacts
 pub mod LoadFacts
+pub mod RunFacts
 pub mod ScriptFacts

@@ -5,7 +5,7 @@ use Rattle.std.proofs.lemmas.List.Elements.{All-append, All-cons, All-nil}
 use Rattle.std.specs.List.{onto_first, position_from, slice_split}
 use Rattle.std.proofs.lemmas.List.{append-nil, append_assoc, drop_all, length_push, map-append}
 use Rattle.std.proofs.lemmas.Bool.Decides.{nat_tests}
-use Rattle.hh_script.specs.Steps.{NamesFile, step_of, step_value}
+use Rattle.hh_script.specs.Steps.{IsWellNamed, step_of, step_value}
 use Rattle.hh_script.specs.declared.script_line.ScriptLine.{ScriptLine}
 use Rattle.hh_script.specs.Script.{all_values, but_empty_last, first_off, is_off, lines_of, onto, script_value, unless_empty}
 use Rattle.hh_script.proofs.LineFacts.{cut_parts, the_rest, uncut}
@@ -58,11 +58,11 @@ all_behind-onto front x (Some xs) = ap Some (sym (append_assoc front (x ∷ []) 
 pub record IsReadTo (bytes rest : List ℕ) (lines : List ScriptLine) : Type 0 where
   pub values : script_value bytes ≡ all_behind (map step_of lines) (script_value rest)
   pub off : first_off bytes ≡ position_from is_off (length lines + 1) (lines_of rest)
-  pub named : All (λ l. NamesFile (step_of l)) lines
+  pub named : All (λ l. IsWellNamed (step_of l)) lines
 
 -- One line more.
 pub read_more : (bytes rest : List ℕ) (lines : List ScriptLine) → IsReadTo bytes rest lines → (text more : List ℕ) (line : ScriptLine) (now : List ScriptLine) → lines_of rest ≡ text ∷ lines_of more
-    → Some (step_of line) ≡ step_value text → NamesFile (step_of line) → now ≡ lines ++ line ∷ [] → IsReadTo bytes more now
+    → Some (step_of line) ≡ step_value text → IsWellNamed (step_of line) → now ≡ lines ++ line ∷ [] → IsReadTo bytes more now
 read_more bytes rest lines so_far text more line now is value named last = record {
   values = so_far.values ∙ ap (λ ls. all_behind (map step_of lines) (all_values step_value ls)) is
       ∙ ap (λ v. all_behind (map step_of lines) (onto v (script_value more))) (sym value)
@@ -71,7 +71,7 @@ read_more bytes rest lines so_far text more line now is value named last = recor
   off = so_far.off ∙ ap (position_from is_off (length lines + 1)) is
       ∙ ap (λ v. cond (is_none v) (Some (length lines + 1)) (position_from is_off (length lines + 1 + 1) (lines_of more))) (sym value)
       ∙ ap (λ n. position_from is_off (n + 1) (lines_of more)) (sym (ap length last ∙ length_push lines line));
-  named = let good : ScriptLine → Type 0 = λ l. NamesFile (step_of l) in subst (All good) (sym last) (All-append good lines (line ∷ []) so_far.named (All-cons good line [] named (All-nil good)));
+  named = let good : ScriptLine → Type 0 = λ l. IsWellNamed (step_of l) in subst (All good) (sym last) (All-append good lines (line ∷ []) so_far.named (All-cons good line [] named (All-nil good)));
 }
 
 -- At the end all is read.

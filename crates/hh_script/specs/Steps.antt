@@ -1,12 +1,17 @@
 -- The steps of a script: what its lines ask for by their words.
-use Rattle.std.specs.Prelude.{◌≡◌, ℕ, ℤ, ◌==◌, List, [], ◌∷◌, Option, Some, None, option_map, codes, bytes_eq, if◌then◌else◌}
+use Rattle.std.specs.Prelude.{◌≡◌, ℕ, ℤ, ◌==◌, List, [], ◌∷◌, Option, Some, None, option_map, codes, bytes_eq, IsTrue, if◌then◌else◌}
 use Rattle.std.specs.List.{after_last, slice_split}
 use Rattle.std.specs.Str.{is_utf8}
 use Rattle.hh_num.specs.Fixed.{fixed_value, fits_i64, kept_if}
+use Rattle.hh_time.specs.DateText.{date_value}
+use Rattle.hh_time.specs.Days.{is_accepted}
 use Rattle.hh_names.specs.Words.{access_key_value, is_file_name_byte, operator_key_value, word_value}
 use Rattle.hh_rows.specs.Kinds.{kind_value}
 use Rattle.hh_rows.specs.declared.file_kind.FileKind.{FileKind}
+use Rattle.hh_runs.specs.RunKinds.{run_kind_value}
+use Rattle.hh_runs.specs.declared.run_kind.RunKind.{RunKind}
 use Rattle.hh_script.specs.declared.load.LoadLine.{LoadLine}
+use Rattle.hh_script.specs.declared.run.RunLine.{RunLine}
 use Rattle.hh_script.specs.declared.script_line.ScriptLine.{ScriptLine}
 use Rattle.hh_script.specs.declared.script_line.ScriptLine.TheVariants as line
 
@@ -43,21 +48,35 @@ pub record LoadStep : Type 0 where
   pub path : List ℕ
   pub name : List ℕ
 
+-- a run to be made: when, by whom, of which date and kind
+pub record RunStep : Type 0 where
+  pub moment : ℤ
+  pub key : List ℕ
+  pub date : ℕ
+  pub kind : RunKind
+
 -- a step of a script
 pub data Step : Type 0 where
   LoadFile : LoadStep → Step
+  MakeRun : RunStep → Step
 
--- a step names its file as the register can
-abbrev pub NamesFile : Step → Type 0
-NamesFile (LoadFile load) = word_value is_file_name_byte 1 64 load.name ≡ Some load.name
+-- a step names its file as the register can, or a date that is accepted
+abbrev pub IsWellNamed : Step → Type 0
+IsWellNamed (LoadFile load) = word_value is_file_name_byte 1 64 load.name ≡ Some load.name
+IsWellNamed (MakeRun run) = IsTrue (is_accepted run.date)
 
 -- the load that a line says
 abbrev pub load_of : LoadLine → LoadStep
 load_of l = record { moment = l.moment; key = l.key.now; kind = l.kind; path = l.path.now; name = l.name.now }
 
+-- the run that a line says
+abbrev pub run_of : RunLine → RunStep
+run_of r = record { moment = r.moment; key = r.key.now; date = r.date; kind = r.kind }
+
 -- the step that a line says
 abbrev pub step_of : ScriptLine → Step
 step_of (line.Load l) = LoadFile (load_of l)
+step_of (line.Run r) = MakeRun (run_of r)
 
 -- the values of a load, if all are there
 abbrev pub load_from : Option ℤ → Option (List ℕ) → Option FileKind → Option (List ℕ) → Option (List ℕ) → Option LoadStep
@@ -71,10 +90,25 @@ load_value (moment ∷ key ∷ kind ∷ path ∷ []) =
     load_from (moment_value moment) (shown_key_value key) (kind_value kind) (path_value path) (path_name path)
 load_value _ = None
 
+-- the values of a run, if all are there
+abbrev pub run_from : Option ℤ → Option (List ℕ) → Option ℕ → Option RunKind → Option RunStep
+run_from (Some moment) (Some key) (Some date) (Some kind) =
+    Some (record { moment = moment; key = key; date = date; kind = kind })
+run_from _ _ _ _ = None
+
+-- SECONDS KEY DATE KIND
+abbrev pub run_value : List (List ℕ) → Option RunStep
+run_value (moment ∷ key ∷ date ∷ kind ∷ []) =
+    run_from (moment_value moment) (shown_key_value key) (date_value date) (run_kind_value kind)
+run_value _ = None
+
 -- the step that words ask for: the first says of which kind
 abbrev pub step_of_words : List (List ℕ) → Option Step
 step_of_words [] = None
-step_of_words (command ∷ words) = if bytes_eq command (codes "load") then option_map LoadFile (load_value words) else None
+step_of_words (command ∷ words) =
+    if bytes_eq command (codes "load") then option_map LoadFile (load_value words)
+    else if bytes_eq command (codes "run") then option_map MakeRun (run_value words)
+    else None
 
 -- the step that a line asks for, if it has a form
 unfoldable pub step_value : List ℕ → Option Step

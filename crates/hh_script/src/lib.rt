@@ -3,11 +3,13 @@
 
 mod load;
 mod path;
+mod run;
 mod script;
 mod script_line;
 mod words;
 
 pub use load::LoadLine;
+pub use run::RunLine;
 pub use script::{ScriptFault, read_script};
 pub use script_line::ScriptLine;
 

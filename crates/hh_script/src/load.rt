@@ -2,7 +2,7 @@
 
 ghost use Rattle.std.specs.Prelude.{◌≡◌, option_map, IfSome};
 ghost use Rattle.hh_rows.specs.Kinds.{kind_value};
-ghost use Rattle.hh_script.specs.Steps.{NamesFile, LoadFile, load_from, load_of, load_value, moment_value, path_name, path_value, shown_key_value, words_of};
+ghost use Rattle.hh_script.specs.Steps.{IsWellNamed, LoadFile, load_from, load_of, load_value, moment_value, path_name, path_value, shown_key_value, words_of};
 
 use crate::path::{read_path, read_path_name};
 use crate::words::{only_word, read_shown_key, split_word};
@@ -28,7 +28,7 @@ impl<'a> LoadLine<'a> {
     /// The line that the words behind `load` are, if they are one.
     pub(crate) fn read(text: &'a [u8]) -> Option<LoadLine<'a>>
         ensures value { option_map load_of result ≡ load_value (words_of text.entry.now) }
-        ensures named { IfSome result (λ line. NamesFile (LoadFile (load_of line))) }
+        ensures named { IfSome result (λ line. IsWellNamed (LoadFile (load_of line))) }
     {
         let (moment, text) = split_word(text)?;
         let (key, text) = split_word(text)?;
@@ -41,7 +41,7 @@ impl<'a> LoadLine<'a> {
         ensures value { option_map load_of result ≡ load_from (moment_value moment.now)
             (shown_key_value key.entry.now) (kind_value kind.now) (path_value path.entry.now)
             (path_name path.entry.now) }
-        ensures named { IfSome result (λ line. NamesFile (LoadFile (load_of line))) }
+        ensures named { IfSome result (λ line. IsWellNamed (LoadFile (load_of line))) }
     {
         Some(LoadLine {
             moment: read_fixed(moment, 0)?,

@@ -1,7 +1,7 @@
 //! Scripts, read whole before a line of them is run.
 
 ghost use Rattle.std.specs.Prelude.{◌≡◌, ◌<◌, ◌∷◌, Some, length, map, All, IfErr, IfOk};
-ghost use Rattle.hh_script.specs.Steps.{NamesFile, step_of};
+ghost use Rattle.hh_script.specs.Steps.{IsWellNamed, step_of};
 ghost use Rattle.hh_script.specs.Script.{lines_of, script_value};
 ghost use Rattle.hh_script.specs.Faults.{IsFaultOf};
 
@@ -48,7 +48,7 @@ impl<T: Drop> From<AllocFailed<T>> for ScriptFault {
 pub fn read_script<'a>(alloc: Global, bytes: &'a [u8]) -> Result<Vec<ScriptLine<'a>>, ScriptFault>
     ensures lines { IfOk result (λ lines.
         script_value bytes.entry.now ≡ Some (map step_of lines.items)) }
-    ensures named { IfOk result (λ lines. All (λ line. NamesFile (step_of line)) lines.items) }
+    ensures named { IfOk result (λ lines. All (λ line. IsWellNamed (step_of line)) lines.items) }
     ensures off { IfErr result (IsFaultOf bytes.entry.now) }
 {
     let mut lines = Vec::new(alloc);

@@ -1,9 +1,10 @@
 //! The lines of a script, of which there are several kinds.
 
 ghost use Rattle.std.specs.Prelude.{◌≡◌, option_map, IfSome};
-ghost use Rattle.hh_script.specs.Steps.{NamesFile, LoadFile, load_of, step_of, step_value};
+ghost use Rattle.hh_script.specs.Steps.{IsWellNamed, step_of, step_value};
 
 use crate::load::LoadLine;
+use crate::run::RunLine;
 use crate::words::split_word;
 
 /// What a line of a script asks for (profile).
@@ -11,6 +12,8 @@ use crate::words::split_word;
 pub enum ScriptLine<'a> {
     /// That a file be loaded (profile).
     Load(LoadLine<'a>),
+    /// That a run be made (profile).
+    Run(RunLine<'a>),
 }
 
 impl<'a> ScriptLine<'a> {
@@ -18,21 +21,15 @@ impl<'a> ScriptLine<'a> {
     #[tactic(auto, unfolding(crate::specs::Steps::step_value))]
     pub(crate) fn read(line: &'a [u8]) -> Option<ScriptLine<'a>>
         ensures value { option_map step_of result ≡ step_value line.entry.now }
-        ensures named { IfSome result (λ line. NamesFile (step_of line)) }
+        ensures named { IfSome result (λ line. IsWellNamed (step_of line)) }
     {
         let (command, words) = split_word(line)?;
         if command == b"load".as_slice() {
             return LoadLine::read(words).map(ScriptLine::Load);
         }
-        None
-    }
-
-    /// The load that the line asks for.
-    pub fn load(&self) -> LoadLine<'a>
-        ensures { step_of self.now ≡ LoadFile (load_of result) }
-    {
-        match self {
-            ScriptLine::Load(load) => *load,
+        if command == b"run".as_slice() {
+            return RunLine::read(words).map(ScriptLine::Run);
         }
+        None
     }
 }

@@ -2,29 +2,71 @@
 
 use super::*;
 use hh_rows::FileKind;
+use hh_runs::RunKind;
 use std::test::Fail;
 
 const SCRIPT: &[u8] = b"load 1719784799 op-settle001 parties data/parties.csv
 load -1 Genco0001 contracts /srv/office/p2_A-x.csv
 load 007 op-settle001 meters meters";
 
+const RUNS: &[u8] = b"run 1719874800 op-settle001 2024-07-01 SF
+load 007 op-settle001 meters meters
+run -1 Genco0001 2024-07-01 DF";
+
+/// The days from 1970-01-01 to 2024-07-01: 54 years with 13 leap days, and 182 days of a leap year.
+const FIRST_OF_JULY_2024: u16 = 54 * 365 + 13 + 182;
+
+/// The loads of a script's lines, one after the other.
+fn loads_of<'a>(rt: &impl AllocGlobal, script: &'a [u8]) -> Result<Vec<LoadLine<'a>>, Fail> {
+    let mut loads = Vec::new(rt.alloc());
+    for line in read_script(rt.alloc(), script)?.iter() {
+        if let ScriptLine::Load(load) = line {
+            loads.push(*load)?;
+        }
+    }
+    Ok(loads)
+}
+
+/// The runs of a script's lines, one after the other.
+fn runs_of<'a>(rt: &impl AllocGlobal, script: &'a [u8]) -> Result<Vec<RunLine<'a>>, Fail> {
+    let mut runs = Vec::new(rt.alloc());
+    for line in read_script(rt.alloc(), script)?.iter() {
+        if let ScriptLine::Run(run) = line {
+            runs.push(*run)?;
+        }
+    }
+    Ok(runs)
+}
+
 #[test]
-fn reads_scripts(rt: HostRuntime) -> Result<(), Fail> {
-    let lines = read_script(rt.alloc(), SCRIPT)?;
-    assert_eq!(rt; lines.len(), 3);
-    let ScriptLine::Load(first) = lines[0];
-    assert_eq!(rt; first.moment, 1_719_784_799);
-    assert_eq!(rt; first.key, b"op-settle001".as_slice());
-    assert_eq!(rt; first.kind, FileKind::Parties);
-    assert_eq!(rt; first.path, "data/parties.csv");
-    assert_eq!(rt; first.name, b"parties.csv".as_slice());
-    let ScriptLine::Load(second) = lines[1];
-    assert_eq!(rt; second.moment, -1);
-    assert_eq!(rt; second.key, b"Genco0001".as_slice());
-    assert_eq!(rt; second.name, b"p2_A-x.csv".as_slice());
-    let ScriptLine::Load(third) = lines[2];
-    assert_eq!(rt; third.moment, 7);
-    assert_eq!(rt; third.path, "meters");
+fn reads_lines_that_load(rt: HostRuntime) -> Result<(), Fail> {
+    let loads = loads_of(&rt, SCRIPT)?;
+    assert_eq!(rt; loads.len(), 3);
+    assert_eq!(rt; loads[0].moment, 1_719_784_799);
+    assert_eq!(rt; loads[0].key, b"op-settle001".as_slice());
+    assert_eq!(rt; loads[0].kind, FileKind::Parties);
+    assert_eq!(rt; loads[0].path, "data/parties.csv");
+    assert_eq!(rt; loads[0].name, b"parties.csv".as_slice());
+    assert_eq!(rt; loads[1].moment, -1);
+    assert_eq!(rt; loads[1].key, b"Genco0001".as_slice());
+    assert_eq!(rt; loads[1].name, b"p2_A-x.csv".as_slice());
+    assert_eq!(rt; loads[2].moment, 7);
+    assert_eq!(rt; loads[2].path, "meters");
+    Ok(())
+}
+
+#[test]
+fn reads_lines_that_make_runs(rt: HostRuntime) -> Result<(), Fail> {
+    let runs = runs_of(&rt, RUNS)?;
+    assert_eq!(rt; runs.len(), 2);
+    assert_eq!(rt; runs[0].moment, 1_719_874_800);
+    assert_eq!(rt; runs[0].key, b"op-settle001".as_slice());
+    assert_eq!(rt; runs[0].date, FIRST_OF_JULY_2024);
+    assert_eq!(rt; runs[0].kind, RunKind::SF);
+    assert_eq!(rt; runs[1].moment, -1);
+    assert_eq!(rt; runs[1].key, b"Genco0001".as_slice());
+    assert_eq!(rt; runs[1].date, FIRST_OF_JULY_2024);
+    assert_eq!(rt; runs[1].kind, RunKind::DF);
     Ok(())
 }
 
@@ -81,6 +123,31 @@ fn refuses_lines_off_their_form(rt: HostRuntime) -> Result<(), Fail> {
         b"load 1 op-settle001 units data/u,csv",
         b"load 1 op-settle001 units \xff/u.csv",
         b"load\t1 op-settle001 units u.csv",
+    ];
+    for line in lines {
+        assert_eq!(rt; outcome(&rt, line), (0, 1));
+    }
+    Ok(())
+}
+
+#[test]
+fn refuses_runs_off_their_form(rt: HostRuntime) -> Result<(), Fail> {
+    let lines: [&[u8]; 15] = [
+        b"run 1 op-settle001 2024-07-01 XX",
+        b"run 1 op-settle001 2024-07-01 sf",
+        b"run 1 op-settle001 2024-07-01 SF ",
+        b"run 1 op-settle001 2024-07-01 SF R1",
+        b"run 1 op-settle001 2024-07-01",
+        b"run 1 op-settle001 SF 2024-07-01",
+        b"run 1 op-settle001 2024-02-30 SF",
+        b"run 1 op-settle001 2024-7-1 SF",
+        b"run 1 op-settle001 2000-12-31 SF",
+        b"run 1 op-settle001 2100-01-01 SF",
+        b"run 1 op-settle 2024-07-01 SF",
+        b"run one op-settle001 2024-07-01 SF",
+        b"run 9223372036854775808 op-settle001 2024-07-01 SF",
+        b"run op-settle001 2024-07-01 SF",
+        b"Run 1 op-settle001 2024-07-01 SF",
     ];
     for line in lines {
         assert_eq!(rt; outcome(&rt, line), (0, 1));
