@@ -11,7 +11,7 @@ use Rattle.hh_time.specs.Days.{Midnights}
 use Rattle.hh_time.specs.Zone.{midnight_in}
 use Rattle.hh_names.specs.declared.fault.Refusal.TheVariants.{FileTooLarge, Forbidden}
 use Rattle.hh_script.specs.declared.script_line.ScriptLine.{ScriptLine}
-use Rattle.hh_script.specs.Steps.{LoadFile, LoadStep, Step, step_of}
+use Rattle.hh_script.specs.Steps.{LoadFile, LoadStep, MakeRun, RunStep, Step, step_of}
 use Rattle.hh_texts.specs.Rows.{most_bytes}
 use Rattle.hh_store.specs.Content.{tables_of}
 use Rattle.hh_store.specs.States.{State, file_key_cmp}
@@ -24,7 +24,7 @@ use Rattle.hh_office.specs.Promises.{HandleStep, Stands, StandsAfter, is_given_u
 use Rattle.hh_office.specs.Views.{OfficeView, midnight_of}
 use Rattle.hh_session.specs.declared.told.Told.{Told}
 use Rattle.hh_session.specs.declared.told.Told.TheVariants.{Replied}
-use Rattle.hh_session.specs.Course.{BeginsLine, LeavesRefused, LoadDoes, RunsLoad, RunsScript, RunsStep, ScriptDoes, StandsNow, StepDoes, StopsScript, StopsStep, TellsLine, no_memory, request_of}
+use Rattle.hh_session.specs.Course.{BeginsLine, ComesTo, LeavesRefused, LoadDoes, MakesRun, RunDoes, RunsLoad, RunsScript, RunsStep, ScriptDoes, StandsNow, StepDoes, StopsScript, StopsStep, TellsLine, no_memory, request_for, request_of}
 use Rattle.hh_session.specs.Lines.{told_line}
 
 -- A load asks the machine for the same by so many bytes of its file that a larger one is told.
@@ -76,29 +76,52 @@ module _ (reads : List ℕ → Option (List ℕ) → Type 0) (old new : OfficeVi
       answered_by s transition.state transition.reply (is_given_up given) refl
       (ap (step (midnight_of old) s l.moment) is ∙ by_front (midnight_of old) s l all most enough) (steps s stands) (after s stands)
 
+-- What a run does that the office answered.
+module _ (old new : OfficeView) (run : RunStep) (request : Request) (is : request ≡ request_for run) (given : Reply) where
+  made_by : (s t : State) (reply : Reply) (b : Bool) → is_given_up given ≡ b → (record { reply = reply; state = t }) ≡ step (midnight_of old) s run.moment (request_for run)
+      → MatchBool b (new ≡ old) ((given ≡ reply) × (new ≡ record old { content = tables_of (midnight_of old) t })) → Stands new (cond b s t)
+      → (u : State) × RunDoes (midnight_of old) s run (Replied given) u × StandsNow old new u
+  made_by s t reply true up transition same stands = (s, inr (up, refl), (stands, ap (λ (o : OfficeView). o.zone) same))
+  made_by s t reply false up transition comes stands = (
+    t,
+    inl (comes.0 ∙ ap (λ (o : Transition). o.reply) transition, ap (λ (o : Transition). o.state) transition),
+    (stands, ap (λ (o : OfficeView). o.zone) comes.1),
+  )
+
+  pub run_answered : HandleStep old new run.moment request given → StandsAfter old new run.moment request given → MakesRun old new run (Replied given)
+  run_answered steps after s stands =
+      let transition : Transition = step (midnight_of old) s run.moment request in
+      made_by s transition.state transition.reply (is_given_up given) refl
+      (ap (step (midnight_of old) s run.moment) is) (steps s stands) (after s stands)
+
+-- a step that is given up for want of memory leaves the state
+gives_up : (reads : List ℕ → Option (List ℕ) → Type 0) (midnight : Midnights) (s : State) (step : Step) → StepDoes reads midnight s step no_memory s
+gives_up reads midnight s (LoadFile load) = inr (refl, refl)
+gives_up reads midnight s (MakeRun run) = inr (refl, refl)
+
 -- What a line does, by what it came to and what went out.
-module _ (reads : List ℕ → Option (List ℕ) → Type 0) (old new : OfficeView) (before after : Option (List ℕ)) (l : LoadStep) (told : Told)
-    (runs : RunsLoad reads old new l told) (leaves : LeavesRefused old new told) where
-  pub line_done : TellsLine before after told → RunsStep reads old new before after (LoadFile l)
-  line_done (inl went) s stands = let (t, does, now) = runs s stands in (told, t, does, went, now)
+module _ (reads : List ℕ → Option (List ℕ) → Type 0) (old new : OfficeView) (before after : Option (List ℕ)) (step : Step) (told : Told)
+    (comes : ComesTo reads old new step told) (leaves : LeavesRefused old new told) where
+  pub line_done : TellsLine before after told → RunsStep reads old new before after step
+  line_done (inl went) s stands = let (t, does, now) = comes s stands in (told, t, does, went, now)
   line_done (inr (refusal, went)) s stands =
       let same : new ≡ old = leaves s stands refusal in
-      (no_memory, s, inr (refl, refl), went, (subst (λ o. Stands o s) (sym same) stands, ap (λ (o : OfficeView). o.zone) same))
+      (no_memory, s, gives_up reads (midnight_of old) s step, went, (subst (λ o. Stands o s) (sym same) stands, ap (λ (o : OfficeView). o.zone) same))
 
-  pub line_cut : BeginsLine before after told → StopsStep reads old new before after (LoadFile l)
-  line_cut (inl went) s stands = let (t, does, now) = runs s stands in (told, t, does, went, now)
+  pub line_cut : BeginsLine before after told → StopsStep reads old new before after step
+  line_cut (inl went) s stands = let (t, does, now) = comes s stands in (told, t, does, went, now)
   line_cut (inr (refusal, went)) s stands =
       let same : new ≡ old = leaves s stands refusal in
-      (no_memory, s, inr (refl, refl), went, (subst (λ o. Stands o s) (sym same) stands, ap (λ (o : OfficeView). o.zone) same))
+      (no_memory, s, gives_up reads (midnight_of old) s step, went, (subst (λ o. Stands o s) (sym same) stands, ap (λ (o : OfficeView). o.zone) same))
 
 -- a line for which memory is refused before anything is done
 pub memory_done : (reads : List ℕ → Option (List ℕ) → Type 0) (old : OfficeView) (before after : Option (List ℕ)) (step : Step)
     → Appends before after (told_line no_memory) → RunsStep reads old old before after step
-memory_done reads old before after (LoadFile l) went s stands = (no_memory, s, inr (refl, refl), went, (stands, refl))
+memory_done reads old before after step went s stands = (no_memory, s, gives_up reads (midnight_of old) s step, went, (stands, refl))
 
 pub memory_cut : (reads : List ℕ → Option (List ℕ) → Type 0) (old : OfficeView) (before after : Option (List ℕ)) (step : Step)
     → AppendsFront before after (told_line no_memory) → StopsStep reads old old before after step
-memory_cut reads old before after (LoadFile l) went s stands = (no_memory, s, inr (refl, refl), went, (stands, refl))
+memory_cut reads old before after step went s stands = (no_memory, s, gives_up reads (midnight_of old) s step, went, (stands, refl))
 
 -- ---- lines one after the other
 

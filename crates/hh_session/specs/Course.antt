@@ -4,7 +4,7 @@ use Rattle.std.specs.Io.KnownBytes.{Appends}
 use Rattle.hh_devices.specs.Devices.{AppendsFront}
 use Rattle.hh_time.specs.Days.{Midnights}
 use Rattle.hh_names.specs.Faults.{memory_fault}
-use Rattle.hh_script.specs.Steps.{LoadFile, LoadStep, Step}
+use Rattle.hh_script.specs.Steps.{LoadFile, LoadStep, MakeRun, RunStep, Step}
 use Rattle.hh_store.specs.States.{State}
 use Rattle.hh_office.specs.declared.request.Action.TheVariants as ask
 use Rattle.hh_office.specs.declared.request.Request.{Request}
@@ -43,6 +43,17 @@ request_of load body = record {
   action = ask.Load (record { kind = load.kind; name = load.name; body = body });
 }
 
+-- what a run asks of the office
+abbrev pub request_for : RunStep → Request
+request_for run = record { key = run.key; action = ask.Run (record { date = run.date; kind = run.kind }) }
+
+-- what a run comes to in a state, and the state after it: it is answered, or it is given up
+abbrev pub RunDoes : Midnights → State → RunStep → Told → State → Type 0
+RunDoes midnight s run Unreadable t = ⊥
+RunDoes midnight s run (Replied given) t =
+    (let transition : Transition = step midnight s run.moment (request_for run) in (given ≡ transition.reply) × (t ≡ transition.state))
+    ⊎ (IsTrue (is_given_up given) × (t ≡ s))
+
 -- What a path may read as: the bytes of its file, or nothing where it cannot be read.
 module _ (reads : List ℕ → Option (List ℕ) → Type 0) (midnight : Midnights) where
   -- the file of a load was read, and the machine answered
@@ -59,6 +70,7 @@ module _ (reads : List ℕ → Option (List ℕ) → Type 0) (midnight : Midnigh
   -- what a step comes to in a state, and the state after it
   abbrev pub StepDoes : State → Step → Told → State → Type 0
   StepDoes s (LoadFile load) told t = LoadDoes s load told t
+  StepDoes s (MakeRun run) told t = RunDoes midnight s run told t
 
   -- what the steps of a script write, one after the other, and the state after them
   abbrev pub ScriptDoes : State → List Step → List ℕ → State → Type 0
@@ -75,7 +87,15 @@ StandsNow old new t = Stands new t × (new.zone ≡ old.zone)
 abbrev pub RunsLoad : (List ℕ → Option (List ℕ) → Type 0) → OfficeView → OfficeView → LoadStep → Told → Type 0
 RunsLoad reads old new load told = (s : State) → Stands old s → (t : State) × LoadDoes reads (midnight_of old) s load told t × StandsNow old new t
 
--- a load that is refused leaves the office as it is
+-- what a run comes to, and the office after it
+abbrev pub MakesRun : OfficeView → OfficeView → RunStep → Told → Type 0
+MakesRun old new run told = (s : State) → Stands old s → (t : State) × RunDoes (midnight_of old) s run told t × StandsNow old new t
+
+-- what a step comes to, and the office after it
+abbrev pub ComesTo : (List ℕ → Option (List ℕ) → Type 0) → OfficeView → OfficeView → Step → Told → Type 0
+ComesTo reads old new step told = (s : State) → Stands old s → (t : State) × StepDoes reads (midnight_of old) s step told t × StandsNow old new t
+
+-- what is refused leaves the office as it is
 abbrev pub LeavesRefused : OfficeView → OfficeView → Told → Type 0
 LeavesRefused old new told = (s : State) → Stands old s → IsRefusal told → new ≡ old
 

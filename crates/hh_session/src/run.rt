@@ -2,18 +2,19 @@
 
 ghost use Rattle.std.specs.Prelude.{◌≡◌, ℕ, List, Some, None, map, take, All, IfOk, IsErrOf, OnErr, OnOk};
 ghost use Rattle.hh_devices.specs.Devices.{Failed};
-ghost use Rattle.hh_script.specs.Steps.{NamesFile, LoadFile, load_of, step_of};
-ghost use Rattle.hh_session.specs.Course.{LeavesRefused, RunsLoad, RunsScript, RunsStep, StopsScript, StopsStep, request_of};
+ghost use Rattle.hh_script.specs.Steps.{IsWellNamed, LoadFile, MakeRun, load_of, run_of, step_of};
+ghost use Rattle.hh_session.specs.Course.{ComesTo, LeavesRefused, MakesRun, RunsLoad, RunsScript, RunsStep, StopsScript, StopsStep, request_for, request_of};
 
-use crate::tell::{LOADED_ROOM, tell, tell_no_memory};
+use crate::tell::{LINE_ROOM, tell, tell_no_memory};
 use crate::told::Told;
 use hh_devices::{DeviceFailed, Sink};
 use hh_inputs::{InputFault, Inputs};
 use hh_names::FileName;
 use hh_office::{Action, Bytes, Office, Request, Upload};
-use hh_script::{LoadLine, ScriptLine};
-use hh_store::Tables;
+use hh_script::{LoadLine, RunLine, ScriptLine};
+use hh_store::{RunKey, Tables};
 use hh_texts::MOST_BYTES;
+use hh_time::SettlementDate;
 use std::alloc::{AllocError, Global};
 
 /// The most bytes that are read of a file: one more than a file may have, so that a larger one is
@@ -21,7 +22,8 @@ use std::alloc::{AllocError, Global};
 const MOST_READ: usize = MOST_BYTES + 1;
 
 /// Runs the lines of a script over an office, one after the other, and writes a line for each
-/// (profile): `applied=N late=M`, a refusal's text, or `fault file` where the file cannot be read.
+/// (profile): `applied=N late=M`, `run DATE KIND periods N accounts N residual T postings N`, a
+/// refusal's text, or `fault file` where the file cannot be read.
 ///
 /// # Errors
 ///
@@ -34,7 +36,7 @@ pub fn run_lines<T: Tables, I: Inputs, O: Sink>(
     lines: &[ScriptLine<'_>],
     out: &mut O,
 ) -> Result<(), DeviceFailed>
-    requires { All (λ line. NamesFile (step_of line)) lines.now }
+    requires { All (λ line. IsWellNamed (step_of line)) lines.now }
     ensures done { OnOk result (RunsScript (I.reads_as inputs.now) office.old office.new
         (O.taken out.old) (O.taken out.new) (map step_of lines.now)) }
     ensures well { OnOk result (O.failures out.new ≡ O.failures out.old) }
@@ -56,7 +58,7 @@ fn run_line<T: Tables, I: Inputs, O: Sink>(
     line: &ScriptLine<'_>,
     out: &mut O,
 ) -> Result<(), DeviceFailed>
-    requires { NamesFile (step_of line.now) }
+    requires { IsWellNamed (step_of line.now) }
     ensures done { OnOk result (RunsStep (I.reads_as inputs.now) office.old office.new
         (O.taken out.old) (O.taken out.new) (step_of line.now)) }
     ensures well { OnOk result (O.failures out.new ≡ O.failures out.old) }
@@ -64,14 +66,61 @@ fn run_line<T: Tables, I: Inputs, O: Sink>(
         (O.taken out.old) (O.taken out.new) (step_of line.now)) }
     ensures failed { OnErr result (Failed (O.failures out.old) (O.failures out.new)) }
 {
-    // Room for the line of an accepted file, taken before the office acts.
-    match Vec::with_capacity(alloc, LOADED_ROOM) {
+    // Room for the line of an accepted file or of a run that is made, taken before the office acts.
+    match Vec::with_capacity(alloc, LINE_ROOM) {
         Ok(room) => {
-            let told = run_load(alloc, office, inputs, &line.load());
+            let told = answer_line(alloc, office, inputs, line);
             tell(alloc, room, &told, out)
         }
         Err(AllocError) => tell_no_memory(out),
     }
+}
+
+/// What a line comes to.
+fn answer_line<T: Tables, I: Inputs>(
+    alloc: Global,
+    office: &mut Office<'_, T>,
+    inputs: &I,
+    line: &ScriptLine<'_>,
+) -> Told
+    requires { IsWellNamed (step_of line.now) }
+    ensures comes { ComesTo (I.reads_as inputs.now) office.old office.new (step_of line.now) result }
+    ensures untouched { LeavesRefused office.old office.new result }
+{
+    match line {
+        ScriptLine::Load(load) => run_load(alloc, office, inputs, load),
+        ScriptLine::Run(run) => make_run(alloc, office, run),
+    }
+}
+
+/// What a run comes to.
+fn make_run<T: Tables>(alloc: Global, office: &mut Office<'_, T>, run: &RunLine<'_>) -> Told
+    requires { IsWellNamed (MakeRun (run_of run.now)) }
+    ensures runs { MakesRun office.old office.new (run_of run.now) result }
+    ensures untouched { LeavesRefused office.old office.new result }
+{
+    match run_request(alloc, run) {
+        Ok(request) => Told::Replied(office.handle(run.moment, &request)),
+        Err(AllocError) => Told::no_memory(),
+    }
+}
+
+/// What a run asks of the office.
+fn run_request(alloc: Global, run: &RunLine<'_>) -> Result<Request, AllocError>
+    requires { IsWellNamed (MakeRun (run_of run.now)) }
+    ensures { IfOk result (λ request. request ≡ request_for (run_of run.now)) }
+{
+    let key = Vec::from_slice(alloc, run.key)?;
+    let Some(date) = SettlementDate::new(run.date) else {
+        unreachable!()
+    };
+    Ok(Request {
+        key: Bytes::new(key),
+        action: Action::Run(RunKey {
+            date,
+            kind: run.kind,
+        }),
+    })
 }
 
 /// What a load comes to.
@@ -81,7 +130,7 @@ fn run_load<T: Tables, I: Inputs>(
     inputs: &I,
     load: &LoadLine<'_>,
 ) -> Told
-    requires { NamesFile (LoadFile (load_of load.now)) }
+    requires { IsWellNamed (LoadFile (load_of load.now)) }
     ensures runs { RunsLoad (I.reads_as inputs.now) office.old office.new
         (load_of load.now) result }
     ensures untouched { LeavesRefused office.old office.new result }
@@ -99,7 +148,7 @@ fn read_request<I: Inputs>(
     inputs: &I,
     load: &LoadLine<'_>,
 ) -> Result<Request, InputFault>
-    requires { NamesFile (LoadFile (load_of load.now)) }
+    requires { IsWellNamed (LoadFile (load_of load.now)) }
     ensures request { IfOk result (λ request. (all : List ℕ)
         × I.reads_as inputs.now load.now.path.now (Some all)
         × (request ≡ request_of (load_of load.now) (take MOST_READ all))) }

@@ -2,7 +2,7 @@
 
 ghost use Rattle.std.specs.Prelude.{◌≡◌, ◌≢◌, ◌≤◌, Some, length, map, All, IfErr, IfOk, OnErr, OnOk};
 ghost use Rattle.hh_devices.specs.Devices.{Failed};
-ghost use Rattle.hh_script.specs.Steps.{NamesFile, step_of};
+ghost use Rattle.hh_script.specs.Steps.{IsWellNamed, step_of};
 ghost use Rattle.hh_session.specs.Script.{IsUnread, NewOfficeCuts, NewOfficeWrites, StopsAt, WritesScript, most_script_bytes};
 
 use crate::run::run_lines;
@@ -111,7 +111,7 @@ fn run_new_office<I: Inputs, O: Sink>(
     lines: &[ScriptLine<'_>],
     out: &mut O,
 ) -> Result<(), DeviceFailed>
-    requires { All (λ line. NamesFile (step_of line)) lines.now }
+    requires { All (λ line. IsWellNamed (step_of line)) lines.now }
     ensures done { OnOk result (NewOfficeWrites (I.reads_as inputs.now) settings
         (O.taken out.old) (O.taken out.new) (map step_of lines.now)) }
     ensures well { OnOk result (O.failures out.new ≡ O.failures out.old) }

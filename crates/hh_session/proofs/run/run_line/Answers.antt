@@ -1,29 +1,18 @@
-use Rattle.std.proofs.Common.{sym, subst}
-use Rattle.std.specs.Prelude.{OnErr, OnOk}
-use Rattle.hh_script.specs.Steps.{load_of, step_of}
-use Rattle.hh_session.specs.Course.{RunsStep, StopsStep}
+use Rattle.hh_script.specs.Steps.{step_of}
 use Rattle.hh_session.proofs.CourseLaws.{OnErr-map, OnOk-map, line_cut, line_done, memory_cut, memory_done}
 use Rattle.hh_session.proofs.run.run_line.Goals as goal
 
 pub returns-in-Ok-clause-done : goal.returns-in-Ok-clause-done
 returns-in-Ok-clause-done g c =
-    let reads = g.I.Inputs.reads_as c.args.inputs.now in
-    let old = c.args.office.now in
-    let new = c.run_load-told.new.office in
-    let before = g.O.Sink.taken c.args.out.now in
-    let after = g.O.Sink.taken c.tell.new.out in
-    subst (λ step. OnOk c.tell.result (RunsStep reads old new before after step)) (sym c.load.ensures)
-    (OnOk-map c.tell.result _ _ (line_done reads old new before after (load_of c.load.result) c.run_load-told.result c.run_load-told.ensures.runs c.run_load-told.ensures.untouched) c.tell.ensures.told)
+    OnOk-map c.tell.result _ _
+    (line_done (g.I.Inputs.reads_as c.args.inputs.now) c.args.office.now c.answer_line-told.new.office (g.O.Sink.taken c.args.out.now) (g.O.Sink.taken c.tell.new.out)
+    (step_of c.args.line.now) c.answer_line-told.result c.answer_line-told.ensures.comes c.answer_line-told.ensures.untouched) c.tell.ensures.told
 
 pub returns-in-Ok-clause-cut : goal.returns-in-Ok-clause-cut
 returns-in-Ok-clause-cut g c =
-    let reads = g.I.Inputs.reads_as c.args.inputs.now in
-    let old = c.args.office.now in
-    let new = c.run_load-told.new.office in
-    let before = g.O.Sink.taken c.args.out.now in
-    let after = g.O.Sink.taken c.tell.new.out in
-    subst (λ step. OnErr c.tell.result (StopsStep reads old new before after step)) (sym c.load.ensures)
-    (OnErr-map c.tell.result _ _ (line_cut reads old new before after (load_of c.load.result) c.run_load-told.result c.run_load-told.ensures.runs c.run_load-told.ensures.untouched) c.tell.ensures.cut)
+    OnErr-map c.tell.result _ _
+    (line_cut (g.I.Inputs.reads_as c.args.inputs.now) c.args.office.now c.answer_line-told.new.office (g.O.Sink.taken c.args.out.now) (g.O.Sink.taken c.tell.new.out)
+    (step_of c.args.line.now) c.answer_line-told.result c.answer_line-told.ensures.comes c.answer_line-told.ensures.untouched) c.tell.ensures.cut
 
 pub returns-in-Err-clause-done : goal.returns-in-Err-clause-done
 returns-in-Err-clause-done g c =
