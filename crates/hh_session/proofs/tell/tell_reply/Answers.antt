@@ -1,10 +1,23 @@
-use Rattle.std.proofs.Common.{sym, subst}
+use Rattle.std.proofs.Common.{◌++◌, inl, ◌∙◌, ap, sym, subst}
 use Rattle.std.specs.Prelude.{OnErr}
+use Rattle.hh_devices.specs.Devices.{AppendsFront}
 use Rattle.hh_session.specs.Course.{BeginsLine}
+use Rattle.hh_session.specs.Lines.{run_line}
 use Rattle.hh_session.specs.declared.told.Told.TheVariants.{Replied}
+use Rattle.hh_session.proofs.CourseLaws.{OnErr-map}
 use Rattle.hh_session.proofs.tell.tell_reply.Goals as goal
 
 pub returns-in-Refused-clause-cut : goal.returns-in-Refused-clause-cut
 returns-in-Refused-clause-cut g c =
     subst (λ reply. OnErr c.tell_refused.result (BeginsLine (g.O.Sink.taken c.args.out.now) (g.O.Sink.taken c.tell_refused.new.out) (Replied reply))) (sym c.in-Refused.is)
     c.tell_refused.ensures.cut
+
+pub returns-in-Ran-clause-cut : goal.returns-in-Ran-clause-cut
+returns-in-Ran-clause-cut g c =
+    let before = g.O.Sink.taken c.args.out.now in
+    let after = g.O.Sink.taken c.write_whole-in-Ran.new.sink in
+    let line = run_line c.in-Ran.run' c.in-Ran.summary in
+    subst (λ reply. OnErr c.write_whole-in-Ran.result (BeginsLine before after (Replied reply))) (sym c.in-Ran.is)
+    (OnErr-map c.write_whole-in-Ran.result _ _ inl
+    (subst (λ text. OnErr c.write_whole-in-Ran.result (AppendsFront before after text))
+    (c.deref-in-Ran.ensures.value ∙ c.push_run.ensures ∙ ap (λ bytes. bytes ++ line) c.requires.empty) c.write_whole-in-Ran.ensures.front))
