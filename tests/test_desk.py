@@ -1,5 +1,6 @@
 """What an analyst meets at the office's desk, through the built `settle script`: files are loaded, come
-late, twice or wrong, and each line is answered. Every script begins with empty tables."""
+late, twice or wrong, runs are made or refused, and each line is answered. Every script begins with empty
+tables."""
 import csv
 import os
 import pathlib
@@ -18,6 +19,9 @@ START = 1_719_788_400
 DEADLINE = START - 3600
 # 2024-06-29T22:26:40Z, when files come where no test says otherwise.
 EARLY = 1_719_700_000
+# 2024-07-01 has 48 periods, so it ends at 2024-07-01T23:00:00Z, and 2024-07-02 a day later.
+END = 1_719_874_800
+NEXT_END = 1_719_961_200
 HEADERS = {
     "parties": "party,from,to,key",
     "units": "unit,party,side,interconnector,from,to",
@@ -42,6 +46,12 @@ MARKET = [
 LOADED = ["applied=2 late=0", "applied=2 late=0", "applied=1 late=0", "applied=96 late=0", "applied=48 late=0"]
 APPLIED = "applied=1 late=0"
 LATE = "applied=0 late=1"
+# What the market settles to. GENCO-P has 0.5 MWh too much and SUPCO-C 0.51, so that at 50 pounds they are paid
+# 2,500 and 2,550 pence. They share these 5,050 by credited energy, 99.5 to 98.49, and get 2,538 and 2,512: what
+# the one pays, 38 pence, the other is paid.
+SETTLED = f"run {DAY} SF periods 48 accounts 4 residual 5050 postings 2"
+# At 60 pounds they are paid 3,000 and 3,060, and share 3,045 and 3,015. GENCO-P pays 45 pence, 7 more.
+DEARER = f"run {DAY} R1 periods 48 accounts 4 residual 6060 postings 2"
 
 
 def text_of(kind, rows):
@@ -78,6 +88,14 @@ class Desk(OfTheProgram):
     def market(self):
         """The lines that load the market."""
         return [self.load(kind, rows, f"f{number}.csv") for number, (kind, rows) in enumerate(MARKET, 1)]
+
+    def order(self, kind, moment=NEXT_END, date=DAY, key=OPERATOR):
+        """The line of a script that makes a run."""
+        return f"run {moment} {key} {date} {kind}"
+
+    def dearer(self):
+        """The line that loads a price of 60 pounds for period 1."""
+        return self.load("prices", f"{DAY},1,60.00000", "p2.csv")
 
     def run_script(self, text, *options, **how):
         """Runs a script of this text."""
@@ -193,6 +211,145 @@ class Keys(Desk):
         for key in ("op-" + "Settle01", "op-" + "0" * 61):
             script = self.file("keys", self.load(*MARKET[0], key=key) + "\n")
             self.assertEqual(settle("script", "--operator-key", key, script), (0, b"applied=2 late=0\n", b""))
+
+
+class Runs(Desk):
+    """A run settles every period of its date from what is in force then."""
+
+    def test_the_first_run(self):
+        self.assertEqual(self.after_market(self.order("SF", END)), [SETTLED])
+
+    def test_what_has_changed_is_posted(self):
+        lines = [self.order("SF"), self.dearer(), self.order("R1")]
+        self.assertEqual(self.after_market(*lines), [SETTLED, APPLIED, DEARER])
+
+    def test_nothing_is_posted_where_nothing_has_changed(self):
+        lines = [self.order("SF"), self.dearer(), self.order("R1"), self.order("R2")]
+        unchanged = f"run {DAY} R2 periods 48 accounts 4 residual 6060 postings 0"
+        self.assertEqual(self.after_market(*lines), [SETTLED, APPLIED, DEARER, unchanged])
+
+    def test_a_party_more(self):
+        """NEWCO joins with a unit that exports 10 MWh, which it has not sold."""
+        readings = [f"N1,{DAY},1,10.000,1.0000000,0"] + [f"N1,{DAY},{period},0,1,0" for period in IDLE]
+        lines = [
+            self.order("SF"),
+            self.load("parties", "NEWCO,2024-01-01,,newco0001"),
+            self.load("units", "N1,NEWCO,P,no,2024-01-01,"),
+            self.load("meters", readings),
+            self.order("R1"),
+        ]
+        wanted = [
+            SETTLED,
+            APPLIED,
+            APPLIED,
+            "applied=48 late=0",
+            f"run {DAY} R1 periods 48 accounts 6 residual 55050 postings 3",
+        ]
+        self.assertEqual(self.after_market(*lines), wanted)
+
+    def test_a_negative_price(self):
+        """The signs of all charges and shares turn, and with them that of the residual."""
+        lines = [self.order("SF"), self.load("prices", f"{DAY},1,-50.00000", "p2.csv"), self.order("R1")]
+        turned = f"run {DAY} R1 periods 48 accounts 4 residual -5050 postings 2"
+        self.assertEqual(self.after_market(*lines), [SETTLED, APPLIED, turned])
+
+    def test_the_order_of_the_kinds(self):
+        """The first is SF, later kinds may be left out, and none goes back."""
+        final = f"run {DAY} RF periods 48 accounts 4 residual 5050 postings 0"
+        lines = [self.order(kind) for kind in ("R1", "SF", "RF", "R2", "R1")]
+        none, back = "refused 51 NoInitialRun", "refused 50 RunOrder"
+        self.assertEqual(self.after_market(*lines), [none, SETTLED, final, back, back])
+
+    def test_the_end_of_the_day(self):
+        """A day is over at its last second's end."""
+        lines = [self.order("SF", moment) for moment in (END - 1, -(2**63), END)]
+        early = "refused 52 DayNotOver"
+        self.assertEqual(self.after_market(*lines), [early, early, SETTLED])
+
+    def test_days_on_which_clocks_change(self):
+        """They end after 46 and 50 periods. Nothing is metered, so that nothing is settled."""
+        for date, midnight, periods in (("2024-03-31", 1_711_843_200, 46), ("2024-10-27", 1_729_983_600, 50)):
+            end = midnight + 1800 * periods
+            numbers = range(1, periods + 1)
+            readings = [f"{unit},{date},{period},0,1,0" for period in numbers for unit in ("G1", "S1")]
+            lines = [
+                self.load("prices", [f"{date},{period},50" for period in numbers]),
+                self.load("meters", readings),
+                self.order("SF", end - 1, date),
+                self.order("SF", end, date),
+            ]
+            wanted = [
+                f"applied={periods} late=0",
+                f"applied={2 * periods} late=0",
+                "refused 52 DayNotOver",
+                f"run {date} SF periods {periods} accounts 4 residual 0 postings 0",
+            ]
+            with self.subTest(date):
+                self.assertEqual(self.after_market(*lines), wanted)
+
+    def test_a_run_that_is_there(self):
+        """It is told once more, whatever the moment and whatever has come since, and stays as it is."""
+        lines = [
+            self.order("SF"),
+            self.order("SF", 0),
+            self.load("meters", f"G1,{DAY},1,101.000,0.9950000,0", "m2.csv"),
+            self.order("SF"),
+            self.dearer(),
+            self.order("RF"),
+            self.order("SF"),
+        ]
+        found = self.after_market(*lines)
+        self.assertEqual([found[place] for place in (0, 1, 3, 6)], [SETTLED] * 4)
+
+    def test_a_price_is_missing(self):
+        """The first period without a price is told, before any reading that is missing."""
+        date = "2024-07-02"
+        prices = [f"{date},{period},0" for period in range(1, 49) if period not in (11, 30)]
+        lines = [self.order("SF", date=date), self.load("prices", prices), self.order("SF", date=date)]
+        wanted = ["refused 53 MissingPrice period 1", "applied=46 late=0", "refused 53 MissingPrice period 11"]
+        self.assertEqual(self.after_market(*lines), wanted)
+
+    def test_a_reading_is_missing(self):
+        """The first period with such a unit is told, and of its units the first by their bytes."""
+        date = "2024-07-02"
+        prices = [f"{date},{period},0" for period in range(1, 49)]
+        readings = [f"G1,{date},{period},0,1,0" for period in range(1, 49)]
+        lines = [
+            self.load("prices", prices),
+            self.order("SF", date=date),
+            self.load("meters", readings),
+            self.order("SF", date=date),
+        ]
+        wanted = [
+            "applied=48 late=0",
+            "refused 54 MissingMeter unit G1 period 1",
+            "applied=48 late=0",
+            "refused 54 MissingMeter unit S1 period 1",
+        ]
+        self.assertEqual(self.after_market(*lines), wanted)
+
+    def test_a_refused_run_leaves_no_trace(self):
+        """R1 is no first run, even after an SF that was refused."""
+        lines = [self.order("SF", END - 1), self.order("R1"), self.order("SF"), self.order("SF")]
+        wanted = ["refused 52 DayNotOver", "refused 51 NoInitialRun", SETTLED, SETTLED]
+        self.assertEqual(self.after_market(*lines), wanted)
+
+    def test_keys(self):
+        """The operator alone may make a run, or hear of one by ordering it again."""
+        keys = "genco0001", "supco0001", "nobody01", "op-settle002"
+        lines = [self.order("SF", key=key) for key in keys]
+        again = self.order("SF", key="genco0001")
+        forbidden = "refused 60 Forbidden"
+        self.assertEqual(self.after_market(*lines, self.order("SF"), again), [forbidden] * 4 + [SETTLED, forbidden])
+
+    def test_each_call_begins_without_runs(self):
+        self.assertEqual(self.after_market(self.order("SF")), [SETTLED])
+        self.assertEqual(self.after_market(self.order("R1")), ["refused 51 NoInitialRun"])
+
+    def test_the_first_and_the_last_date(self):
+        """Neither has prices, and no moment is too late."""
+        lines = [self.order("SF", 2**63 - 1, date) for date in ("2001-01-01", "2099-12-31")]
+        self.assertEqual(self.after_market(*lines), ["refused 53 MissingPrice period 1"] * 2)
 
 
 class Deadlines(Desk):
@@ -617,6 +774,39 @@ class OffTheirForm(Desk):
             f"load {EARLY} {OPERATOR} parties {self.room}/a,b.csv",
             f"load {EARLY} {OPERATOR} parties {self.room}/ä.csv",
             f"load {EARLY} {OPERATOR} parties {self.room}/{'n' * 65}",
+        ):
+            with self.subTest(line):
+                good = self.load(*MARKET[0])
+                self.is_wrong(self.run_script(f"{good}\n{line}\n{good}\n"), line=2)
+
+    def test_lines_of_runs(self):
+        for line in (
+            "run",
+            f"{END} {OPERATOR} {DAY} SF",
+            f"RUN {END} {OPERATOR} {DAY} SF",
+            f"run {END} {OPERATOR} {DAY}",
+            f"run {END} {OPERATOR} SF",
+            f"run {END} {DAY} SF",
+            f"run {OPERATOR} {DAY} SF",
+            f"run {END} {OPERATOR} SF {DAY}",
+            f"run {END} {OPERATOR} {DAY} SF R1",
+            f"run {END} {OPERATOR} {DAY} SF ",
+            f"run {END} {OPERATOR} {DAY}  SF",
+            f"run {END} {OPERATOR} {DAY} SF\r",
+            f"run {END} {OPERATOR} {DAY} XX",
+            f"run {END} {OPERATOR} {DAY} sf",
+            f"run {END} {OPERATOR} {DAY} R4",
+            f"run {END} {OPERATOR} {DAY} II",
+            f"run {END} {OPERATOR} 2024-02-30 SF",
+            f"run {END} {OPERATOR} 2023-02-29 SF",
+            f"run {END} {OPERATOR} 2024-7-1 SF",
+            f"run {END} {OPERATOR} 2000-12-31 SF",
+            f"run {END} {OPERATOR} 2100-01-01 SF",
+            f"run {END}.0 {OPERATOR} {DAY} SF",
+            f"run +{END} {OPERATOR} {DAY} SF",
+            f"run {2**63} {OPERATOR} {DAY} SF",
+            f"run {END} op-short {DAY} SF",
+            f"run {END} genco01 {DAY} SF",
         ):
             with self.subTest(line):
                 good = self.load(*MARKET[0])
