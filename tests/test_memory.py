@@ -21,6 +21,8 @@ MOST_RUNS = 100_000
 REFUSED = [b"refused 90 Memory"]
 OPERATOR = "op-settle001"
 NO_PARTY, NO_UNIT = b"refused 30 UnknownParty row 1", b"refused 31 UnknownUnit row 1"
+NO_RUN = b"refused 51 NoInitialRun"
+DAY = "2024-07-01"
 # Files of a script: the kind, the text, the reply, what is told where a file before it was not applied,
 # and what stands registered after it.
 SCRIPT = [
@@ -68,6 +70,69 @@ SCRIPT = [
         None,
     ),
     ("prices", "date,period\n", b"refused 12 BadHeader", {}, None),
+]
+
+
+def ran(kind, accounts, residual, postings):
+    """The line of a run of the day."""
+    return f"run {DAY} {kind} periods 48 accounts {accounts} residual {residual} postings {postings}".encode()
+
+
+# A day on which A exports 1 MWh in period 1 and has sold it to B, which uses none and is paid 1,000 pence for it.
+# All of the residual goes to A by credited energy.
+SETTLED_DAY = [
+    *SCRIPT[:2],
+    (
+        "contracts",
+        f"reference,seller,buyer,date,period,mwh\nC,A-P,B-C,{DAY},1,1\n",
+        b"applied=1 late=0",
+        {"parties": NO_PARTY},
+        "contracts",
+    ),
+    (
+        "meters",
+        "unit,date,period,metered_mwh,tlm,balancing_mwh\n"
+        + "".join(f"U,{DAY},{period},{int(period == 1)},1,0\n" for period in range(1, 49)),
+        b"applied=48 late=0",
+        {"units": NO_UNIT},
+        "meters",
+    ),
+    (
+        "prices",
+        "date,period,price\n" + "".join(f"{DAY},{period},10\n" for period in range(1, 49)),
+        b"applied=48 late=0",
+        {},
+        "prices",
+    ),
+]
+# The runs of that day, as the files of a script. Without the units A has sold what it lacks, and pays 1,000 pence
+# itself; without the contract A is paid them, and gets them as its share.
+RUNS = [
+    (
+        "SF",
+        ran("SF", 4, 1000, 2),
+        {
+            "prices": b"refused 53 MissingPrice period 1",
+            "parties": ran("SF", 0, 0, 0),
+            "units": ran("SF", 4, 0, 2),
+            "meters": b"refused 54 MissingMeter unit U period 1",
+            "contracts": ran("SF", 4, 1000, 0),
+        },
+        "SF",
+    ),
+    (
+        "R1",
+        ran("R1", 4, 1000, 0),
+        {
+            "prices": NO_RUN,
+            "parties": ran("R1", 0, 0, 0),
+            "units": ran("R1", 4, 0, 0),
+            "meters": NO_RUN,
+            "contracts": ran("R1", 4, 1000, 0),
+            "SF": NO_RUN,
+        },
+        None,
+    ),
 ]
 
 
@@ -164,19 +229,35 @@ class Refused(unittest.TestCase):
         with self.subTest("load"):
             self.refuse_each([BENCH, "load", *(word for file in files for word in file)], 0, writes_by_file=True)
 
-    def test_a_script(self):
-        """Files of each kind, two refused ones, the first file once more, and one that isn't there."""
+    def loads(self, files):
+        """The lines of a script that load files, and how they are answered."""
         lines, replies = [], []
-        for number, (kind, text, *answers) in enumerate(SCRIPT, 1):
+        for number, (kind, text, *answers) in enumerate(files, 1):
             path = self.room / f"{number}.csv"
             path.write_text(text)
             lines.append(f"load 0 {OPERATOR} {kind} {path}\n")
             replies.append(answers)
-        lines += [lines[0], f"load 0 {OPERATOR} units {self.room}/none.csv\n"]
-        replies += [replies[0], [b"fault file", {}, None]]
+        return lines, replies
+
+    def refuse_each_of_script(self, lines, replies):
+        """Refuses each allocation of a script in turn."""
         script = self.room / "script"
         script.write_text("".join(lines))
         self.refuse_each([SETTLE, "script", "--operator-key", OPERATOR, str(script)], 0, replies=replies)
+
+    def test_a_script(self):
+        """Files of each kind, two refused ones, the first file once more, and one that isn't there."""
+        lines, replies = self.loads(SCRIPT)
+        lines += [lines[0], f"load 0 {OPERATOR} units {self.room}/none.csv\n"]
+        replies += [replies[0], [b"fault file", {}, None]]
+        self.refuse_each_of_script(lines, replies)
+
+    def test_runs_of_a_script(self):
+        """A first run, and another one, which tells by its reply whether the first was made."""
+        lines, replies = self.loads(SETTLED_DAY)
+        lines += [f"run 1719874800 {OPERATOR} {DAY} {kind}\n" for kind, *_ in RUNS]
+        replies += [answers for _, *answers in RUNS]
+        self.refuse_each_of_script(lines, replies)
 
     def test_a_script_that_is_not_run(self):
         script = self.room / "wrong"
