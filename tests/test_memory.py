@@ -79,7 +79,7 @@ def ran(kind, accounts, residual, postings):
 
 
 # A day on which A exports 1 MWh in period 1 and has sold it to B, which uses none and is paid 1,000 pence for it.
-# All of the residual goes to A by credited energy.
+# A alone has credited energy, and so bears all of the residual.
 SETTLED_DAY = [
     *SCRIPT[:2],
     (
@@ -106,7 +106,7 @@ SETTLED_DAY = [
     ),
 ]
 # The runs of that day, as the files of a script. Without the units A has sold what it lacks, and pays 1,000 pence
-# itself; without the contract A is paid them, and gets them as its share.
+# itself, which B is paid; without the contract A is paid them, and bears them again as its share.
 RUNS = [
     (
         "SF",
