@@ -1,6 +1,7 @@
 //! Scripts that are run over an office, and what they write.
 #![tactic(auto)]
 
+mod lines;
 mod run;
 mod script;
 mod tell;

@@ -5,7 +5,8 @@ ghost use Rattle.hh_devices.specs.Devices.{Failed};
 ghost use Rattle.hh_script.specs.Steps.{IsWellNamed, LoadFile, MakeRun, load_of, run_of, step_of};
 ghost use Rattle.hh_session.specs.Course.{ComesTo, LeavesRefused, MakesRun, RunsLoad, RunsScript, RunsStep, StopsScript, StopsStep, request_for, request_of};
 
-use crate::tell::{LINE_ROOM, tell, tell_no_memory};
+use crate::lines::LINE_ROOM;
+use crate::tell::{tell, tell_no_memory};
 use crate::told::Told;
 use hh_devices::{DeviceFailed, Sink};
 use hh_inputs::{InputFault, Inputs};

@@ -1,4 +1,4 @@
-use Rattle.std.proofs.Common.{◌++◌, inl, ◌∙◌, ap, sym, subst}
+use Rattle.std.proofs.Common.{◌≡◌, ◌++◌, inl, ◌∙◌, ap, sym, subst}
 use Rattle.std.specs.Prelude.{OnErr}
 use Rattle.hh_devices.specs.Devices.{AppendsFront}
 use Rattle.hh_session.specs.Course.{BeginsLine}
@@ -17,7 +17,8 @@ returns-in-Ran-clause-cut g c =
     let before = g.O.Sink.taken c.args.out.now in
     let after = g.O.Sink.taken c.write_whole-in-Ran.new.sink in
     let line = run_line c.in-Ran.run' c.in-Ran.summary in
+    let written : c.push_run.new.line.items ≡ line = c.push_run.ensures ∙ ap (λ bytes. bytes ++ line) c.requires.empty in
+    let text : c.deref-in-Ran.result.now ≡ line = c.deref-in-Ran.ensures.value ∙ written in
     subst (λ reply. OnErr c.write_whole-in-Ran.result (BeginsLine before after (Replied reply))) (sym c.in-Ran.is)
     (OnErr-map c.write_whole-in-Ran.result _ _ inl
-    (subst (λ text. OnErr c.write_whole-in-Ran.result (AppendsFront before after text))
-    (c.deref-in-Ran.ensures.value ∙ c.push_run.ensures ∙ ap (λ bytes. bytes ++ line) c.requires.empty) c.write_whole-in-Ran.ensures.front))
+    (subst (λ bytes. OnErr c.write_whole-in-Ran.result (AppendsFront before after bytes)) text c.write_whole-in-Ran.ensures.front))
