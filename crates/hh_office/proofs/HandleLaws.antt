@@ -1,5 +1,5 @@
 -- What an office stands for after a request, and that a refusal changes nothing.
-use Rattle.std.proofs.Common.{◌≡◌, ℤ, List, length, refl, sym, ap, subst, ◌∙◌, Bool, true, false, cond, Option, Some, None, Result, Ok, Err}
+use Rattle.std.proofs.Common.{◌≡◌, ℤ, List, length, refl, sym, ap, subst, ◌∙◌, Bool, true, false, cond, Option, Some, None, Result, Ok, Err, map}
 use Rattle.std.specs.Prelude.{MatchBool, nat_lt}
 use Rattle.std.specs.FinMap.{find}
 use Rattle.hh_tables.proofs.TableLaws.{false_is_not_true}
@@ -10,7 +10,7 @@ use Rattle.hh_rows.specs.declared.rows.Row.{Row}
 use Rattle.hh_rules.specs.FileRows.{coming_at, first_fault}
 use Rattle.hh_texts.specs.Files.{file_rows}
 use Rattle.hh_texts.specs.Rows.{most_bytes}
-use Rattle.hh_store.specs.Content.{tables_of}
+use Rattle.hh_store.specs.Content.{tables_of, Content}
 use Rattle.hh_store.specs.States.{AcceptedFile, State, file_key_cmp}
 use Rattle.hh_store.specs.Steps.{IsReached, Load, after_load, kept_file, timetable_at, after_run, kept_summary, new_summary, run_fault}
 use Rattle.hh_office.specs.declared.request.Action.{Action}
@@ -18,15 +18,18 @@ use Rattle.hh_office.specs.declared.request.Action.TheVariants as ask
 use Rattle.hh_office.specs.declared.request.Request.{Request}
 use Rattle.hh_office.specs.declared.request.Upload.{Upload}
 use Rattle.hh_office.specs.declared.reply.Reply.{Reply}
-use Rattle.hh_office.specs.Machine.{act, answer, key_of, load, load_beside, load_new, load_read_as, loaded, loaded_reply, may, next, step}
+use Rattle.hh_office.specs.Machine.{act, answer, key_of, load, load_beside, load_new, load_read_as, loaded, loaded_reply, may, next, step, Timed, state_after}
 use Rattle.hh_office.specs.Transitions.{Transition, refused, refused_for}
-use Rattle.hh_office.specs.Promises.{HandleStep, RefusalLeaves, Stands, StandsAfter, is_given_up, is_refused}
+use Rattle.hh_office.specs.Promises.{HandleStep, RefusalLeaves, Stands, StandsAfter, is_given_up, is_refused, ConservesAfter, ConservesAfterAll, RunAllStep, RunsAs, served}
 use Rattle.hh_office.specs.Views.{OfficeView, midnight_of}
-use Rattle.hh_office.proofs.OnceLaws.{next_reached}
+use Rattle.hh_office.proofs.OnceLaws.{next_reached, after_by}
 use Rattle.hh_store.specs.declared.run_keys.RunKey.{RunKey}
 use Rattle.hh_runs.specs.declared.summary.Summary.{Summary}
 use Rattle.hh_office.specs.Runs.{run_beside}
 use Rattle.hh_office.specs.declared.reply.Reply.TheVariants as reply
+use Rattle.jiff.specs.Words.{plain_zone}
+use Rattle.hh_time.specs.Zone.{midnight_in}
+use Rattle.hh_day.specs.Headline.{Conserves, ReachedConserve}
 
 -- the office after a request, by whether it was given up
 stands_by : (b : Bool) (old new : OfficeView) (s t : State) (P : Type 0) → Stands old s → IsReached (midnight_of old) t
@@ -97,3 +100,33 @@ left_by false old new s transition given leaves stands is comes =
 pub refusal_leaves : (old new : OfficeView) (moment : ℤ) (request : Request) (given : Reply) → HandleStep old new moment request given → RefusalLeaves old new given
 refusal_leaves old new moment request given steps s stands is =
     left_by (is_given_up given) old new s (step (midnight_of old) s moment request) given (leaves_step (midnight_of old) s moment request) stands is (steps s stands)
+
+-- an office that stands for a state has tables that add up
+stands_conserves : ReachedConserve → (office : OfficeView) (midnight : Midnights) (s : State) → midnight ≡ midnight_of office → Stands office s
+    → Conserves midnight s office.content
+stands_conserves law office midnight s zone stands =
+    subst (λ m. Conserves m s office.content) (sym zone) (subst (Conserves (midnight_of office) s) (sym stands.1) (law (midnight_of office) s stands.0))
+
+-- the zone of an office stays with a request
+zone_by : (b : Bool) (old new : OfficeView) (P : Type 0) (content : Content) → MatchBool b (new ≡ old) (P × (new ≡ record old { content = content })) → new.zone ≡ old.zone
+zone_by true old new P content same = ap (λ o. o.zone) same
+zone_by false old new P content comes = ap (λ (o : OfficeView). o.zone) comes.1
+
+-- an office that steps as the machine has tables that add up afterwards
+pub conserves_after : ReachedConserve → (old new : OfficeView) (moment : ℤ) (request : Request) (given : Reply) → HandleStep old new moment request given
+    → ConservesAfter old new moment request given
+conserves_after law old new moment request given steps s stands =
+    let t : State = next (midnight_of old) s moment request in
+    let zone : new.zone ≡ old.zone = zone_by (is_given_up given) old new (given ≡ answer (midnight_of old) s moment request) (tables_of (midnight_of old) t) (steps s stands) in
+    stands_conserves law new (midnight_of old) (cond (is_given_up given) s t) (ap (λ z. midnight_in (plain_zone z)) (sym zone)) (stands_after old new moment request given steps s stands)
+
+-- an office that runs as the machine has tables that add up afterwards
+pub conserves_after_all : ReachedConserve → (old new : OfficeView) (requests : List Timed) (given : List Reply) → RunAllStep old new requests given
+    → ConservesAfterAll old new requests given
+conserves_after_all law old new requests given runs s stands =
+    let ran : RunsAs old new s requests given = runs s stands in
+    let done : List Timed = map (λ (r : Timed × Reply). r.0) (served requests given) in
+    let reached : IsReached (midnight_of old) (state_after (midnight_of old) s done) =
+    after_by (midnight_of old) (IsReached (midnight_of old)) (λ u m q. next_reached (midnight_of old) u m q) s done stands.0 in
+    subst (λ (o : OfficeView). Conserves (midnight_of old) (state_after (midnight_of old) s done) o.content) (sym ran.tables)
+    (law (midnight_of old) (state_after (midnight_of old) s done) reached)

@@ -8,6 +8,7 @@ use Rattle.hh_store.specs.Changes.{StandsFor}
 use Rattle.hh_store.specs.Content.{tables_of}
 use Rattle.hh_store.specs.States.{State}
 use Rattle.hh_store.specs.Steps.{IsReached}
+use Rattle.hh_day.specs.Headline.{Conserves}
 use Rattle.hh_office.specs.declared.request.Action.{Action}
 use Rattle.hh_office.specs.declared.request.Action.TheVariants as ask
 use Rattle.hh_office.specs.declared.request.Request.{Request}
@@ -61,6 +62,12 @@ abbrev pub StandsAfter : OfficeView → OfficeView → ℤ → Request → Reply
 StandsAfter old new moment request given =
     (s : State) → Stands old s → Stands new (if is_given_up given then s else next (midnight_of old) s moment request)
 
+-- after a request the tables add up: contracts, charges with shares, credits and postings, in the state after it
+abbrev pub ConservesAfter : OfficeView → OfficeView → ℤ → Request → Reply → Type 0
+ConservesAfter old new moment request given =
+    (s : State) → Stands old s
+    → Conserves (midnight_of old) (if is_given_up given then s else next (midnight_of old) s moment request) new.content
+
 -- a reply that refuses
 abbrev pub is_refused : Reply → Bool
 is_refused (reply.Refused fault) = true
@@ -86,6 +93,12 @@ pub record RunsAs (old new : OfficeView) (s : State) (requests : List Timed) (gi
 -- the office does with a list of requests what the machine does with them from each state that the office stands for
 abbrev pub RunAllStep : OfficeView → OfficeView → List Timed → List Reply → Type 0
 RunAllStep old new requests replies = (s : State) → Stands old s → RunsAs old new s requests replies
+
+-- after a list of requests the tables add up, in the machine's state after those that were not given up
+abbrev pub ConservesAfterAll : OfficeView → OfficeView → List Timed → List Reply → Type 0
+ConservesAfterAll old new requests given =
+    (s : State) → Stands old s
+    → Conserves (midnight_of old) (state_after (midnight_of old) s (map (λ r. r.0) (served requests given))) new.content
 
 -- ---- repeats
 

@@ -2,12 +2,16 @@
 
 ghost use Rattle.std.specs.Prelude.{◌≡◌, IfOk, OnErr};
 ghost use Rattle.hh_office.specs.Machine.{step};
-ghost use Rattle.hh_office.specs.Promises.{MakesInEachState, HandleStep, RefusalLeaves, RepeatsOnce, RunAllStep, StandsAfter};
+ghost use Rattle.hh_office.specs.PartyViews.{ForbidsOthers, ShowsByView};
+ghost use Rattle.hh_office.specs.Promises.{ConservesAfter, ConservesAfterAll, MakesInEachState, HandleStep, RefusalLeaves, RepeatsOnce, RunAllStep, StandsAfter};
 
 use crate::reply::Reply;
 use crate::request::{Action, Request};
 use hh_names::{Fault, Refusal};
-use hh_store::{Tables, kept_summaries, load_effect, run_effect};
+use hh_day::reached_conserve;
+use hh_store::{
+    Tables, kept_postings, kept_results, kept_summaries, load_effect, run_effect,
+};
 use jiff::tz::TimeZone;
 use std::alloc::{AllocError, Global};
 use std::marker::Model;
@@ -49,12 +53,16 @@ impl<'z, T: Tables> Office<'z, T> {
         ensures stands { StandsAfter self.old self.new moment request.now result }
         ensures untouched { RefusalLeaves self.old self.new result }
         ensures once { RepeatsOnce self.old self.new request.now result }
+        ensures sums { ConservesAfter self.old self.new moment request.now result }
     {
-        // Do nothing, but carry laws for the proof: the tables hold the machine's runs, and what is written
-        // makes the machine's tables.
+        // Do nothing, but carry laws for the proof: the tables hold the machine's runs with their rows and
+        // postings, what is written makes the machine's tables, and these add up.
         kept_summaries();
+        kept_results();
+        kept_postings();
         load_effect();
         run_effect();
+        reached_conserve();
         match self.act(moment, request) {
             Ok(reply) => reply,
             Err(fault) => Reply::Refused(fault),
@@ -70,8 +78,12 @@ impl<'z, T: Tables> Office<'z, T> {
     pub fn run_all(&mut self, requests: &[(i64, Request)]) -> Result<Vec<Reply>, AllocError>
         ensures run { IfOk result (λ replies.
             RunAllStep self.old self.new requests.now replies.items) }
+        ensures sums { IfOk result (λ replies.
+            ConservesAfterAll self.old self.new requests.now replies.items) }
         ensures none { OnErr result (self.new ≡ self.old) }
     {
+        // Does nothing, but carries a law for the proof: the tables of the machine's states add up.
+        reached_conserve();
         let mut replies = Vec::with_capacity(self.alloc, requests.len())?;
         for request in requests.iter() {
             let pushed = replies.push(self.handle_timed(request));

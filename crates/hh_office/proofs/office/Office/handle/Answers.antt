@@ -3,7 +3,7 @@ use Rattle.hh_office.specs.declared.reply.Reply.TheVariants as reply
 use Rattle.std.proofs.lemmas.Int.{to_z-of_z}
 use Rattle.hh_office.specs.Machine.{step}
 use Rattle.hh_office.specs.Promises.{MakesInEachState}
-use Rattle.hh_office.proofs.HandleLaws.{refusal_leaves, stands_after}
+use Rattle.hh_office.proofs.HandleLaws.{conserves_after, refusal_leaves, stands_after}
 use Rattle.hh_office.proofs.OnceLaws.{repeats}
 use Rattle.hh_office.proofs.office.Office.handle.Goals as goal
 
@@ -40,3 +40,11 @@ returns-in-Err-clause-stands g c =
 pub returns-in-Err-clause-untouched : goal.returns-in-Err-clause-untouched
 returns-in-Err-clause-untouched g c =
     refusal_leaves c.args.self.now c.act.new.self c.args.moment c.args.request.now (reply.Refused c.in-Err.fault) (returns-in-Err-clause-step g c)
+
+pub returns-in-Ok-clause-sums : goal.returns-in-Ok-clause-sums
+returns-in-Ok-clause-sums g c =
+    conserves_after c.reached_conserve.ensures c.args.self.now c.act.new.self c.args.moment c.args.request.now c.in-Ok.reply (returns-in-Ok-clause-step g c)
+
+pub returns-in-Err-clause-sums : goal.returns-in-Err-clause-sums
+returns-in-Err-clause-sums g c =
+    conserves_after c.reached_conserve.ensures c.args.self.now c.act.new.self c.args.moment c.args.request.now (reply.Refused c.in-Err.fault) (returns-in-Err-clause-step g c)

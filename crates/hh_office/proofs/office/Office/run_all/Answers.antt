@@ -1,6 +1,8 @@
 use Rattle.std.proofs.Common.{◌≡◌, ◌+◌, ◌∷◌, [], ◌++◌, length, take, subst, sym, ap, ◌∙◌, cond, arith, length-append}
+use Rattle.std.proofs.Math.Seq.{take-length}
 use Rattle.std.proofs.lemmas.List.{take_more}
 use Rattle.hh_office.specs.Promises.{RunAllStep}
+use Rattle.hh_office.proofs.HandleLaws.{conserves_after_all}
 use Rattle.hh_office.proofs.ListLaws.{run_more}
 use Rattle.hh_office.proofs.office.Office.run_all.Goals as goal
 
@@ -22,3 +24,12 @@ loop-request-preserved g c =
       count = ap length pushed ∙ length-append before (c.handle_timed.result ∷ []) ∙ ap (λ n. n + 1) c.loop-request.invariant.count;
       room = omega arith;
     }
+
+pub returns-clause-sums : goal.returns-clause-sums
+returns-clause-sums g c =
+    let old = c.args.self.now in
+    let given = c.loop-request.replies.items in
+    let end : c.loop-request.request-index ≡ length c.args.requests.now = omega arith in
+    let all : take c.loop-request.request-index c.args.requests.now ≡ c.args.requests.now = ap (λ n. take n c.args.requests.now) end ∙ take-length c.args.requests.now in
+    conserves_after_all c.reached_conserve.ensures old c.loop-request.self c.args.requests.now given
+    (subst (λ ts. RunAllStep old c.loop-request.self ts given) all c.loop-request.invariant.run)
