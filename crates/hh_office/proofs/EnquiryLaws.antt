@@ -44,12 +44,12 @@ pub latest_there : (date : ℕ) (runs : List (RunKind × Summary))
 latest_there date runs = ap (option_map (λ r. record { date = date; kind = r.0 })) (sym (last_there runs))
 
 -- what is made of the last is the last of what is made of each
-last-map : {X Y : Type 0} (f : X → Y) (xs : List X) → last_of (map f xs) ≡ option_map f (last_of xs)
+pub last-map : {X Y : Type 0} (f : X → Y) (xs : List X) → last_of (map f xs) ≡ option_map f (last_of xs)
 last-map f [] = refl
 last-map f (x ∷ []) = refl
 last-map f (x ∷ y ∷ xs) = last-map f (y ∷ xs)
 
-option_map-twice : {X Y Z : Type 0} (f : Y → Z) (g : X → Y) (o : Option X) → option_map f (option_map g o) ≡ option_map (λ x. f (g x)) o
+pub option_map-twice : {X Y Z : Type 0} (f : Y → Z) (g : X → Y) (o : Option X) → option_map f (option_map g o) ≡ option_map (λ x. f (g x)) o
 option_map-twice f g None = refl
 option_map-twice f g (Some x) = refl
 
@@ -69,17 +69,17 @@ last_holds P (x ∷ []) all = all.0
 last_holds P (x ∷ y ∷ xs) all = last_holds P (y ∷ xs) all.1
 
 -- the latest run of a date is of that date, and what holds of each run holds of it
-latest_holds : (P : Run → Type 0) (date : ℕ) (runs : List Run) → AllByRecursion P runs → IfSome (latest_run date runs) (λ r. P r × ((r.key.date == date) ≡ true))
+pub latest_holds : (P : Run → Type 0) (date : ℕ) (runs : List Run) → AllByRecursion P runs → IfSome (latest_run date runs) (λ r. P r × ((r.key.date == date) ≡ true))
 latest_holds P date runs all =
     last_holds (λ r. P r × ((r.key.date == date) ≡ true)) (runs_of_date date runs) (passing P (λ r. r.key.date == date) runs all)
 
 -- anything holds of each
-all_plain : {X : Type 0} (xs : List X) → AllByRecursion (λ x. Unit {0}) xs
+pub all_plain : {X : Type 0} (xs : List X) → AllByRecursion (λ x. Unit {0}) xs
 all_plain [] = tt
 all_plain (x ∷ xs) = (tt, all_plain xs)
 
 -- the key of a run of a date is the date with its kind
-key_by : (date : ℕ) (o : Option Run) → IfSome o (λ r. Unit {0} × ((r.key.date == date) ≡ true))
+pub key_by : (date : ℕ) (o : Option Run) → IfSome o (λ r. Unit {0} × ((r.key.date == date) ≡ true))
     → option_map (λ r. record { date = date; kind = r.key.kind }) o ≡ option_map (λ r. r.key) o
 key_by date None is = refl
 key_by date (Some r) is = ap (λ d. Some (record { date = d; kind = r.key.kind })) (sym (eqb-true r.key.date date is.1))

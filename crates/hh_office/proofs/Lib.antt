@@ -4,3 +4,4 @@ pub mod ListLaws
 pub mod OnceLaws
 pub mod RunLaws
 pub mod StepLaws
+pub mod ViewLaws

@@ -103,7 +103,7 @@ after_by midnight P keeps s (t ∷ ts) holds = after_by midnight P keeps (next m
 
 -- the machine reaches the state after each request
 pub next_reached : (midnight : Midnights) (s : State) (moment : ℤ) (request : Request) → IsReached midnight s → IsReached midnight (next midnight s moment request)
-next_reached midnight s moment request reached = 
+next_reached midnight s moment request reached =
     next_by midnight s (IsReached midnight) reached (λ load can. by_load s load reached can) (λ at key can. by_run s at key reached can) moment request
 
 -- the settings stay
@@ -260,7 +260,7 @@ module _ (midnight : Midnights) (shown : List ℕ) (key : RunKey) where
     stays_with_load summary s load can (reached, kept) = (
       by_load s load reached can,
       kept_in (after_load midnight s load) (Some summary)
-      (ap (λ (c : Content). find run_key_cmp key c.runs) (loads midnight s load reached can) ∙ holds midnight s key ∙ kept),
+          (ap (λ (c : Content). find run_key_cmp key c.runs) (loads midnight s load reached can) ∙ holds midnight s key ∙ kept),
     )
 
     -- what is found under the key once a run is made
@@ -303,8 +303,15 @@ module _ (midnight : Midnights) (shown : List ℕ) (key : RunKey) where
           | None ↦ record { reply = reply.Ran key (new_summary midnight s key); state = after_run s key }
         ])) [
           | Some fault ↦ λ _. not_refused
-          | None ↦ λ none _. (new_summary midnight s key, (by_run s moment key reached (new, none), found_after s moment key (new, none)
-              ∙ ap (λ b. cond b (Some (new_summary midnight s key)) (kept_summary midnight s key)) ((eq_by_cmp_equiv run_key_total).refl key)), refl)
+          | None ↦ λ none _. (
+            new_summary midnight s key,
+            (
+              by_run s moment key reached (new, none),
+              found_after s moment key (new, none)
+                  ∙ ap (λ b. cond b (Some (new_summary midnight s key)) (kept_summary midnight s key)) ((eq_by_cmp_equiv run_key_total).refl key),
+            ),
+            refl,
+          )
         ] refl
 
     made_beside : (s : State) (moment : ℤ) (found : Option Summary) → IsReached midnight s → kept_summary midnight s key ≡ found

@@ -101,9 +101,7 @@ impl<'z, T: Tables> Office<'z, T> {
             contracts_reply midnight s account.now date) }
     {
         let contracts = self.tables.contracts(account, date)?;
-        Ok(Reply::Contracts(ContractsReply::new(
-            *account, date, contracts,
-        )))
+        Ok(Reply::Contracts(ContractsReply::new(*account, date, contracts)))
     }
 
     /// The runs of a date.

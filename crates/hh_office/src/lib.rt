@@ -14,4 +14,6 @@ pub use reply::{AccountReply, ContractsReply, Loaded, Reply, RunsReply};
 pub use request::{Action, Bytes, Request, Upload};
 
 #[cfg(test)]
+mod run_tests;
+#[cfg(test)]
 mod tests;

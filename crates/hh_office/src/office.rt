@@ -7,11 +7,9 @@ ghost use Rattle.hh_office.specs.Promises.{ConservesAfter, ConservesAfterAll, Ma
 
 use crate::reply::Reply;
 use crate::request::{Action, Request};
-use hh_names::{Fault, Refusal};
 use hh_day::reached_conserve;
-use hh_store::{
-    Tables, kept_postings, kept_results, kept_summaries, load_effect, run_effect,
-};
+use hh_names::{Fault, Refusal};
+use hh_store::{Tables, kept_postings, kept_results, kept_summaries, load_effect, run_effect};
 use jiff::tz::TimeZone;
 use std::alloc::{AllocError, Global};
 use std::marker::Model;

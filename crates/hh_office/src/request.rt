@@ -59,14 +59,18 @@ pub enum Action {
         date: SettlementDate,
     },
     /// What the runs of all dates have moved to an account (profile).
-    Balance { account: Account },
+    Balance {
+        account: Account,
+    },
     /// Which contracts of an account are in force on a date (Section P in shape).
     Contracts {
         account: Account,
         date: SettlementDate,
     },
     /// Which runs a date has (profile).
-    Runs { date: SettlementDate },
+    Runs {
+        date: SettlementDate,
+    },
 }
 
 /// What is asked, and the key that is shown with it (profile).

@@ -58,12 +58,7 @@ impl<'z, T: Tables> Office<'z, T> {
 
     /// What becomes of a run that is not there and may come next on its date, where this is the date's
     /// latest run.
-    fn new_run(
-        &mut self,
-        moment: i64,
-        key: RunKey,
-        former: Option<RunKey>,
-    ) -> Result<Reply, Fault>
+    fn new_run(&mut self, moment: i64, key: RunKey, former: Option<RunKey>) -> Result<Reply, Fault>
         requires next { IsNext self.old.content key }
         requires former { former ≡ latest_key key.date (runs_in self.old.content key.date) }
         ensures { MakesInEachState self.old self.new result (λ midnight s.

@@ -10,21 +10,22 @@ use std::alloc::Global;
 use std::process::Abort;
 
 /// The operator's key.
-const OPERATOR: &[u8] = b"op-settle001";
+pub(crate) const OPERATOR: &[u8] = b"op-settle001";
 
 /// The moment at which requests come where none is named: 2024-06-29T22:26:40Z.
-const MOMENT: i64 = 1_719_700_000;
+pub(crate) const MOMENT: i64 = 1_719_700_000;
 
 /// The deadline of period 1 of 2024-07-01: 2024-06-30T22:00:00Z.
 const DEADLINE: i64 = 1_719_784_800;
 
 /// What a reply says: how many rows were applied and how many were late, how many contracts there
-/// are, or why the request was refused.
+/// are, why the request was refused, or something else.
 #[derive(Clone, Copy, Debug, PartialEq)]
 enum Said {
     Loaded(u32, u32),
     Contracts(usize),
     Refused(Fault),
+    Other,
 }
 
 fn told(reply: &Reply) -> Said {
@@ -32,6 +33,8 @@ fn told(reply: &Reply) -> Said {
         Reply::Loaded(loaded) => Said::Loaded(loaded.applied, loaded.late),
         Reply::Contracts(reply) => Said::Contracts(reply.contracts().len()),
         Reply::Refused(fault) => Said::Refused(*fault),
+        Reply::Ran { .. } | Reply::Account(_) | Reply::Balance { .. } | Reply::Runs(_) =>
+            Said::Other,
     }
 }
 
@@ -79,7 +82,7 @@ fn upload(
 }
 
 /// A file of these rows under their header, with the operator's key.
-fn file(alloc: Global, kind: FileKind, name: &[u8], rows: &[u8]) -> Option<Request> {
+pub(crate) fn file(alloc: Global, kind: FileKind, name: &[u8], rows: &[u8]) -> Option<Request> {
     let mut body = header_of(kind).to_vec(alloc).ok()?;
     body.extend_from_slice(rows).ok()?;
     upload(alloc, OPERATOR, kind, name, body)
@@ -125,7 +128,7 @@ fn says(rt: &(impl AllocGlobal + Abort), office: &mut Office<'_, PlainTables>, f
 }
 
 /// An office after two parties, a unit of each and a contract between them.
-fn office(rt: &(impl AllocGlobal + Abort)) -> Office<'static, PlainTables> {
+pub(crate) fn office(rt: &(impl AllocGlobal + Abort)) -> Office<'static, PlainTables> {
     let Some(operator_key) = OperatorKey::read(OPERATOR) else {
         panic!(rt; "the operator's key is read");
     };
@@ -323,7 +326,7 @@ fn a_file_is_refused_at_its_first_bad_row(rt: HostRuntime) {
 }
 
 /// A text with one more text so many times behind it.
-fn repeated(alloc: Global, start: &[u8], text: &[u8], count: usize) -> Option<Vec<u8>> {
+pub(crate) fn repeated(alloc: Global, start: &[u8], text: &[u8], count: usize) -> Option<Vec<u8>> {
     let mut whole = start.to_vec(alloc).ok()?;
     for _ in 0..count {
         whole.extend_from_slice(text).ok()?;

@@ -45,6 +45,4 @@ pub use sums::{
 pub use tables::Tables;
 
 #[cfg(test)]
-mod run_tests;
-#[cfg(test)]
 mod tests;

@@ -12,6 +12,6 @@ returns g c s stands =
     let office = c.args.self.now in
     let account = c.args.account.now in
     let replies = subst (λ rows. RepliesAs c.reply_by_rows.result (reply_by_rows account c.args.run (rows_of_account account rows)))
-        (c.deref.ensures.value ∙ c.in_ok-rows.ensures.value) c.reply_by_rows.ensures in
+    (c.deref.ensures.value ∙ c.in_ok-rows.ensures.value) c.reply_by_rows.ensures in
     comes_same office c.rows_of_run.new.self (reply_of c.reply_by_rows.result) (unchanged s (account_reply (midnight_of office) s account c.args.date)) c.in_ok-rows.ensures.same
     (account_found office s stands c.kept_kinds_of_dates.ensures c.kept_results.ensures account c.args.date c.args.run c.reply_by_rows.result c.requires replies)

@@ -12,7 +12,7 @@ pub returns-in_err-terms-clause-refused : goal.returns-in_err-terms-clause-refus
 returns-in_err-terms-clause-refused g c =
     let office = c.args.self.now in
     let over = subst (λ m. IsOverDay (midnight_of office) m c.args.date c.in_ok-day.day) (to_z-of_z w64 c.args.moment c.ranges.moment)
-        (subst (λ m. IsOverDay m (to_z w64 (of_z w64 c.args.moment)) c.args.date c.in_ok-day.day) (ap midnight_of c.self.view_is) c.in_ok-day.ensures.over) in
+    (subst (λ m. IsOverDay m (to_z w64 (of_z w64 c.args.moment)) c.args.date c.in_ok-day.day) (ap midnight_of c.self.view_is) c.in_ok-day.ensures.over) in
     passed_err c.from_residual-in_err-terms.result c.in_err-terms.field-0.0 (RefusesIn office c.args.moment c.args.date) c.from_residual-in_err-terms.ensures
     (λ s stands. lacks office s stands c.args.moment c.args.date c.in_ok-day.day over c.in_err-terms.field-0.0 c.in_err-terms.ensures.lacking)
 
@@ -20,7 +20,7 @@ pub returns-in-Settled-clause-settled : goal.returns-in-Settled-clause-settled
 returns-in-Settled-clause-settled g c s stands =
     let office = c.args.self.now in
     let over = subst (λ m. IsOverDay (midnight_of office) m c.args.date c.in_ok-day.day) (to_z-of_z w64 c.args.moment c.ranges.moment)
-        (subst (λ m. IsOverDay m (to_z w64 (of_z w64 c.args.moment)) c.args.date c.in_ok-day.day) (ap midnight_of c.self.view_is) c.in_ok-day.ensures.over) in
+    (subst (λ m. IsOverDay m (to_z w64 (of_z w64 c.args.moment)) c.args.date c.in_ok-day.day) (ap midnight_of c.self.view_is) c.in_ok-day.ensures.over) in
     let does = subst (λ terms. SettlesDay (periods_on c.in_ok-day.day.date c.in_ok-day.day.count) terms c.in_ok-periods.field-0) c.deref.ensures.value c.in_ok-periods.ensures in
     subst (SettledAs office s c.args.moment c.args.date) c.in-Settled.is
     (settles office s stands c.args.moment c.args.date c.in_ok-day.day over c.periods_ready.ensures c.in_ok-terms.terms.items c.in_ok-terms.ensures.terms c.in_ok-periods.field-0 does)
@@ -29,7 +29,7 @@ pub returns-clause-refused : goal.returns-clause-refused
 returns-clause-refused g c s stands =
     let office = c.args.self.now in
     let over = subst (λ m. IsOverDay (midnight_of office) m c.args.date c.in_ok-day.day) (to_z-of_z w64 c.args.moment c.ranges.moment)
-        (subst (λ m. IsOverDay m (to_z w64 (of_z w64 c.args.moment)) c.args.date c.in_ok-day.day) (ap midnight_of c.self.view_is) c.in_ok-day.ensures.over) in
+    (subst (λ m. IsOverDay m (to_z w64 (of_z w64 c.args.moment)) c.args.date c.in_ok-day.day) (ap midnight_of c.self.view_is) c.in_ok-day.ensures.over) in
     let does = subst (λ terms. SettlesDay (periods_on c.in_ok-day.day.date c.in_ok-day.day.count) terms c.in_ok-periods.field-0) c.deref.ensures.value c.in_ok-periods.ensures in
     exceeds_refused office s c.args.moment c.args.date c.in-TooLarge.at c.period_fault.result c.period_fault.ensures
     (subst (SettledAs office s c.args.moment c.args.date) c.in-TooLarge.is
