@@ -4,7 +4,6 @@ use Rattle.std.specs.Prelude.{◌==◌, IfSome, filter, option_map, slice_get}
 use Rattle.std.specs.List.{AllByRecursion}
 use Rattle.std.proofs.lemmas.Bool.{eqb-true}
 use Rattle.std.proofs.lemmas.Option.{none-some}
-use Rattle.hh_time.specs.Days.{Midnights}
 use Rattle.hh_names.specs.declared.account.Account.{Account}
 use Rattle.hh_names.specs.declared.fault.Fault.{Fault}
 use Rattle.hh_names.specs.declared.fault.Refusal.TheVariants.{NoRun}
@@ -21,7 +20,7 @@ use Rattle.hh_store.specs.Steps.{kinds_on}
 use Rattle.hh_office.specs.declared.reply.Reply.{Reply}
 use Rattle.hh_office.specs.declared.reply.Reply.TheVariants as reply
 use Rattle.hh_office.specs.Enquiries.{account_reply, reply_by_rows, reply_by_run, rows_in_run, rows_of_account}
-use Rattle.hh_office.specs.Promises.{MakesTransition, RepliesAs, Stands, is_given_up, reply_of}
+use Rattle.hh_office.specs.Promises.{MakesTransition, RepliesAs, Stands, reply_of}
 use Rattle.hh_office.specs.Reads.{latest_key}
 use Rattle.hh_office.specs.Transitions.{unchanged}
 use Rattle.hh_office.specs.Views.{OfficeView, midnight_of}

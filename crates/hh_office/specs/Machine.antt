@@ -4,8 +4,6 @@ use Rattle.std.specs.FinMap.{find}
 use Rattle.std.specs.Str.{bytes_eq}
 use Rattle.hh_time.specs.Days.{Midnights}
 use Rattle.hh_names.specs.declared.account.Account.{Account}
-use Rattle.hh_names.specs.declared.fault.Fault.{Fault}
-use Rattle.hh_names.specs.declared.fault.Refusal.{Refusal}
 use Rattle.hh_names.specs.declared.fault.Refusal.TheVariants.{FileChanged, FileTooLarge, Forbidden}
 use Rattle.hh_names.specs.Accounts.{bytes_cmp}
 use Rattle.hh_names.specs.Faults.{plain_fault}

@@ -52,6 +52,8 @@ impl<'z, T: Tables> Office<'z, T> {
         ensures untouched { RefusalLeaves self.old self.new result }
         ensures once { RepeatsOnce self.old self.new request.now result }
         ensures sums { ConservesAfter self.old self.new moment request.now result }
+        ensures view { ShowsByView self.old request.now result }
+        ensures foreign { ForbidsOthers self.old request.now result }
     {
         // Do nothing, but carry laws for the proof: the tables hold the machine's runs with their rows and
         // postings, what is written makes the machine's tables, and these add up.

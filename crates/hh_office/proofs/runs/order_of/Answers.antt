@@ -1,4 +1,4 @@
-use Rattle.std.proofs.Common.{Err, Ok, ap, subst, sym, ◌∙◌}
+use Rattle.std.proofs.Common.{Ok, ap, subst, sym, ◌∙◌}
 use Rattle.hh_runs.specs.NextRun.{next_run}
 use Rattle.hh_runs.specs.RunKinds.{run_kind_cmp}
 use Rattle.hh_office.proofs.RunLaws.{first_found, next_told, order_kept, order_new, order_refused, tells_next}

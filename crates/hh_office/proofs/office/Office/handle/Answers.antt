@@ -5,6 +5,7 @@ use Rattle.hh_office.specs.Machine.{step}
 use Rattle.hh_office.specs.Promises.{MakesInEachState}
 use Rattle.hh_office.proofs.HandleLaws.{conserves_after, refusal_leaves, stands_after}
 use Rattle.hh_office.proofs.OnceLaws.{repeats}
+use Rattle.hh_office.proofs.ViewLaws.{forbids_others, shows_by_view}
 use Rattle.hh_office.proofs.office.Office.handle.Goals as goal
 
 pub returns-in-Ok-clause-step : goal.returns-in-Ok-clause-step
@@ -48,3 +49,19 @@ returns-in-Ok-clause-sums g c =
 pub returns-in-Err-clause-sums : goal.returns-in-Err-clause-sums
 returns-in-Err-clause-sums g c =
     conserves_after c.reached_conserve.ensures c.args.self.now c.act.new.self c.args.moment c.args.request.now (reply.Refused c.in-Err.fault) (returns-in-Err-clause-step g c)
+
+pub returns-in-Ok-clause-view : goal.returns-in-Ok-clause-view
+returns-in-Ok-clause-view g c =
+    shows_by_view c.kept_results.ensures c.kept_postings.ensures c.args.self.now c.act.new.self c.args.moment c.args.request.now c.in-Ok.reply (returns-in-Ok-clause-step g c)
+
+pub returns-in-Ok-clause-foreign : goal.returns-in-Ok-clause-foreign
+returns-in-Ok-clause-foreign g c =
+    forbids_others c.args.self.now c.act.new.self c.args.moment c.args.request.now c.in-Ok.reply (returns-in-Ok-clause-step g c)
+
+pub returns-in-Err-clause-view : goal.returns-in-Err-clause-view
+returns-in-Err-clause-view g c =
+    shows_by_view c.kept_results.ensures c.kept_postings.ensures c.args.self.now c.act.new.self c.args.moment c.args.request.now (reply.Refused c.in-Err.fault) (returns-in-Err-clause-step g c)
+
+pub returns-in-Err-clause-foreign : goal.returns-in-Err-clause-foreign
+returns-in-Err-clause-foreign g c =
+    forbids_others c.args.self.now c.act.new.self c.args.moment c.args.request.now (reply.Refused c.in-Err.fault) (returns-in-Err-clause-step g c)

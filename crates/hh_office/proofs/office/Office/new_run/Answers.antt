@@ -1,4 +1,4 @@
-use Rattle.std.proofs.Common.{subst, sym, ◌∙◌, w64, to_z, of_z, Err}
+use Rattle.std.proofs.Common.{subst, ◌∙◌, w64}
 use Rattle.std.proofs.lemmas.Int.{to_z-of_z}
 use Rattle.hh_office.specs.Promises.{MakesTransition}
 use Rattle.hh_office.specs.Runs.{run}

@@ -1,4 +1,4 @@
-use Rattle.std.proofs.Common.{ap, subst, sym, ◌∙◌, w64, to_z, of_z, Err, None, Ok, Some}
+use Rattle.std.proofs.Common.{ap, subst, sym, ◌∙◌, w64, to_z, of_z, Err, Ok}
 use Rattle.std.proofs.lemmas.Int.{to_z-of_z}
 use Rattle.hh_store.specs.Reads.{runs_in}
 use Rattle.hh_office.specs.Promises.{MakesTransition, MakesInEachState, reply_of}
