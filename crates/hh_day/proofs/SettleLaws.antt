@@ -1,6 +1,6 @@
 -- The Settlement Periods of a day, settled one after the other.
-use Rattle.std.proofs.Common.{◌≡◌, ℕ, zero, suc, ◌+◌, ◌<◌, List, [], ◌∷◌, ◌++◌, map, length, take, get_or, refl, sym, ap, subst, ◌∙◌, Bool, true, false, cond, Option, Some, None, arith}
-use Rattle.std.specs.Prelude.{All, IsTrue, IsFalse, find, not}
+use Rattle.std.proofs.Common.{◌≡◌, ℕ, zero, suc, ◌+◌, ◌<◌, List, [], ◌∷◌, ◌++◌, map, length, take, get_or, refl, sym, ap, subst, ◌∙◌, Bool, true, false, cond, Some, None, arith}
+use Rattle.std.specs.Prelude.{All, IsTrue, find, not}
 use Rattle.std.specs.Option.{option_or}
 use Rattle.std.proofs.lemmas.List.{get_or-map, map-append, take_more}
 use Rattle.std.proofs.lemmas.List.Folds.{find-append}
@@ -13,7 +13,14 @@ use Rattle.hh_store.specs.DaySettlement.{settled_at, settled_day, too_large}
 use Rattle.hh_store.specs.PeriodSettlement.{settled, terms_at}
 use Rattle.hh_store.specs.Readiness.{AreTermsConsistent}
 use Rattle.hh_day.specs.NewRuns.{SettledInOneWay}
-use Rattle.hh_day.specs.PeriodSteps.{SettlesFirst, SettlesPeriod}
+use Rattle.hh_day.specs.PeriodSteps.{SettlesPeriod}
+
+-- So many of these Settlement Periods are settled so from these terms, and none of them passes a limit, by whatever is registered
+-- and in force, where the terms of each fit together.
+abbrev pub SettlesFirst : ℕ → List SettlementPeriod → List PeriodTerms → List (SettlementPeriod × Settled) → Type 0
+SettlesFirst n periods terms day =
+    (tables : Registered) → terms ≡ map (terms_at tables) periods → All AreTermsConsistent terms
+    → (too_large tables (take n periods) ≡ None) × (day ≡ settled_day tables (take n periods))
 
 -- a search over a list that goes on
 module _ {X : Type 0} (test : X → Bool) where
@@ -44,10 +51,6 @@ module _ {X : Type 0} (test : X → Bool) where
 pub settles_within : SettledInOneWay → (at : SettlementPeriod) (p : PeriodTerms) (s : Settled) → IsTrue (is_within_limits p) → IsSettled p s → SettlesPeriod at p (Some (at, s))
 settles_within one_way at p s within is consistent =
     ap (λ x. Some (at, x)) (one_way p s consistent is) ∙ sym (ap (λ b. kept_where b (at, settled p)) within)
-
--- what a period comes to that passes a limit
-pub settles_not : (at : SettlementPeriod) (p : PeriodTerms) → IsFalse (is_within_limits p) → SettlesPeriod at p None
-settles_not at p beyond consistent = sym (ap (λ b. kept_where b (at, settled p)) beyond)
 
 -- a period of which there is a settlement is within the limits, and that is its settlement
 kept : (b : Bool) (x y : SettlementPeriod × Settled) → Some x ≡ kept_where b y → (b ≡ true) × (x ≡ y)

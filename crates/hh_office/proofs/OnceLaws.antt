@@ -34,7 +34,7 @@ use Rattle.hh_office.specs.Promises.{MakesTransition, HandleStep, RepeatsOnce, i
 use Rattle.hh_office.specs.Views.{OfficeView, midnight_of}
 use Rattle.hh_store.specs.declared.run_keys.RunKey.{RunKey}
 use Rattle.hh_runs.specs.declared.summary.Summary.{Summary}
-use Rattle.hh_office.specs.Runs.{new_run, run, run_beside}
+use Rattle.hh_office.specs.Runs.{made_or_refused, run, run_beside}
 use Rattle.hh_store.specs.RunReads.{HoldsSummaries}
 use Rattle.hh_store.specs.Changes.{LoadEffect, RunEffect}
 use Rattle.hh_store.specs.Runs.{run_key_cmp}
@@ -65,7 +65,7 @@ module _ (midnight : Midnights) (s : State) (P : State → Type 0) (same : P s)
   by_beside moment upload None is = by_new moment upload is
   by_beside moment upload (Some file) is = same
 
-  by_new_run : (moment : ℤ) (key : RunKey) → kept_summary midnight s key ≡ None → P (new_run midnight s moment key).state
+  by_new_run : (moment : ℤ) (key : RunKey) → kept_summary midnight s key ≡ None → P (made_or_refused midnight s moment key).state
   by_new_run moment key new =
       elim (run_fault midnight s moment key) as (λ o.
       run_fault midnight s moment key ≡ o
@@ -296,7 +296,7 @@ module _ (midnight : Midnights) (shown : List ℕ) (key : RunKey) where
         (λ at other can. stays_with_run summary s at other can made) moment request
 
     -- a run that is made is there
-    made_new : (s : State) (moment : ℤ) → IsReached midnight s → kept_summary midnight s key ≡ None → WasMadeHere s (new_run midnight s moment key)
+    made_new : (s : State) (moment : ℤ) → IsReached midnight s → kept_summary midnight s key ≡ None → WasMadeHere s (made_or_refused midnight s moment key)
     made_new s moment reached new =
         elim (run_fault midnight s moment key) as (λ o. run_fault midnight s moment key ≡ o → WasMadeHere s (elim o as (λ _. Transition) [
           | Some fault ↦ refused s fault
@@ -327,7 +327,7 @@ module _ (midnight : Midnights) (shown : List ℕ) (key : RunKey) where
         ] refl
 
     -- an office that steps as the machine answers a repeated run as before
-    pub repeats_run : (old new : OfficeView) (moment : ℤ) (given : Reply) → midnight ≡ midnight_of old
+    repeats_run : (old new : OfficeView) (moment : ℤ) (given : Reply) → midnight ≡ midnight_of old
         → ((s : State) → Stands old s → MakesTransition old new given (step midnight s moment ordered))
         → (s : State) (earlier : ℤ) (between : List Timed) → IsReached midnight s → IsFalse (is_refused (answer midnight s earlier ordered))
         → Stands old (state_after midnight (next midnight s earlier ordered) between)

@@ -18,7 +18,7 @@ use Rattle.hh_store.specs.States.{State}
 use Rattle.hh_store.specs.Steps.{after_run, first_there, missing_meter_fault, period_fault, registered_at, CanRun, kept_summary, kinds_on, new_summary, run_fault}
 use Rattle.hh_day.specs.NewRuns.{day_in, IsSettledDay, SettlesDay, IsWrittenFor, WritesTheRun, former_rows}
 use Rattle.hh_office.specs.Promises.{Stands, UnlessFailed, gives_up, MakesTransition, reply_of}
-use Rattle.hh_office.specs.Settling.{Lacks, WritesRun, lack_fault, settle_fault, AreTermsOf, IsOverDay, TellsOrder, order_fault, IsNext, MakesRun, RefusesIn, SettlesIn, rows_before}
+use Rattle.hh_office.specs.Settling.{Lacks, WritesRun, lack_fault, settle_fault, AreTermsOf, IsOverDay, TellsOrder, order_fault, IsNext, IsRunMade, RefusesIn, SettlesIn, rows_before}
 use Rattle.hh_office.specs.Views.{OfficeView, midnight_of}
 use Rattle.std.proofs.lemmas.Option.{none-some}
 use Rattle.std.proofs.lemmas.List.Elements.{All-nil, All-cons}
@@ -51,7 +51,7 @@ use Rattle.hh_office.specs.declared.reply.Reply.{Reply}
 use Rattle.hh_office.specs.declared.reply.Reply.TheVariants as reply
 use Rattle.hh_store.specs.declared.store_fault.StoreFault.TheVariants as store
 use Rattle.hh_office.specs.Reads.{latest_key}
-use Rattle.hh_office.specs.Runs.{new_run, run, run_beside}
+use Rattle.hh_office.specs.Runs.{made_or_refused, run, run_beside}
 use Rattle.hh_office.specs.Transitions.{Transition, refused}
 use Rattle.hh_office.proofs.EnquiryLaws.{latest_is}
 use Rattle.std.specs.List.{cons_option}
@@ -127,19 +127,19 @@ module _ (office : OfficeView) (s : State) (stands : Stands office s) (moment : 
       ∙ ap of_tables (sym same_tables)
 
   -- something is missing
-  pub settle_lacks : (fault : Fault) → Lacks office.content.registered (periods_on date count) fault
+  settle_lacks : (fault : Fault) → Lacks office.content.registered (periods_on date count) fault
       → UnlessFailed fault (settle_fault (midnight_of office) s moment date ≡ Some fault)
   settle_lacks fault = unless_by (gives_up fault) _ _ (λ is. by_periods ∙ or_some lacks_price lacks_reading exceeds fault is)
 
   -- a period passes a limit
-  pub settle_exceeds : (at : SettlementPeriod) → lack_fault office.content.registered (periods_on date count) ≡ None
+  settle_exceeds : (at : SettlementPeriod) → lack_fault office.content.registered (periods_on date count) ≡ None
       → too_large office.content.registered (periods_on date count) ≡ Some at
       → settle_fault (midnight_of office) s moment date ≡ Some (period_fault TooLarge at)
   settle_exceeds at full large =
       by_periods ∙ or_none lacks_price lacks_reading exceeds full ∙ ap (λ o. option_or (option_map (period_fault TooLarge) o) None) large
 
   -- nothing is against it
-  pub settle_fits : (day : List (SettlementPeriod × Settled)) → lack_fault office.content.registered (periods_on date count) ≡ None
+  settle_fits : (day : List (SettlementPeriod × Settled)) → lack_fault office.content.registered (periods_on date count) ≡ None
       → (too_large office.content.registered (periods_on date count) ≡ None) × (day ≡ settled_day office.content.registered (periods_on date count))
       → (settle_fault (midnight_of office) s moment date ≡ None) × (day ≡ day_in (midnight_of office) s date)
   settle_fits day full (small, is) = (
@@ -148,7 +148,7 @@ module _ (office : OfficeView) (s : State) (stands : Stands office s) (moment : 
   )
 
   -- what each period is settled from fits together
-  pub terms_fit : PeriodsReady → (terms : List PeriodTerms) → terms ≡ map (terms_at office.content.registered) (periods_on date count) → All AreTermsConsistent terms
+  terms_fit : PeriodsReady → (terms : List PeriodTerms) → terms ≡ map (terms_at office.content.registered) (periods_on date count) → All AreTermsConsistent terms
   terms_fit ready terms is =
       subst (All AreTermsConsistent) (sym is)
       (subst (λ tables. All AreTermsConsistent (map (terms_at tables) (periods_on date count))) (sym same_tables)
@@ -285,7 +285,7 @@ on_its_date key (e ∷ entries) =
 
 module _ (office : OfficeView) (s : State) (stands : Stands office s) (summaries : HoldsSummaries) (runs : HoldsRuns) (key : RunKey) where
   -- what is kept of a run is what stands under its kind among the runs of its date
-  pub kept_by_kind : find run_kind_cmp key.kind (runs_in office.content key.date) ≡ kept_summary (midnight_of office) s key
+  kept_by_kind : find run_kind_cmp key.kind (runs_in office.content key.date) ≡ kept_summary (midnight_of office) s key
   kept_by_kind =
       sym (on_its_date key office.content.runs) ∙ ap (λ (c : Content). find run_key_cmp key c.runs) stands.1 ∙ summaries (midnight_of office) s key
 
@@ -302,8 +302,8 @@ module _ (office : OfficeView) (s : State) (stands : Stands office s) (summaries
       subst (λ o. MakesTransition office office (reply.Ran key summary) (run_beside (midnight_of office) s o moment key)) (found ∙ kept_by_kind)
       (comes_unchanged office s (reply.Ran key summary) stands)
 
-  -- by_new: a run that is not there
-  by_new : (moment : ℤ) → find run_kind_cmp key.kind (runs_in office.content key.date) ≡ None → run (midnight_of office) s moment key ≡ new_run (midnight_of office) s moment key
+  -- a run that is not there
+  by_new : (moment : ℤ) → find run_kind_cmp key.kind (runs_in office.content key.date) ≡ None → run (midnight_of office) s moment key ≡ made_or_refused (midnight_of office) s moment key
   by_new moment none = ap (λ o. run_beside (midnight_of office) s o moment key) (sym kept_by_kind ∙ none)
 
   -- what becomes of a new run, by why it is refused
@@ -339,7 +339,7 @@ module _ (office : OfficeView) (s : State) (stands : Stands office s) (summaries
 
     -- it is made
     pub run_made : WritesTheRun → (new : OfficeView) (day : List (SettlementPeriod × Settled)) (former : Option RunKey) (given : Reply)
-        → SettlesIn office moment key.date day → former ≡ latest_key key.date (runs_in office.content key.date) → MakesRun office new key day former given
+        → SettlesIn office moment key.date day → former ≡ latest_key key.date (runs_in office.content key.date) → IsRunMade office new key day former given
         → MakesTransition office new given (run (midnight_of office) s moment key)
     run_made law new day former given settles is_former makes =
         let midnight : Midnights = midnight_of office in

@@ -1,5 +1,5 @@
 -- What a party sees of an office, and that it sees no more.
-use Rattle.std.proofs.Common.{◌≡◌, ℕ, ℤ, List, [], ◌∷◌, refl, sym, ap, ◌∙◌, Bool, true, false, cond, Option, Some, None}
+use Rattle.std.proofs.Common.{◌≡◌, ℕ, ℤ, List, [], ◌∷◌, refl, sym, ap, ◌∙◌, Bool, true, false, cond, Option, Some, None, IsTrue}
 use Rattle.std.specs.Prelude.{◌==◌, IfSome, MatchBool, ◌||◌, not, option_map}
 use Rattle.std.specs.FinMap.{find}
 use Rattle.std.specs.List.{list_any}
@@ -30,11 +30,18 @@ use Rattle.hh_office.specs.declared.request.Action.TheVariants as ask
 use Rattle.hh_office.specs.declared.request.Request.{Request}
 use Rattle.hh_office.specs.Enquiries.{account_reply, balance_reply, reply_by_rows, reply_by_run, rows_in_run, rows_of_account}
 use Rattle.hh_office.specs.Machine.{act, answer, is_holder, is_key_of, is_operator, is_party_key, may}
-use Rattle.hh_office.specs.PartyViews.{AnswersByView, ForbidsOthers, LooksAlike, ShowsByView, is_foreign, is_own, key_in}
+use Rattle.hh_office.specs.PartyViews.{ForbidsOthers, LooksAlike, ShowsByView, is_foreign, is_own, key_in}
 use Rattle.hh_office.specs.Promises.{HandleStep, is_given_up}
 use Rattle.hh_office.specs.Transitions.{refused_for}
 use Rattle.hh_office.specs.Views.{OfficeView, midnight_of}
 use Rattle.hh_office.proofs.EnquiryLaws.{all_plain, key_by, last-map, latest_holds, option_map-twice}
+
+-- what a party asks with its key is answered by what it sees: alike in any two states that look alike to it
+abbrev AnswersByView : Midnights → Type 0
+AnswersByView midnight =
+    (s t : State) (earlier later : ℤ) (party : List ℕ) (request : Request) → IsReached midnight s → IsReached midnight t
+    → LooksAlike midnight party s t → key_in midnight s party ≡ Some request.key → IsTrue (is_own party request.action)
+    → answer midnight s earlier request ≡ answer midnight t later request
 
 -- what holds of the second of two holds of either
 or_second : (a b : Bool) → b ≡ true → (a || b) ≡ true

@@ -46,13 +46,6 @@ is_own party (ask.Contracts a date) = bytes_eq a.party party
 is_own party (ask.Runs date) = true
 is_own party _ = false
 
--- what a party asks with its key is answered by what it sees: alike in any two states that look alike to it
-abbrev pub AnswersByView : Midnights → Type 0
-AnswersByView midnight =
-    (s t : State) (earlier later : ℤ) (party : List ℕ) (request : Request) → IsReached midnight s → IsReached midnight t
-    → LooksAlike midnight party s t → key_in midnight s party ≡ Some request.key → IsTrue (is_own party request.action)
-    → answer midnight s earlier request ≡ answer midnight t later request
-
 -- the office answers a party's own enquiry as the machine does in each state that looks to the party like one it stands for
 abbrev pub ShowsByView : OfficeView → Request → Reply → Type 0
 ShowsByView office request given =

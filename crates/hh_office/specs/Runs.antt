@@ -10,8 +10,8 @@ use Rattle.hh_office.specs.Transitions.{Transition, refused, unchanged}
 
 module _ (midnight : Midnights) (s : State) where
   -- what becomes of a run that is not there: it is made, unless it is refused
-  abbrev pub new_run : ℤ → RunKey → Transition
-  new_run moment key = elim (run_fault midnight s moment key) [
+  abbrev pub made_or_refused : ℤ → RunKey → Transition
+  made_or_refused moment key = elim (run_fault midnight s moment key) [
     | Some fault ↦ refused s fault
     | None ↦ record { reply = reply.Ran key (new_summary midnight s key); state = after_run s key }
   ]
@@ -19,7 +19,7 @@ module _ (midnight : Midnights) (s : State) where
   -- what becomes of a run, by the summary that is kept of it: a run that is there stays as it is
   abbrev pub run_beside : Option Summary → ℤ → RunKey → Transition
   run_beside (Some summary) moment key = unchanged s (reply.Ran key summary)
-  run_beside None moment key = new_run moment key
+  run_beside None moment key = made_or_refused moment key
 
   -- what becomes of a run: first it is asked whether it is there
   abbrev pub run : ℤ → RunKey → Transition

@@ -101,7 +101,7 @@ rows_before content (Some run) = results_in content run
 
 -- A run of these settled periods is made, where this is the latest run of its date: what is written for it goes into the tables,
 -- and the reply is its summary.
-pub record MakesRun (old new : OfficeView) (key : RunKey) (day : List (SettlementPeriod × Settled)) (former : Option RunKey)
+pub record IsRunMade (old new : OfficeView) (key : RunKey) (day : List (SettlementPeriod × Settled)) (former : Option RunKey)
     (given : Reply) : Type 0 where
   pub writes : RunWrites
   pub written : IsWrittenFor key day (rows_before old.content former) writes

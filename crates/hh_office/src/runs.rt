@@ -12,7 +12,7 @@ ghost use Rattle.hh_office.specs.Promises.{MakesInEachState};
 ghost use Rattle.hh_office.specs.declared.reply.Reply.TheVariants.{Ran};
 ghost use Rattle.hh_office.specs.Reads.{latest_key};
 ghost use Rattle.hh_office.specs.Runs.{run};
-ghost use Rattle.hh_office.specs.Settling.{AreTermsOf, IsEarly, IsNext, IsOverDay, Lacks, MakesRun, RefusesIn, SettlesIn, TellsOrder, WritesRun, rows_before};
+ghost use Rattle.hh_office.specs.Settling.{AreTermsOf, IsEarly, IsNext, IsOverDay, Lacks, IsRunMade, RefusesIn, SettlesIn, TellsOrder, WritesRun, rows_before};
 ghost use Rattle.hh_office.specs.Views.{midnight_of};
 ghost use Rattle.jiff.specs.Words.{plain_zone};
 
@@ -81,7 +81,7 @@ impl<'z, T: Tables> Office<'z, T> {
         day: &[SettledPeriod],
         former: Option<RunKey>,
     ) -> Result<Reply, StoreFault>
-        ensures made { IfOk result (MakesRun self.old self.new key day.now former) }
+        ensures made { IfOk result (IsRunMade self.old self.new key day.now former) }
         ensures same { OnErr result (self.new ≡ self.old) }
     {
         let rows = self.rows_before(former)?;

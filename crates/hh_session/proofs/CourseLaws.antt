@@ -24,7 +24,7 @@ use Rattle.hh_office.specs.Promises.{HandleStep, Stands, StandsAfter, is_given_u
 use Rattle.hh_office.specs.Views.{OfficeView, midnight_of}
 use Rattle.hh_session.specs.declared.told.Told.{Told}
 use Rattle.hh_session.specs.declared.told.Told.TheVariants.{Replied}
-use Rattle.hh_session.specs.Course.{BeginsLine, ComesTo, LeavesRefused, LoadDoes, MakesRun, RunDoes, RunsLoad, RunsScript, RunsStep, ScriptDoes, StandsNow, StepDoes, StopsScript, StopsStep, TellsLine, no_memory, request_for, request_of}
+use Rattle.hh_session.specs.Course.{BeginsLine, StepComesTo, LeavesRefused, LoadDoes, MakesRun, RunDoes, RunsLoad, RunsScript, RunsStep, ScriptDoes, StandsNow, StepDoes, StopsScript, StopsStep, TellsLine, no_memory, request_for, request_of}
 use Rattle.hh_session.specs.Lines.{told_line}
 
 -- A load asks the machine for the same by so many bytes of its file that a larger one is told.
@@ -101,7 +101,7 @@ gives_up reads midnight s (MakeRun run) = inr (refl, refl)
 
 -- What a line does, by what it came to and what went out.
 module _ (reads : List ℕ → Option (List ℕ) → Type 0) (old new : OfficeView) (before after : Option (List ℕ)) (step : Step) (told : Told)
-    (comes : ComesTo reads old new step told) (leaves : LeavesRefused old new told) where
+    (comes : StepComesTo reads old new step told) (leaves : LeavesRefused old new told) where
   pub line_done : TellsLine before after told → RunsStep reads old new before after step
   line_done (inl went) s stands = let (t, does, now) = comes s stands in (told, t, does, went, now)
   line_done (inr (refusal, went)) s stands =

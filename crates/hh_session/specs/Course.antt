@@ -92,8 +92,8 @@ abbrev pub MakesRun : OfficeView → OfficeView → RunStep → Told → Type 0
 MakesRun old new run told = (s : State) → Stands old s → (t : State) × RunDoes (midnight_of old) s run told t × StandsNow old new t
 
 -- what a step comes to, and the office after it
-abbrev pub ComesTo : (List ℕ → Option (List ℕ) → Type 0) → OfficeView → OfficeView → Step → Told → Type 0
-ComesTo reads old new step told = (s : State) → Stands old s → (t : State) × StepDoes reads (midnight_of old) s step told t × StandsNow old new t
+abbrev pub StepComesTo : (List ℕ → Option (List ℕ) → Type 0) → OfficeView → OfficeView → Step → Told → Type 0
+StepComesTo reads old new step told = (s : State) → Stands old s → (t : State) × StepDoes reads (midnight_of old) s step told t × StandsNow old new t
 
 -- what is refused leaves the office as it is
 abbrev pub LeavesRefused : OfficeView → OfficeView → Told → Type 0

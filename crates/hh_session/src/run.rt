@@ -3,7 +3,7 @@
 ghost use Rattle.std.specs.Prelude.{◌≡◌, ℕ, List, Some, None, map, take, All, IfOk, IsErrOf, OnErr, OnOk};
 ghost use Rattle.hh_devices.specs.Devices.{Failed};
 ghost use Rattle.hh_script.specs.Steps.{IsWellNamed, LoadFile, MakeRun, load_of, run_of, step_of};
-ghost use Rattle.hh_session.specs.Course.{ComesTo, LeavesRefused, MakesRun, RunsLoad, RunsScript, RunsStep, StopsScript, StopsStep, request_for, request_of};
+ghost use Rattle.hh_session.specs.Course.{StepComesTo, LeavesRefused, MakesRun, RunsLoad, RunsScript, RunsStep, StopsScript, StopsStep, request_for, request_of};
 
 use crate::lines::LINE_ROOM;
 use crate::tell::{tell, tell_no_memory};
@@ -85,7 +85,7 @@ fn answer_line<T: Tables, I: Inputs>(
     line: &ScriptLine<'_>,
 ) -> Told
     requires { IsWellNamed (step_of line.now) }
-    ensures comes { ComesTo (I.reads_as inputs.now) office.old office.new (step_of line.now) result }
+    ensures comes { StepComesTo (I.reads_as inputs.now) office.old office.new (step_of line.now) result }
     ensures untouched { LeavesRefused office.old office.new result }
 {
     match line {

@@ -1,8 +1,8 @@
 use Rattle.std.proofs.Common.{sym, subst, ◌+◌, length}
 use Rattle.std.proofs.lemmas.List.{length_push}
 use Rattle.std.proofs.lemmas.Slice.Zip.{zip_turn}
-use Rattle.hh_day.specs.PeriodSteps.{SettlesFirst, SettlesPeriod}
-use Rattle.hh_day.proofs.SettleLaws.{passes_first, settles_next}
+use Rattle.hh_day.specs.PeriodSteps.{SettlesPeriod}
+use Rattle.hh_day.proofs.SettleLaws.{SettlesFirst, passes_first, settles_next}
 use Rattle.hh_day.proofs.settle.settle_periods.Goals as goal
 
 pub returns-in_default : goal.returns-in_default

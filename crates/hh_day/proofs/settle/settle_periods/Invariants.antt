@@ -1,5 +1,5 @@
 use Rattle.std.proofs.Common.{length}
-use Rattle.hh_day.specs.PeriodSteps.{SettlesFirst}
+use Rattle.hh_day.proofs.SettleLaws.{SettlesFirst}
 use Rattle.hh_day.proofs.settle.settle_periods.Given as goal
 
 -- the Settlement Periods so far are settled

@@ -2,7 +2,7 @@ use Rattle.std.proofs.Common.{subst, ◌∙◌, w64}
 use Rattle.std.proofs.lemmas.Int.{to_z-of_z}
 use Rattle.hh_office.specs.Promises.{MakesTransition}
 use Rattle.hh_office.specs.Runs.{run}
-use Rattle.hh_office.specs.Settling.{MakesRun, RefusesIn, SettlesIn}
+use Rattle.hh_office.specs.Settling.{IsRunMade, RefusesIn, SettlesIn}
 use Rattle.hh_office.specs.Views.{midnight_of}
 use Rattle.hh_office.specs.declared.reply.Reply.TheVariants as reply
 use Rattle.hh_office.proofs.RunLaws.{comes_given_up, run_made, run_unsettled}
@@ -29,7 +29,7 @@ pub returns : goal.returns
 returns g c s stands =
     let office = c.args.self.now in
     let settles = subst (λ m. SettlesIn office m c.args.key.date c.in_ok-settled.settled.items) (to_z-of_z w64 c.args.moment c.ranges.moment) c.in_ok-settled.ensures.settled in
-    let makes = subst (λ o. MakesRun o c.make_run.new.self c.args.key c.in_ok-settled.settled.items c.args.former c.in_ok-make_run.field-0) c.in_ok-settled.ensures.same
-    (subst (λ day. MakesRun c.settle.new.self c.make_run.new.self c.args.key day c.args.former c.in_ok-make_run.field-0) c.deref.ensures.value c.in_ok-make_run.ensures.made) in
+    let makes = subst (λ o. IsRunMade o c.make_run.new.self c.args.key c.in_ok-settled.settled.items c.args.former c.in_ok-make_run.field-0) c.in_ok-settled.ensures.same
+    (subst (λ day. IsRunMade c.settle.new.self c.make_run.new.self c.args.key day c.args.former c.in_ok-make_run.field-0) c.deref.ensures.value c.in_ok-make_run.ensures.made) in
     run_made office s stands c.kept_summaries.ensures c.kept_kinds_of_dates.ensures c.args.key c.args.moment c.requires.next c.writes_the_run.ensures
     c.make_run.new.self c.in_ok-settled.settled.items c.args.former c.in_ok-make_run.field-0 settles c.requires.former makes
