@@ -142,16 +142,23 @@ def marks_of(folder, count):
     return pipes
 
 
-def milliseconds_of_days(command, pipes):
-    """What each day of a script with marks took, from the one before it to the one behind it."""
+def milliseconds_of_marks(command, pipes):
+    """What a script with marks writes, and what it took from each mark to the next."""
     with tempfile.TemporaryFile() as out:
         process = subprocess.Popen(command, stdout=out)
         passed = [pass_mark(pipe, process) for pipe in pipes]
         if process.wait() != 0:
             sys.exit(f"settle script ended with status {process.returncode}")
         out.seek(0)
-        applied_rows(out.read())
-    return [(reached - left) * 1000 for (_, left), (reached, _) in zip(passed, passed[1:])]
+        output = out.read().decode()
+    return output, [(reached - left) * 1000 for (_, left), (reached, _) in zip(passed, passed[1:])]
+
+
+def milliseconds_of_days(command, pipes):
+    """What each day of a script with marks took."""
+    output, taken = milliseconds_of_marks(command, pipes)
+    applied_rows(output.encode())
+    return taken
 
 
 def print_days(costs):
