@@ -1,9 +1,9 @@
 -- The rows of one key's range in a table: where they begin, and how many there are.
-use Rattle.std.proofs.Common.{◌≡◌, ℕ, zero, suc, ◌+◌, ◌<◌, ◌≤◌, List, [], ◌∷◌, length, take, drop, get_or, refl, sym, ap, ◌∙◌, true, false, cond, Ordering, arith}
+use Rattle.std.proofs.Common.{◌≡◌, ℕ, zero, suc, ◌+◌, ◌-◌, ◌<◌, ◌≤◌, List, [], ◌∷◌, length, take, drop, get_or, refl, sym, ap, ◌∙◌, Bool, true, false, cond, Ordering, arith}
 use Rattle.std.specs.Prelude.{T, filter}
 use Rattle.std.specs.FinMap.{is_sorted}
 use Rattle.std.specs.FinMap.Entries.{below_all}
-use Rattle.std.specs.List.{AllWithin}
+use Rattle.std.specs.List.{AllWithin, HoldsAt}
 use Rattle.std.specs.List.Sorted.{IsNonDecreasingBy, IsPartitionPoint, IsPartitionedBy}
 use Rattle.std.specs.Ordering.{is_eq, is_le, is_lt, ordering_index, ordering_reverse, ordering_then}
 use Rattle.std.specs.declared.cmp.Ordering.TheVariants.{Less, Equal, Greater}
@@ -104,3 +104,29 @@ pub beside_rises : (key : UnitPeriod) (es : List (ReallocationKey × Reallocatio
 beside_rises key es sorted = searchable_from_sorted unit_period_total (λ (e : ReallocationKey × Reallocation). e.0.unit_period) es key (λ j d low high.
     ap is_lt (unit_period_total.antisymm (get_or es (j + 1) d).0.unit_period (get_or es j d).0.unit_period)
     ∙ not_behind (unit_period_cmp (get_or es j d).0.unit_period (get_or es (j + 1) d).0.unit_period) (account_cmp (get_or es j d).0.account (get_or es (j + 1) d).0.account) (rises reallocation_key_cmp es sorted j (j + 1) d (omega arith) high))
+
+-- false, as it isn't true
+false_unless : (b : Bool) → (b ≡ true → ⊥) → b ≡ false
+false_unless true h = absurd (h refl)
+false_unless false h = refl
+
+-- a place whose neighbours are as they are beside a partition point is one
+module _ {E : Type 0} (test : E → Bool) (es : List E) (partitioned : IsPartitionedBy test es) (i : ℕ) where
+  pub all_before : i ≤ length es → (0 < i → HoldsAt (λ e. test e ≡ true) es (i - 1)) → AllWithin (λ e. test e ≡ true) es 0 i
+  all_before in' last k d low high = partitioned k (i - 1) d (omega (arith, high)) (omega (arith, in', high)) (last (omega (arith, high)) d)
+
+  pub none_behind : (i < length es → HoldsAt (λ e. test e ≡ false) es i) → AllWithin (λ e. test e ≡ false) es i (length es)
+  none_behind first k d low high = false_unless (test (get_or es k d)) (λ is.
+      let at : test (get_or es i d) ≡ true = partitioned i k d low high is in
+      let not_at : test (get_or es i d) ≡ false = first (omega (arith, low, high)) d in
+      cc)
+
+-- one more of which a test holds
+pub one_more : {E : Type 0} (test : E → Bool) (es : List E) (n : ℕ) (x : E) → n < length es → x ≡ get_or es n x → test x ≡ true → AllWithin (λ e. test e ≡ true) es 0 n
+    → AllWithin (λ e. test e ≡ true) es 0 (n + 1)
+one_more test [] n x in' is holds all k d low high = absurd (omega (arith, in'))
+one_more test (e ∷ es) zero x in' is holds all zero d low high = ap test (sym is) ∙ holds
+one_more test (e ∷ es) zero x in' is holds all (suc k) d low high = absurd (omega (arith, high))
+one_more test (e ∷ es) (suc n) x in' is holds all zero d low high = all zero d (omega arith) (omega arith)
+one_more test (e ∷ es) (suc n) x in' is holds all (suc k) d low high =
+    one_more test es n x (omega (arith, in')) is holds (λ j d' lo hi. all (suc j) d' (omega arith) (omega (arith, hi))) k d (omega arith) (omega (arith, high))

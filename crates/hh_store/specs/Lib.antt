@@ -3,6 +3,7 @@ pub mod Content
 pub mod DayReads
 pub mod DaySettlement
 pub mod KeptContracts
+pub mod KeptReallocations
 pub mod KeptRuns
 pub mod KeptTables
 pub mod Parts

@@ -1,12 +1,15 @@
 //! What a Settlement Day is settled from, in memory.
 
-ghost use Rattle.std.specs.Prelude.{◌≡◌, All, find, filter, filter_map, map, pos, unwrap_or, IfOk, is_none};
+ghost use Rattle.std.specs.Prelude.{◌≡◌, ◌≤◌, ◌<◌, ◌-◌, All, find, filter, filter_map, length, map, pos, true, false, unwrap_or, IfOk, is_none};
+ghost use Rattle.std.specs.List.{AllWithin, HoldsAt};
 ghost use Rattle.std.specs.Ordering.{eq_by_cmp};
-ghost use Rattle.hh_rows.specs.Keys.{unit_period_cmp};
+ghost use Rattle.hh_rows.specs.Keys.{reallocation_key_cmp};
 ghost use Rattle.hh_rules.specs.RegisterView.{reallocations_at};
 ghost use Rattle.hh_store.specs.DayReads.{IsDayData, IsRollOf, row_on};
 ghost use Rattle.hh_store.specs.DaySettlement.{missing_meter, missing_price, periods_on, unit_periods_at};
 ghost use Rattle.hh_store.specs.KeptContracts.{is_in_period};
+ghost use Rattle.hh_store.specs.KeptReallocations.{is_before, is_up_to, BeginAt};
+ghost use Rattle.hh_tables.specs.Tables.{IsTable};
 ghost use Rattle.hh_store.specs.PeriodSettlement.{accounts_on, price_of, reading_of, row_in_force, subsidiaries_of, terms_at, unit_at, units_on};
 
 use crate::day_data::DayData;
@@ -29,6 +32,58 @@ pub(crate) struct DayRoll {
     pub(crate) contracts: Vec<ContractRow>,
 }
 
+/// For each unit of a date, where its rows of the date stand in the tables. Each search looks there
+/// first, and finds the same wherever that is: a wrong place costs time alone.
+#[derive(Drop)]
+struct DayPlaces(Vec<UnitPlaces>);
+
+/// Where a unit's rows of a date stand in the tables.
+#[derive(Clone, Copy)]
+struct UnitPlaces {
+    /// The place of its first reading.
+    readings: usize,
+    /// The place of its first reallocation.
+    reallocations: usize,
+    /// The place behind its last reallocation.
+    reallocations_end: usize,
+}
+
+impl DayPlaces {
+    /// Where to look first for the rows of the unit that has this place among the units of the date.
+    fn of_unit(&self, unit: usize) -> UnitPlaces {
+        match self.0.get(unit) {
+            Some(places) => *places,
+            None => UnitPlaces {
+                readings: 0,
+                reallocations: 0,
+                reallocations_end: 0,
+            },
+        }
+    }
+}
+
+impl UnitPlaces {
+    /// Where to look first for the reading in a Settlement Period: where it stands if the unit has one in
+    /// each earlier period of the date.
+    fn reading_at(self, at: &SettlementPeriod) -> usize {
+        self.readings
+            .saturating_add(usize::from(at.period.number()))
+            .saturating_sub(1)
+    }
+
+    /// Where to look first for the reallocations of a unit in a Settlement Period.
+    fn reallocations_at(self, rows: &[(ReallocationKey, Reallocation)], key: &UnitPeriod) -> usize {
+        match rows.get(self.reallocations..self.reallocations_end) {
+            Some(of_date) => self.reallocations.saturating_add(of_date.partition_point(|row| row
+                .0
+                .unit_period
+                .cmp(key)
+                .is_lt())),
+            None => 0,
+        }
+    }
+}
+
 impl KeptRegister {
     /// What the Settlement Periods of a day are settled from, or what is missing for it. `Err` only where
     /// memory is refused.
@@ -40,10 +95,12 @@ impl KeptRegister {
             return Ok(DayData::MissingPrice(at));
         }
         let roll = self.roll_of(alloc, day.date)?;
-        if let Some(key) = self.missing_meter(&roll.units, &periods) {
+        let places = self.places_of(alloc, &roll.units, &periods)?;
+        if let Some(key) = self.missing_meter(&roll.units, &places, &periods) {
             return Ok(DayData::MissingMeter(key));
         }
-        Ok(DayData::Periods(self.data_of(alloc, &roll, &periods)?))
+        let terms = self.data_of(alloc, &roll, &places, &periods)?;
+        Ok(DayData::Periods(terms))
     }
 
     /// The first of these Settlement Periods that has no price.
@@ -142,18 +199,46 @@ impl KeptRegister {
         Some(ContractRow { key, contract })
     }
 
+    /// Where the rows of these units stand that are of these Settlement Periods of one date.
+    fn places_of(
+        &self,
+        alloc: Global,
+        units: &[(UnitId, UnitRegistration)],
+        periods: &[SettlementPeriod],
+    ) -> Result<DayPlaces, AllocError> {
+        let mut places = Vec::with_capacity(alloc, units.len())?;
+        if let (Some(first), Some(last)) = (periods.first(), periods.last()) {
+            for unit in units {
+                let (first, last) = (unit_period(&unit.0, first), unit_period(&unit.0, last));
+                places.push(self.places_between(&first, &last))?;
+            }
+        }
+        Ok(DayPlaces(places))
+    }
+
+    /// Where the rows of a unit stand from one Settlement Period up to another.
+    fn places_between(&self, first: &UnitPeriod, last: &UnitPeriod) -> UnitPlaces {
+        let rows = self.reallocations.rows();
+        UnitPlaces {
+            readings: self.meters.count_below(first),
+            reallocations: rows.partition_point(|row| row.0.unit_period.cmp(first).is_lt()),
+            reallocations_end: rows.partition_point(|row| row.0.unit_period.cmp(last).is_le()),
+        }
+    }
+
     /// The first of these Settlement Periods of one date in which a unit of the date has no reading, with
     /// the first such unit.
     fn missing_meter(
         &self,
         units: &[(UnitId, UnitRegistration)],
+        places: &DayPlaces,
         periods: &[SettlementPeriod],
     ) -> Option<UnitPeriod>
         requires { All (λ at. units.now ≡ units_on self.now at.date) periods.now }
         ensures { result ≡ missing_meter self.now periods.now }
     {
         for at in periods {
-            if let Some(key) = self.missing_meter_at(units, at) {
+            if let Some(key) = self.missing_meter_at(units, places, at) {
                 return Some(key);
             }
         }
@@ -164,26 +249,27 @@ impl KeptRegister {
     fn missing_meter_at(
         &self,
         units: &[(UnitId, UnitRegistration)],
+        places: &DayPlaces,
         at: &SettlementPeriod,
     ) -> Option<UnitPeriod>
         requires { units.now ≡ units_on self.now at.now.date }
         ensures { result ≡ find (λ key. is_none (reading_of self.now key))
             (unit_periods_at self.now at.now) }
     {
-        for unit in units {
+        for (place, unit) in units.iter().enumerate() {
             let key = unit_period(&unit.0, at);
-            if self.lacks_reading(&key) {
+            if self.lacks_reading(places.of_unit(place).reading_at(at), &key) {
                 return Some(key);
             }
         }
         None
     }
 
-    /// Whether a unit has no reading in a Settlement Period.
-    fn lacks_reading(&self, key: &UnitPeriod) -> bool
+    /// Whether a unit has no reading in a Settlement Period. It is sought near a place.
+    fn lacks_reading(&self, near: usize, key: &UnitPeriod) -> bool
         ensures { result ≡ is_none (reading_of self.now key.now) }
     {
-        self.meters.get(key).is_none()
+        self.meters.get_near(near, key).is_none()
     }
 
     /// What these Settlement Periods of one date are settled from.
@@ -191,6 +277,7 @@ impl KeptRegister {
         &self,
         alloc: Global,
         roll: &DayRoll,
+        places: &DayPlaces,
         periods: &[SettlementPeriod],
     ) -> Result<Vec<PeriodData>, AllocError>
         requires { All (λ at. IsRollOf self.now at.date roll.now) periods.now }
@@ -198,7 +285,7 @@ impl KeptRegister {
     {
         let mut found = Vec::with_capacity(alloc, periods.len())?;
         for at in periods {
-            found.push(self.period_data(alloc, roll, at)?)?;
+            found.push(self.period_data(alloc, roll, places, at)?)?;
         }
         Ok(found)
     }
@@ -209,13 +296,14 @@ impl KeptRegister {
         &self,
         alloc: Global,
         roll: &DayRoll,
+        places: &DayPlaces,
         at: &SettlementPeriod,
     ) -> Result<PeriodData, AllocError>
         requires { IsRollOf self.now at.now.date roll.now }
         ensures { IfOk result (λ terms. terms ≡ terms_at self.now at.now) }
     {
         let accounts = Vec::from_slice(alloc, &roll.accounts)?;
-        let units = self.units_at(alloc, &roll.units, at)?;
+        let units = self.units_at(alloc, &roll.units, places, at)?;
         let contracts = contracts_at(alloc, &roll.contracts, at)?;
         let price = self.price_at(at);
         Ok(PeriodData::new(accounts, units, contracts, price))
@@ -233,34 +321,37 @@ impl KeptRegister {
         &self,
         alloc: Global,
         units: &[(UnitId, UnitRegistration)],
+        places: &DayPlaces,
         at: &SettlementPeriod,
     ) -> Result<Vec<UnitData>, AllocError>
         ensures { IfOk result (λ terms.
             terms.items ≡ filter_map (unit_at self.now at.now) units.now) }
     {
         let mut found = Vec::with_capacity(alloc, units.len())?;
-        for unit in units {
-            if let Some(unit) = self.unit_at(alloc, unit, at)? {
+        for (place, unit) in units.iter().enumerate() {
+            if let Some(unit) = self.unit_at(alloc, unit, places.of_unit(place), at)? {
                 found.push(unit)?;
             }
         }
         Ok(found)
     }
 
-    /// What a unit is settled from in a Settlement Period, if it has a reading.
+    /// What a unit is settled from in a Settlement Period, if it has a reading. Its rows are sought at
+    /// these places first.
     fn unit_at(
         &self,
         alloc: Global,
         unit: &(UnitId, UnitRegistration),
+        places: UnitPlaces,
         at: &SettlementPeriod,
     ) -> Result<Option<UnitData>, AllocError>
         ensures { IfOk result (λ terms. terms ≡ unit_at self.now at.now unit.now) }
     {
         let key = unit_period(&unit.0, at);
-        let Some(reading) = self.meters.get(&key) else {
+        let Some(reading) = self.meters.get_near(places.reading_at(at), &key) else {
             return Ok(None);
         };
-        let subsidiaries = self.subsidiaries_of(alloc, &key)?;
+        let subsidiaries = self.subsidiaries_of(alloc, places, &key)?;
         Ok(Some(UnitData::new(
             unit.0,
             unit.1.lead,
@@ -274,12 +365,13 @@ impl KeptRegister {
     fn subsidiaries_of(
         &self,
         alloc: Global,
+        places: UnitPlaces,
         key: &UnitPeriod,
     ) -> Result<Vec<Subsidiary>, AllocError>
         ensures { IfOk result (λ subsidiaries.
             subsidiaries.items ≡ subsidiaries_of self.now key.now) }
     {
-        let rows = self.reallocations_of(key);
+        let rows = self.reallocations_of(places, key);
         let mut subsidiaries = Vec::with_capacity(alloc, rows.len())?;
         for row in rows {
             subsidiaries.push(Subsidiary {
@@ -291,16 +383,95 @@ impl KeptRegister {
     }
 
     /// The reallocations in force of a unit in a Settlement Period, in account order.
-    fn reallocations_of(&self, key: &UnitPeriod) -> &[(ReallocationKey, Reallocation)]
+    fn reallocations_of(
+        &self,
+        places: UnitPlaces,
+        key: &UnitPeriod,
+    ) -> &[(ReallocationKey, Reallocation)]
         ensures { result.now ≡ reallocations_at self.now key.now }
     {
         let rows = self.reallocation_rows();
-        let first = rows.partition_point(|row| row.0.unit_period.cmp(key).is_lt());
+        let first = first_of(rows, key, places.reallocations_at(rows, key));
         let (_, rest) = rows.split_at(first);
-        let count = rest.partition_point(|row| row.0.unit_period.cmp(key).is_le());
+        let count = count_of(rest, key);
         let (found, _) = rest.split_at(count);
         found
     }
+}
+
+/// The place at which the reallocations of a unit in a Settlement Period begin, or would. It is sought
+/// near a place.
+fn first_of(rows: &[(ReallocationKey, Reallocation)], key: &UnitPeriod, near: usize) -> usize
+    requires { IsTable reallocation_key_cmp rows.now }
+    ensures begins { BeginAt key.now rows.now result }
+    ensures within { result ≤ length rows.now }
+{
+    if begin_at(rows, key, near) {
+        return near;
+    }
+    rows.partition_point(|row| row.0.unit_period.cmp(key).is_lt())
+}
+
+/// Whether the reallocations of a unit in a Settlement Period begin at a place, or would: the row before it
+/// is of an earlier unit or period, and the row at it isn't.
+fn begin_at(rows: &[(ReallocationKey, Reallocation)], key: &UnitPeriod, place: usize) -> bool
+    requires { IsTable reallocation_key_cmp rows.now }
+    ensures begins { result ≡ true → BeginAt key.now rows.now place }
+    ensures within { result ≡ true → place ≤ length rows.now }
+{
+    if place > rows.len() {
+        return false;
+    }
+    if !is_last_before(rows, key, place) {
+        return false;
+    }
+    !is_before_at(rows, key, place)
+}
+
+/// Whether the row before a place is of an earlier unit or period, if there is one.
+fn is_last_before(rows: &[(ReallocationKey, Reallocation)], key: &UnitPeriod, place: usize) -> bool
+    requires { place ≤ length rows.now }
+    ensures { result ≡ true → 0 < place
+        → HoldsAt (λ e. is_before key.now e ≡ true) rows.now (place - 1) }
+{
+    place == 0 || is_before(&rows[place - 1], key)
+}
+
+/// Whether there is a row at a place, and it is of an earlier unit or period.
+fn is_before_at(rows: &[(ReallocationKey, Reallocation)], key: &UnitPeriod, place: usize) -> bool
+    ensures { result ≡ false → place < length rows.now
+        → HoldsAt (λ e. is_before key.now e ≡ false) rows.now place }
+{
+    place < rows.len() && is_before(&rows[place], key)
+}
+
+/// Whether a reallocation is of an earlier unit, or of the unit in an earlier Settlement Period.
+fn is_before(row: &(ReallocationKey, Reallocation), key: &UnitPeriod) -> bool
+    ensures { result ≡ is_before key.now row.now }
+{
+    row.0.unit_period.cmp(key).is_lt()
+}
+
+/// Whether a reallocation is of no later unit, and of the unit in no later Settlement Period.
+fn is_up_to(row: &(ReallocationKey, Reallocation), key: &UnitPeriod) -> bool
+    ensures { result ≡ is_up_to key.now row.now }
+{
+    row.0.unit_period.cmp(key).is_le()
+}
+
+/// How many of the first reallocations are not of a later unit or Settlement Period.
+fn count_of(rows: &[(ReallocationKey, Reallocation)], key: &UnitPeriod) -> usize
+    ensures front { AllWithin (λ e. is_up_to key.now e ≡ true) rows.now 0 result }
+    ensures behind { result < length rows.now
+        → HoldsAt (λ e. is_up_to key.now e ≡ false) rows.now result }
+    ensures within { result ≤ length rows.now }
+{
+    for (count, row) in rows.iter().enumerate() {
+        if !is_up_to(row, key) {
+            return count;
+        }
+    }
+    rows.len()
 }
 
 /// A unit in a Settlement Period.

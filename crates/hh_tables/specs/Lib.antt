@@ -1,3 +1,4 @@
 pub mod Merges
+pub mod Places
 pub mod Tables
 pub mod Trees

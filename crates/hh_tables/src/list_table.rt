@@ -1,11 +1,12 @@
 //! Tables in memory, kept as lists of rows in the order of their keys.
 
-ghost use Rattle.std.specs.Prelude.{◌≡◌, ◌≤◌, ◌++◌, [], length, IfOk, OnErr, OnOk};
+ghost use Rattle.std.specs.Prelude.{◌≡◌, ◌≤◌, ◌++◌, [], length, IfOk, IfSome, OnErr, OnOk, Some};
 ghost use Rattle.std.specs.Option.{option_copied};
 ghost use Rattle.std.specs.FinMap.{find, put};
 ghost use Rattle.std.specs.List.{prefix_len};
 ghost use Rattle.std.specs.List.Sorted.{IsSortedByKey, IsStableByKey};
 ghost use Rattle.hh_tables.specs.Merges.{is_up_to, AreUpTo};
+ghost use Rattle.hh_tables.specs.Places.{IsPlaceOf};
 ghost use Rattle.hh_tables.specs.Tables.{IsTable, put_all};
 
 use std::alloc::{AllocError, Global};
@@ -87,6 +88,39 @@ impl<K: Ord + Copy, V: Copy> ListTable<K, V> {
         ensures rising { IsTable K.cmp self.now }
     {
         self.find(key).copied()
+    }
+
+    /// How many rows have keys below a key, which is the place of its row if there is one.
+    pub fn count_below(&self, key: &K) -> usize
+        ensures { IsPlaceOf K.cmp key.now self.now result }
+    {
+        self.rows.partition_point(|row| row.0.cmp(key).is_lt())
+    }
+
+    /// The columns of the row under a key, if there is one. It is looked for at this place first, which may
+    /// be any; where the place is the row's, that takes one comparison.
+    pub fn get_near(&self, place: usize, key: &K) -> Option<V>
+        ensures { result ≡ find K.cmp key.now self.now }
+    {
+        match self.row_at(place, key) {
+            Some(value) => Some(value),
+            None => self.get(key),
+        }
+    }
+
+    /// The columns of the row at a place, if it is that of a key.
+    fn row_at(&self, place: usize, key: &K) -> Option<V>
+        ensures { IfSome result (λ value. find K.cmp key.now self.now ≡ Some value) }
+    {
+        if place >= self.rows.len() {
+            return None;
+        }
+        let row = &self.rows[place];
+        if row.0.cmp(key).is_eq() {
+            Some(row.1)
+        } else {
+            None
+        }
     }
 
     /// A new table: this one, with rows in the place of those of their keys. Of several rows of one key

@@ -18,16 +18,16 @@ module _ (tables : Registered) (at : SettlementPeriod) where
   abbrev lacks : List ℕ × UnitRegistration → Bool
   lacks e = is_none (reading_of tables (here e))
 
-pub loop-unit-preserved : goal.loop-unit-preserved
-loop-unit-preserved c =
-    not_yet (lacks c.args.self.now c.args.at.now) c.args.units.now c.loop-unit.unit-index c.unit-item.result c.loop-unit-test.true c.unit-item.is c.loop-unit.invariant
+pub loop-place-preserved : goal.loop-place-preserved
+loop-place-preserved c =
+    not_yet (lacks c.args.self.now c.args.at.now) c.args.units.now c.loop-place.place c.index-units-place.result c.loop-place-test.true c.index-units-place.is c.loop-place.invariant
     (ap (λ key. is_none (reading_of c.args.self.now key)) (sym c.unit_period-key.ensures) ∙ sym c.lacks_reading.ensures ∙ c.if-lacks_reading.false)
 
 pub returns-then-lacks_reading : goal.returns-then-lacks_reading
 returns-then-lacks_reading c =
     let tables = c.args.self.now in
     let at = c.args.at.now in
-    let found = now_found (lacks tables at) c.args.units.now c.loop-unit.unit-index c.unit-item.result c.loop-unit-test.true c.unit-item.is c.loop-unit.invariant
+    let found = now_found (lacks tables at) c.args.units.now c.loop-place.place c.index-units-place.result c.loop-place-test.true c.index-units-place.is c.loop-place.invariant
     (ap (λ key. is_none (reading_of tables key)) (sym c.unit_period-key.ensures) ∙ sym c.lacks_reading.ensures ∙ c.if-lacks_reading.true) in
     ap Some c.unit_period-key.ensures
     ∙ sym (ap (λ es. find (λ key. is_none (reading_of tables key)) (map (here tables at) es)) (sym c.requires)
@@ -38,8 +38,8 @@ pub returns : goal.returns
 returns c =
     let tables = c.args.self.now in
     let at = c.args.at.now in
-    let all = take_all c.loop-unit.unit-index c.args.units.now c.loop-unit-test.false in
-    let none : find (lacks tables at) c.args.units.now ≡ None = ap (find (lacks tables at)) (sym all) ∙ c.loop-unit.invariant in
+    let all = take_all c.loop-place.place c.args.units.now c.loop-place-test.false in
+    let none : find (lacks tables at) c.args.units.now ≡ None = ap (find (lacks tables at)) (sym all) ∙ c.loop-place.invariant in
     sym (ap (λ es. find (λ key. is_none (reading_of tables key)) (map (here tables at) es)) (sym c.requires)
     ∙ find-map (λ key. is_none (reading_of tables key)) (here tables at) c.args.units.now
     ∙ ap (option_map (here tables at)) none)

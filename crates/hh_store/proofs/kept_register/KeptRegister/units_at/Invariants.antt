@@ -4,5 +4,5 @@ use Rattle.hh_store.specs.PeriodSettlement.{unit_at}
 use Rattle.hh_store.proofs.kept_register.KeptRegister.units_at.Given as goal
 
 -- what the units so far are settled from
-abbrev pub invariant-loop-unit : goal.invariant-loop-unit
-invariant-loop-unit l = l.found.items ≡ filter_map (unit_at l.self l.at) (take l.unit-index l.units)
+abbrev pub invariant-loop-place : goal.invariant-loop-place
+invariant-loop-place l = l.found.items ≡ filter_map (unit_at l.self l.at) (take l.place l.units)

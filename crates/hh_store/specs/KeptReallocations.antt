@@ -1,0 +1,21 @@
+-- The reallocations of a unit in a Settlement Period, among all that are in force.
+use Rattle.std.specs.Prelude.{◌≡◌, ℕ, List, Bool, true, false}
+use Rattle.std.specs.List.Sorted.{IsPartitionPoint}
+use Rattle.std.specs.Ordering.{is_le, is_lt}
+use Rattle.hh_names.specs.declared.values.Reallocation.{Reallocation}
+use Rattle.hh_rows.specs.declared.keys.ReallocationKey.{ReallocationKey}
+use Rattle.hh_rows.specs.declared.keys.UnitPeriod.{UnitPeriod}
+use Rattle.hh_rows.specs.Keys.{unit_period_cmp}
+
+module _ (key : UnitPeriod) where
+  -- whether a reallocation is of an earlier unit, or of the unit in an earlier Settlement Period
+  abbrev pub is_before : ReallocationKey × Reallocation → Bool
+  is_before e = is_lt (unit_period_cmp e.0.unit_period key)
+
+  -- whether a reallocation is of no later unit, and of the unit in no later Settlement Period
+  abbrev pub is_up_to : ReallocationKey × Reallocation → Bool
+  is_up_to e = is_le (unit_period_cmp e.0.unit_period key)
+
+  -- the reallocations of the unit in the Settlement Period begin at this place, or would
+  abbrev pub BeginAt : List (ReallocationKey × Reallocation) → ℕ → Type 0
+  BeginAt rows place = IsPartitionPoint (λ e. is_before e ≡ true) (λ e. is_before e ≡ false) rows place
