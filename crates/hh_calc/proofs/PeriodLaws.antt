@@ -13,6 +13,7 @@ use Rattle.hh_names.specs.declared.account.Account.{Account}
 use Rattle.hh_names.specs.Accounts.{account_cmp, is_same_account}
 use Rattle.hh_names.proofs.AccountLaws.{account_total}
 use Rattle.hh_share.specs.Shares.{SumsTo}
+use Rattle.hh_share.proofs.DepartureLaws.{shares_depart_least}
 use Rattle.hh_share.proofs.QuotaLaws.{quotas_rounded}
 use Rattle.hh_share.proofs.SumLaws.{shares_sum}
 use Rattle.hh_names.specs.declared.values.Contract.{Contract}
@@ -22,7 +23,7 @@ use Rattle.hh_calc.specs.declared.result.CreditRow.{CreditRow}
 use Rattle.hh_calc.specs.declared.result.Figures.{Figures}
 use Rattle.hh_calc.specs.Formulas.{contracted, credits_of, figures, lead_credit, loss_adjusted, net_of, of_account, period_sums, residual, subsidiary_credit, unit_credits, weights}
 use Rattle.hh_calc.specs.Ready.{AreInOrder, AreNamed, AreUnitsDistinct, IsContractNamed}
-use Rattle.hh_calc.specs.Settled.{figures_of, shares_shown, AddsUp, IsSettled, IsUnitCredited}
+use Rattle.hh_calc.specs.Settled.{figures_of, shares_shown, AddsUp, IsSettled, IsUnitCredited, SharesDepartLeast}
 use Rattle.hh_calc.specs.Terms.{PeriodTerms, Settled, BmUnit}
 use Rattle.hh_calc.proofs.OrderLaws.{rises}
 use Rattle.hh_calc.proofs.SpreadLaws.{counted, counts_once, total-IsPermutation, total-flat_map}
@@ -129,3 +130,7 @@ adds_up p s up named settled = record {
   cash = cash_sum p s settled (rw settled.shared (shares_sum (residual p) (weights p) (some_account p.accounts (λ a. (figures p a).charge) (λ a. (period_sums p a).weight))));
   quota = rw settled.shared (quotas_rounded (residual p) (weights p));
 }
+
+-- The shares of a settled period depart least from the quotas.
+pub shares_least : (p : PeriodTerms) (s : Settled) → IsSettled p s → SharesDepartLeast p s
+shares_least p s settled = rw settled.shared (shares_depart_least (residual p) (weights p))

@@ -5,10 +5,12 @@ use Rattle.std.specs.Ordering.{on, then_cmp}
 use Rattle.std.specs.Str.{bytes_eq}
 use Rattle.hh_num.specs.Totals.{total}
 use Rattle.hh_names.specs.Accounts.{account_cmp, bytes_cmp}
+use Rattle.hh_share.specs.Shares.{effective}
+use Rattle.hh_share.specs.Departure.{DepartsLeast}
 use Rattle.hh_calc.specs.declared.result.AccountRow.{AccountRow}
 use Rattle.hh_calc.specs.declared.result.CreditRow.{CreditRow}
 use Rattle.hh_calc.specs.declared.result.Figures.{Figures}
-use Rattle.hh_calc.specs.Formulas.{all_figures, credits_of, loss_adjusted, residual, residual_shares, AreSharesRounded}
+use Rattle.hh_calc.specs.Formulas.{all_figures, credits_of, loss_adjusted, residual, residual_shares, weights, AreSharesRounded}
 use Rattle.hh_calc.specs.Ready.{AreUnitsDistinct}
 use Rattle.hh_calc.specs.Terms.{BmUnit, PeriodTerms, Settled}
 
@@ -32,6 +34,10 @@ pub record IsSettled (p : PeriodTerms) (s : Settled) : Type 0 where
   pub credits : IsPermutation (credits_of p.units) s.credits
   pub ordered : IsSorted credit_cmp s.credits
   pub remainder : s.residual ≡ residual p
+
+-- no other split of the residual over the accounts departs less from their quotas by weight than the shares do
+abbrev pub SharesDepartLeast : PeriodTerms → Settled → Type 0
+SharesDepartLeast p s = DepartsLeast (residual p) (effective (weights p)) (shares_shown s.accounts)
 
 -- the credits from a unit among these add up to its loss-adjusted volume
 abbrev pub IsUnitCredited : List CreditRow → BmUnit → Type 0

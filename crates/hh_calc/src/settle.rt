@@ -4,7 +4,7 @@ ghost use Rattle.std.specs.Prelude.{◌≡◌, ◌≤◌, ◌^◌, ◌*◌, neg_
 ghost use Rattle.hh_calc.specs.Formulas.{all_figures, all_sums, charge_for, figures_from, residual, weights};
 ghost use Rattle.hh_calc.specs.Limits.{are_all_within, are_within, greatest_cash, greatest_energy, is_at_most, is_within_limits, kept_where};
 ghost use Rattle.hh_calc.specs.Ready.{AreInOrder, AreNamed, AreSubsidiariesFew};
-ghost use Rattle.hh_calc.specs.Settled.{figures_of, shares_shown, AddsUp, IsSettled};
+ghost use Rattle.hh_calc.specs.Settled.{figures_of, shares_shown, AddsUp, IsSettled, SharesDepartLeast};
 ghost use Rattle.hh_calc.specs.Sums.{greatest_sum, IsWithin};
 
 use crate::credits::sorted_credits;
@@ -189,6 +189,7 @@ pub fn settle_period(alloc: Global, period: &PeriodData) -> Result<PeriodResult,
     requires few { AreSubsidiariesFew period.now }
     ensures settled { IfOk result (λ r. IsSettled period.now r) }
     ensures sums { IfOk result (λ r. AddsUp period.now r) }
+    ensures least { IfOk result (λ r. SharesDepartLeast period.now r) }
     ensures within { IfOk result (λ r. IsTrue (is_within_limits period.now)) }
     ensures too_large { result ≡ Err CalcFault.TooLarge → IsFalse (is_within_limits period.now) }
 {

@@ -1,7 +1,8 @@
 -- Small apportionments, computed.
-use Rattle.std.proofs.Common.{◌≡◌, [], ◌∷◌, refl}
+use Rattle.std.proofs.Common.{◌≡◌, [], ◌∷◌, refl, arith}
 use Rattle.std.specs.Prelude.{pos, negsuc}
 use Rattle.hh_share.specs.Shares.{shares}
+use Rattle.hh_share.specs.Departure.{departure, DepartsLeast}
 
 one_penny : shares (pos 1) (5 ∷ 5 ∷ 5 ∷ []) ≡ pos 1 ∷ pos 0 ∷ pos 0 ∷ []
 one_penny = refl
@@ -34,3 +35,20 @@ first_period = refl
 -- the same period, where no account has energy but of interconnector units
 interconnectors : shares (pos 5050) (0 ∷ 0 ∷ 0 ∷ 0 ∷ []) ≡ pos 1263 ∷ pos 1263 ∷ pos 1262 ∷ pos 1262 ∷ []
 interconnectors = refl
+
+-- One penny over weights of 2 and 1: to the first it departs by 2, to the second by 8.
+to_the_first : departure (pos 1) (2 ∷ 1 ∷ []) (pos 1 ∷ pos 0 ∷ []) ≡ 2
+to_the_first = refl
+
+to_the_second : departure (pos 1) (2 ∷ 1 ∷ []) (pos 0 ∷ pos 1 ∷ []) ≡ 8
+to_the_second = refl
+
+-- Five pence over three equal weights: to give both that are left over to the first account departs by 24, and one to each of two by 6.
+all_to_the_first : departure (pos 5) (1 ∷ 1 ∷ 1 ∷ []) (pos 3 ∷ pos 1 ∷ pos 1 ∷ []) ≡ 24
+all_to_the_first = refl
+
+one_to_each : departure (pos 5) (1 ∷ 1 ∷ 1 ∷ []) (pos 2 ∷ pos 2 ∷ pos 1 ∷ []) ≡ 6
+one_to_each = refl
+
+all_to_the_first_is_not_least : DepartsLeast (pos 5) (1 ∷ 1 ∷ 1 ∷ []) (pos 3 ∷ pos 1 ∷ pos 1 ∷ []) → ⊥
+all_to_the_first_is_not_least least = let h = least (pos 2 ∷ pos 2 ∷ pos 1 ∷ []) (refl, refl) in omega arith

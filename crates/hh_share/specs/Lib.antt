@@ -1,2 +1,3 @@
+pub mod Departure
 pub mod Quotas
 pub mod Shares

@@ -3,6 +3,7 @@
 ghost use Rattle.std.specs.Prelude.{◌≡◌, ◌==◌, ℕ, ◌<◌, ◌≤◌, ◌^◌, ◌-◌, ◌*◌, ◌/◌, ◌%◌, ◌≢◌, pos, unsigned_abs, nat_le, nat_lt, if◌then◌else◌, ◌+◌, length, map, replicate, count_by, sum, sum_by, All, IfOk};
 ghost use Rattle.std.specs.List.{list_all};
 ghost use Rattle.hh_share.specs.Shares.{effective, rank, shares, shares_by, with_sign_of, AreQuotasRounded, SumsTo};
+ghost use Rattle.hh_share.specs.Departure.{DepartsLeast};
 ghost use Rattle.hh_share.specs.Quotas.{quota_for, remainders_of};
 
 use std::alloc::{AllocError, Global};
@@ -164,7 +165,8 @@ fn shares_of(
 /// Apportions a total of pence over accounts by their weights, by largest remainders: each account
 /// gets the whole pence of its quota, and of the pence that are left over one each goes to the
 /// accounts with the largest remainders, of equal ones to the earlier. Each share has the total's
-/// sign. Where all weights are 0, each counts as 1.
+/// sign. Where all weights are 0, each counts as 1. No other split of the total into whole pence has a
+/// smaller sum of the squares of its shares' distances from the quotas.
 pub fn apportion(alloc: Global, total: i64, weights: &[u64]) -> Result<Vec<i64>, AllocError>
     requires some { total ≢ pos 0 → 0 < length weights.now }
     ensures shares { IfOk result (λ v. v.items ≡ shares total weights.now) }
@@ -172,6 +174,7 @@ pub fn apportion(alloc: Global, total: i64, weights: &[u64]) -> Result<Vec<i64>,
     ensures sum { IfOk result (λ v. SumsTo total v.items) }
     ensures within { IfOk result (λ v. All (λ s. unsigned_abs s ≤ unsigned_abs total) v.items) }
     ensures quota { IfOk result (λ v. AreQuotasRounded total (effective weights.now) v.items) }
+    ensures least { IfOk result (λ v. DepartsLeast total (effective weights.now) v.items) }
 {
     let weights = effective_weights(alloc, weights)?;
     let quotas = quotas_of(alloc, total.unsigned_abs(), &weights)?;

@@ -1,9 +1,14 @@
 use Rattle.std.proofs.Common.{rules}
 use Rattle.hh_calc.specs.Settled.{IsSettled}
-use Rattle.hh_calc.proofs.PeriodLaws.{adds_up}
+use Rattle.hh_calc.proofs.PeriodLaws.{adds_up, shares_least}
 use Rattle.hh_calc.proofs.settle.settle_period.Goals as goal
 
 pub returns-clause-sums : goal.returns-clause-sums
 returns-clause-sums c =
     let settled : IsSettled c.args.period.now c.new.result = search rules in
     adds_up c.args.period.now c.new.result c.requires.ordered c.requires.named settled
+
+pub returns-clause-least : goal.returns-clause-least
+returns-clause-least c =
+    let settled : IsSettled c.args.period.now c.new.result = search rules in
+    shares_least c.args.period.now c.new.result settled

@@ -3,6 +3,8 @@ use Rattle.std.specs.Int.{w64}
 use Rattle.std.proofs.lemmas.Int.{to_z-of_z}
 use Rattle.std.proofs.lemmas.Result.{IfOk-weaker}
 use Rattle.hh_share.specs.Shares.{effective, AreQuotasRounded, SumsTo}
+use Rattle.hh_share.specs.Departure.{DepartsLeast}
+use Rattle.hh_share.proofs.DepartureLaws.{shares_depart_least}
 use Rattle.hh_share.proofs.QuotaLaws.{quotas_rounded}
 use Rattle.hh_share.proofs.ShareFacts.{shares_are}
 use Rattle.hh_share.proofs.SumLaws.{effective_some, length-shares, shares_sum, shares_within}
@@ -38,3 +40,8 @@ pub returns-clause-quota : goal.returns-clause-quota
 returns-clause-quota c =
     let ws = c.args.weights.now in
     IfOk-weaker c.shares_of.result _ _ (λ v e. subst (AreQuotasRounded c.args.total (effective ws)) (sym e) (quotas_rounded c.args.total ws)) (exact c)
+
+pub returns-clause-least : goal.returns-clause-least
+returns-clause-least c =
+    let ws = c.args.weights.now in
+    IfOk-weaker c.shares_of.result _ _ (λ v e. subst (DepartsLeast c.args.total (effective ws)) (sym e) (shares_depart_least c.args.total ws)) (exact c)
