@@ -88,3 +88,20 @@ fn finds_what_owns_memory(rt: HostRuntime) -> Result<(), Fail> {
     assert!(rt; table.find(&3).is_none());
     Ok(())
 }
+
+#[test]
+fn finds_wherever_it_looks_first(rt: HostRuntime) -> Result<(), Fail> {
+    let none: ListTable<u8, i64> = ListTable::new(rt.alloc());
+    assert_eq!(rt; none.count_below(&3), 0);
+    assert_eq!(rt; none.get_near(0, &3), None);
+    let rows = Vec::from_slice(rt.alloc(), &[(3, 30), (1, 10), (5, 50)])?;
+    let some = none.with_rows(rt.alloc(), rows)?;
+    assert_eq!(rt; some.count_below(&3), 1);
+    assert_eq!(rt; some.count_below(&4), 2);
+    assert_eq!(rt; some.count_below(&9), 3);
+    for place in 0..4 {
+        assert_eq!(rt; some.get_near(place, &3), Some(30));
+        assert_eq!(rt; some.get_near(place, &4), None);
+    }
+    Ok(())
+}
