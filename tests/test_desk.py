@@ -795,7 +795,7 @@ class OffTheirForm(Desk):
             f"run {END} {OPERATOR} {DAY} SF\r",
             f"run {END} {OPERATOR} {DAY} XX",
             f"run {END} {OPERATOR} {DAY} sf",
-            f"run {END} {OPERATOR} {DAY} R4",
+            f"run {END} {OPERATOR} {DAY} RA",
             f"run {END} {OPERATOR} {DAY} II",
             f"run {END} {OPERATOR} 2024-02-30 SF",
             f"run {END} {OPERATOR} 2023-02-29 SF",

@@ -192,7 +192,8 @@ fn ran(change: &RunChange) -> Reply
 
 /// The day of a date that is over at a moment.
 fn day_over(zone: &TimeZone<'_>, moment: i64, date: SettlementDate) -> Result<Day, Fault>
-    ensures over { IfOk result (λ day. IsOverDay (midnight_in (plain_zone zone.now)) moment date day) }
+    ensures over { IfOk result (λ day.
+        IsOverDay (midnight_in (plain_zone zone.now)) moment date day) }
     ensures early { IfErr result (IsEarly (midnight_in (plain_zone zone.now)) moment date) }
 {
     match Day::of(date, zone) {

@@ -19,7 +19,7 @@ fn kinds_of_run_have_codes(rt: HostRuntime) -> Result<(), Fail> {
         assert_eq!(rt; kind.code(), code);
         assert_eq!(rt; RunKind::read(code.as_bytes()), Some(kind));
     }
-    for code in ["", "S", "sf", "SF ", "R4", "II"] {
+    for code in ["", "S", "sf", "SF ", "RA", "II"] {
         assert_eq!(rt; RunKind::read(code.as_bytes()), None, "{code}");
     }
     Ok(())

@@ -85,7 +85,8 @@ fn answer_line<T: Tables, I: Inputs>(
     line: &ScriptLine<'_>,
 ) -> Told
     requires { IsWellNamed (step_of line.now) }
-    ensures comes { StepComesTo (I.reads_as inputs.now) office.old office.new (step_of line.now) result }
+    ensures comes { StepComesTo (I.reads_as inputs.now) office.old office.new
+        (step_of line.now) result }
     ensures untouched { LeavesRefused office.old office.new result }
 {
     match line {

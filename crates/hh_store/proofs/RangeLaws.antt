@@ -2,13 +2,12 @@
 use Rattle.std.proofs.Common.{◌≡◌, ℕ, zero, suc, ◌+◌, ◌-◌, ◌<◌, ◌≤◌, List, [], ◌∷◌, length, take, drop, get_or, refl, sym, ap, ◌∙◌, Bool, true, false, cond, Ordering, arith}
 use Rattle.std.specs.Prelude.{T, filter}
 use Rattle.std.specs.FinMap.{is_sorted}
-use Rattle.std.specs.FinMap.Entries.{below_all}
 use Rattle.std.specs.List.{AllWithin, HoldsAt}
 use Rattle.std.specs.List.Sorted.{IsNonDecreasingBy, IsPartitionPoint, IsPartitionedBy}
 use Rattle.std.specs.Ordering.{is_eq, is_le, is_lt, ordering_index, ordering_reverse, ordering_then}
 use Rattle.std.specs.declared.cmp.Ordering.TheVariants.{Less, Equal, Greater}
 use Rattle.std.proofs.lemmas.List.Sorted.{searchable_from_sorted}
-use Rattle.hh_tables.proofs.RowLaws.{first, second, less}
+use Rattle.hh_tables.proofs.OrderLaws.{rises}
 use Rattle.hh_names.specs.declared.values.Reallocation.{Reallocation}
 use Rattle.hh_names.specs.Accounts.{account_cmp}
 use Rattle.hh_rows.specs.Keys.{reallocation_key_cmp, unit_period_cmp}
@@ -37,29 +36,7 @@ neither_is_same Less h k = cc
 neither_is_same Equal h k = refl
 neither_is_same Greater h k = cc
 
--- the tests of a search, by the number of an order
-lt_by_index : (a b : Ordering) → ordering_index a ≤ ordering_index b → is_lt b ≡ true → is_lt a ≡ true
-lt_by_index Less b h k = refl
-lt_by_index a Equal h k = cc
-lt_by_index a Greater h k = cc
-lt_by_index Equal Less h k = absurd (omega (arith, h))
-lt_by_index Greater Less h k = absurd (omega (arith, h))
-
-le_by_index : (a b : Ordering) → ordering_index a ≤ ordering_index b → is_le b ≡ true → is_le a ≡ true
-le_by_index Less b h k = refl
-le_by_index Equal b h k = refl
-le_by_index a Greater h k = cc
-le_by_index Greater Less h k = absurd (omega (arith, h))
-le_by_index Greater Equal h k = absurd (omega (arith, h))
-
 module _ {E : Type 0} (order : E → Ordering) where
-  -- what a search for the first that is not below may ask, and for the first that is above
-  pub below_partitions : (es : List E) → IsNonDecreasingBy (λ e. ordering_index (order e)) es → IsPartitionedBy (λ e. is_lt (order e)) es
-  below_partitions es rising i j d le inside is = lt_by_index (order (get_or es i d)) (order (get_or es j d)) (rising i j d le inside) is
-
-  pub up_to_partitions : (es : List E) → IsNonDecreasingBy (λ e. ordering_index (order e)) es → IsPartitionedBy (λ e. is_le (order e)) es
-  up_to_partitions es rising i j d le inside is = le_by_index (order (get_or es i d)) (order (get_or es j d)) (rising i j d le inside) is
-
   -- where none is below, those that are not above are the ones of the key
   up_to : (es : List E) (count : ℕ) → AllWithin (λ e. is_lt (order e) ≡ false) es 0 (length es) → IsPartitionPoint (λ e. is_le (order e) ≡ true) (λ e. is_le (order e) ≡ false) es count
       → take count es ≡ filter (λ e. is_eq (order e)) es
@@ -81,19 +58,6 @@ module _ {E : Type 0} (order : E → Ordering) where
   between (e ∷ es) (suc from) count (below, rest) found =
       between es from count ((λ k d lo hi. below (suc k) d (omega arith) (omega (arith, hi))), (λ k d lo hi. rest (suc k) d (omega (arith, lo)) (omega (arith, hi)))) found
       ∙ sym (ap (λ b. cond b (e ∷ filter (λ f. is_eq (order f)) es) (filter (λ f. is_eq (order f)) es)) (below_is_other (order e) (below zero e (omega arith) (omega arith))))
-
-module _ {K V : Type 0} (R : K → K → Ordering) where
-  below_at : (k : K) (es : List (K × V)) → T (below_all R k es) → (j : ℕ) (d : K × V) → j < length es → R k (get_or es j d).0 ≡ Less
-  below_at k [] h j d in' = absurd (omega (arith, in'))
-  below_at k (e ∷ es) h zero d in' = less _ (first _ _ h)
-  below_at k (e ∷ es) h (suc j) d in' = below_at k es (second _ _ h) j d (omega (arith, in'))
-
-  -- each key is below each later one
-  rises : (es : List (K × V)) → T (is_sorted R es) → (i j : ℕ) (d : K × V) → i < j → j < length es → R (get_or es i d).0 (get_or es j d).0 ≡ Less
-  rises [] h i j d lt in' = absurd (omega (arith, in'))
-  rises (e ∷ es) h i zero d lt in' = absurd (omega (arith, lt))
-  rises (e ∷ es) h zero (suc j) d lt in' = below_at e.0 es (first _ _ h) j d (omega (arith, in'))
-  rises (e ∷ es) h (suc i) (suc j) d lt in' = rises es (second _ _ h) i j d (omega (arith, lt)) (omega (arith, in'))
 
 -- the order of a reallocation's unit and Settlement Period beside a key
 abbrev pub beside : UnitPeriod → ReallocationKey × Reallocation → Ordering

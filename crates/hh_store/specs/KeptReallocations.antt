@@ -13,8 +13,8 @@ module _ (key : UnitPeriod) where
   is_before e = is_lt (unit_period_cmp e.0.unit_period key)
 
   -- whether a reallocation is of no later unit, and of the unit in no later Settlement Period
-  abbrev pub is_up_to : ReallocationKey × Reallocation → Bool
-  is_up_to e = is_le (unit_period_cmp e.0.unit_period key)
+  abbrev pub is_no_later : ReallocationKey × Reallocation → Bool
+  is_no_later e = is_le (unit_period_cmp e.0.unit_period key)
 
   -- the reallocations of the unit in the Settlement Period begin at this place, or would
   abbrev pub BeginAt : List (ReallocationKey × Reallocation) → ℕ → Type 0

@@ -8,7 +8,7 @@ ghost use Rattle.hh_rules.specs.RegisterView.{reallocations_at};
 ghost use Rattle.hh_store.specs.DayReads.{IsDayData, IsRollOf, row_on};
 ghost use Rattle.hh_store.specs.DaySettlement.{missing_meter, missing_price, periods_on, unit_periods_at};
 ghost use Rattle.hh_store.specs.KeptContracts.{is_in_period};
-ghost use Rattle.hh_store.specs.KeptReallocations.{is_before, is_up_to, BeginAt};
+ghost use Rattle.hh_store.specs.KeptReallocations.{is_before, is_no_later, BeginAt};
 ghost use Rattle.hh_tables.specs.Tables.{IsTable};
 ghost use Rattle.hh_store.specs.PeriodSettlement.{accounts_on, price_of, reading_of, row_in_force, subsidiaries_of, terms_at, unit_at, units_on};
 
@@ -453,21 +453,21 @@ fn is_before(row: &(ReallocationKey, Reallocation), key: &UnitPeriod) -> bool
 }
 
 /// Whether a reallocation is of no later unit, and of the unit in no later Settlement Period.
-fn is_up_to(row: &(ReallocationKey, Reallocation), key: &UnitPeriod) -> bool
-    ensures { result ≡ is_up_to key.now row.now }
+fn is_no_later(row: &(ReallocationKey, Reallocation), key: &UnitPeriod) -> bool
+    ensures { result ≡ is_no_later key.now row.now }
 {
     row.0.unit_period.cmp(key).is_le()
 }
 
 /// How many of the first reallocations are not of a later unit or Settlement Period.
 fn count_of(rows: &[(ReallocationKey, Reallocation)], key: &UnitPeriod) -> usize
-    ensures front { AllWithin (λ e. is_up_to key.now e ≡ true) rows.now 0 result }
+    ensures front { AllWithin (λ e. is_no_later key.now e ≡ true) rows.now 0 result }
     ensures behind { result < length rows.now
-        → HoldsAt (λ e. is_up_to key.now e ≡ false) rows.now result }
+        → HoldsAt (λ e. is_no_later key.now e ≡ false) rows.now result }
     ensures within { result ≤ length rows.now }
 {
     for (count, row) in rows.iter().enumerate() {
-        if !is_up_to(row, key) {
+        if !is_no_later(row, key) {
             return count;
         }
     }

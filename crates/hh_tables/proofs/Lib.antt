@@ -1,4 +1,5 @@
 pub mod MergeLaws
+pub mod OrderLaws
 pub mod RowLaws
 pub mod SearchLaws
 pub mod TableFacts

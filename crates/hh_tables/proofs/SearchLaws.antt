@@ -1,64 +1,36 @@
 -- Where a binary search among the rows of a table ends, and what stands there.
-use Rattle.std.proofs.Common.{◌≡◌, ℕ, zero, suc, ◌+◌, ◌<◌, ◌≤◌, List, [], ◌∷◌, length, get_or, set, true, false, cond, refl, sym, ap, subst, ◌∙◌, arith, Some, None, Ordering, inl, inr}
+use Rattle.std.proofs.Common.{◌≡◌, ℕ, zero, suc, ◌+◌, ◌<◌, List, [], ◌∷◌, length, get_or, set, false, cond, refl, sym, ap, subst, ◌∙◌, arith, Some, None, Ordering, inl, inr}
 use Rattle.std.specs.Prelude.{T, insert}
 use Rattle.std.specs.Cmp.{IsTotalOrder, alike_right, eq_by_cmp_equiv, tied_back}
 use Rattle.std.specs.FinMap.{find, put, is_sorted}
-use Rattle.std.specs.FinMap.Entries.{below_all, by_order, is_sorted-put}
+use Rattle.std.specs.FinMap.Entries.{by_order, is_sorted-put}
 use Rattle.std.specs.List.{HoldsAt}
-use Rattle.std.specs.List.Sorted.{IsNonDecreasingBy, IsPartitionPoint, IsPartitionedBy}
+use Rattle.std.specs.List.Sorted.{IsNonDecreasingBy, IsPartitionPoint}
 use Rattle.std.specs.Ordering.{is_eq, is_lt, ordering_index, ordering_reverse}
 use Rattle.std.specs.declared.cmp.Ordering.TheVariants.{Less, Equal, Greater}
 use Rattle.std.proofs.lemmas.Bool.{cases_lt}
 use Rattle.std.proofs.lemmas.List.Sorted.{searchable_from_sorted}
 use Rattle.hh_tables.specs.Tables.{IsTable}
 use Rattle.hh_tables.proofs.MergeLaws.{from_true, true_from}
-use Rattle.hh_tables.proofs.RowLaws.{equal, first, second, less}
-
--- whether less, by the number of an order
-lt_by_index : (a b : Ordering) → ordering_index a ≤ ordering_index b → is_lt b ≡ true → is_lt a ≡ true
-lt_by_index Less b h k = refl
-lt_by_index a Equal h k = cc
-lt_by_index a Greater h k = cc
-lt_by_index Equal Less h k = absurd (omega (arith, h))
-lt_by_index Greater Less h k = absurd (omega (arith, h))
+use Rattle.hh_tables.proofs.OrderLaws.{below_at, rises}
+use Rattle.hh_tables.proofs.RowLaws.{first, second}
 
 module _ {K V : Type 0} {R : K → K → Ordering} (o : IsTotalOrder R) where
-  below_at : (k : K) (es : List (K × V)) → T (below_all R k es) → (j : ℕ) (d : K × V) → j < length es → R k (get_or es j d).0 ≡ Less
-  below_at k [] h j d in' = absurd (omega arith)
-  below_at k (e ∷ es) h zero d in' = less _ (first _ _ h)
-  below_at k (e ∷ es) h (suc j) d in' = below_at k es (second _ _ h) j d (omega arith)
-
-  -- each key is below each later one
-  rises : (es : List (K × V)) → T (is_sorted R es) → (i j : ℕ) (d : K × V) → i < j → j < length es → R (get_or es i d).0 (get_or es j d).0 ≡ Less
-  rises [] h i j d lt in' = absurd (omega arith)
-  rises (e ∷ es) h i zero d lt in' = absurd (omega arith)
-  rises (e ∷ es) h zero (suc j) d lt in' = below_at e.0 es (first _ _ h) j d (omega arith)
-  rises (e ∷ es) h (suc i) (suc j) d lt in' = rises es (second _ _ h) i j d (omega arith) (omega arith)
-
-  -- so that a binary search may be made
-  searchable : (es : List (K × V)) → IsTable R es → (k : K) → IsNonDecreasingBy (λ row. ordering_index (R row.0 k)) es
+  -- a binary search may be made
+  pub searchable : (es : List (K × V)) → IsTable R es → (k : K) → IsNonDecreasingBy (λ row. ordering_index (R row.0 k)) es
   searchable es rising k = searchable_from_sorted o (λ row. row.0) es k (λ j d low high.
-      ap is_lt (o.antisymm (get_or es (j + 1) d).0 (get_or es j d).0 ∙ ap ordering_reverse (rises es (from_true _ rising) j (j + 1) d (omega arith) high)))
+      ap is_lt (o.antisymm (get_or es (j + 1) d).0 (get_or es j d).0 ∙ ap ordering_reverse (rises R es (from_true _ rising) j (j + 1) d (omega arith) high)))
 
   -- a row at which it ends is the one of its key
   found_sorted : (es : List (K × V)) → T (is_sorted R es) → (k : K) (i : ℕ) (d : K × V) → i < length es → R (get_or es i d).0 k ≡ Equal → find R k es ≡ Some (get_or es i d).1
   found_sorted [] h k i d in' is = absurd (omega arith)
   found_sorted (e ∷ es) h k zero d in' is = ap (λ r. cond (is_eq r) (Some e.1) (find R k es)) (tied_back o e.0 k is)
   found_sorted (e ∷ es) h k (suc i) d in' is =
-      ap (λ r. cond (is_eq r) (Some e.1) (find R k es)) (o.antisymm k e.0 ∙ ap ordering_reverse (sym (alike_right o (get_or es i d).0 k e.0 is) ∙ below_at e.0 es (first _ _ h) i d (omega arith)))
+      ap (λ r. cond (is_eq r) (Some e.1) (find R k es)) (o.antisymm k e.0 ∙ ap ordering_reverse (sym (alike_right o (get_or es i d).0 k e.0 is) ∙ below_at R e.0 es (first _ _ h) i d (omega arith)))
       ∙ found_sorted es (second _ _ h) k i d (omega arith) is
 
   found : (es : List (K × V)) → IsTable R es → (k : K) (i : ℕ) (row : K × V) → i < length es → row ≡ get_or es i row → ((d : K × V) → R (get_or es i d).0 k ≡ Equal) → Some row.1 ≡ find R k es
   found es rising k i row in' is here = ap (λ (e : K × V). Some e.1) is ∙ sym (found_sorted es (from_true _ rising) k i row in' (here row))
-
-  -- and the first row may be sought that is not below the key
-  pub below_partitions : (es : List (K × V)) → IsTable R es → (k : K) → IsPartitionedBy (λ row. is_lt (R row.0 k)) es
-  below_partitions es rising k i j d le inside is = lt_by_index (R (get_or es i d).0 k) (R (get_or es j d).0 k) (searchable es rising k i j d le inside) is
-
-  -- a row that is of the key, wherever it was come upon
-  pub met_at : (es : List (K × V)) → IsTable R es → (k : K) (i : ℕ) (row : K × V) → i < length es → row ≡ get_or es i row → is_eq (R row.0 k) ≡ true → find R k es ≡ Some row.1
-  met_at es rising k i row in' is here =
-      found_sorted es (from_true _ rising) k i row in' (ap (λ (e : K × V). R e.0 k) (sym is) ∙ equal _ here) ∙ ap (λ (e : K × V). Some e.1) (sym is)
 
   -- a place between the lower and the higher keys has no row of the key
   none_of : (es : List (K × V)) (k : K) → ((j : ℕ) (d : K × V) → j < length es → is_eq (R (get_or es j d).0 k) ≡ false) → find R k es ≡ None
@@ -78,7 +50,7 @@ module _ {K V : Type 0} {R : K → K → Ordering} (o : IsTotalOrder R) where
   put_found (e ∷ es) h k v zero d in' is = ap (λ r. by_order r ((k, v) ∷ e ∷ es) ((e.0, v) ∷ es) (e ∷ put R k v es)) (sym (tied_back o e.0 k is))
   put_found (e ∷ es) h k v (suc i) d in' is =
       ap (λ l. e ∷ l) (put_found es (second _ _ h) k v i d (omega arith) is)
-      ∙ ap (λ r. by_order r ((k, v) ∷ e ∷ es) ((e.0, v) ∷ es) (e ∷ put R k v es)) (sym (o.antisymm k e.0 ∙ ap ordering_reverse (sym (alike_right o (get_or es i d).0 k e.0 is) ∙ below_at e.0 es (first _ _ h) i d (omega arith))))
+      ∙ ap (λ r. by_order r ((k, v) ∷ e ∷ es) ((e.0, v) ∷ es) (e ∷ put R k v es)) (sym (o.antisymm k e.0 ∙ ap ordering_reverse (sym (alike_right o (get_or es i d).0 k e.0 is) ∙ below_at R e.0 es (first _ _ h) i d (omega arith))))
 
   put_missed : (es : List (K × V)) (k : K) (v : V) (i : ℕ) → IsPartitionPoint (λ row. R row.0 k ≡ Less) (λ row. R row.0 k ≡ Greater) es i → insert es i (k, v) ≡ put R k v es
   put_missed [] k v zero (below, above) = refl

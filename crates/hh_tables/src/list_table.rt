@@ -1,9 +1,10 @@
 //! Tables in memory, kept as lists of rows in the order of their keys.
 
-ghost use Rattle.std.specs.Prelude.{◌≡◌, ◌≤◌, ◌++◌, [], length, IfOk, IfSome, OnErr, OnOk, Some};
+ghost use Rattle.std.specs.Prelude.{◌≡◌, ◌<◌, ◌≤◌, ◌++◌, [], length, true, IfOk, IfSome, OnErr, OnOk, Some};
 ghost use Rattle.std.specs.Option.{option_copied};
 ghost use Rattle.std.specs.FinMap.{find, put};
-ghost use Rattle.std.specs.List.{prefix_len};
+ghost use Rattle.std.specs.List.{prefix_len, HoldsAt};
+ghost use Rattle.std.specs.declared.cmp.Ordering.TheVariants.{Equal};
 ghost use Rattle.std.specs.List.Sorted.{IsSortedByKey, IsStableByKey};
 ghost use Rattle.hh_tables.specs.Merges.{is_up_to, AreUpTo};
 ghost use Rattle.hh_tables.specs.Places.{IsPlaceOf};
@@ -82,6 +83,32 @@ impl<K: Ord + Copy, V: Drop> ListTable<K, V> {
 }
 
 impl<K: Ord + Copy, V: Copy> ListTable<K, V> {
+    /// Puts a row into the table, in the place of the one under its key if there is one. That is looked
+    /// for at this place first, which may be any; where the place is the row's, that takes one comparison.
+    /// `Err` only where memory is refused: the table is then as it was.
+    pub fn put_near(&mut self, place: usize, key: K, value: V) -> Result<(), AllocError>
+        ensures ok { OnOk result (self.new ≡ put K.cmp key value self.old) }
+        ensures err { OnErr result (self.new ≡ self.old) }
+    {
+        if self.is_at(place, &key) {
+            self.rows[place].1 = value;
+            return Ok(());
+        }
+        self.put_row(key, value)
+    }
+
+    /// Whether the row at a place is that of a key.
+    fn is_at(&self, place: usize, key: &K) -> bool
+        ensures inside { result ≡ true → place < length self.now }
+        ensures same { result ≡ true
+            → HoldsAt (λ row. K.cmp row.0 key.now ≡ Equal) self.now place }
+    {
+        if place >= self.rows.len() {
+            return false;
+        }
+        self.rows[place].0.cmp(key).is_eq()
+    }
+
     /// The columns of the row under a key, if there is one.
     pub fn get(&self, key: &K) -> Option<V>
         ensures value { result ≡ find K.cmp key.now self.now }
@@ -102,25 +129,10 @@ impl<K: Ord + Copy, V: Copy> ListTable<K, V> {
     pub fn get_near(&self, place: usize, key: &K) -> Option<V>
         ensures { result ≡ find K.cmp key.now self.now }
     {
-        match self.row_at(place, key) {
-            Some(value) => Some(value),
-            None => self.get(key),
+        if self.is_at(place, key) {
+            return Some(self.rows[place].1);
         }
-    }
-
-    /// The columns of the row at a place, if it is that of a key.
-    fn row_at(&self, place: usize, key: &K) -> Option<V>
-        ensures { IfSome result (λ value. find K.cmp key.now self.now ≡ Some value) }
-    {
-        if place >= self.rows.len() {
-            return None;
-        }
-        let row = &self.rows[place];
-        if row.0.cmp(key).is_eq() {
-            Some(row.1)
-        } else {
-            None
-        }
+        self.get(key)
     }
 
     /// A new table: this one, with rows in the place of those of their keys. Of several rows of one key

@@ -105,3 +105,16 @@ fn finds_wherever_it_looks_first(rt: HostRuntime) -> Result<(), Fail> {
     }
     Ok(())
 }
+
+#[test]
+fn puts_wherever_it_looks_first(rt: HostRuntime) -> Result<(), Fail> {
+    for place in 0..4 {
+        let mut table: ListTable<u8, i64> = ListTable::new(rt.alloc());
+        for key in [5, 1, 3, 1] {
+            assert!(rt; table.put_near(place, key, i64::from(key) * 10).is_ok());
+        }
+        assert!(rt; table.put_near(place, 3, 31).is_ok());
+        assert_eq!(rt; table.rows(), [(1, 10), (3, 31), (5, 50)].as_slice());
+    }
+    Ok(())
+}

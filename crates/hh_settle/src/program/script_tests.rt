@@ -60,6 +60,60 @@ fault file
 
 const METERS: &str = "unit,date,period,metered_mwh,tlm,balancing_mwh\n";
 
+/// The files that are short enough to be written out.
+const FILES: [(&str, &str); 15] = [
+    ("s.script", SCRIPT),
+    (
+        "data/f1.csv",
+        "party,from,to,key\nGENCO,2024-01-01,,genco0001\nSUPCO,2024-01-01,,supco0001\n",
+    ),
+    (
+        "f2.csv",
+        "unit,party,side,interconnector,from,to\nG1,GENCO,P,no,2024-01-01,\nS1,SUPCO,C,no,2024-01-01,\n",
+    ),
+    ("f3.csv", "reference,seller,buyer,date,period,mwh\nC1,GENCO-P,SUPCO-C,2024-07-01,1,99.000\n"),
+    (
+        "in_time.csv",
+        "reference,seller,buyer,date,period,mwh\nC1,GENCO-P,SUPCO-C,2024-07-01,1,98.000\n",
+    ),
+    (
+        "late.csv",
+        "reference,seller,buyer,date,period,mwh\nC1,GENCO-P,SUPCO-C,2024-07-01,1,97.000\n",
+    ),
+    (
+        "earlier.csv",
+        "reference,seller,buyer,date,period,mwh\nC1,GENCO-P,SUPCO-C,2024-07-01,1,96.000\n",
+    ),
+    (
+        "changed/in_time.csv",
+        "reference,seller,buyer,date,period,mwh\nC1,GENCO-P,SUPCO-C,2024-07-01,1,98.001\n",
+    ),
+    (
+        "bad.csv",
+        "reference,seller,buyer,date,period,mwh\nC2,GENCO-P,SUPCO-C,2024-07-01,2,1\n\
+                C3,GENCO-P,SUPCO-C,2024-07-01,2,1\nC4,GENCO-P,GENCO-P,2024-07-01,2,1\n",
+    ),
+    (
+        "all.csv",
+        "unit,account,date,period,percent,fixed_mwh\nG1,SUPCO-P,2024-07-01,1,60,0\n\
+                G1,SUPCO-C,2024-07-01,1,40,0\n",
+    ),
+    (
+        "over.csv",
+        "unit,account,date,period,percent,fixed_mwh\nG1,SUPCO-C,2024-07-01,1,40.00001,0\n",
+    ),
+    ("header.csv", METERS),
+    ("nothing.csv", ""),
+    (
+        "most.csv",
+        "reference,seller,buyer,date,period,mwh\nC5,GENCO-P,SUPCO-C,2024-07-01,1,10000.000\n",
+    ),
+    (
+        "more.csv",
+        "reference,seller,buyer,date,period,mwh\nC5,GENCO-P,SUPCO-C,2024-07-01,1,10000.001\n",
+    ),
+];
+
 /// The readings of both units, of which only those of the first period aren't 0.
 fn readings(alloc: Global) -> Result<String, Fail> {
     let mut text = String::from_str(alloc, METERS)?;
@@ -135,64 +189,13 @@ fn loads_a_day(rt: HostRuntime) -> Result<(), Fail> {
     let readings = readings(alloc)?;
     let prices = prices(alloc)?;
     let long = too_many_readings(alloc)?;
-    let files = [
-        file("s.script", SCRIPT),
-        file(
-            "data/f1.csv",
-            "party,from,to,key\nGENCO,2024-01-01,,genco0001\nSUPCO,2024-01-01,,supco0001\n",
-        ),
-        file(
-            "f2.csv",
-            "unit,party,side,interconnector,from,to\nG1,GENCO,P,no,2024-01-01,\nS1,SUPCO,C,no,2024-01-01,\n",
-        ),
-        file(
-            "f3.csv",
-            "reference,seller,buyer,date,period,mwh\nC1,GENCO-P,SUPCO-C,2024-07-01,1,99.000\n",
-        ),
-        file("f4.csv", readings.as_str()),
-        file("f5.csv", prices.as_str()),
-        file(
-            "in_time.csv",
-            "reference,seller,buyer,date,period,mwh\nC1,GENCO-P,SUPCO-C,2024-07-01,1,98.000\n",
-        ),
-        file(
-            "late.csv",
-            "reference,seller,buyer,date,period,mwh\nC1,GENCO-P,SUPCO-C,2024-07-01,1,97.000\n",
-        ),
-        file(
-            "earlier.csv",
-            "reference,seller,buyer,date,period,mwh\nC1,GENCO-P,SUPCO-C,2024-07-01,1,96.000\n",
-        ),
-        file(
-            "changed/in_time.csv",
-            "reference,seller,buyer,date,period,mwh\nC1,GENCO-P,SUPCO-C,2024-07-01,1,98.001\n",
-        ),
-        file(
-            "bad.csv",
-            "reference,seller,buyer,date,period,mwh\nC2,GENCO-P,SUPCO-C,2024-07-01,2,1\n\
-                C3,GENCO-P,SUPCO-C,2024-07-01,2,1\nC4,GENCO-P,GENCO-P,2024-07-01,2,1\n",
-        ),
-        file(
-            "all.csv",
-            "unit,account,date,period,percent,fixed_mwh\nG1,SUPCO-P,2024-07-01,1,60,0\n\
-                G1,SUPCO-C,2024-07-01,1,40,0\n",
-        ),
-        file(
-            "over.csv",
-            "unit,account,date,period,percent,fixed_mwh\nG1,SUPCO-C,2024-07-01,1,40.00001,0\n",
-        ),
-        file("header.csv", METERS),
-        file("nothing.csv", ""),
-        file("long.csv", long.as_str()),
-        file(
-            "most.csv",
-            "reference,seller,buyer,date,period,mwh\nC5,GENCO-P,SUPCO-C,2024-07-01,1,10000.000\n",
-        ),
-        file(
-            "more.csv",
-            "reference,seller,buyer,date,period,mwh\nC5,GENCO-P,SUPCO-C,2024-07-01,1,10000.001\n",
-        ),
-    ];
+    let mut files = Vec::with_capacity(alloc, FILES.len() + 3)?;
+    for (path, text) in FILES {
+        files.push(file(path, text))?;
+    }
+    files.push(file("f4.csv", readings.as_str()))?;
+    files.push(file("f5.csv", prices.as_str()))?;
+    files.push(file("long.csv", long.as_str()))?;
     runs(&rt, &files, ROOM, 0, REPLIES, "")
 }
 

@@ -1,7 +1,8 @@
 use Rattle.std.proofs.Common.{◌≡◌, ◌≤◌, true, false, rules, arith, length}
 use Rattle.hh_tables.proofs.MergeLaws.{from_true}
+use Rattle.hh_tables.proofs.OrderLaws.{below_partitions}
 use Rattle.hh_store.specs.KeptReallocations.{is_before}
-use Rattle.hh_store.proofs.RangeLaws.{all_before, below_partitions, beside, beside_rises, none_behind}
+use Rattle.hh_store.proofs.RangeLaws.{all_before, beside, beside_rises, none_behind}
 use Rattle.hh_store.proofs.kept_day.begin_at.Goals as goal
 
 pub returns-clause-begins : goal.returns-clause-begins

@@ -2,8 +2,9 @@ use Rattle.std.proofs.Common.{rules}
 use borrow.Author.Tests.{tests}
 use Rattle.std.proofs.lemmas.List.Sorted.{IsPartitionPoint-from_clause}
 use Rattle.hh_tables.proofs.MergeLaws.{from_true}
+use Rattle.hh_tables.proofs.OrderLaws.{below_partitions}
 use Rattle.hh_store.specs.KeptReallocations.{is_before}
-use Rattle.hh_store.proofs.RangeLaws.{below_partitions, beside, beside_rises}
+use Rattle.hh_store.proofs.RangeLaws.{beside, beside_rises}
 use Rattle.hh_store.proofs.kept_day.first_of.Goals as goal
 
 pub returns-clause-begins : goal.returns-clause-begins

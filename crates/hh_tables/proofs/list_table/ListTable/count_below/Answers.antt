@@ -4,7 +4,8 @@ use Rattle.std.specs.Ordering.{is_lt}
 use Rattle.std.proofs.lemmas.List.Sorted.{IsPartitionPoint-from_clause}
 use Rattle.hh_tables.specs.Places.{IsPlaceOf}
 use Rattle.hh_tables.specs.Tables.{IsTable}
-use Rattle.hh_tables.proofs.SearchLaws.{below_partitions}
+use Rattle.hh_tables.proofs.OrderLaws.{below_partitions}
+use Rattle.hh_tables.proofs.SearchLaws.{searchable}
 use Rattle.hh_tables.proofs.list_table.ListTable.count_below.Goals as goal
 
 pub returns : goal.returns
@@ -14,4 +15,4 @@ returns g c =
     let key = c.args.key.now in
     subst (λ es. IsPlaceOf g.K.Ord.cmp key es c.partition_point.result) (sym is)
     (IsPartitionPoint-from_clause (λ row. is_lt (g.K.Ord.cmp row.0 key)) c.deref.result.now c.partition_point.result c.partition_point.ensures.partitioned
-    (below_partitions g.met.K.Ord.total c.deref.result.now (subst (IsTable g.K.Ord.cmp) is rising) key) (λ a r f k. search (rules, tests)))
+    (below_partitions (λ row. g.K.Ord.cmp row.0 key) c.deref.result.now (searchable g.met.K.Ord.total c.deref.result.now (subst (IsTable g.K.Ord.cmp) is rising) key)) (λ a r f k. search (rules, tests)))
