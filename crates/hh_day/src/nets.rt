@@ -17,20 +17,29 @@ pub(crate) fn nets_of<K>(alloc: Global, rows: &[(K, AccountRow)]) -> Result<DayN
     ensures { IfOk result (AreNetsOf rows.now) }
 {
     let mut nets = DayNetTable::new(alloc);
+    let mut place = 0;
     for row in rows {
-        add_row(&mut nets, &row.1)?;
+        add_row(&mut nets, place, &row.1)?;
+        place = place_behind(place, nets.len());
     }
     Ok(nets)
 }
 
-/// Adds what a row moves to the net of its account.
-fn add_row(nets: &mut DayNetTable, row: &AccountRow) -> Result<(), StoreFault>
+/// The place behind a place among so many; behind the last it is the first. There the net of the next
+/// row's account likely lies: each Settlement Period has rows of the same accounts in the same order.
+fn place_behind(place: usize, count: usize) -> usize {
+    let next = place.saturating_add(1);
+    if next < count { next } else { 0 }
+}
+
+/// Adds what a row moves to the net of its account, which is looked for at this place first.
+fn add_row(nets: &mut DayNetTable, place: usize, row: &AccountRow) -> Result<(), StoreFault>
     ensures { OnOk result (AddsRow row.now nets.old nets.new) }
 {
-    let Some(net) = net_with(nets.get(&row.account), row) else {
+    let Some(net) = net_with(nets.get_near(place, &row.account), row) else {
         return Err(StoreFault::Store);
     };
-    nets.put_row(row.account, net)?;
+    nets.put_near(place, row.account, net)?;
     Ok(())
 }
 

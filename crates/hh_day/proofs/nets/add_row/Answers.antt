@@ -6,5 +6,5 @@ use Rattle.hh_day.proofs.nets.add_row.Goals as goal
 
 pub returns : goal.returns
 returns c =
-    subst (AddsRow c.args.row.now c.args.nets.now) (sym c.in_ok-put_row.ensures.ok)
-    (adds_row c.args.nets.now c.args.row.now c.in-Some.net (c.in-Some.ensures ∙ ap (λ net. unwrap_or net (pos 0) +ℤ (c.args.row.now.charge +ℤ c.args.row.now.share)) c.get.ensures.value))
+    subst (AddsRow c.args.row.now c.args.nets.now) (sym c.in_ok-put_near.ensures.ok)
+    (adds_row c.args.nets.now c.args.row.now c.in-Some.net (c.in-Some.ensures ∙ ap (λ net. unwrap_or net (pos 0) +ℤ (c.args.row.now.charge +ℤ c.args.row.now.share)) c.get_near.ensures))
