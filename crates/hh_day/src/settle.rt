@@ -1,6 +1,7 @@
 //! The Settlement Periods of a date, settled.
 
-ghost use Rattle.std.specs.Prelude.{◌≡◌, IfOk};
+ghost use Rattle.std.specs.Prelude.{◌≡◌, All, IfErr, IfOk};
+ghost use Rattle.hh_calc.specs.Ready.{IsReady};
 ghost use Rattle.hh_day.specs.NewRuns.{SettlesDay};
 ghost use Rattle.hh_day.specs.PeriodSteps.{SettlesPeriod};
 ghost use Rattle.hh_store.specs.DaySettlement.{periods_on};
@@ -63,7 +64,9 @@ pub enum SettledDay {
 /// `Memory` where memory is refused; `Store` where the terms of a period don't fit together, which those
 /// of a state that the machine reaches do.
 pub fn settle_day(alloc: Global, day: &Day, terms: &[PeriodData]) -> Result<SettledDay, StoreFault>
-    ensures { IfOk result (SettlesDay (periods_on day.now.date day.now.count) terms.now) }
+    ensures settles { IfOk result (SettlesDay (periods_on day.now.date day.now.count) terms.now) }
+    ensures memory_alone { All IsReady terms.now
+        → IfErr result (λ fault. fault ≡ StoreFault.Memory) }
 {
     let periods = periods_of(alloc, day)?;
     settle_periods(alloc, &periods, terms)
@@ -91,7 +94,9 @@ fn settle_periods(
     periods: &[SettlementPeriod],
     terms: &[PeriodData],
 ) -> Result<SettledDay, StoreFault>
-    ensures { IfOk result (SettlesDay periods.now terms.now) }
+    ensures settles { IfOk result (SettlesDay periods.now terms.now) }
+    ensures memory_alone { All IsReady terms.now
+        → IfErr result (λ fault. fault ≡ StoreFault.Memory) }
 {
     let mut settled = Vec::with_capacity(alloc, periods.len())?;
     for (at, period_terms) in periods.iter().zip(terms) {
@@ -109,7 +114,9 @@ fn settle_at(
     at: &SettlementPeriod,
     terms: &PeriodData,
 ) -> Result<Option<SettledPeriod>, StoreFault>
-    ensures { IfOk result (SettlesPeriod at.now terms.now) }
+    ensures settles { IfOk result (SettlesPeriod at.now terms.now) }
+    ensures memory_alone { IsReady terms.now
+        → IfErr result (λ fault. fault ≡ StoreFault.Memory) }
 {
     // Does nothing, but carries a law for the proof.
     settled_in_one_way();
