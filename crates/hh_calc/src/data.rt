@@ -20,6 +20,8 @@ pub struct Subsidiary {
 pub struct UnitData {
     unit: UnitId,
     lead: Account,
+    /// Where the lead account is looked for first among the accounts of the period.
+    near: usize,
     interconnector: bool,
     reading: Reading,
     subsidiaries: Vec<Subsidiary>,
@@ -47,10 +49,27 @@ impl UnitData {
         UnitData {
             unit,
             lead,
+            near: 0,
             interconnector,
             reading,
             subsidiaries,
         }
+    }
+
+    /// The same unit, whose lead account is looked for at this place first among the accounts of the
+    /// period. It may be any: a wrong place costs time alone.
+    pub fn with_lead_near(self, place: usize) -> UnitData
+        ensures { result ≡ self }
+    {
+        UnitData {
+            near: place,
+            ..self
+        }
+    }
+
+    /// Where to look first for its lead account among the accounts of the period.
+    pub(crate) fn lead_near(&self) -> usize {
+        self.near
     }
 
     /// The unit's id.

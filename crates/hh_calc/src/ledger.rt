@@ -39,8 +39,9 @@ fn add_unit(
 {
     let first = credits.len();
     push_credits(credits, unit)?;
-    add_credits(accounts, &credits[first..], !unit.is_interconnector(), sums);
-    add_to(accounts, &unit.lead(), amounts_of_balancing(unit), sums);
+    let (near, weighs) = (unit.lead_near(), !unit.is_interconnector());
+    add_credits(accounts, &credits[first..], near, weighs, sums);
+    add_to(accounts, &unit.lead(), near, amounts_of_balancing(unit), sums);
     Ok(())
 }
 

@@ -4,6 +4,7 @@
 mod credits;
 mod data;
 mod ledger;
+mod places;
 mod ready;
 mod result;
 mod settle;

@@ -6,6 +6,7 @@ ghost use Rattle.hh_names.specs.Accounts.{account_cmp};
 ghost use Rattle.hh_calc.specs.Ready.{AreAccountsInOrder, AreSubsidiariesNamed, HasFewSubsidiaries, IsContractNamed, IsNamed, IsReady, IsUnitNamed};
 
 use crate::data::{PeriodData, Subsidiary, UnitData};
+use crate::places::place_of;
 use hh_names::{Account, Contract};
 use std::cmp::Ordering;
 
@@ -31,14 +32,14 @@ fn are_in_order(accounts: &[Account]) -> bool
     true
 }
 
-/// Whether an account is one of these.
-fn is_named(accounts: &[Account], account: &Account) -> bool
+/// Whether an account is one of these. It is looked for at a place first, which may be any.
+fn is_named(accounts: &[Account], account: &Account, near: usize) -> bool
     requires { AreAccountsInOrder accounts.now }
     ensures { IsTrue result ↔ IsNamed accounts.now account.now }
 {
-    match accounts.binary_search(account) {
-        Ok(_) => true,
-        Err(_) => false,
+    match place_of(accounts, account, near) {
+        Some(_) => true,
+        None => false,
     }
 }
 
@@ -48,7 +49,7 @@ fn are_subsidiaries_named(accounts: &[Account], subsidiaries: &[Subsidiary]) -> 
     ensures { IsTrue result ↔ AreSubsidiariesNamed accounts.now subsidiaries.now }
 {
     for subsidiary in subsidiaries {
-        if !is_named(accounts, &subsidiary.account) {
+        if !is_named(accounts, &subsidiary.account, 0) {
             return false;
         }
     }
@@ -60,7 +61,8 @@ fn is_unit_named(accounts: &[Account], unit: &UnitData) -> bool
     requires { AreAccountsInOrder accounts.now }
     ensures { IsTrue result ↔ IsUnitNamed accounts.now unit.now }
 {
-    is_named(accounts, &unit.lead()) && are_subsidiaries_named(accounts, unit.subsidiaries())
+    is_named(accounts, &unit.lead(), unit.lead_near())
+        && are_subsidiaries_named(accounts, unit.subsidiaries())
 }
 
 /// Whether the lead account and the subsidiaries of each unit are some of these accounts.
@@ -93,8 +95,8 @@ fn is_contract_named(accounts: &[Account], contract: &Contract) -> bool
     requires { AreAccountsInOrder accounts.now }
     ensures { IsTrue result ↔ IsContractNamed accounts.now contract.now }
 {
-    is_named(accounts, &contract.counterparties.seller)
-        && is_named(accounts, &contract.counterparties.buyer)
+    is_named(accounts, &contract.counterparties.seller, 0)
+        && is_named(accounts, &contract.counterparties.buyer, 0)
 }
 
 /// Whether the seller and the buyer of each contract are some of these accounts.

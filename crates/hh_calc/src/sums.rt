@@ -7,6 +7,7 @@ ghost use Rattle.hh_calc.specs.Ready.{most_subsidiaries, AreAccountsInOrder, IsC
 ghost use Rattle.hh_calc.specs.Sums.{added_at, greatest_credit, greatest_sum, greatest_unit_sum, greatest_volume, balancing_amounts, contract_amounts, credit_amounts, no_sums, sums_plus, with_amounts, with_contract, with_contracts, with_credits, AreChanged, AreGrown, IsCreditSmall, IsWithin};
 
 use crate::data::UnitData;
+use crate::places::place_of;
 use crate::result::CreditRow;
 use hh_names::{Account, Contract};
 
@@ -34,19 +35,6 @@ impl AccountSums {
     };
 }
 
-/// Where an account stands among the accounts.
-fn place_of(accounts: &[Account], account: &Account) -> usize
-    requires ordered { AreAccountsInOrder accounts.now }
-    requires named { IsNamed accounts.now account.now }
-    ensures inside { result < length accounts.now }
-    ensures place { HoldsAt (λ a. a ≡ account.now) accounts.now result }
-{
-    match accounts.binary_search(account) {
-        Ok(place) => place,
-        Err(_) => unreachable!(),
-    }
-}
-
 /// Sums with amounts added to them.
 fn sums_with(held: AccountSums, amounts: AccountSums) -> AccountSums
     requires held { IsWithin (2 * greatest_sum) held }
@@ -71,10 +59,11 @@ fn add_at(sums: &mut [AccountSums], place: usize, amounts: AccountSums)
     sums[place] = sums_with(sums[place], amounts);
 }
 
-/// Adds amounts to the sums of an account.
+/// Adds amounts to the sums of an account, which is looked for at a place first.
 pub(crate) fn add_to(
     accounts: &[Account],
     account: &Account,
+    near: usize,
     amounts: AccountSums,
     sums: &mut [AccountSums],
 )
@@ -86,7 +75,10 @@ pub(crate) fn add_to(
     ensures added { AreChanged accounts.now (with_amounts account.now amounts) sums.old sums.new }
     ensures grown { (most : ℕ) → IsWithin most amounts → AreGrown most sums.old sums.new }
 {
-    add_at(sums, place_of(accounts, account), amounts);
+    match place_of(accounts, account, near) {
+        Some(place) => add_at(sums, place, amounts),
+        None => unreachable!(),
+    }
 }
 
 /// What a credit adds to its account's sums.
@@ -107,10 +99,12 @@ fn amounts_of_credit(credit: &CreditRow, weighs: bool) -> AccountSums
     }
 }
 
-/// Adds each credit to its account's sums; its size too, where the credits weigh.
+/// Adds each credit to its account's sums; its size too, where the credits weigh. The accounts are looked
+/// for at a place first.
 pub(crate) fn add_credits(
     accounts: &[Account],
     credits: &[CreditRow],
+    near: usize,
     weighs: bool,
     sums: &mut [AccountSums],
 )
@@ -127,6 +121,7 @@ pub(crate) fn add_credits(
         add_to(
             accounts,
             &credit.account,
+            near,
             amounts_of_credit(credit, weighs),
             sums,
         );
@@ -179,12 +174,14 @@ fn add_contract(accounts: &[Account], contract: &Contract, sums: &mut [AccountSu
     add_to(
         accounts,
         &counterparties.seller,
+        0,
         amounts_of_contract(volume),
         sums,
     );
     add_to(
         accounts,
         &counterparties.buyer,
+        0,
         amounts_of_contract(-volume),
         sums,
     );

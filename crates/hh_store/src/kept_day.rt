@@ -32,14 +32,17 @@ pub(crate) struct DayRoll {
     pub(crate) contracts: Vec<ContractRow>,
 }
 
-/// For each unit of a date, where its rows of the date stand in the tables. Each search looks there
-/// first, and finds the same wherever that is: a wrong place costs time alone.
+/// For each unit of a date, where its rows of the date stand in the tables, and its lead account among
+/// the accounts. Each search looks there first, and finds the same wherever that is: a wrong place costs
+/// time alone.
 #[derive(Drop)]
 struct DayPlaces(Vec<UnitPlaces>);
 
-/// Where a unit's rows of a date stand in the tables.
+/// Where a unit's rows of a date stand in the tables, and its lead account among the accounts.
 #[derive(Clone, Copy)]
 struct UnitPlaces {
+    /// The place of its lead account among the accounts of the date.
+    lead: usize,
     /// The place of its first reading.
     readings: usize,
     /// The place of its first reallocation.
@@ -54,6 +57,7 @@ impl DayPlaces {
         match self.0.get(unit) {
             Some(places) => *places,
             None => UnitPlaces {
+                lead: 0,
                 readings: 0,
                 reallocations: 0,
                 reallocations_end: 0,
@@ -95,7 +99,7 @@ impl KeptRegister {
             return Ok(DayData::MissingPrice(at));
         }
         let roll = self.roll_of(alloc, day.date)?;
-        let places = self.places_of(alloc, &roll.units, &periods)?;
+        let places = self.places_of(alloc, &roll, &periods)?;
         if let Some(key) = self.missing_meter(&roll.units, &places, &periods) {
             return Ok(DayData::MissingMeter(key));
         }
@@ -199,27 +203,31 @@ impl KeptRegister {
         Some(ContractRow { key, contract })
     }
 
-    /// Where the rows of these units stand that are of these Settlement Periods of one date.
+    /// Where the rows of the units of a date stand that are of these Settlement Periods of the date, and
+    /// their lead accounts.
     fn places_of(
         &self,
         alloc: Global,
-        units: &[(UnitId, UnitRegistration)],
+        roll: &DayRoll,
         periods: &[SettlementPeriod],
     ) -> Result<DayPlaces, AllocError> {
-        let mut places = Vec::with_capacity(alloc, units.len())?;
+        let mut places = Vec::with_capacity(alloc, roll.units.len())?;
         if let (Some(first), Some(last)) = (periods.first(), periods.last()) {
-            for unit in units {
+            for unit in roll.units.as_slice() {
+                let lead = place_of_lead(&roll.accounts, &unit.1.lead);
                 let (first, last) = (unit_period(&unit.0, first), unit_period(&unit.0, last));
-                places.push(self.places_between(&first, &last))?;
+                places.push(self.places_between(lead, &first, &last))?;
             }
         }
         Ok(DayPlaces(places))
     }
 
-    /// Where the rows of a unit stand from one Settlement Period up to another.
-    fn places_between(&self, first: &UnitPeriod, last: &UnitPeriod) -> UnitPlaces {
+    /// Where the rows of a unit stand from one Settlement Period up to another, where its lead account
+    /// stands at this place.
+    fn places_between(&self, lead: usize, first: &UnitPeriod, last: &UnitPeriod) -> UnitPlaces {
         let rows = self.reallocations.rows();
         UnitPlaces {
+            lead,
             readings: self.meters.count_below(first),
             reallocations: rows.partition_point(|row| row.0.unit_period.cmp(first).is_lt()),
             reallocations_end: rows.partition_point(|row| row.0.unit_period.cmp(last).is_le()),
@@ -352,13 +360,14 @@ impl KeptRegister {
             return Ok(None);
         };
         let subsidiaries = self.subsidiaries_of(alloc, places, &key)?;
-        Ok(Some(UnitData::new(
+        let data = UnitData::new(
             unit.0,
             unit.1.lead,
             unit.1.interconnector,
             reading,
             subsidiaries,
-        )))
+        );
+        Ok(Some(data.with_lead_near(places.lead)))
     }
 
     /// The subsidiaries of a unit in a Settlement Period, in account order.
@@ -397,6 +406,11 @@ impl KeptRegister {
         let (found, _) = rest.split_at(count);
         found
     }
+}
+
+/// The place of a lead account among the accounts of a date, or 0 where it isn't one of them.
+fn place_of_lead(accounts: &[Account], lead: &Account) -> usize {
+    accounts.binary_search(lead).unwrap_or(0)
 }
 
 /// The place at which the reallocations of a unit in a Settlement Period begin, or would. It is sought

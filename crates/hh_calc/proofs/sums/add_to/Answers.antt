@@ -5,7 +5,7 @@ use Rattle.hh_calc.proofs.sums.add_to.Goals as goal
 
 pub returns-clause-added : goal.returns-clause-added
 returns-clause-added c = λ had e.
-    let place = c.place_of.result in
+    let place = c.in-Some.place in
     c.add_at.ensures
     ∙ ap (λ s. set s place (sums_plus (get_or s place no_sums) c.args.amounts)) e
-    ∙ added_once c.args.accounts.now c.requires.ordered place c.args.account.now c.place_of.ensures.inside c.place_of.ensures.place had c.args.amounts no_sums
+    ∙ added_once c.args.accounts.now c.requires.ordered place c.args.account.now c.in-Some.ensures.inside c.in-Some.ensures.place had c.args.amounts no_sums

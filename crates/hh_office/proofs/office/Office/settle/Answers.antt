@@ -20,7 +20,7 @@ returns-in-Settled-clause-settled g c s stands =
     let office = c.args.self.now in
     let over = subst (λ m. IsOverDay (midnight_of office) m c.args.date c.in_ok-day.day) (to_z-of_z w64 c.args.moment c.ranges.moment)
     (subst (λ m. IsOverDay m (to_z w64 (of_z w64 c.args.moment)) c.args.date c.in_ok-day.day) (ap midnight_of c.self.view_is) c.in_ok-day.ensures.over) in
-    let does = subst (λ terms. SettlesDay (periods_on c.in_ok-day.day.date c.in_ok-day.day.count) terms c.in_ok-periods.field-0) c.deref.ensures.value c.in_ok-periods.ensures in
+    let does = subst (λ terms. SettlesDay (periods_on c.in_ok-day.day.date c.in_ok-day.day.count) terms c.in_ok-periods.field-0) c.deref.ensures.value c.in_ok-periods.ensures.settles in
     subst (SettledAs office s c.args.moment c.args.date) c.in-Settled.is
     (settles office s stands c.args.moment c.args.date c.in_ok-day.day over c.periods_ready.ensures c.in_ok-terms.terms.items c.in_ok-terms.ensures.terms c.in_ok-periods.field-0 does)
 
@@ -29,7 +29,7 @@ returns-clause-refused g c s stands =
     let office = c.args.self.now in
     let over = subst (λ m. IsOverDay (midnight_of office) m c.args.date c.in_ok-day.day) (to_z-of_z w64 c.args.moment c.ranges.moment)
     (subst (λ m. IsOverDay m (to_z w64 (of_z w64 c.args.moment)) c.args.date c.in_ok-day.day) (ap midnight_of c.self.view_is) c.in_ok-day.ensures.over) in
-    let does = subst (λ terms. SettlesDay (periods_on c.in_ok-day.day.date c.in_ok-day.day.count) terms c.in_ok-periods.field-0) c.deref.ensures.value c.in_ok-periods.ensures in
+    let does = subst (λ terms. SettlesDay (periods_on c.in_ok-day.day.date c.in_ok-day.day.count) terms c.in_ok-periods.field-0) c.deref.ensures.value c.in_ok-periods.ensures.settles in
     exceeds_refused office s c.args.moment c.args.date c.in-TooLarge.at c.period_fault.result c.period_fault.ensures
     (subst (SettledAs office s c.args.moment c.args.date) c.in-TooLarge.is
     (settles office s stands c.args.moment c.args.date c.in_ok-day.day over c.periods_ready.ensures c.in_ok-terms.terms.items c.in_ok-terms.ensures.terms c.in_ok-periods.field-0 does))

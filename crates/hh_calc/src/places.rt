@@ -1,0 +1,35 @@
+//! Where an account stands among the accounts of a period.
+
+ghost use Rattle.std.specs.Prelude.{◌≡◌, ◌<◌, length, true, IfSome, IsNone};
+ghost use Rattle.std.specs.List.{HoldsAt};
+ghost use Rattle.hh_calc.specs.Ready.{AreAccountsInOrder, IsNamed};
+
+use hh_names::Account;
+
+/// Where an account stands among these, if it is one of them. It is looked for at a place first, which
+/// may be any.
+pub(crate) fn place_of(accounts: &[Account], account: &Account, near: usize) -> Option<usize>
+    requires { AreAccountsInOrder accounts.now }
+    ensures inside { IfSome result (λ place. place < length accounts.now) }
+    ensures place { IfSome result (λ place. HoldsAt (λ a. a ≡ account.now) accounts.now place) }
+    ensures none { IsNone result → IsNamed accounts.now account.now → ⊥ }
+{
+    if is_at(accounts, account, near) {
+        return Some(near);
+    }
+    match accounts.binary_search(account) {
+        Ok(place) => Some(place),
+        Err(_) => None,
+    }
+}
+
+/// Whether an account stands at a place among these.
+fn is_at(accounts: &[Account], account: &Account, place: usize) -> bool
+    ensures inside { result ≡ true → place < length accounts.now }
+    ensures place { result ≡ true → HoldsAt (λ a. a ≡ account.now) accounts.now place }
+{
+    if place >= accounts.len() {
+        return false;
+    }
+    accounts[place] == *account
+}
