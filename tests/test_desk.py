@@ -328,6 +328,36 @@ class Runs(Desk):
         ]
         self.assertEqual(self.after_market(*lines), wanted)
 
+    def test_a_period_past_a_limit(self):
+        """Six units of 20,000 MWh each pass the limit of a charge at the greatest price. The first such period is told."""
+        units = [f"U{number}" for number in range(6)]
+        volumes = {20: 10000, 30: 10000}
+        readings = [
+            f"{unit},{DAY},{period},{volumes.get(period, 0)},2,0" for period in range(1, 49) for unit in units
+        ]
+        lines = [
+            self.load("units", [f"{unit},GENCO,P,no,2024-01-01," for unit in units]),
+            self.load("meters", readings),
+            self.load("prices", [f"{DAY},{period},99999.99999" for period in (20, 30)], "dear.csv"),
+            self.order("SF"),
+            self.load("prices", [f"{DAY},20,1"], "cheap.csv"),
+            self.order("SF"),
+            self.load("prices", [f"{DAY},30,1"], "cheaper.csv"),
+            self.order("SF"),
+        ]
+        wanted = [
+            "applied=6 late=0",
+            "applied=288 late=0",
+            "applied=2 late=0",
+            "refused 55 TooLarge period 20",
+            APPLIED,
+            "refused 55 TooLarge period 30",
+            APPLIED,
+            # 120,000 MWh at a pound each in two periods, and what the first period has.
+            f"run {DAY} SF periods 48 accounts 4 residual {2 * 12_000_000 + 5_050} postings 2",
+        ]
+        self.assertEqual(self.after_market(*lines), wanted)
+
     def test_a_refused_run_leaves_no_trace(self):
         """R1 is no first run, even after an SF that was refused."""
         lines = [self.order("SF", END - 1), self.order("R1"), self.order("SF"), self.order("SF")]

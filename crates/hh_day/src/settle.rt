@@ -8,11 +8,10 @@ ghost use Rattle.hh_store.specs.DaySettlement.{periods_on};
 
 use crate::laws::settled_in_one_way;
 use hh_calc::{CalcFault, PeriodData, PeriodResult, settle_period};
-use hh_names::PeriodNumber;
 use hh_rows::SettlementPeriod;
-use hh_store::StoreFault;
+use hh_store::{StoreFault, periods_of};
 use hh_time::Day;
-use std::alloc::{AllocError, Global};
+use std::alloc::Global;
 use std::marker::Model;
 
 /// A Settlement Period with its settlement. Contracts see the two.
@@ -70,22 +69,6 @@ pub fn settle_day(alloc: Global, day: &Day, terms: &[PeriodData]) -> Result<Sett
 {
     let periods = periods_of(alloc, day)?;
     settle_periods(alloc, &periods, terms)
-}
-
-/// The Settlement Periods of a day, from the first on.
-fn periods_of(alloc: Global, day: &Day) -> Result<Vec<SettlementPeriod>, AllocError>
-    ensures { IfOk result (λ periods. periods.items ≡ periods_on day.now.date day.now.count) }
-{
-    let mut periods = Vec::with_capacity(alloc, usize::from(day.count))?;
-    for before in 0..day.count {
-        if let Some(period) = PeriodNumber::new(before + 1) {
-            periods.push(SettlementPeriod {
-                date: day.date,
-                period,
-            })?;
-        }
-    }
-    Ok(periods)
 }
 
 /// Settles Settlement Periods, each from its terms.

@@ -1,21 +1,19 @@
 //! What a Settlement Day is settled from, in memory.
 
-ghost use Rattle.std.specs.Prelude.{◌≡◌, ◌≤◌, ◌<◌, ◌-◌, All, find, filter, filter_map, length, map, pos, true, false, unwrap_or, IfOk, is_none};
-ghost use Rattle.std.specs.List.{AllWithin, HoldsAt};
-ghost use Rattle.std.specs.Ordering.{eq_by_cmp};
-ghost use Rattle.hh_rows.specs.Keys.{reallocation_key_cmp};
+ghost use Rattle.std.specs.Prelude.{◌≡◌, All, find, filter, filter_map, map, pos, unwrap_or, IfOk, is_none};
 ghost use Rattle.hh_rules.specs.RegisterView.{reallocations_at};
 ghost use Rattle.hh_store.specs.DayReads.{IsDayData, IsRollOf, row_on};
 ghost use Rattle.hh_store.specs.DaySettlement.{missing_meter, missing_price, periods_on, unit_periods_at};
 ghost use Rattle.hh_store.specs.KeptContracts.{is_in_period};
-ghost use Rattle.hh_store.specs.KeptReallocations.{is_before, is_no_later, BeginAt};
-ghost use Rattle.hh_tables.specs.Tables.{IsTable};
-ghost use Rattle.hh_store.specs.PeriodSettlement.{accounts_on, price_of, reading_of, row_in_force, subsidiaries_of, terms_at, unit_at, units_on};
+ghost use Rattle.hh_store.specs.PeriodSettlement.{accounts_on, price_of, reading_of, subsidiaries_of, terms_at, unit_at, units_on};
 
 use crate::day_data::DayData;
+use crate::day_places::{DayPlaces, UnitPlaces};
+use crate::kept_reallocations::{count_of, first_of};
 use crate::kept_register::KeptRegister;
+use crate::settlement_periods::periods_of;
 use hh_calc::{PeriodData, Subsidiary, UnitData};
-use hh_names::{Account, Contract, PeriodNumber, Reallocation, Side, UnitId};
+use hh_names::{Account, Contract, Reallocation, Side, UnitId};
 use hh_num::{Kwh, Price};
 use hh_rows::{
     ContractKey, ContractRow, ReallocationKey, SettlementPeriod, UnitPeriod, UnitRegistration,
@@ -30,62 +28,6 @@ pub(crate) struct DayRoll {
     pub(crate) accounts: Vec<Account>,
     pub(crate) units: Vec<(UnitId, UnitRegistration)>,
     pub(crate) contracts: Vec<ContractRow>,
-}
-
-/// For each unit of a date, where its rows of the date stand in the tables, and its lead account among
-/// the accounts. Each search looks there first, and finds the same wherever that is: a wrong place costs
-/// time alone.
-#[derive(Drop)]
-struct DayPlaces(Vec<UnitPlaces>);
-
-/// Where a unit's rows of a date stand in the tables, and its lead account among the accounts.
-#[derive(Clone, Copy)]
-struct UnitPlaces {
-    /// The place of its lead account among the accounts of the date.
-    lead: usize,
-    /// The place of its first reading.
-    readings: usize,
-    /// The place of its first reallocation.
-    reallocations: usize,
-    /// The place behind its last reallocation.
-    reallocations_end: usize,
-}
-
-impl DayPlaces {
-    /// Where to look first for the rows of the unit that has this place among the units of the date.
-    fn of_unit(&self, unit: usize) -> UnitPlaces {
-        match self.0.get(unit) {
-            Some(places) => *places,
-            None => UnitPlaces {
-                lead: 0,
-                readings: 0,
-                reallocations: 0,
-                reallocations_end: 0,
-            },
-        }
-    }
-}
-
-impl UnitPlaces {
-    /// Where to look first for the reading in a Settlement Period: where it stands if the unit has one in
-    /// each earlier period of the date.
-    fn reading_at(self, at: &SettlementPeriod) -> usize {
-        self.readings
-            .saturating_add(usize::from(at.period.number()))
-            .saturating_sub(1)
-    }
-
-    /// Where to look first for the reallocations of a unit in a Settlement Period.
-    fn reallocations_at(self, rows: &[(ReallocationKey, Reallocation)], key: &UnitPeriod) -> usize {
-        match rows.get(self.reallocations..self.reallocations_end) {
-            Some(of_date) => self.reallocations.saturating_add(of_date.partition_point(|row| row
-                .0
-                .unit_period
-                .cmp(key)
-                .is_lt())),
-            None => 0,
-        }
-    }
 }
 
 impl KeptRegister {
@@ -201,37 +143,6 @@ impl KeptRegister {
             volume,
         };
         Some(ContractRow { key, contract })
-    }
-
-    /// Where the rows of the units of a date stand that are of these Settlement Periods of the date, and
-    /// their lead accounts.
-    fn places_of(
-        &self,
-        alloc: Global,
-        roll: &DayRoll,
-        periods: &[SettlementPeriod],
-    ) -> Result<DayPlaces, AllocError> {
-        let mut places = Vec::with_capacity(alloc, roll.units.len())?;
-        if let (Some(first), Some(last)) = (periods.first(), periods.last()) {
-            for unit in roll.units.as_slice() {
-                let lead = place_of_lead(&roll.accounts, &unit.1.lead);
-                let (first, last) = (unit_period(&unit.0, first), unit_period(&unit.0, last));
-                places.push(self.places_between(lead, &first, &last))?;
-            }
-        }
-        Ok(DayPlaces(places))
-    }
-
-    /// Where the rows of a unit stand from one Settlement Period up to another, where its lead account
-    /// stands at this place.
-    fn places_between(&self, lead: usize, first: &UnitPeriod, last: &UnitPeriod) -> UnitPlaces {
-        let rows = self.reallocations.rows();
-        UnitPlaces {
-            lead,
-            readings: self.meters.count_below(first),
-            reallocations: rows.partition_point(|row| row.0.unit_period.cmp(first).is_lt()),
-            reallocations_end: rows.partition_point(|row| row.0.unit_period.cmp(last).is_le()),
-        }
     }
 
     /// The first of these Settlement Periods of one date in which a unit of the date has no reading, with
@@ -408,110 +319,14 @@ impl KeptRegister {
     }
 }
 
-/// The place of a lead account among the accounts of a date, or 0 where it isn't one of them.
-fn place_of_lead(accounts: &[Account], lead: &Account) -> usize {
-    accounts.binary_search(lead).unwrap_or(0)
-}
-
-/// The place at which the reallocations of a unit in a Settlement Period begin, or would. It is sought
-/// near a place.
-fn first_of(rows: &[(ReallocationKey, Reallocation)], key: &UnitPeriod, near: usize) -> usize
-    requires { IsTable reallocation_key_cmp rows.now }
-    ensures begins { BeginAt key.now rows.now result }
-    ensures within { result ≤ length rows.now }
-{
-    if begin_at(rows, key, near) {
-        return near;
-    }
-    rows.partition_point(|row| row.0.unit_period.cmp(key).is_lt())
-}
-
-/// Whether the reallocations of a unit in a Settlement Period begin at a place, or would: the row before it
-/// is of an earlier unit or period, and the row at it isn't.
-fn begin_at(rows: &[(ReallocationKey, Reallocation)], key: &UnitPeriod, place: usize) -> bool
-    requires { IsTable reallocation_key_cmp rows.now }
-    ensures begins { result ≡ true → BeginAt key.now rows.now place }
-    ensures within { result ≡ true → place ≤ length rows.now }
-{
-    if place > rows.len() {
-        return false;
-    }
-    if !is_last_before(rows, key, place) {
-        return false;
-    }
-    !is_before_at(rows, key, place)
-}
-
-/// Whether the row before a place is of an earlier unit or period, if there is one.
-fn is_last_before(rows: &[(ReallocationKey, Reallocation)], key: &UnitPeriod, place: usize) -> bool
-    requires { place ≤ length rows.now }
-    ensures { result ≡ true → 0 < place
-        → HoldsAt (λ e. is_before key.now e ≡ true) rows.now (place - 1) }
-{
-    place == 0 || is_before(&rows[place - 1], key)
-}
-
-/// Whether there is a row at a place, and it is of an earlier unit or period.
-fn is_before_at(rows: &[(ReallocationKey, Reallocation)], key: &UnitPeriod, place: usize) -> bool
-    ensures { result ≡ false → place < length rows.now
-        → HoldsAt (λ e. is_before key.now e ≡ false) rows.now place }
-{
-    place < rows.len() && is_before(&rows[place], key)
-}
-
-/// Whether a reallocation is of an earlier unit, or of the unit in an earlier Settlement Period.
-fn is_before(row: &(ReallocationKey, Reallocation), key: &UnitPeriod) -> bool
-    ensures { result ≡ is_before key.now row.now }
-{
-    row.0.unit_period.cmp(key).is_lt()
-}
-
-/// Whether a reallocation is of no later unit, and of the unit in no later Settlement Period.
-fn is_no_later(row: &(ReallocationKey, Reallocation), key: &UnitPeriod) -> bool
-    ensures { result ≡ is_no_later key.now row.now }
-{
-    row.0.unit_period.cmp(key).is_le()
-}
-
-/// How many of the first reallocations are not of a later unit or Settlement Period.
-fn count_of(rows: &[(ReallocationKey, Reallocation)], key: &UnitPeriod) -> usize
-    ensures front { AllWithin (λ e. is_no_later key.now e ≡ true) rows.now 0 result }
-    ensures behind { result < length rows.now
-        → HoldsAt (λ e. is_no_later key.now e ≡ false) rows.now result }
-    ensures within { result ≤ length rows.now }
-{
-    for (count, row) in rows.iter().enumerate() {
-        if !is_no_later(row, key) {
-            return count;
-        }
-    }
-    rows.len()
-}
-
 /// A unit in a Settlement Period.
-fn unit_period(unit: &UnitId, at: &SettlementPeriod) -> UnitPeriod
+pub(crate) fn unit_period(unit: &UnitId, at: &SettlementPeriod) -> UnitPeriod
     ensures { result ≡ record { unit = unit.now; at = at.now } }
 {
     UnitPeriod {
         unit: *unit,
         at: *at,
     }
-}
-
-/// The Settlement Periods of a day, from the first on.
-fn periods_of(alloc: Global, day: &Day) -> Result<Vec<SettlementPeriod>, AllocError>
-    ensures { IfOk result (λ periods. periods.items ≡ periods_on day.now.date day.now.count) }
-{
-    let mut periods = Vec::with_capacity(alloc, usize::from(day.count))?;
-    for before in 0..day.count {
-        if let Some(period) = PeriodNumber::new(before + 1) {
-            periods.push(SettlementPeriod {
-                date: day.date,
-                period,
-            })?;
-        }
-    }
-    Ok(periods)
 }
 
 /// The contracts of a Settlement Period among the rows in force on its date.

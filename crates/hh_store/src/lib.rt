@@ -3,12 +3,14 @@
 
 mod consistency;
 mod day_data;
+mod day_places;
 mod effects;
 mod entries;
 mod file_key;
 mod kept_contracts;
 mod kept_day;
 mod kept_file;
+mod kept_reallocations;
 mod kept_register;
 mod kept_runs;
 mod load_change;
@@ -17,6 +19,7 @@ mod plain_tables;
 mod run_change;
 mod run_keys;
 mod run_reads;
+mod settlement_periods;
 mod store_fault;
 mod sums;
 mod tables;
@@ -36,6 +39,7 @@ pub use run_reads::{
     day_nets_from_results, kept_kinds_of_dates, kept_postings, kept_results, kept_runs_of_dates,
     kept_summaries, no_other_results,
 };
+pub use settlement_periods::periods_of;
 pub use store_fault::StoreFault;
 pub use sums::{
     cash_sums_to_zero, contracts_sum_to_zero, credits_sum_exactly, day_nets_are_sums,

@@ -3,7 +3,7 @@ use Rattle.hh_tables.proofs.MergeLaws.{from_true}
 use Rattle.hh_tables.proofs.OrderLaws.{below_partitions}
 use Rattle.hh_store.specs.KeptReallocations.{is_before}
 use Rattle.hh_store.proofs.RangeLaws.{all_before, beside, beside_rises, none_behind}
-use Rattle.hh_store.proofs.kept_day.begin_at.Goals as goal
+use Rattle.hh_store.proofs.kept_reallocations.begin_at.Goals as goal
 
 pub returns-clause-begins : goal.returns-clause-begins
 returns-clause-begins c begins =

@@ -1,6 +1,6 @@
 use Rattle.std.proofs.Common.{◌≡◌}
 use Rattle.hh_store.specs.DaySettlement.{periods_on}
-use Rattle.hh_day.proofs.settle.periods_of.Given as goal
+use Rattle.hh_store.proofs.settlement_periods.periods_of.Given as goal
 
 -- the Settlement Periods so far
 abbrev pub invariant-loop-before : goal.invariant-loop-before

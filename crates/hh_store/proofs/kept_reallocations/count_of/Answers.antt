@@ -1,7 +1,7 @@
 use Rattle.std.proofs.Common.{◌≡◌, true, rules}
 use Rattle.hh_store.specs.KeptReallocations.{is_no_later}
 use Rattle.hh_store.proofs.RangeLaws.{one_more}
-use Rattle.hh_store.proofs.kept_day.count_of.Goals as goal
+use Rattle.hh_store.proofs.kept_reallocations.count_of.Goals as goal
 
 pub loop-count-preserved : goal.loop-count-preserved
 loop-count-preserved c =

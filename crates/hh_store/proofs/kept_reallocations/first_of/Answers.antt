@@ -5,7 +5,7 @@ use Rattle.hh_tables.proofs.MergeLaws.{from_true}
 use Rattle.hh_tables.proofs.OrderLaws.{below_partitions}
 use Rattle.hh_store.specs.KeptReallocations.{is_before}
 use Rattle.hh_store.proofs.RangeLaws.{beside, beside_rises}
-use Rattle.hh_store.proofs.kept_day.first_of.Goals as goal
+use Rattle.hh_store.proofs.kept_reallocations.first_of.Goals as goal
 
 pub returns-clause-begins : goal.returns-clause-begins
 returns-clause-begins c =

@@ -1,7 +1,7 @@
 use Rattle.std.proofs.Common.{◌≡◌, true}
 use Rattle.std.specs.List.{AllWithin}
 use Rattle.hh_store.specs.KeptReallocations.{is_no_later}
-use Rattle.hh_store.proofs.kept_day.count_of.Given as goal
+use Rattle.hh_store.proofs.kept_reallocations.count_of.Given as goal
 
 -- the reallocations so far are not later
 abbrev pub invariant-loop-count : goal.invariant-loop-count

@@ -1,7 +1,0 @@
-use Rattle.std.proofs.Common.{◌≡◌}
-use Rattle.hh_store.specs.DaySettlement.{periods_on}
-use Rattle.hh_store.proofs.kept_day.periods_of.Given as goal
-
--- the Settlement Periods so far
-abbrev pub invariant-loop-before : goal.invariant-loop-before
-invariant-loop-before l = l.periods.items ≡ periods_on l.day.date l.before
