@@ -49,7 +49,8 @@ fn units(alloc: Global, accounts: &[Account], draw: &mut Draw) -> Option<Vec<Uni
     Some(units)
 }
 
-/// A unit: one of ten is an interconnector's.
+/// A unit, whose lead account is looked for where it stands, as in a period of the store: one of ten is
+/// an interconnector's.
 fn unit(alloc: Global, accounts: &[Account], number: u32, draw: &mut Draw) -> Option<UnitData> {
     let id = format!(in alloc; "T_UNIT-{number}").ok()?;
     let lead = draw.below(ACCOUNTS);
@@ -59,13 +60,14 @@ fn unit(alloc: Global, accounts: &[Account], number: u32, draw: &mut Draw) -> Op
         tlm: Tlm::new(9_700_000 + i64::from(draw.below(600_000)))?,
         balancing: Kwh::new(draw.signed(5_000))?,
     };
-    Some(UnitData::new(
+    let data = UnitData::new(
         UnitId::read(id.as_bytes())?,
         account_at(accounts, lead)?,
         interconnector,
         reading,
         subsidiaries(alloc, accounts, lead, draw)?,
-    ))
+    );
+    Some(data.with_lead_near(lead as usize))
 }
 
 /// The three subsidiaries of a unit whose lead account has this place.
