@@ -1,0 +1,10 @@
+pub mod Behind
+pub mod Fields
+pub mod Found
+pub mod Fronts
+pub mod Headings
+pub mod Heads
+pub mod Lengths
+pub mod Message
+pub mod Routes
+pub mod Stops

@@ -1,0 +1,17 @@
+//! Requests and replies as the bytes of HTTP connections.
+#![tactic(auto)]
+
+mod body;
+mod field;
+mod front;
+mod head;
+mod incoming;
+mod length;
+mod piece;
+mod request;
+mod route;
+mod stop;
+mod terms;
+
+pub use incoming::{Incoming, Refused, RequestRefusal, WireFault};
+pub use request::read_request;
