@@ -3,6 +3,7 @@
 ghost use Rattle.std.specs.Prelude.{◌≡◌};
 
 use hh_devices::DeviceFailed;
+use hh_names::Refusal;
 use hh_office::Request;
 use http::Method;
 use std::alloc::AllocError;
@@ -19,18 +20,36 @@ pub enum Incoming {
 /// Why a request is refused before the office is asked (profile).
 #[derive(Debug, Drop)]
 pub enum RequestRefusal {
-    /// 61: there is no such path, or a part of it does not read.
+    /// There is no such path, or a part of it does not read.
     NoRoute,
-    /// 62: the path is known and has another method, this one.
+    /// The path is known and has another method, this one.
     BadMethod { allow: Method },
-    /// 64: a file was sent without its length.
+    /// A file was sent without its length.
     LengthRequired,
-    /// 65: the head is bad or oversized, or the head or the body is cut.
+    /// The head is bad or oversized, or the head or the body is cut.
     BadRequest,
-    /// 66: the body is longer than the limit.
+    /// The body is longer than the limit.
     BodyTooLarge,
-    /// 90: memory was refused.
+    /// Memory was refused.
     Memory,
+}
+
+impl RequestRefusal {
+    ghost use Rattle.hh_wire.specs.Causes.{refusal_of};
+
+    /// The refusal by which the cause is known.
+    pub fn refusal(&self) -> Refusal
+        ensures { result ≡ refusal_of self.now }
+    {
+        match self {
+            RequestRefusal::NoRoute => Refusal::NoRoute,
+            RequestRefusal::BadMethod { .. } => Refusal::BadMethod,
+            RequestRefusal::LengthRequired => Refusal::LengthRequired,
+            RequestRefusal::BadRequest => Refusal::BadRequest,
+            RequestRefusal::BodyTooLarge => Refusal::BodyTooLarge,
+            RequestRefusal::Memory => Refusal::Memory,
+        }
+    }
 }
 
 impl From<AllocError> for RequestRefusal {

@@ -14,4 +14,7 @@ mod stop;
 mod terms;
 
 pub use incoming::{Incoming, Refused, RequestRefusal, WireFault};
-pub use request::read_request;
+pub use request::{message_is_one, read_request};
+
+#[cfg(test)]
+mod tests;

@@ -1,9 +1,9 @@
 //! Requests, read from connections.
 
-ghost use Rattle.std.specs.Prelude.{◌≡◌, ◌++◌, IfSome};
+ghost use Rattle.std.specs.Prelude.{◌≡◌, ℕ, List, ◌++◌, IfSome};
 ghost use Rattle.hh_wire.specs.Behind.{Asks, ComesTo};
 ghost use Rattle.hh_wire.specs.Heads.{HoldsTerms, heading_in};
-ghost use Rattle.hh_wire.specs.Message.{CountsRead, Reads, asked_by, asked_with};
+ghost use Rattle.hh_wire.specs.Message.{CountsRead, IsMessage, Message, Reads, asked_by, asked_with};
 ghost use Rattle.hh_wire.specs.Stops.{CountsStop};
 
 use crate::body::read_body;
@@ -53,6 +53,12 @@ pub fn read_request<S: Source>(alloc: Global, source: &mut S) -> Result<Incoming
         }
     }
 }
+
+/// What bytes ask is one thing: no two messages are those of the same bytes.
+pub fn message_is_one()
+    ensures { (bytes : List ℕ) (first second : Message)
+        → IsMessage bytes first → IsMessage bytes second → first ≡ second }
+{}
 
 /// Reads what a head asks: its body, if it has one.
 fn read_behind<S: Source>(
