@@ -7,5 +7,8 @@ pub mod Headings
 pub mod Heads
 pub mod Lengths
 pub mod Message
+pub mod ReplyText
 pub mod Routes
+pub mod Statuses
 pub mod Stops
+pub mod Writes

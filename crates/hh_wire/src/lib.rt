@@ -8,12 +8,16 @@ mod head;
 mod incoming;
 mod length;
 mod piece;
+mod reply;
+mod reply_text;
 mod request;
 mod route;
+mod status;
 mod stop;
 mod terms;
 
 pub use incoming::{Incoming, Refused, RequestRefusal, WireFault};
+pub use reply::{WriteFault, write_refused};
 pub use request::{message_is_one, read_request};
 
 #[cfg(test)]

@@ -4,7 +4,7 @@
 ghost use Rattle.std.specs.Prelude.{◌<◌};
 
 use super::*;
-use hh_devices::MemorySource;
+use hh_devices::{MemorySink, MemorySource};
 use hh_names::Account;
 use hh_office::{Action, Request};
 use hh_rows::FileKind;
@@ -440,6 +440,109 @@ fn heads_of_the_greatest_sizes(rt: HostRuntime) -> Result<(), Fail> {
         for piece in [1_000, 9_000] {
             assert_eq!(rt; outcome(&rt, &bytes, piece).0, wanted);
         }
+    }
+    Ok(())
+}
+
+/// The reply to a refused request: its status line, any further line, and its body.
+fn refused_reply(
+    rt: &impl AllocGlobal,
+    status: &[u8],
+    line: &[u8],
+    size: &[u8],
+    body: &[u8],
+) -> Result<Vec<u8>, Fail> {
+    joined(
+        rt,
+        &[
+            b"HTTP/1.1 ",
+            status,
+            b"\r\nContent-Type: application/json\r\nContent-Length: ",
+            size,
+            b"\r\nConnection: close\r\n",
+            line,
+            b"\r\n",
+            body,
+        ],
+    )
+}
+
+#[test]
+fn refusals_are_replied(rt: HostRuntime) -> Result<(), Fail> {
+    let starts: [(&[u8], &[u8], &[u8], &[u8], &[u8]); 6] = [
+        (
+            b"DELETE /balances/SUPCO-C",
+            b"405 Method Not Allowed",
+            b"Allow: GET\r\n",
+            b"33",
+            b"{\"name\":\"BadMethod\",\"refused\":62}",
+        ),
+        (
+            b"HEAD /runs/2024-07-01",
+            b"405 Method Not Allowed",
+            b"Allow: GET\r\n",
+            b"33",
+            b"",
+        ),
+        (
+            b"GET /nowhere",
+            b"404 Not Found",
+            b"",
+            b"31",
+            b"{\"name\":\"NoRoute\",\"refused\":61}",
+        ),
+        (
+            b"POST /files/meters/a.csv",
+            b"411 Length Required",
+            b"",
+            b"38",
+            b"{\"name\":\"LengthRequired\",\"refused\":64}",
+        ),
+        (
+            b"GET nothing at all",
+            b"400 Bad Request",
+            b"",
+            b"34",
+            b"{\"name\":\"BadRequest\",\"refused\":65}",
+        ),
+        (
+            b"POST /files/meters/a.csv HTTP/1.1\r\nHost: a\r\nContent-Length: 1048577\r\n\r\n",
+            b"413 Content Too Large",
+            b"",
+            b"36",
+            b"{\"name\":\"BodyTooLarge\",\"refused\":66}",
+        ),
+    ];
+    for (start, status, line, size, body) in starts {
+        let refused = refusal(&rt, &sent(&rt, start, b"", b"")?)?;
+        let wanted = refused_reply(&rt, status, line, size, body)?;
+        let mut sink = MemorySink::with_room(rt.alloc(), 1_000)?;
+        assert_eq!(rt; write_refused(rt.alloc(), &refused, &mut sink), Ok(()));
+        assert_eq!(rt; sink.taken(), wanted.as_slice());
+        for count in 0..wanted.len() {
+            let mut cut = MemorySink::with_room(rt.alloc(), count)?.in_pieces(7);
+            let fault = write_refused(rt.alloc(), &refused, &mut cut);
+            assert_eq!(rt; fault, Err(WriteFault::Write));
+            assert_eq!(rt; cut.taken(), &wanted[..count]);
+        }
+    }
+    Ok(())
+}
+
+#[test]
+fn refused_memory_is_replied(rt: HostRuntime) -> Result<(), Fail> {
+    for (head_only, length) in [(false, 137), (true, 107)] {
+        let refused = Refused {
+            cause: RequestRefusal::Memory,
+            head_only,
+        };
+        let mut sink = MemorySink::with_room(rt.alloc(), 1_000)?;
+        assert_eq!(rt; write_refused(rt.alloc(), &refused, &mut sink), Ok(()));
+        let body = b"{\"name\":\"Memory\",\"refused\":90}".as_slice();
+        let status = b"503 Service Unavailable";
+        let wanted = refused_reply(&rt, status, b"", b"30", if head_only { b"" } else { body })?;
+        assert_eq!(rt; sink.taken(), wanted.as_slice());
+        assert_eq!(rt; wanted.len(), length);
     }
     Ok(())
 }
