@@ -78,9 +78,3 @@ end_front (Some bytes) (Some rest) buffer read taken end some fits none =
       some_read bytes (take read buffer) rest taken (omega (arith, length-take read buffer)),
       subst HasNoFront (sym all) (λ head more is. none head more is.reads),
     )
-
--- the source ended before its first byte
-pub nothing_front : (old new : Option (List ℕ)) (buffer : List ℕ) → Consumes old new (take 0 buffer) → IsAtEnd new → IfSome old (λ bytes. bytes ≡ [])
-nothing_front None new buffer taken end = tt
-nothing_front (Some bytes) None buffer taken end = absurd taken
-nothing_front (Some bytes) (Some rest) buffer taken end = taken ∙ end

@@ -1,9 +1,14 @@
 -- Numbers of digits that stop at the greatest of 64 bits.
-use Rattle.std.proofs.Common.{◌≡◌, ◌∙◌, ℕ, ◌+◌, ◌-◌, ◌*◌, ◌<◌, Bool, true, false, cond, List, [], ◌∷◌, length, get_or, drop, Option, Some, None, refl, sym, ap, arith}
+use Rattle.std.proofs.Common.{◌≡◌, ◌∙◌, ℕ, ◌+◌, ◌-◌, ◌*◌, ◌<◌, Bool, true, false, cond, List, [], ◌∷◌, length, get_or, drop, Option, Some, None, option_map, refl, sym, ap, arith}
 use Rattle.std.specs.Char.{digit_value, is_ascii_digit}
 use Rattle.std.proofs.lemmas.Bool.Decides.{nat_tests}
 use Rattle.std.proofs.lemmas.List.{at_drop_more}
-use Rattle.hh_wire.specs.Lengths.{length_behind, saturated}
+use Rattle.hh_num.specs.Fixed.{digits_behind}
+use Rattle.hh_wire.specs.Lengths.{saturated}
+
+-- what digits write behind those of a number
+abbrev pub length_behind : ℕ → List ℕ → Option ℕ
+length_behind number text = option_map saturated (digits_behind number text)
 
 -- a number that stopped stops where the whole one does
 saturated-more : (n d : ℕ) → saturated (saturated n * 10 + d) ≡ saturated (n * 10 + d)

@@ -7,7 +7,7 @@ use Rattle.httparse.specs.Spans.{AreFieldsAt, IsRequestAt, header_bytes, name_an
 use Rattle.httparse.specs.declared.spans.HeaderSpan.{HeaderSpan}
 use Rattle.httparse.specs.declared.spans.RequestSpans.{RequestSpans}
 use Rattle.hh_office.specs.declared.request.Request.{Request}
-use Rattle.hh_wire.specs.Behind.{ComesTo, fault_behind}
+use Rattle.hh_wire.specs.Behind.{ReadsBehind, fault_behind}
 use Rattle.hh_wire.specs.Found.{FindsHead}
 use Rattle.hh_wire.specs.Fronts.{IsFront}
 use Rattle.hh_wire.specs.Headings.{Heading, asks_head, heading_of}
@@ -54,13 +54,13 @@ module _ (buffer : List ℕ) (headers : List HeaderSpan) (read : ℕ) (spans : R
       inr (inl (head, behind ++ rest, front, sym comes ∙ ap (λ (g : Heading). asked_by g (behind ++ rest)) same))
 
   pub request_read : (old mid : Option (List ℕ)) (request : Request) → FindsHead old mid buffer headers read spans
-      → IfSome mid (λ rest. ComesTo h (asked_by h (behind ++ rest)) (Ok request)) → IfSome old (λ bytes. Reads bytes (Ok (Asked request)))
+      → IfSome mid (λ rest. ReadsBehind h (asked_by h (behind ++ rest)) (Ok request)) → IfSome old (λ bytes. Reads bytes (Ok (Asked request)))
   request_read None mid request found comes = tt
   request_read (Some bytes) None request found comes = absurd found.taken
   request_read (Some bytes) (Some rest) request found comes = is_message bytes rest found (Ok (Asked request)) comes
 
   pub stop_read : (old mid : Option (List ℕ)) (stop : Stop) → FindsHead old mid buffer headers read spans
-      → IfSome mid (λ rest. ComesTo h (asked_by h (behind ++ rest)) (Err stop)) → IfSome old (λ bytes. Reads bytes (Err (fault_behind h stop)))
+      → IfSome mid (λ rest. ReadsBehind h (asked_by h (behind ++ rest)) (Err stop)) → IfSome old (λ bytes. Reads bytes (Err (fault_behind h stop)))
   stop_read None mid stop found comes = tt
   stop_read (Some bytes) None stop found comes = absurd found.taken
   stop_read (Some bytes) (Some rest) Read found comes = tt

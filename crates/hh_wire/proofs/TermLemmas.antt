@@ -4,7 +4,7 @@ use Rattle.std.specs.Prelude.{nat_lt, unwrap_or}
 use Rattle.std.specs.Result.{IsErrAnd}
 use Rattle.std.proofs.lemmas.Bool.Decides.{nat_tests}
 use Rattle.hh_office.specs.declared.request.Request.{Request}
-use Rattle.hh_wire.specs.Behind.{Asks, ComesTo}
+use Rattle.hh_wire.specs.Behind.{Asks, ReadsBehind}
 use Rattle.hh_wire.specs.Heads.{HoldsTerms}
 use Rattle.hh_wire.specs.Headings.{Heading, length_given, length_of}
 use Rattle.hh_wire.specs.Lengths.{saturated}
@@ -35,14 +35,14 @@ asks_whole h t size rest body holds is small whole =
 
 -- so what comes of its body comes of the bytes behind it
 pub comes_whole : (known : Option (List ℕ)) (h : Heading) (t : Terms) (size : ℕ) (behind body : List ℕ) (result : Result Request Stop) → HoldsTerms h t → size ≡ unwrap_or t.length 0
-    → size ≤ 1_048_576 → IfSome known (λ rest. (size ≤ length (behind ++ rest)) × (body ≡ take size (behind ++ rest))) → ComesTo h (asked_with h body) result
-    → IfSome known (λ rest. ComesTo h (asked_by h (behind ++ rest)) result)
+    → size ≤ 1_048_576 → IfSome known (λ rest. (size ≤ length (behind ++ rest)) × (body ≡ take size (behind ++ rest))) → ReadsBehind h (asked_with h body) result
+    → IfSome known (λ rest. ReadsBehind h (asked_by h (behind ++ rest)) result)
 comes_whole None h t size behind body result holds is small whole comes = tt
 comes_whole (Some rest) h t size behind body result holds is small whole comes =
-    subst (λ (m : Message). ComesTo h m result) (sym (asks_whole h t size (behind ++ rest) body holds is small whole)) comes
+    subst (λ (m : Message). ReadsBehind h m result) (sym (asks_whole h t size (behind ++ rest) body holds is small whole)) comes
 
 -- a refusal of what a head asks ends the reading as such
 pub comes_refused : (h : Heading) (message : Message) (cause : RequestRefusal) (result : Result Request Stop) → IsErrAnd result (λ stop. stop ≡ Refused cause)
-    → Asks h message (Err cause) → ComesTo h message result
+    → Asks h message (Err cause) → ReadsBehind h message result
 comes_refused h message cause (Ok request) is asks = absurd is
-comes_refused h message cause (Err stop) is asks = subst (λ (s : Stop). ComesTo h message (Err s)) (sym is) asks
+comes_refused h message cause (Err stop) is asks = subst (λ (s : Stop). ReadsBehind h message (Err s)) (sym is) asks

@@ -8,18 +8,18 @@ use Rattle.hh_wire.specs.declared.incoming.WireFault.TheVariants as fault
 use Rattle.hh_wire.specs.declared.stop.Stop.{Stop}
 use Rattle.hh_wire.specs.declared.stop.Stop.TheVariants.{Read, Refused}
 use Rattle.hh_wire.specs.Headings.{Heading, asks_head}
-use Rattle.hh_wire.specs.Message.{ByCause, Message, refused}
+use Rattle.hh_wire.specs.Message.{ByCause, Message, refusal_message}
 
 -- it is what the head asks; memory may be refused in its place
 abbrev pub Asks : Heading → Message → Result Request RequestRefusal → Type 0
 Asks h message (Ok request) = message ≡ Ok (Asked request)
-Asks h message (Err cause) = ByCause cause (Unit {0}) (message ≡ refused h cause)
+Asks h message (Err cause) = ByCause cause (Unit {0}) (message ≡ refusal_message h cause)
 
 -- the same, and where a read failed nothing is said of it
-abbrev pub ComesTo : Heading → Message → Result Request Stop → Type 0
-ComesTo h message (Ok request) = Asks h message (Ok request)
-ComesTo h message (Err Read) = Unit {0}
-ComesTo h message (Err (Refused cause)) = Asks h message (Err cause)
+abbrev pub ReadsBehind : Heading → Message → Result Request Stop → Type 0
+ReadsBehind h message (Ok request) = Asks h message (Ok request)
+ReadsBehind h message (Err Read) = Unit {0}
+ReadsBehind h message (Err (Refused cause)) = Asks h message (Err cause)
 
 -- the fault of a request whose head was read
 abbrev pub fault_behind : Heading → Stop → WireFault

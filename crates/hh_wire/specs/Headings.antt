@@ -56,8 +56,8 @@ module _ (h : Heading) where
       || not (list_all are_digits lengths) || not (is_none_of codings)
 
   -- the key that is shown, empty where there is none
-  abbrev pub key_of : List ℕ
-  key_of = unwrap_or (first_of keys) []
+  abbrev pub key_shown : List ℕ
+  key_shown = unwrap_or (first_of keys) []
 
   -- the length of the body, where it is given
   abbrev pub length_given : Option ℕ

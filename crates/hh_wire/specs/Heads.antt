@@ -5,7 +5,7 @@ use Rattle.httparse.specs.Spans.{header_bytes}
 use Rattle.hh_wire.specs.declared.head.BrokenRule.{BrokenRule}
 use Rattle.hh_wire.specs.declared.terms.Terms.{Terms}
 use Rattle.hh_wire.specs.declared.head.WholeHead.{WholeHead}
-use Rattle.hh_wire.specs.Headings.{Heading, is_bad, key_of, length_given}
+use Rattle.hh_wire.specs.Headings.{Heading, is_bad, key_shown, length_given}
 use Rattle.hh_wire.specs.Lengths.{length_value, saturated}
 
 -- what a head says
@@ -20,7 +20,7 @@ listed (Some value) = value.now ∷ []
 -- the head keeps the rules, and these are its key and its length
 pub record HoldsTerms (h : Heading) (t : Terms) : Type 0 where
   pub kept : is_bad h ≡ false
-  pub key : t.key.now ≡ key_of h
+  pub key : t.key.now ≡ key_shown h
   pub length : t.length ≡ option_map saturated (length_given h)
 
 -- the length that a text gives, if there is one; a rule is broken where it gives none

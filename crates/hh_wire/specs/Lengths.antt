@@ -1,15 +1,11 @@
 -- Lengths as the code keeps them.
-use Rattle.std.specs.Prelude.{ℕ, ◌^◌, ◌-◌, min, List, Option, Some, None, option_map, if◌then◌else◌}
+use Rattle.std.specs.Prelude.{ℕ, ◌^◌, ◌-◌, min, List, Option, Some, None, if◌then◌else◌}
 use Rattle.std.specs.Str.Parse.{digits_value}
-use Rattle.hh_num.specs.Fixed.{are_digits, digits_behind}
+use Rattle.hh_num.specs.Fixed.{are_digits}
 
 -- a number, or the greatest of 64 bits where it is larger
 abbrev pub saturated : ℕ → ℕ
 saturated n = min n (2 ^ 64 - 1)
-
--- what digits write behind those of a number
-abbrev pub length_behind : ℕ → List ℕ → Option ℕ
-length_behind number text = option_map saturated (digits_behind number text)
 
 -- the length that digits write
 abbrev pub length_value : List ℕ → Option ℕ

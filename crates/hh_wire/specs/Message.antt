@@ -10,7 +10,7 @@ use Rattle.hh_wire.specs.declared.incoming.RequestRefusal.TheVariants as refusal
 use Rattle.hh_wire.specs.declared.incoming.WireFault.{WireFault}
 use Rattle.hh_wire.specs.declared.incoming.WireFault.TheVariants as fault
 use Rattle.hh_wire.specs.Fronts.{HasNoFront, IsFront}
-use Rattle.hh_wire.specs.Headings.{Heading, asks_head, heading_of, is_bad, key_of, length_given, length_of}
+use Rattle.hh_wire.specs.Headings.{Heading, asks_head, heading_of, is_bad, key_shown, length_given, length_of}
 use Rattle.hh_wire.specs.Routes.{action_at, is_load, method_of, parts_of}
 
 -- the most bytes of a body
@@ -22,25 +22,25 @@ abbrev pub Message : Type 0
 Message = Result Incoming Refused
 
 -- the refusal of a request whose head was read
-abbrev pub refused : Heading → RequestRefusal → Message
-refused h cause = Err (record { cause = cause; head_only = asks_head h })
+abbrev pub refusal_message : Heading → RequestRefusal → Message
+refusal_message h cause = Err (record { cause = cause; head_only = asks_head h })
 
 -- what a head asks with a body
 abbrev pub asked_with : Heading → List ℕ → Message
 asked_with h body = elim (action_at (parts_of h.target) body) [
-  | None ↦ refused h refusal.NoRoute
+  | None ↦ refusal_message h refusal.NoRoute
   | Some action ↦
-      if not (bytes_eq h.method (method_of action)) then refused h (refusal.BadMethod (method_of action))
-      else if is_load action && is_none (length_given h) then refused h refusal.LengthRequired
-      else Ok (Asked (record { key = key_of h; action = action }))
+      if not (bytes_eq h.method (method_of action)) then refusal_message h (refusal.BadMethod (method_of action))
+      else if is_load action && is_none (length_given h) then refusal_message h refusal.LengthRequired
+      else Ok (Asked (record { key = key_shown h; action = action }))
 ]
 
 -- what a head asks with the bytes that follow it
 abbrev pub asked_by : Heading → List ℕ → Message
 asked_by h rest =
-    if is_bad h then refused h refusal.BadRequest
-    else if nat_lt most_body_bytes (length_of h) then refused h refusal.BodyTooLarge
-    else if nat_lt (length rest) (length_of h) then refused h refusal.BadRequest
+    if is_bad h then refusal_message h refusal.BadRequest
+    else if nat_lt most_body_bytes (length_of h) then refusal_message h refusal.BodyTooLarge
+    else if nat_lt (length rest) (length_of h) then refusal_message h refusal.BadRequest
     else asked_with h (take (length_of h) rest)
 
 -- bytes that begin with no head

@@ -1,7 +1,7 @@
 //! Requests, read from connections.
 
 ghost use Rattle.std.specs.Prelude.{◌≡◌, ℕ, List, ◌++◌, IfSome};
-ghost use Rattle.hh_wire.specs.Behind.{Asks, ComesTo};
+ghost use Rattle.hh_wire.specs.Behind.{Asks, ReadsBehind};
 ghost use Rattle.hh_wire.specs.Heads.{HoldsTerms, heading_in};
 ghost use Rattle.hh_wire.specs.Message.{CountsRead, IsMessage, Message, Reads, asked_by, asked_with};
 ghost use Rattle.hh_wire.specs.Stops.{CountsStop};
@@ -68,7 +68,7 @@ fn read_behind<S: Source>(
 ) -> Result<Request, Stop>
     ensures comes { IfSome (S.remaining source.old) (λ rest.
         let heading = heading_in head.now in
-        ComesTo heading (asked_by heading (head.now.behind.now ++ rest)) result) }
+        ReadsBehind heading (asked_by heading (head.now.behind.now ++ rest)) result) }
     ensures failed { CountsStop result (S.failures source.old) (S.failures source.new) }
 {
     let terms = Terms::of(head)?;

@@ -324,7 +324,7 @@ fn a_head_alone_is_asked_for(rt: HostRuntime) -> Result<(), Fail> {
 
 #[test]
 fn rules_of_heads(rt: HostRuntime) -> Result<(), Fail> {
-    let heads: [(&[u8], u8); 21] = [
+    let heads: [(&[u8], u8); 10] = [
         (b"GET /runs/2024-07-01 HTTP/1.1\r\n\r\n", 65),
         (b"GET /runs/2024-07-01 HTTP/1.0\r\n\r\n", ASKED),
         (b"\r\n\nGET /runs/2024-07-01 HTTP/1.1\nHOST:\n\n", ASKED),
@@ -335,6 +335,16 @@ fn rules_of_heads(rt: HostRuntime) -> Result<(), Fail> {
         (b"GET /runs/2024-07-01 HTTP/1.1\r\nHost : a\r\n\r\n", 65),
         (b"GET / HTTP/1.1\r\nHost: a\r\nhost: a\r\n\r\n", 65),
         (b"GET / HTTP/1.0\r\nHost: a\r\nhost: a\r\n\r\n", 65),
+    ];
+    for (head, wanted) in heads {
+        assert_eq!(rt; number(&rt, head), wanted);
+    }
+    Ok(())
+}
+
+#[test]
+fn rules_of_headers(rt: HostRuntime) -> Result<(), Fail> {
+    let heads: [(&[u8], u8); 11] = [
         (
             b"GET / HTTP/1.1\r\nHost: a\r\nx-office-key: b\r\nX-Office-Key: b\r\n\r\n",
             65,

@@ -1,5 +1,5 @@
 use Rattle.std.proofs.Common.{◌≡◌, ◌<◌, ◌^◌, drop}
-use Rattle.hh_wire.specs.Lengths.{length_behind}
+use Rattle.hh_wire.proofs.LengthLemmas.{length_behind}
 use Rattle.hh_wire.proofs.length.read_length.Given as goal
 
 -- the number so far, with the digits that are left, is the number
