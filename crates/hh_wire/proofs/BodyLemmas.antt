@@ -1,0 +1,29 @@
+-- Bodies of which the first bytes are at hand.
+use Rattle.std.proofs.Common.{◌≡◌, ◌∙◌, ℕ, ◌≤◌, ◌<◌, min, Bool, true, ◌⊎◌, inl, inr, List, ◌++◌, length, take, Option, Some, None, IfSome, sym, ap, subst, arith}
+use Rattle.std.proofs.lemmas.Bool.{cases_lt}
+use Rattle.std.proofs.lemmas.List.{length-append, length-take, take-append-le, take_all, take_at}
+use Rattle.hh_wire.specs.Stops.{Fills}
+
+-- a buffer that the bytes at hand and the rest fill, by whether those at hand are enough
+module _ (behind rest items after : List ℕ) (size : ℕ) (long : length items ≡ size) (same : take (min (length behind) size) behind ++ rest ≡ items ++ after) where
+  by_length : (length behind < size) ⊎ (size ≤ length behind) → (size ≤ length (behind ++ rest)) × (items ≡ take size (behind ++ rest))
+  by_length (inl few) =
+      let all : take (min (length behind) size) behind ≡ behind = take_all (min (length behind) size) behind (omega arith) in
+      let text : behind ++ rest ≡ items ++ after = sym (ap (λ (t : List ℕ). t ++ rest) all) ∙ same in
+      (omega (arith, ap length text, length-append items after), sym (ap (take size) text ∙ take_at items after size long))
+  by_length (inr enough) =
+      let least : min (length behind) size ≡ size = omega arith in
+      let front : take size behind ++ rest ≡ items ++ after = ap (λ (m : ℕ). take m behind ++ rest) (sym least) ∙ same in
+      let first : take size behind ≡ items =
+      sym (take_at (take size behind) rest size (omega (arith, length-take size behind))) ∙ ap (take size) front ∙ take_at items after size long in
+      (omega (arith, length-append behind rest), sym first ∙ sym (take-append-le size behind rest enough))
+
+-- what is written back into a body that was filled whole is the front of the bytes
+pub filled_whole : (known : Option (List ℕ)) (behind items old final : List ℕ) (size len count : ℕ) (b : Bool) → b ≡ true → count ≡ min (length behind) size
+    → length items ≡ size → length items ≡ len → final ≡ take len (items ++ old) → IfSome known (λ rest. Fills (take count behind ++ rest) items b)
+    → IfSome known (λ rest. (size ≤ length (behind ++ rest)) × (final ≡ take size (behind ++ rest)))
+filled_whole None behind items old final size len count b is least long fits final_is fills = tt
+filled_whole (Some rest) behind items old final size len count b is least long fits final_is fills =
+    let (after, same) = subst (λ (b : Bool). Fills (take count behind ++ rest) items b) is fills in
+    let whole = by_length behind rest items after size long (ap (λ (m : ℕ). take m behind ++ rest) (sym least) ∙ same) (cases_lt (length behind) size) in
+    (whole.0, final_is ∙ take_at items old len fits ∙ whole.1)

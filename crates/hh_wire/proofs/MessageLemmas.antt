@@ -1,0 +1,69 @@
+-- What is read behind a head is what the bytes ask.
+use Rattle.std.proofs.Common.{◌≡◌, ◌∙◌, ℕ, List, ◌++◌, length, take, drop, Option, Some, None, IfSome, Ok, Err, inl, inr, sym, ap, subst, arith}
+use Rattle.std.proofs.lemmas.List.{length-map, length-take}
+use Rattle.httparse.proofs.GrammarLemmas.{ReadsRequest-append}
+use Rattle.httparse.specs.Grammar.{Field, ReadsRequest, RequestHead}
+use Rattle.httparse.specs.Spans.{AreFieldsAt, IsRequestAt, header_bytes, name_and_value}
+use Rattle.httparse.specs.declared.spans.HeaderSpan.{HeaderSpan}
+use Rattle.httparse.specs.declared.spans.RequestSpans.{RequestSpans}
+use Rattle.hh_office.specs.declared.request.Request.{Request}
+use Rattle.hh_wire.specs.Behind.{ReadsBehind, fault_behind}
+use Rattle.hh_wire.specs.Found.{FindsHead}
+use Rattle.hh_wire.specs.Fronts.{IsFront}
+use Rattle.hh_wire.specs.Headings.{Heading, asks_head, heading_of}
+use Rattle.hh_wire.specs.Message.{ByCause, Message, IsMessage, Reads, asked_by}
+use Rattle.hh_wire.specs.declared.incoming.Incoming.TheVariants.{Asked}
+use Rattle.hh_wire.specs.declared.incoming.RequestRefusal.{RequestRefusal}
+use Rattle.hh_wire.specs.declared.incoming.RequestRefusal.TheVariants as refusal
+use Rattle.hh_wire.specs.declared.stop.Stop.{Stop}
+use Rattle.hh_wire.specs.declared.stop.Stop.TheVariants.{Read, Refused}
+
+by_cause : (cause : RequestRefusal) (M N X Y : Type 0) → N → (X → Y) → ByCause cause M X → ByCause cause N Y
+by_cause refusal.Memory M N X Y n f x = n
+by_cause refusal.NoRoute M N X Y n f x = f x
+by_cause (refusal.BadMethod allow) M N X Y n f x = f x
+by_cause refusal.LengthRequired M N X Y n f x = f x
+by_cause refusal.BadRequest M N X Y n f x = f x
+by_cause refusal.BodyTooLarge M N X Y n f x = f x
+
+field_count : (bytes : List ℕ) (headers : List HeaderSpan) (count : ℕ) (fields : List Field) → AreFieldsAt bytes headers count fields → length fields ≡ length (take count headers)
+field_count bytes headers count fields are =
+    sym (length-map fields name_and_value) ∙ sym (ap length are) ∙ length-map (take count headers) (header_bytes bytes)
+
+-- A head was found at the front of a buffer, and its heading and what came behind it are known.
+module _ (buffer : List ℕ) (headers : List HeaderSpan) (read : ℕ) (spans : RequestSpans) (most : length buffer ≡ 8192) (room : length headers ≡ 32)
+    (h : Heading) (behind : List ℕ) (says : (head : RequestHead) → IsRequestAt (take read buffer) headers spans head → h ≡ heading_of head)
+    (follows : behind ≡ drop spans.len (take read buffer)) where
+  found_front : (bytes rest : List ℕ) → FindsHead (Some bytes) (Some rest) buffer headers read spans → (head : RequestHead) × IsFront bytes head (behind ++ rest) × (h ≡ heading_of head)
+  found_front bytes rest found =
+      let (head, at) = found.head in
+      let within = found.room in (
+        head,
+        subst (λ (b : List ℕ). IsFront bytes head (b ++ rest)) (sym follows) (record {
+          reads = subst (λ (t : List ℕ). ReadsRequest t head (drop spans.len (take read buffer) ++ rest)) (sym found.taken)
+              (ReadsRequest-append (take read buffer) head (drop spans.len (take read buffer)) rest at.reads);
+          short = omega (arith, at.len, within.section.len_fits, length-take read buffer);
+          few = omega (arith, within.section.count_fits, length-take spans.headers headers, field_count _ _ _ _ at.fields);
+        }),
+        says head at,
+      )
+
+  is_message : (bytes rest : List ℕ) → FindsHead (Some bytes) (Some rest) buffer headers read spans → (message : Message) → asked_by h (behind ++ rest) ≡ message → IsMessage bytes message
+  is_message bytes rest found message comes =
+      let (head, front, same) = found_front bytes rest found in
+      inr (inl (head, behind ++ rest, front, sym comes ∙ ap (λ (g : Heading). asked_by g (behind ++ rest)) same))
+
+  pub request_read : (old mid : Option (List ℕ)) (request : Request) → FindsHead old mid buffer headers read spans
+      → IfSome mid (λ rest. ReadsBehind h (asked_by h (behind ++ rest)) (Ok request)) → IfSome old (λ bytes. Reads bytes (Ok (Asked request)))
+  request_read None mid request found comes = tt
+  request_read (Some bytes) None request found comes = absurd found.taken
+  request_read (Some bytes) (Some rest) request found comes = is_message bytes rest found (Ok (Asked request)) comes
+
+  pub stop_read : (old mid : Option (List ℕ)) (stop : Stop) → FindsHead old mid buffer headers read spans
+      → IfSome mid (λ rest. ReadsBehind h (asked_by h (behind ++ rest)) (Err stop)) → IfSome old (λ bytes. Reads bytes (Err (fault_behind h stop)))
+  stop_read None mid stop found comes = tt
+  stop_read (Some bytes) None stop found comes = absurd found.taken
+  stop_read (Some bytes) (Some rest) Read found comes = tt
+  stop_read (Some bytes) (Some rest) (Refused cause) found comes =
+      let (head, front, same) = found_front bytes rest found in
+      by_cause cause _ _ _ _ (head, behind ++ rest, front, ap asks_head same) (is_message bytes rest found _) comes

@@ -1,0 +1,21 @@
+-- The head of a request at the front of bytes (RFC 9112, by the grammar of the crate httparse), within the limits.
+use Rattle.std.specs.Prelude.{ℕ, ◌≤◌, List, length}
+use Rattle.httparse.specs.Grammar.{RequestHead, print_request, ReadsRequest}
+
+-- the most bytes of a head, with its empty line and the empty lines before it
+abbrev pub most_head_bytes : ℕ
+most_head_bytes = 8_192
+
+-- the most headers of a head
+abbrev pub most_headers : ℕ
+most_headers = 32
+
+-- bytes begin with a head within the limits and go on with the rest
+pub record IsFront (bytes : List ℕ) (head : RequestHead) (rest : List ℕ) : Type 0 where
+  pub reads : ReadsRequest bytes head rest
+  pub short : length (print_request head) ≤ most_head_bytes
+  pub few : length head.fields ≤ most_headers
+
+-- bytes begin with no such head
+abbrev pub HasNoFront : List ℕ → Type 0
+HasNoFront bytes = (head : RequestHead) (rest : List ℕ) → ¬ (IsFront bytes head rest)

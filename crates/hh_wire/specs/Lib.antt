@@ -1,0 +1,14 @@
+pub mod Behind
+pub mod Causes
+pub mod Fields
+pub mod Found
+pub mod Fronts
+pub mod Headings
+pub mod Heads
+pub mod Lengths
+pub mod Message
+pub mod ReplyText
+pub mod Routes
+pub mod Statuses
+pub mod Stops
+pub mod Writes

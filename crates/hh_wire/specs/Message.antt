@@ -1,0 +1,76 @@
+-- What the bytes of a connection ask of the office.
+use Rattle.std.specs.Prelude.{◌≡◌, ◌≢◌, ◌⊎◌, ℕ, nat_lt, List, [], length, take, Bool, false, not, ◌&&◌, is_none, if◌then◌else◌, Some, None, Result, Ok, Err, bytes_eq}
+use Rattle.httparse.specs.Grammar.{RequestHead}
+use Rattle.hh_devices.specs.Devices.{Failed}
+use Rattle.hh_wire.specs.declared.incoming.Incoming.{Incoming}
+use Rattle.hh_wire.specs.declared.incoming.Incoming.TheVariants.{Closed, Asked}
+use Rattle.hh_wire.specs.declared.incoming.Refused.{Refused}
+use Rattle.hh_wire.specs.declared.incoming.RequestRefusal.{RequestRefusal}
+use Rattle.hh_wire.specs.declared.incoming.RequestRefusal.TheVariants as refusal
+use Rattle.hh_wire.specs.declared.incoming.WireFault.{WireFault}
+use Rattle.hh_wire.specs.declared.incoming.WireFault.TheVariants as fault
+use Rattle.hh_wire.specs.Fronts.{HasNoFront, IsFront}
+use Rattle.hh_wire.specs.Headings.{Heading, asks_head, heading_of, is_bad, key_shown, length_given, length_of}
+use Rattle.hh_wire.specs.Routes.{action_at, is_load, method_of, parts_of}
+
+-- the most bytes of a body
+abbrev pub most_body_bytes : ℕ
+most_body_bytes = 1_048_576
+
+-- a request, or its refusal
+abbrev pub Message : Type 0
+Message = Result Incoming Refused
+
+-- the refusal of a request whose head was read
+abbrev pub refusal_message : Heading → RequestRefusal → Message
+refusal_message h cause = Err (record { cause = cause; head_only = asks_head h })
+
+-- what a head asks with a body
+abbrev pub asked_with : Heading → List ℕ → Message
+asked_with h body = elim (action_at (parts_of h.target) body) [
+  | None ↦ refusal_message h refusal.NoRoute
+  | Some action ↦
+      if not (bytes_eq h.method (method_of action)) then refusal_message h (refusal.BadMethod (method_of action))
+      else if is_load action && is_none (length_given h) then refusal_message h refusal.LengthRequired
+      else Ok (Asked (record { key = key_shown h; action = action }))
+]
+
+-- what a head asks with the bytes that follow it
+abbrev pub asked_by : Heading → List ℕ → Message
+asked_by h rest =
+    if is_bad h then refusal_message h refusal.BadRequest
+    else if nat_lt most_body_bytes (length_of h) then refusal_message h refusal.BodyTooLarge
+    else if nat_lt (length rest) (length_of h) then refusal_message h refusal.BadRequest
+    else asked_with h (take (length_of h) rest)
+
+-- bytes that begin with no head
+abbrev pub no_head : Message
+no_head = Err (record { cause = refusal.BadRequest; head_only = false })
+
+-- what the bytes of a connection ask: nothing where there are none, what their head asks with what follows it, or a bad request
+abbrev pub IsMessage : List ℕ → Message → Type 0
+IsMessage bytes message =
+    ((bytes ≡ []) × (message ≡ Ok Closed))
+    ⊎ (((head : RequestHead) × (rest : List ℕ) × IsFront bytes head rest × (message ≡ asked_by (heading_of head) rest))
+    ⊎ ((bytes ≢ []) × HasNoFront bytes × (message ≡ no_head)))
+
+-- one fact for the refusal of memory, another for any other
+abbrev pub ByCause : RequestRefusal → Type 0 → Type 0 → Type 0
+ByCause refusal.Memory memory other = memory
+ByCause cause memory other = other
+
+-- bytes begin with a head, which asks for the head of a reply alone or not
+abbrev pub AsksHead : List ℕ → Bool → Type 0
+AsksHead bytes head_only = (head : RequestHead) × (rest : List ℕ) × IsFront bytes head rest × (head_only ≡ asks_head (heading_of head))
+
+-- what was answered is what the bytes ask; memory may be refused in its place, and where a read failed nothing is said of them
+abbrev pub Reads : List ℕ → Result Incoming WireFault → Type 0
+Reads bytes (Ok incoming) = IsMessage bytes (Ok incoming)
+Reads bytes (Err fault.Read) = Unit {0}
+Reads bytes (Err (fault.Refused r)) = ByCause r.cause (AsksHead bytes r.head_only) (IsMessage bytes (Err r))
+
+-- a call counts one failure where it answers that a read failed, and none elsewhere
+abbrev pub CountsRead : Result Incoming WireFault → ℕ → ℕ → Type 0
+CountsRead (Ok incoming) old new = new ≡ old
+CountsRead (Err fault.Read) old new = Failed old new
+CountsRead (Err (fault.Refused r)) old new = new ≡ old

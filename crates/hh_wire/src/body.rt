@@ -1,0 +1,61 @@
+//! Bodies of a known length.
+
+ghost use Rattle.std.specs.Prelude.{◌≡◌, ◌≤◌, ◌++◌, length, IfOk, IfSome};
+ghost use Rattle.hh_devices.specs.Devices.{CountsErr};
+ghost use Rattle.hh_wire.specs.Stops.{CountsStop, Fills, ReadsBody};
+
+use crate::incoming::RequestRefusal;
+use crate::piece::fill;
+use crate::stop::Stop;
+use hh_devices::{DeviceFailed, Source};
+use std::alloc::Global;
+
+/// Reads a body of that length, whose first bytes came with its head. What follows the body is
+/// left.
+///
+/// # Errors
+///
+/// `BadRequest` where the source ends before the body does, `Memory` where no room is given, `Read`
+/// where a call of the source failed.
+pub(crate) fn read_body<S: Source>(
+    alloc: Global,
+    source: &mut S,
+    behind: &[u8],
+    size: usize,
+) -> Result<Vec<u8>, Stop>
+    ensures body { IfSome (S.remaining source.old) (λ rest.
+        ReadsBody (behind.now ++ rest) size result) }
+    ensures failed { CountsStop result (S.failures source.old) (S.failures source.new) }
+{
+    let mut body = vec![in alloc; 0u8; size]?;
+    let at_hand = &behind[..behind.len().min(size)];
+    if fill_body(source, at_hand, &mut body)? {
+        Ok(body)
+    } else {
+        Err(Stop::Refused(RequestRefusal::BadRequest))
+    }
+}
+
+/// Fills a buffer with the bytes at hand and then from a source. Answers whether there were enough.
+fn fill_body<S: Source>(
+    source: &mut S,
+    at_hand: &[u8],
+    body: &mut [u8],
+) -> Result<bool, DeviceFailed>
+    requires { length at_hand.now ≤ length body.old }
+    ensures kept { length body.new ≡ length body.old }
+    ensures filled { IfSome (S.remaining source.old) (λ rest.
+        IfOk result (Fills (at_hand.now ++ rest) body.new)) }
+    ensures failed { CountsErr result (S.failures source.old) (S.failures source.new) }
+{
+    let mut filled = at_hand.len();
+    body[..filled].copy_from_slice(at_hand);
+    while filled < body.len() {
+        let count = fill(source, body, filled)?;
+        if count == 0 {
+            return Ok(false);
+        }
+        filled += count;
+    }
+    Ok(true)
+}

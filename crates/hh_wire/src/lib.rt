@@ -1,0 +1,24 @@
+//! Requests and replies as the bytes of HTTP connections.
+#![tactic(auto)]
+
+mod body;
+mod field;
+mod front;
+mod head;
+mod incoming;
+mod length;
+mod piece;
+mod reply;
+mod reply_text;
+mod request;
+mod route;
+mod status;
+mod stop;
+mod terms;
+
+pub use incoming::{Incoming, Refused, RequestRefusal, WireFault};
+pub use reply::{WriteFault, write_refused};
+pub use request::{message_is_one, read_request};
+
+#[cfg(test)]
+mod tests;

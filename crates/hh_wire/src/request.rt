@@ -1,0 +1,108 @@
+//! Requests, read from connections.
+
+ghost use Rattle.std.specs.Prelude.{◌≡◌, ℕ, List, ◌++◌, IfSome};
+ghost use Rattle.hh_wire.specs.Behind.{Asks, ReadsBehind};
+ghost use Rattle.hh_wire.specs.Heads.{HoldsTerms, heading_in};
+ghost use Rattle.hh_wire.specs.Message.{CountsRead, IsMessage, Message, Reads, asked_by, asked_with};
+ghost use Rattle.hh_wire.specs.Stops.{CountsStop};
+
+use crate::body::read_body;
+use crate::front::{Front, MOST_HEAD_BYTES, MOST_HEADERS, read_front};
+use crate::head::WholeHead;
+use crate::incoming::{Incoming, Refused, RequestRefusal, WireFault};
+use crate::route::{action_at, method_of};
+use crate::stop::Stop;
+use crate::terms::Terms;
+use hh_devices::Source;
+use hh_office::{Action, Bytes, Request};
+use httparse::spans::EMPTY_HEADER_SPAN;
+use std::alloc::Global;
+
+/// The most bytes of a body (profile).
+const MOST_BODY_BYTES: u64 = 1_048_576;
+
+/// Reads a request to the office from what a client sends, in pieces of any lengths (profile). It
+/// reads no further once the request is whole or refused. Memory is taken for the body and the key
+/// alone.
+///
+/// # Errors
+///
+/// `Refused` where the bytes are no request, with the first of these causes: `BadRequest` for a
+/// head that is none, is cut, has more than 8,192 bytes or 32 headers, or breaks a rule;
+/// `BodyTooLarge`; `BadRequest` for a cut body; `NoRoute`; `BadMethod`; `LengthRequired`. Once a
+/// head was read `Memory` may come in the place of any answer. `Read` comes where a call of the
+/// source failed in this call.
+pub fn read_request<S: Source>(alloc: Global, source: &mut S) -> Result<Incoming, WireFault>
+    ensures message { IfSome (S.remaining source.old) (λ bytes. Reads bytes result) }
+    ensures failed { CountsRead result (S.failures source.old) (S.failures source.new) }
+{
+    let mut buffer = [0u8; MOST_HEAD_BYTES];
+    let mut headers = [EMPTY_HEADER_SPAN; MOST_HEADERS];
+    match read_front(source, &mut buffer, &mut headers)? {
+        Front::Nothing => Ok(Incoming::Closed),
+        Front::NoHead => Err(WireFault::Refused(Refused {
+            cause: RequestRefusal::BadRequest,
+            head_only: false,
+        })),
+        Front::Head { read, spans } => {
+            let head = WholeHead::of(&buffer[..read], &headers, spans);
+            match read_behind(alloc, source, &head) {
+                Ok(request) => Ok(Incoming::Asked(request)),
+                Err(stop) => Err(stop.behind(&head)),
+            }
+        }
+    }
+}
+
+/// What bytes ask is one thing: no two messages are those of the same bytes.
+pub fn message_is_one()
+    ensures { (bytes : List ℕ) (first second : Message)
+        → IsMessage bytes first → IsMessage bytes second → first ≡ second }
+{}
+
+/// Reads what a head asks: its body, if it has one.
+fn read_behind<S: Source>(
+    alloc: Global,
+    source: &mut S,
+    head: &WholeHead<'_>,
+) -> Result<Request, Stop>
+    ensures comes { IfSome (S.remaining source.old) (λ rest.
+        let heading = heading_in head.now in
+        ReadsBehind heading (asked_by heading (head.now.behind.now ++ rest)) result) }
+    ensures failed { CountsStop result (S.failures source.old) (S.failures source.new) }
+{
+    let terms = Terms::of(head)?;
+    let size = terms.length.unwrap_or(0);
+    if size > MOST_BODY_BYTES {
+        return Err(Stop::Refused(RequestRefusal::BodyTooLarge));
+    }
+    let body = read_body(alloc, source, head.behind, size as usize)?;
+    Ok(request_with(alloc, head, &terms, body)?)
+}
+
+/// What a head asks with a body.
+fn request_with(
+    alloc: Global,
+    head: &WholeHead<'_>,
+    terms: &Terms<'_>,
+    body: Vec<u8>,
+) -> Result<Request, RequestRefusal>
+    requires { HoldsTerms (heading_in head.now) terms.now }
+    ensures { let heading = heading_in head.now in
+        Asks heading (asked_with heading body.items) result }
+{
+    let Some(action) = action_at(head.target, Bytes::new(body)) else {
+        return Err(RequestRefusal::NoRoute);
+    };
+    let allow = method_of(&action);
+    if head.method != allow.as_str().as_bytes() {
+        return Err(RequestRefusal::BadMethod { allow });
+    }
+    if terms.length.is_none() && matches!(action, Action::Load(_)) {
+        return Err(RequestRefusal::LengthRequired);
+    }
+    Ok(Request {
+        key: Bytes::new(Vec::from_slice(alloc, terms.key)?),
+        action,
+    })
+}

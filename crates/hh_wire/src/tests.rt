@@ -1,0 +1,558 @@
+//! What no clause says: that with ample memory requests are read, that no more is read than they need,
+//! and the values of worked requests.
+
+ghost use Rattle.std.specs.Prelude.{◌<◌};
+
+use super::*;
+use hh_devices::{MemorySink, MemorySource};
+use hh_names::Account;
+use hh_office::{Action, Request};
+use hh_rows::FileKind;
+use hh_runs::RunKind;
+use std::test::Fail;
+
+/// A party asks for the balance of its own account.
+const BALANCE: &[u8] =
+    b"GET /balances/SUPCO-C HTTP/1.1\r\nHost: localhost\r\nx-office-key: supco0001\r\n\r\n";
+
+/// A file is sent, and more follows it.
+const LOAD: &[u8] =
+    b"POST /files/meters/a.csv HTTP/1.1\r\nHost: localhost\r\nContent-Length: 5\r\n\r\na,b\r\nmore";
+
+/// The days from 1970-01-01 to 2024-07-01: 54 years with 13 leap days, and 182 days of a leap year.
+const FIRST_OF_JULY_2024: u16 = 54 * 365 + 13 + 182;
+
+/// What reading came to, where it is no refusal.
+const ASKED: u8 = 0;
+
+const CLOSED: u8 = 1;
+
+const FAILED: u8 = 2;
+
+/// The number of a refusal, or what else reading came to, and whether the reply is a head alone.
+fn told(read: &Result<Incoming, WireFault>) -> (u8, bool) {
+    match read {
+        Ok(Incoming::Asked(_)) => (ASKED, false),
+        Ok(Incoming::Closed) => (CLOSED, false),
+        Err(WireFault::Read) => (FAILED, false),
+        Err(WireFault::Refused(refused)) => (refused.cause.refusal().number(), refused.head_only),
+    }
+}
+
+/// The same of bytes that come in pieces.
+fn outcome(rt: &impl AllocGlobal, bytes: &[u8], piece: usize) -> (u8, bool)
+    requires { 0 < piece }
+{
+    told(&read_request(rt.alloc(), &mut MemorySource::new(bytes).in_pieces(piece)))
+}
+
+/// The number alone, of bytes that come whole.
+fn number(rt: &impl AllocGlobal, bytes: &[u8]) -> u8 {
+    outcome(rt, bytes, 9_000).0
+}
+
+/// The request that bytes make.
+fn request(rt: &impl AllocGlobal, bytes: &[u8], piece: usize) -> Result<Request, Fail>
+    requires { 0 < piece }
+{
+    let mut source = MemorySource::new(bytes).in_pieces(piece);
+    match read_request(rt.alloc(), &mut source) {
+        Ok(Incoming::Asked(request)) => Ok(request),
+        _ => Err(Fail::new("no request")),
+    }
+}
+
+/// What is asked by a request of this method and path, with a Host and the further lines of its head,
+/// and its body.
+fn action(rt: &impl AllocGlobal, start: &[u8], lines: &[u8], body: &[u8]) -> Result<Action, Fail> {
+    let bytes = sent(rt, start, lines, body)?;
+    let Request { key, action } = request(rt, &bytes, 70_000)?;
+    drop(key);
+    Ok(action)
+}
+
+/// Why bytes are refused.
+fn refusal(rt: &impl AllocGlobal, bytes: &[u8]) -> Result<Refused, Fail> {
+    let mut source = MemorySource::new(bytes);
+    match read_request(rt.alloc(), &mut source) {
+        Err(WireFault::Refused(refused)) => Ok(refused),
+        _ => Err(Fail::new("not refused")),
+    }
+}
+
+/// Texts one after the other.
+fn joined(rt: &impl AllocGlobal, texts: &[&[u8]]) -> Result<Vec<u8>, Fail> {
+    let mut bytes = Vec::new(rt.alloc());
+    for text in texts {
+        bytes.extend_from_slice(*text)?;
+    }
+    Ok(bytes)
+}
+
+/// A request of this method and path, with a Host and the further lines of its head, and its body.
+fn sent(rt: &impl AllocGlobal, start: &[u8], lines: &[u8], body: &[u8]) -> Result<Vec<u8>, Fail> {
+    joined(
+        rt,
+        &[start, b" HTTP/1.1\r\nHost: a\r\n", lines, b"\r\n", body],
+    )
+}
+
+#[test]
+fn a_balance_is_asked_for(rt: HostRuntime) -> Result<(), Fail> {
+    assert_eq!(rt; BALANCE.len(), 76);
+    for piece in [1, 7, 9_000] {
+        let Request { key, action } = request(&rt, BALANCE, piece)?;
+        assert_eq!(rt; key.as_slice(), b"supco0001".as_slice());
+        let Action::Balance { account } = action else {
+            return Err(Fail::new("no balance"));
+        };
+        assert_eq!(rt; Some(account), Account::read(b"SUPCO-C"));
+    }
+    Ok(())
+}
+
+#[test]
+fn a_cut_request_is_bad(rt: HostRuntime) -> Result<(), Fail> {
+    for piece in [1, 7, 9_000] {
+        assert_eq!(rt; outcome(&rt, b"", piece), (CLOSED, false));
+        for end in 1..BALANCE.len() {
+            assert_eq!(rt;
+                outcome(&rt, &BALANCE[..end], piece),
+                (65, false),
+                "at {end}"
+            );
+        }
+        for end in 1..LOAD.len() - 4 {
+            assert_eq!(rt; outcome(&rt, &LOAD[..end], piece), (65, false), "at {end}");
+        }
+    }
+    Ok(())
+}
+
+#[test]
+fn a_failed_read_is_told(rt: HostRuntime) -> Result<(), Fail> {
+    for piece in [1, 7, 9_000] {
+        for count in 0..BALANCE.len() {
+            let mut source = MemorySource::new(BALANCE)
+                .in_pieces(piece)
+                .failing_after(count);
+            assert_eq!(rt;
+                told(&read_request(rt.alloc(), &mut source)),
+                (FAILED, false)
+            );
+            assert_eq!(rt; source.failures(), 1);
+        }
+        for count in 0..LOAD.len() - 4 {
+            let mut source = MemorySource::new(LOAD)
+                .in_pieces(piece)
+                .failing_after(count);
+            assert_eq!(rt;
+                told(&read_request(rt.alloc(), &mut source)),
+                (FAILED, false)
+            );
+        }
+    }
+    Ok(())
+}
+
+#[test]
+fn no_more_is_read_than_is_needed(rt: HostRuntime) -> Result<(), Fail> {
+    let large = sent(
+        &rt,
+        b"POST /files/meters/a.csv",
+        b"Content-Length: 1048577\r\n",
+        b"",
+    )?;
+    let broken = b"GET / HTTP/1.1\n:";
+    let needed: [(&[u8], usize, u8); 4] = [
+        (BALANCE, BALANCE.len(), ASKED),
+        (LOAD, LOAD.len() - 4, ASKED),
+        (&large, large.len(), 66),
+        (broken, broken.len(), 65),
+    ];
+    for (bytes, count, number) in needed {
+        // The next call would fail: the client may be waiting for its reply.
+        for piece in [1, 7, 9_000] {
+            let mut source = MemorySource::new(bytes)
+                .in_pieces(piece)
+                .failing_after(count);
+            assert_eq!(rt; told(&read_request(rt.alloc(), &mut source)).0, number);
+            assert_eq!(rt; source.failures(), 0);
+        }
+    }
+    Ok(())
+}
+
+#[test]
+fn a_file_is_sent(rt: HostRuntime) -> Result<(), Fail> {
+    for piece in [1, 7, 9_000] {
+        let Request { key, action } = request(&rt, LOAD, piece)?;
+        assert_eq!(rt; key.as_slice(), b"".as_slice());
+        let Action::Load(upload) = action else {
+            return Err(Fail::new("no load"));
+        };
+        assert_eq!(rt; upload.kind, FileKind::Meters);
+        assert_eq!(rt; upload.name.as_bytes(), b"a.csv".as_slice());
+        assert_eq!(rt; upload.body.as_slice(), b"a,b\r\n".as_slice());
+    }
+    Ok(())
+}
+
+#[test]
+fn a_body_may_be_as_long_as_a_file(rt: HostRuntime) -> Result<(), Fail> {
+    let mut body = Vec::new(rt.alloc());
+    for _ in 0..1_048_576 {
+        body.push(b'x')?;
+    }
+    let lines = b"Content-Length: 1048576\r\n";
+    let Action::Load(upload) = action(&rt, b"POST /files/meters/a.csv", lines, &body)? else {
+        return Err(Fail::new("no load"));
+    };
+    assert!(rt; upload.body.as_slice() == body.as_slice());
+    let mut bytes = sent(&rt, b"POST /files/meters/a.csv", lines, &body)?;
+    assert_eq!(rt; number(&rt, &bytes), ASKED);
+    assert_eq!(rt; bytes.pop(), Some(b'x'));
+    assert_eq!(rt; number(&rt, &bytes), 65);
+    Ok(())
+}
+
+#[test]
+fn each_path_asks(rt: HostRuntime) -> Result<(), Fail> {
+    let Action::Run(run) = action(&rt, b"POST /runs/2024-07-01/R1", b"", b"")? else {
+        return Err(Fail::new("no run"));
+    };
+    assert_eq!(rt; run.date.number(), FIRST_OF_JULY_2024);
+    assert_eq!(rt; run.kind, RunKind::R1);
+    let Action::Account { account, date } = action(
+        &rt,
+        b"GET /accounts/GENCO-P/2024-07-01",
+        b"",
+        b"",
+    )?
+    else {
+        return Err(Fail::new("no account"));
+    };
+    assert_eq!(rt; Some(account), Account::read(b"GENCO-P"));
+    assert_eq!(rt; date.number(), FIRST_OF_JULY_2024);
+    let Action::Contracts { account, date } = action(
+        &rt,
+        b"GET /contracts/GENCO-P/2024-07-01",
+        b"",
+        b"",
+    )?
+    else {
+        return Err(Fail::new("no contracts"));
+    };
+    assert_eq!(rt; Some(account), Account::read(b"GENCO-P"));
+    assert_eq!(rt; date.number(), FIRST_OF_JULY_2024);
+    let Action::Runs { date } = action(&rt, b"GET /runs/2024-07-01", b"", b"")? else {
+        return Err(Fail::new("no runs"));
+    };
+    assert_eq!(rt; date.number(), FIRST_OF_JULY_2024);
+    Ok(())
+}
+
+#[test]
+fn other_paths_have_no_route(rt: HostRuntime) -> Result<(), Fail> {
+    let paths: [&[u8]; 19] = [
+        b"GET /",
+        b"GET *",
+        b"GET /nowhere",
+        b"GET /runs",
+        b"GET /runs/",
+        b"GET //2024-07-01",
+        b"GET /runs//2024-07-01",
+        b"GET /runs/2024-07-01/",
+        b"GET /runs/2024-07-01?x",
+        b"GET /runs/%32024-07-01",
+        b"GET /runs/2024-02-30",
+        b"GET /Runs/2024-07-01",
+        b"GET runs/2024-07-01",
+        b"GET http://a/runs/2024-07-01",
+        b"GET /runs/2024-07-01/SF/x",
+        b"GET /accounts/GENCO/2024-07-01",
+        b"POST /runs/2024-07-01/XX",
+        b"POST /files/meter/a.csv",
+        b"DELETE /files/meters/a,csv",
+    ];
+    for path in paths {
+        assert_eq!(rt; number(&rt, &sent(&rt, path, b"", b"")?), 61);
+    }
+    Ok(())
+}
+
+#[test]
+fn other_methods_are_told_the_right_one(rt: HostRuntime) -> Result<(), Fail> {
+    let starts: [(&[u8], &str); 7] = [
+        (b"DELETE /balances/SUPCO-C", "GET"),
+        (b"get /balances/SUPCO-C", "GET"),
+        (b"POST /accounts/GENCO-P/2024-07-01", "GET"),
+        (b"PUT /contracts/GENCO-P/2024-07-01", "GET"),
+        (b"POST /runs/2024-07-01", "GET"),
+        (b"GET /runs/2024-07-01/SF", "POST"),
+        (b"GETTING-ON-WITH-THINGS /files/meters/a.csv", "POST"),
+    ];
+    for (start, method) in starts {
+        let bytes = sent(&rt, start, b"", b"")?;
+        let Refused { cause, head_only } = refusal(&rt, &bytes)?;
+        let RequestRefusal::BadMethod { allow } = cause else {
+            return Err(Fail::new("refused for another cause"));
+        };
+        assert_eq!(rt; allow.as_str(), method);
+        assert!(rt; !head_only);
+    }
+    Ok(())
+}
+
+#[test]
+fn a_head_alone_is_asked_for(rt: HostRuntime) -> Result<(), Fail> {
+    let requests: [(&[u8], &[u8], u8, bool); 7] = [
+        (b"HEAD /runs/2024-07-01", b"", 62, true),
+        (b"HEAD /nowhere", b"", 61, true),
+        (b"HEAD /nowhere", b"Content-Length: 1048577\r\n", 66, true),
+        (b"HEAD /nowhere", b"Content-Length: 1\r\n", 65, true),
+        (b"HEAD /nowhere", b"Host: b\r\n", 65, true),
+        (b"head /nowhere", b"", 61, false),
+        (b"HEAD /nowhere", b"Host b\r\n", 65, false),
+    ];
+    for (start, lines, number, head_only) in requests {
+        let bytes = sent(&rt, start, lines, b"")?;
+        assert_eq!(rt; outcome(&rt, &bytes, 9_000), (number, head_only));
+    }
+    Ok(())
+}
+
+#[test]
+fn rules_of_heads(rt: HostRuntime) -> Result<(), Fail> {
+    let heads: [(&[u8], u8); 10] = [
+        (b"GET /runs/2024-07-01 HTTP/1.1\r\n\r\n", 65),
+        (b"GET /runs/2024-07-01 HTTP/1.0\r\n\r\n", ASKED),
+        (b"\r\n\nGET /runs/2024-07-01 HTTP/1.1\nHOST:\n\n", ASKED),
+        (b"GET /runs/2024-07-01 HTTP/2.0\r\nHost: a\r\n\r\n", 65),
+        (b"GET /runs/2024-07-01\r\nHost: a\r\n\r\n", 65),
+        (b"GET  /runs/2024-07-01 HTTP/1.1\r\nHost: a\r\n\r\n", 65),
+        (b"GET /runs/\xff HTTP/1.1\r\nHost: a\r\n\r\n", 65),
+        (b"GET /runs/2024-07-01 HTTP/1.1\r\nHost : a\r\n\r\n", 65),
+        (b"GET / HTTP/1.1\r\nHost: a\r\nhost: a\r\n\r\n", 65),
+        (b"GET / HTTP/1.0\r\nHost: a\r\nhost: a\r\n\r\n", 65),
+    ];
+    for (head, wanted) in heads {
+        assert_eq!(rt; number(&rt, head), wanted);
+    }
+    Ok(())
+}
+
+#[test]
+fn rules_of_headers(rt: HostRuntime) -> Result<(), Fail> {
+    let heads: [(&[u8], u8); 11] = [
+        (
+            b"GET / HTTP/1.1\r\nHost: a\r\nx-office-key: b\r\nX-Office-Key: b\r\n\r\n",
+            65,
+        ),
+        (
+            b"GET / HTTP/1.1\r\nHost: a\r\nContent-Length: 0\r\nContent-Length: 0\r\n\r\n",
+            65,
+        ),
+        (
+            b"GET / HTTP/1.1\r\nHost: a\r\nContent-Length: +5\r\n\r\nabcde",
+            65,
+        ),
+        (
+            b"GET / HTTP/1.1\r\nHost: a\r\nContent-Length: -0\r\n\r\n",
+            65,
+        ),
+        (b"GET / HTTP/1.1\r\nHost: a\r\nContent-Length:\r\n\r\n", 65),
+        (
+            b"GET / HTTP/1.1\r\nHost: a\r\nContent-Length: 0,0\r\n\r\n",
+            65,
+        ),
+        (
+            b"GET / HTTP/1.1\r\nHost: a\r\nTransfer-Encoding: identity\r\n\r\n",
+            65,
+        ),
+        (
+            b"GET / HTTP/1.1\r\nHost: a\r\nContent-Length: \t5 \r\n\r\nabcde",
+            61,
+        ),
+        (b"POST /files/units/a HTTP/1.1\r\nHost: a\r\n\r\n", 64),
+        (
+            b"POST /files/units/a HTTP/1.1\r\nHost: a\r\nContent-Length: 0\r\n\r\n",
+            ASKED,
+        ),
+        (
+            b"POST /files/units/a HTTP/1.1\r\nHost: a\r\nExpect: 100-continue\r\n\r\n",
+            64,
+        ),
+    ];
+    for (head, wanted) in heads {
+        assert_eq!(rt; number(&rt, head), wanted);
+    }
+    Ok(())
+}
+
+#[test]
+fn the_first_cause_is_told(rt: HostRuntime) -> Result<(), Fail> {
+    let requests: [(&[u8], &[u8], u8); 6] = [
+        (
+            b"GET /nowhere",
+            b"Content-Length: 2000000\r\nTransfer-Encoding: gzip\r\n",
+            65,
+        ),
+        (b"GET /nowhere", b"Content-Length: 2000000\r\n", 66),
+        (b"GET /nowhere", b"Content-Length: 1\r\n", 65),
+        (b"GET /files/meters/a,csv", b"", 61),
+        (b"GET /files/meters/a.csv", b"", 62),
+        (b"POST /files/meters/a.csv", b"", 64),
+    ];
+    for (start, lines, wanted) in requests {
+        assert_eq!(rt; number(&rt, &sent(&rt, start, lines, b"")?), wanted);
+    }
+    Ok(())
+}
+
+#[test]
+fn lengths_of_many_digits(rt: HostRuntime) -> Result<(), Fail> {
+    let nines = [b'9'; 40];
+    let zeros = [b'0'; 40];
+    let lengths: [(&[u8], &[u8], u8); 4] = [
+        (&nines, b"", 66),
+        (&zeros, b"", ASKED),
+        (&zeros, b"5", ASKED),
+        (&zeros, b"6", 65),
+    ];
+    for (first, last, wanted) in lengths {
+        let lines = joined(&rt, &[b"Content-Length: ", first, last, b"\r\n"])?;
+        let bytes = sent(&rt, b"GET /runs/2024-07-01", &lines, b"abcde")?;
+        assert_eq!(rt; number(&rt, &bytes), wanted);
+    }
+    Ok(())
+}
+
+#[test]
+fn heads_of_the_greatest_sizes(rt: HostRuntime) -> Result<(), Fail> {
+    for (count, wanted) in [(31, ASKED), (32, 65)] {
+        let mut lines = Vec::new(rt.alloc());
+        for _ in 0..count {
+            lines.extend_from_slice(b"a: b\r\n")?;
+        }
+        let bytes = sent(&rt, b"GET /runs/2024-07-01", &lines, b"")?;
+        assert_eq!(rt; number(&rt, &bytes), wanted);
+    }
+    let around = sent(&rt, b"GET /runs/2024-07-01", b"a: \r\n", b"")?.len();
+    for (size, wanted) in [(8_192, ASKED), (8_193, 65)] {
+        let mut lines = joined(&rt, &[b"a: "])?;
+        for _ in around..size {
+            lines.push(b'b')?;
+        }
+        lines.extend_from_slice(b"\r\n")?;
+        let bytes = sent(&rt, b"GET /runs/2024-07-01", &lines, b"")?;
+        assert_eq!(rt; bytes.len(), size);
+        for piece in [1_000, 9_000] {
+            assert_eq!(rt; outcome(&rt, &bytes, piece).0, wanted);
+        }
+    }
+    Ok(())
+}
+
+/// The reply to a refused request: its status line, any further line, and its body.
+fn refused_reply(
+    rt: &impl AllocGlobal,
+    status: &[u8],
+    line: &[u8],
+    size: &[u8],
+    body: &[u8],
+) -> Result<Vec<u8>, Fail> {
+    joined(
+        rt,
+        &[
+            b"HTTP/1.1 ",
+            status,
+            b"\r\nContent-Type: application/json\r\nContent-Length: ",
+            size,
+            b"\r\nConnection: close\r\n",
+            line,
+            b"\r\n",
+            body,
+        ],
+    )
+}
+
+#[test]
+fn refusals_are_replied(rt: HostRuntime) -> Result<(), Fail> {
+    let starts: [(&[u8], &[u8], &[u8], &[u8], &[u8]); 6] = [
+        (
+            b"DELETE /balances/SUPCO-C",
+            b"405 Method Not Allowed",
+            b"Allow: GET\r\n",
+            b"33",
+            b"{\"name\":\"BadMethod\",\"refused\":62}",
+        ),
+        (
+            b"HEAD /runs/2024-07-01",
+            b"405 Method Not Allowed",
+            b"Allow: GET\r\n",
+            b"33",
+            b"",
+        ),
+        (
+            b"GET /nowhere",
+            b"404 Not Found",
+            b"",
+            b"31",
+            b"{\"name\":\"NoRoute\",\"refused\":61}",
+        ),
+        (
+            b"POST /files/meters/a.csv",
+            b"411 Length Required",
+            b"",
+            b"38",
+            b"{\"name\":\"LengthRequired\",\"refused\":64}",
+        ),
+        (
+            b"GET nothing at all",
+            b"400 Bad Request",
+            b"",
+            b"34",
+            b"{\"name\":\"BadRequest\",\"refused\":65}",
+        ),
+        (
+            b"POST /files/meters/a.csv HTTP/1.1\r\nHost: a\r\nContent-Length: 1048577\r\n\r\n",
+            b"413 Content Too Large",
+            b"",
+            b"36",
+            b"{\"name\":\"BodyTooLarge\",\"refused\":66}",
+        ),
+    ];
+    for (start, status, line, size, body) in starts {
+        let refused = refusal(&rt, &sent(&rt, start, b"", b"")?)?;
+        let wanted = refused_reply(&rt, status, line, size, body)?;
+        let mut sink = MemorySink::with_room(rt.alloc(), 1_000)?;
+        assert_eq!(rt; write_refused(rt.alloc(), &refused, &mut sink), Ok(()));
+        assert_eq!(rt; sink.taken(), wanted.as_slice());
+        for count in 0..wanted.len() {
+            let mut cut = MemorySink::with_room(rt.alloc(), count)?.in_pieces(7);
+            let fault = write_refused(rt.alloc(), &refused, &mut cut);
+            assert_eq!(rt; fault, Err(WriteFault::Write));
+            assert_eq!(rt; cut.taken(), &wanted[..count]);
+        }
+    }
+    Ok(())
+}
+
+#[test]
+fn refused_memory_is_replied(rt: HostRuntime) -> Result<(), Fail> {
+    for (head_only, length) in [(false, 137), (true, 107)] {
+        let refused = Refused {
+            cause: RequestRefusal::Memory,
+            head_only,
+        };
+        let mut sink = MemorySink::with_room(rt.alloc(), 1_000)?;
+        assert_eq!(rt; write_refused(rt.alloc(), &refused, &mut sink), Ok(()));
+        let body = b"{\"name\":\"Memory\",\"refused\":90}".as_slice();
+        let status = b"503 Service Unavailable";
+        let wanted = refused_reply(&rt, status, b"", b"30", if head_only { b"" } else { body })?;
+        assert_eq!(rt; sink.taken(), wanted.as_slice());
+        assert_eq!(rt; wanted.len(), length);
+    }
+    Ok(())
+}
