@@ -41,7 +41,13 @@ fn add_unit(
     push_credits(credits, unit)?;
     let (near, weighs) = (unit.lead_near(), !unit.is_interconnector());
     add_credits(accounts, &credits[first..], near, weighs, sums);
-    add_to(accounts, &unit.lead(), near, amounts_of_balancing(unit), sums);
+    add_to(
+        accounts,
+        &unit.lead(),
+        near,
+        amounts_of_balancing(unit),
+        sums,
+    );
     Ok(())
 }
 

@@ -50,7 +50,11 @@ impl UnitPlaces {
     }
 
     /// Where to look first for the reallocations of a unit in a Settlement Period.
-    pub(crate) fn reallocations_at(self, rows: &[(ReallocationKey, Reallocation)], key: &UnitPeriod) -> usize {
+    pub(crate) fn reallocations_at(
+        self,
+        rows: &[(ReallocationKey, Reallocation)],
+        key: &UnitPeriod,
+    ) -> usize {
         match rows.get(self.reallocations..self.reallocations_end) {
             Some(of_date) => self.reallocations.saturating_add(of_date.partition_point(|row| row
                 .0

@@ -11,7 +11,11 @@ use hh_rows::{ReallocationKey, UnitPeriod};
 
 /// The place at which the reallocations of a unit in a Settlement Period begin, or would. It is sought
 /// near a place.
-pub(crate) fn first_of(rows: &[(ReallocationKey, Reallocation)], key: &UnitPeriod, near: usize) -> usize
+pub(crate) fn first_of(
+    rows: &[(ReallocationKey, Reallocation)],
+    key: &UnitPeriod,
+    near: usize,
+) -> usize
     requires { IsTable reallocation_key_cmp rows.now }
     ensures begins { BeginAt key.now rows.now result }
     ensures within { result ≤ length rows.now }

@@ -71,7 +71,10 @@ const FILES: [(&str, &str); 15] = [
         "f2.csv",
         "unit,party,side,interconnector,from,to\nG1,GENCO,P,no,2024-01-01,\nS1,SUPCO,C,no,2024-01-01,\n",
     ),
-    ("f3.csv", "reference,seller,buyer,date,period,mwh\nC1,GENCO-P,SUPCO-C,2024-07-01,1,99.000\n"),
+    (
+        "f3.csv",
+        "reference,seller,buyer,date,period,mwh\nC1,GENCO-P,SUPCO-C,2024-07-01,1,99.000\n",
+    ),
     (
         "in_time.csv",
         "reference,seller,buyer,date,period,mwh\nC1,GENCO-P,SUPCO-C,2024-07-01,1,98.000\n",

@@ -9,5 +9,5 @@ returns-then-is_at g c =
     let rows = c.self.inside.rows.items in
     let in' : c.args.place < length rows = subst (λ es. c.args.place < length es) (sym c.self.view_is) (c.is_at.ensures.inside c.if-is_at.true) in
     let here : HoldsAt (λ e. g.K.Ord.cmp e.0 c.args.key.now ≡ Equal) rows c.args.place =
-        subst (λ es. HoldsAt (λ e. g.K.Ord.cmp e.0 c.args.key.now ≡ Equal) es c.args.place) (sym c.self.view_is) (c.is_at.ensures.same c.if-is_at.true) in
+    subst (λ es. HoldsAt (λ e. g.K.Ord.cmp e.0 c.args.key.now ≡ Equal) es c.args.place) (sym c.self.view_is) (c.is_at.ensures.same c.if-is_at.true) in
     found_in g.met.K.Ord.total rows rows c.args.self.now refl c.self.view_is c.self.invariant c.args.key.now c.args.place c.index.result.now here in' c.index.ensures

@@ -10,7 +10,7 @@ returns-then-is_at-clause-ok g c =
     let rows = c.self.inside.rows.items in
     let in' : c.args.place < length rows = subst (λ es. c.args.place < length es) (sym c.self.view_is) (c.is_at.ensures.inside c.if-is_at.true) in
     let here : HoldsAt (λ e. g.K.Ord.cmp e.0 c.args.key ≡ Equal) rows c.args.place =
-        subst (λ es. HoldsAt (λ e. g.K.Ord.cmp e.0 c.args.key ≡ Equal) es c.args.place) (sym c.self.view_is) (c.is_at.ensures.same c.if-is_at.true) in
+    subst (λ es. HoldsAt (λ e. g.K.Ord.cmp e.0 c.args.key ≡ Equal) es c.args.place) (sym c.self.view_is) (c.is_at.ensures.same c.if-is_at.true) in
     put_found_in g.met.K.Ord.total rows rows c.args.self.now refl c.self.view_is c.self.invariant c.args.key c.args.value c.args.place c.index_mut.result.now here in' c.index_mut.ensures.value
     ∙ ap (put g.K.Ord.cmp c.args.key c.args.value) c.self.view_is
 
@@ -19,6 +19,6 @@ invariant_of-self g c =
     let rows = c.self.inside.rows.items in
     let in' : c.args.place < length rows = subst (λ es. c.args.place < length es) (sym c.self.view_is) (c.is_at.ensures.inside c.if-is_at.true) in
     let here : HoldsAt (λ e. g.K.Ord.cmp e.0 c.args.key ≡ Equal) rows c.args.place =
-        subst (λ es. HoldsAt (λ e. g.K.Ord.cmp e.0 c.args.key ≡ Equal) es c.args.place) (sym c.self.view_is) (c.is_at.ensures.same c.if-is_at.true) in
+    subst (λ es. HoldsAt (λ e. g.K.Ord.cmp e.0 c.args.key ≡ Equal) es c.args.place) (sym c.self.view_is) (c.is_at.ensures.same c.if-is_at.true) in
     put_is_table g.met.K.Ord.total rows rows c.args.self.now refl c.self.view_is c.self.invariant c.args.key c.args.value _
     (put_found_in g.met.K.Ord.total rows rows c.args.self.now refl c.self.view_is c.self.invariant c.args.key c.args.value c.args.place c.index_mut.result.now here in' c.index_mut.ensures.value)
