@@ -12,8 +12,3 @@ mod runs;
 pub use office::Office;
 pub use reply::{AccountReply, ContractsReply, Loaded, Reply, RunsReply};
 pub use request::{Action, Bytes, Request, Upload};
-
-#[cfg(test)]
-mod run_tests;
-#[cfg(test)]
-mod tests;

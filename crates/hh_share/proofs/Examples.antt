@@ -3,6 +3,7 @@ use Rattle.std.proofs.Common.{◌≡◌, [], ◌∷◌, refl, arith}
 use Rattle.std.specs.Prelude.{pos, negsuc}
 use Rattle.hh_share.specs.Shares.{shares}
 use Rattle.hh_share.specs.Departure.{departure, DepartsLeast}
+use Rattle.hh_share.specs.Ranking.{places_before}
 
 one_penny : shares (pos 1) (5 ∷ 5 ∷ 5 ∷ []) ≡ pos 1 ∷ pos 0 ∷ pos 0 ∷ []
 one_penny = refl
@@ -35,6 +36,16 @@ first_period = refl
 -- the same period, where no account has energy but of interconnector units
 interconnectors : shares (pos 5050) (0 ∷ 0 ∷ 0 ∷ 0 ∷ []) ≡ pos 1263 ∷ pos 1263 ∷ pos 1262 ∷ pos 1262 ∷ []
 interconnectors = refl
+
+-- of the rests 1, 3 and 3 the second comes first, the third next, and the first last
+before_first : places_before (pos 1 ∷ pos 3 ∷ pos 3 ∷ []) 0 ≡ 2
+before_first = refl
+
+before_second : places_before (pos 1 ∷ pos 3 ∷ pos 3 ∷ []) 1 ≡ 0
+before_second = refl
+
+before_third : places_before (pos 1 ∷ pos 3 ∷ pos 3 ∷ []) 2 ≡ 1
+before_third = refl
 
 -- One penny over weights of 2 and 1: to the first it departs by 2, to the second by 8.
 to_the_first : departure (pos 1) (2 ∷ 1 ∷ []) (pos 1 ∷ pos 0 ∷ []) ≡ 2

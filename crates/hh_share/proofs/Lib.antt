@@ -1,8 +1,9 @@
 pub mod CountLaws
 pub mod RankLaws
-pub mod SplitLaws
+pub mod RankingLaws
 pub mod SumLaws
 pub mod QuotaLaws
 pub mod DepartureLaws
 pub mod ShareFacts
+pub mod PennyLaws
 mod Examples

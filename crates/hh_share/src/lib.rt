@@ -1,9 +1,13 @@
 //! Apportionment of a number of pence by weights.
 #![tactic(auto)]
 
+mod ranking;
 mod shares;
 
+pub use ranking::ranked;
 pub use shares::apportion;
 
+#[cfg(test)]
+mod counted;
 #[cfg(test)]
 mod tests;

@@ -2,10 +2,12 @@
 
 ghost use Rattle.std.specs.Prelude.{◌≡◌, ◌==◌, ℕ, ◌<◌, ◌≤◌, ◌^◌, ◌-◌, ◌*◌, ◌/◌, ◌%◌, ◌≢◌, pos, unsigned_abs, nat_le, nat_lt, if◌then◌else◌, ◌+◌, length, map, replicate, count_by, sum, sum_by, All, IfOk};
 ghost use Rattle.std.specs.List.{list_all};
-ghost use Rattle.hh_share.specs.Shares.{effective, rank, shares, shares_by, with_sign_of, AreQuotasRounded, SumsTo};
+ghost use Rattle.hh_share.specs.Shares.{effective, shares, sizes_by, with_sign_of, AreQuotasRounded, SumsTo};
 ghost use Rattle.hh_share.specs.Departure.{DepartsLeast};
-ghost use Rattle.hh_share.specs.Quotas.{quota_for, remainders_of};
+ghost use Rattle.hh_share.specs.Quotas.{quota_for};
+ghost use Rattle.hh_share.specs.Ranking.{HasPennies};
 
+use crate::ranking::ranked;
 use std::alloc::{AllocError, Global};
 
 /// The exact part that a weight has of the pence that are apportioned.
@@ -58,8 +60,10 @@ fn sum_of(weights: &[u64]) -> u128
 
 /// The quota of each weight.
 fn quotas_of(alloc: Global, size: u64, weights: &[u64]) -> Result<Vec<Quota>, AllocError>
-    requires { 0 < length weights.now → 0 < sum weights.now }
-    ensures { IfOk result (λ v. v.items ≡ map (quota_for size weights.now) weights.now) }
+    requires few { length weights.now < 2 ^ 63 }
+    requires positive { 0 < length weights.now → 0 < sum weights.now }
+    ensures are { IfOk result (λ v. v.items ≡ map (quota_for size weights.now) weights.now) }
+    ensures small { IfOk result (λ v. All (λ q. q.remainder < 2 ^ 127) v.items) }
 {
     let sum = sum_of(weights);
     let mut quotas = Vec::with_capacity(alloc, weights.len())?;
@@ -91,46 +95,51 @@ fn pence_left(size: u64, quotas: &[Quota]) -> u64
     size - quotas.iter().map(|quota| quota.lower).sum::<u64>()
 }
 
-/// How many of the quotas have this remainder or a larger one.
-fn count_from(quotas: &[Quota], remainder: u128) -> usize
-    ensures { result ≡ count_by (nat_le remainder) (remainders_of quotas.now) }
+/// The remainders, to be ranked.
+fn rests_of(alloc: Global, quotas: &[Quota]) -> Result<Vec<i128>, AllocError>
+    requires { All (λ q. q.remainder < 2 ^ 127) quotas.now }
+    ensures { IfOk result (λ v. v.items ≡ map (λ q. pos q.remainder) quotas.now) }
 {
-    quotas
-        .iter()
-        .map(|quota| usize::from(remainder <= quota.remainder))
-        .sum()
-}
-
-/// How many of the quotas have a larger remainder than this.
-fn count_above(quotas: &[Quota], remainder: u128) -> usize
-    ensures { result ≡ count_by (nat_lt remainder) (remainders_of quotas.now) }
-{
-    quotas
-        .iter()
-        .map(|quota| usize::from(remainder < quota.remainder))
-        .sum()
-}
-
-/// How many of the quotas come before one at this place with this remainder: those with a larger
-/// remainder, or with the same and at an earlier place.
-fn count_before(quotas: &[Quota], place: usize, remainder: u128) -> usize
-    requires { place ≤ length quotas.now }
-    ensures { result ≡ rank (remainders_of quotas.now) (place, remainder) }
-{
-    let (earlier, later) = quotas.split_at(place);
-    count_from(earlier, remainder) + count_above(later, remainder)
-}
-
-/// The size of a share: its whole pence, and one more where fewer come before it than pence are left.
-fn size_of_share(quota: Quota, before: usize, left: u64) -> u64
-    requires { quota.lower ≤ 2 ^ 63 }
-    ensures { result ≡ quota.lower + (if nat_lt before left then 1 else 0) }
-{
-    if (before as u64) < left {
-        quota.lower + 1
-    } else {
-        quota.lower
+    let mut rests = Vec::with_capacity(alloc, quotas.len())?;
+    for quota in quotas {
+        rests.push(quota.remainder as i128)?;
     }
+    Ok(rests)
+}
+
+/// The whole pence of the quotas.
+fn whole_pence(alloc: Global, quotas: &[Quota]) -> Result<Vec<u64>, AllocError>
+    ensures { IfOk result (λ v. v.items ≡ map (λ q. q.lower) quotas.now) }
+{
+    quotas.iter().map(|quota| quota.lower).collect(alloc)
+}
+
+/// These whole pence, and one penny more each time that their place is listed.
+fn with_pennies(mut sizes: Vec<u64>, places: &[usize]) -> Vec<u64>
+    requires inside { All (λ p. p < length sizes.items) places.now }
+    requires few { length places.now ≤ length sizes.items }
+    requires small { All (λ n. n ≤ 2 ^ 63) sizes.items }
+    ensures { HasPennies sizes.items places.now result.items }
+{
+    for place in places {
+        sizes[*place] += 1;
+    }
+    sizes
+}
+
+/// The sizes of the shares: their whole pence, and of the pence that are left over one each for those
+/// that come first by their remainders.
+fn sizes_of(alloc: Global, size: u64, weights: &[u64]) -> Result<Vec<u64>, AllocError>
+    requires small { size ≤ 2 ^ 63 }
+    requires few { length weights.now < 2 ^ 63 }
+    requires some { 0 < size → 0 < length weights.now }
+    requires positive { 0 < length weights.now → 0 < sum weights.now }
+    ensures { IfOk result (λ v. v.items ≡ sizes_by size weights.now) }
+{
+    let quotas = quotas_of(alloc, size, weights)?;
+    let places = ranked(alloc, &rests_of(alloc, &quotas)?)?;
+    let left = pence_left(size, &quotas);
+    Ok(with_pennies(whole_pence(alloc, &quotas)?, &places[..left as usize]))
 }
 
 /// A size with the sign of a total.
@@ -142,22 +151,14 @@ fn signed(total: i64, size: u64) -> i64
     (if total < 0 { -size } else { size }) as i64
 }
 
-/// The shares of a total by these weights, which have these quotas.
-fn shares_of(
-    alloc: Global,
-    total: i64,
-    weights: &[u64],
-    quotas: &[Quota],
-) -> Result<Vec<i64>, AllocError>
-    requires positive { 0 < length weights.now → 0 < sum weights.now }
-    requires quotas { quotas.now ≡ map (quota_for (unsigned_abs total) weights.now) weights.now }
-    ensures { IfOk result (λ v. v.items ≡ shares_by total weights.now) }
+/// The sizes with the sign of a total.
+fn with_sign(alloc: Global, total: i64, sizes: &[u64]) -> Result<Vec<i64>, AllocError>
+    requires { All (λ n. n ≤ unsigned_abs total) sizes.now }
+    ensures { IfOk result (λ v. v.items ≡ map (with_sign_of total) sizes.now) }
 {
-    let left = pence_left(total.unsigned_abs(), quotas);
-    let mut shares = Vec::with_capacity(alloc, quotas.len())?;
-    for (place, quota) in quotas.iter().enumerate() {
-        let before = count_before(quotas, place, quota.remainder);
-        shares.push(signed(total, size_of_share(*quota, before, left)))?;
+    let mut shares = Vec::with_capacity(alloc, sizes.len())?;
+    for size in sizes {
+        shares.push(signed(total, *size))?;
     }
     Ok(shares)
 }
@@ -177,6 +178,6 @@ pub fn apportion(alloc: Global, total: i64, weights: &[u64]) -> Result<Vec<i64>,
     ensures least { IfOk result (λ v. DepartsLeast total (effective weights.now) v.items) }
 {
     let weights = effective_weights(alloc, weights)?;
-    let quotas = quotas_of(alloc, total.unsigned_abs(), &weights)?;
-    shares_of(alloc, total, &weights, &quotas)
+    let sizes = sizes_of(alloc, total.unsigned_abs(), &weights)?;
+    with_sign(alloc, total, &sizes)
 }

@@ -1,6 +1,7 @@
 //! What no clause says: that shares are given, and what the words of the clauses come to.
 
 use super::*;
+use crate::counted::counted;
 use std::alloc::{AllocError, Global};
 use std::test::Fail;
 
@@ -59,5 +60,85 @@ fn many_weights_of_the_greatest_size(rt: HostRuntime) -> Result<(), Fail> {
         *share = -11_529_215_046_068_470;
     }
     assert!(rt; gives(rt.alloc(), i64::MIN, &weights, &wanted)?);
+    Ok(())
+}
+
+#[test]
+fn places_are_ranked(rt: HostRuntime) -> Result<(), Fail> {
+    let cases: [(&[i128], &[usize]); 5] = [
+        (&[], &[]),
+        (&[1, 3, 3], &[1, 2, 0]),
+        (&[0, 0, 0], &[0, 1, 2]),
+        (&[-4, 2, -1, 2], &[1, 3, 2, 0]),
+        (&[i128::MIN, i128::MAX], &[1, 0]),
+    ];
+    for (rests, wanted) in cases {
+        assert!(rt; ranked(rt.alloc(), rests)?.as_slice() == wanted);
+    }
+    Ok(())
+}
+
+#[test]
+fn one_penny_each_to_the_first(rt: HostRuntime) -> Result<(), Fail> {
+    let weights = vec![in rt.alloc(); 1; 800]?;
+    let mut wanted = vec![in rt.alloc(); 1; 800]?;
+    for share in wanted[..200].iter_mut() {
+        *share = 2;
+    }
+    assert!(rt; gives(rt.alloc(), 1_000, &weights, &wanted)?);
+    Ok(())
+}
+
+/// The next of a row of numbers that look like chance.
+fn next(state: u64) -> u64 {
+    let state = state ^ (state << 13);
+    let state = state ^ (state >> 7);
+    state ^ (state << 17)
+}
+
+/// A weight: often 0 or small, so that remainders are often equal, and now and then as large as may be.
+fn weight_of(state: u64) -> u64 {
+    match state % 8 {
+        0 => 0,
+        1 => u64::MAX,
+        2 | 3 => state % 5,
+        4 | 5 => state % 1_000,
+        _ => state >> 20,
+    }
+}
+
+/// A total of either sign, and one that is a few pence, or as large as may be.
+fn total_of(state: u64) -> i64 {
+    let size = match state % 6 {
+        0 => 0,
+        1 => 9_223_372_036_854_775_807,
+        2 | 3 => state % 40,
+        _ => state % 1_000_000_007,
+    };
+    let total = i64::try_from(size).unwrap_or(0);
+    if state & 1_024 == 0 {
+        total
+    } else {
+        total.wrapping_neg()
+    }
+}
+
+#[test]
+fn three_thousand_cases_agree(rt: HostRuntime) -> Result<(), Fail> {
+    let mut state: u64 = 88_172_645_463_325_252;
+    for _ in 0..3_000 {
+        state = next(state);
+        let total = total_of(state);
+        state = next(state);
+        let count = state % 12;
+        let mut weights = Vec::new(rt.alloc());
+        for _ in 0..count {
+            state = next(state);
+            weights.push(weight_of(state))?;
+        }
+        let total = if weights.is_empty() { 0 } else { total };
+        let wanted = counted(rt.alloc(), total, &weights)?;
+        assert!(rt; gives(rt.alloc(), total, &weights, &wanted)?, "at {total}");
+    }
     Ok(())
 }

@@ -47,6 +47,3 @@ pub use sums::{
     settled_adds_up,
 };
 pub use tables::Tables;
-
-#[cfg(test)]
-mod tests;

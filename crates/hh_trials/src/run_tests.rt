@@ -1,10 +1,10 @@
 //! What no clause says: that with ample memory runs are made and enquiries answered, and that the
 //! replies are those that the market's rules give.
 
-use super::*;
-use crate::tests::{MOMENT, OPERATOR, file, office};
+use crate::office_tests::{MOMENT, OPERATOR, file, office};
 use hh_names::{Account, Fault, Refusal};
 use hh_num::Pence;
+use hh_office::{Action, Bytes, Office, Reply, Request};
 use hh_rows::FileKind;
 use hh_runs::{RunKind, Summary};
 use hh_store::{PlainTables, RunKey};

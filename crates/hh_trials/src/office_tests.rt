@@ -1,8 +1,8 @@
 //! What no clause says: that with ample memory requests are answered, and that the replies to worked
 //! requests are those that the market's rules give.
 
-use super::*;
 use hh_names::{Account, Fault, FileName, OperatorKey, Refusal};
+use hh_office::{Action, Bytes, Office, Reply, Request, Upload};
 use hh_rows::{ContractRow, FileKind, LeadMinutes, Settings};
 use hh_store::PlainTables;
 use hh_time::{SettlementDate, london};

@@ -1,6 +1,5 @@
 //! What no clause says: that a change and a file hold what they were made with, with ample memory.
 
-use super::*;
 use hh_names::{
     AccessKey, Account, Counterparties, Fault, FileName, OperatorKey, PartyId, PeriodNumber,
     Reference, Refusal, Side, UnitId,
@@ -10,6 +9,7 @@ use hh_rows::{
     DateRange, FileKind, LeadMinutes, PartyRegistration, PartyRow, PriceRow, Row, Settings,
     SettlementPeriod,
 };
+use hh_store::{KeptFile, LoadChange, PlainTables, StoreFault, Tables};
 use hh_time::SettlementDate;
 use std::alloc::Global;
 use std::test::Fail;
