@@ -26,7 +26,7 @@ use Rattle.hh_rules.specs.History.{Registered}
 use Rattle.hh_rules.specs.Percents.{is_of_other, percent_of_others}
 use Rattle.hh_rules.specs.RegisterView.{RegisterView, held_row, tables_in}
 use Rattle.hh_store.specs.Parts.{is_named_in, with_reallocations}
-use Rattle.hh_store.specs.Soundness.{AreSound}
+use Rattle.hh_store.specs.Soundness.{AreSound, NoneNegative}
 use Rattle.hh_store.proofs.NamedLaws.{put_so_far}
 
 module _ (key : ReallocationKey) where
@@ -86,26 +86,27 @@ module _ (tables : Registered) (sound : AreSound tables) where
       let fixed : true ≡ false = sym (sound.fixed key (ap is_some found)) ∙ ap is_some none in
       cc
 
-  module _ (test : ReallocationKey × Reallocation → Bool) (i : ℕ) (e : ReallocationKey × Reallocation) (inside : i < length tables.reallocations) (is : e ≡ get_or tables.reallocations i e) where
+  module _ (positive : NoneNegative tables.reallocations) (test : ReallocationKey × Reallocation → Bool) (i : ℕ) (e : ReallocationKey × Reallocation) (inside : i < length tables.reallocations) (is : e ≡ get_or tables.reallocations i e) where
     -- with a reallocation, those of other accounts before it are at most 100 percent of its unit
     at_most_hundred : (percent_of_others e.0 (filter test (take i tables.reallocations)) +ℤ e.1.percent) ≤ℤ hundred_percent
     at_most_hundred =
         let own : here e.0 (get_or tables.reallocations i e) ≡ e.1.percent = ap (here e.0) (sym is) ∙ ap (λ b. cond b e.1.percent (pos 0)) ((eq_by_cmp_equiv unit_period_total).refl e.0.unit_period) in
-        let before : (percent_of_others e.0 (filter test (take i tables.reallocations)) +ℤ here e.0 (get_or tables.reallocations i e)) ≤ℤ total (here e.0) tables.reallocations = before_and_own e.0 test tables.reallocations i e inside sound.none_negative in
+        let before : (percent_of_others e.0 (filter test (take i tables.reallocations)) +ℤ here e.0 (get_or tables.reallocations i e)) ≤ℤ total (here e.0) tables.reallocations = before_and_own e.0 test tables.reallocations i e inside positive in
         let all : total (here e.0) tables.reallocations ≤ℤ hundred_percent = sound.percents e.0.unit_period in
         omega (arith, ints)
 
 -- so that a part takes the next of the reallocations that are named
-pub takes_more : (tables : Registered) → AreSound tables → IsTable reallocation_key_cmp tables.reallocations → (named : BTreeSet UnitPeriod) (lent : Table ReallocationKey Reallocation) → lent ≡ tables.reallocations
+pub takes_more : (tables : Registered) → AreSound tables → IsTable reallocation_key_cmp tables.reallocations → NoneNegative tables.reallocations
+    → (named : BTreeSet UnitPeriod) (lent : Table ReallocationKey Reallocation) → lent ≡ tables.reallocations
     → (i : ℕ) (e : ReallocationKey × Reallocation) → i < length lent → e ≡ get_or lent i e → (first old : RegisterView) → (tables_in first).reallocations ≡ []
     → old ≡ with_reallocations (put_all reallocation_key_cmp (filter (is_named_in named) (take i tables.reallocations)) (tables_in first).reallocations) first
     → IsOk (held_row (row.Reallocation (record { key = e.0; reallocation = e.1 })) old)
-takes_more tables sound rising named lent same i e inside is first old none so_far =
+takes_more tables sound rising positive named lent same i e inside is first old none so_far =
     let answer : Bool → Result (Unit {0}) Fault = λ b. cond b (Err (plain_fault OverHundred)) (Ok tt) in
     let held : (tables_in old).reallocations ≡ filter (is_named_in named) (take i tables.reallocations) =
     ap (λ p. (tables_in p).reallocations) so_far
     ∙ ap (put_all reallocation_key_cmp (filter (is_named_in named) (take i tables.reallocations))) none
     ∙ put_so_far tables rising named i in
-    let fits = at_most_hundred tables sound (is_named_in named) i e (subst (λ l. i < length l) same inside) (subst (λ l. e ≡ get_or l i e) same is) in
+    let fits = at_most_hundred tables sound positive (is_named_in named) i e (subst (λ l. i < length l) same inside) (subst (λ l. e ≡ get_or l i e) same is) in
     ap (λ es. is_ok (answer (int_lt hundred_percent (percent_of_others e.0 es +ℤ e.1.percent)))) held
     ∙ ap (λ b. is_ok (answer b)) (under hundred_percent _ fits)

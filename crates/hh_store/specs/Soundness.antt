@@ -3,9 +3,10 @@ use Rattle.std.specs.Prelude.{◌≡◌, ◌≢◌, ℕ, pos, ◌≤◌, ◌≤�
 use Rattle.std.specs.FinMap.{find}
 use Rattle.std.specs.List.{AllByRecursion}
 use Rattle.hh_num.specs.Quantities.{hundred_percent}
-use Rattle.hh_tables.specs.Tables.{IsTable}
+use Rattle.hh_tables.specs.Tables.{IsTable, Table}
 use Rattle.hh_time.specs.Days.{Midnights}
 use Rattle.hh_names.specs.declared.values.Counterparties.{Counterparties}
+use Rattle.hh_names.specs.declared.values.Reallocation.{Reallocation}
 use Rattle.hh_names.specs.Accounts.{bytes_cmp}
 use Rattle.hh_rows.specs.DateRanges.{holds, is_inside}
 use Rattle.hh_rows.specs.Keys.{contract_key_cmp, reallocation_key_cmp, settlement_period_cmp, unit_period_cmp}
@@ -22,14 +23,17 @@ use Rattle.hh_store.specs.States.{State}
 use Rattle.hh_store.specs.Steps.{IsReached, registered_at, timetable_at}
 
 -- no more parties and units are registered than there may be, the reference of each contract in force is fixed, and of a unit
--- at most 100 percent is in force in a Settlement Period, in percentages of which none is negative
+-- at most 100 percent is in force in a Settlement Period
 pub record AreSound (tables : Registered) : Type 0 where
   pub parties : length tables.parties ≤ most_parties
   pub units : length tables.units ≤ most_units
   pub fixed : (key : ContractKey) → IsSome (find contract_key_cmp key tables.contracts)
       → IsSome (find bytes_cmp key.reference tables.references)
   pub percents : (at : UnitPeriod) → percent_at tables.reallocations at ≤ℤ hundred_percent
-  pub none_negative : AllByRecursion (λ e. pos 0 ≤ℤ e.1.percent) tables.reallocations
+
+-- no percentage in force is negative
+abbrev pub NoneNegative : Table ReallocationKey Reallocation → Type 0
+NoneNegative reallocations = AllByRecursion (λ e. pos 0 ≤ℤ e.1.percent) reallocations
 
 -- a party is registered, and its range holds a date
 pub record IsPartyEffective (tables : Registered) (party : List ℕ) (date : ℕ) : Type 0 where
@@ -92,7 +96,11 @@ pub record AreConsistent (tables : Registered) : Type 0 where
 abbrev pub ConsistentStates : Type 0
 ConsistentStates = (midnight : Midnights) (s : State) → IsReached midnight s → AreConsistent (registered_at midnight s)
 
--- and so is, of each run of such a state, what was registered and in force when the run was ordered
+-- and it is sound
+abbrev pub SoundStates : Type 0
+SoundStates = (midnight : Midnights) (s : State) → IsReached midnight s → AreSound (registered_at midnight s)
+
+-- and consistent is, of each run of such a state, what was registered and in force when the run was ordered
 abbrev pub ConsistentRuns : Type 0
 ConsistentRuns = (midnight : Midnights) (s : State) → IsReached midnight s
     → AllByRecursion (λ r. AreConsistent (seen_by (timetable_at midnight s) s.history r)) s.runs

@@ -2,7 +2,7 @@
 //! settled from; and that no run lacked anything.
 
 ghost use Rattle.hh_store.specs.Readiness.{PeriodsReady, RunPeriodsReady, RunsComplete};
-ghost use Rattle.hh_store.specs.Soundness.{ConsistentRuns, ConsistentStates};
+ghost use Rattle.hh_store.specs.Soundness.{ConsistentRuns, ConsistentStates, SoundStates};
 
 /// That what is registered and in force fits together, however the files came. In each state that
 /// the machine reaches there are no more parties and units than there may be, each unit's range lies
@@ -11,6 +11,12 @@ ghost use Rattle.hh_store.specs.Soundness.{ConsistentRuns, ConsistentStates};
 /// Settlement Period, and each reading is of a unit that is effective on its date (profile).
 pub fn consistent_states()
     ensures { ConsistentStates }
+{}
+
+/// That what is registered and in force is sound in each state that the machine reaches (profile).
+/// Tables in memory that are those of such a state hand out a register unless memory is refused.
+pub fn sound_states()
+    ensures { SoundStates }
 {}
 
 /// That it did so when each run was ordered: in each state that the machine reaches, for each of

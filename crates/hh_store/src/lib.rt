@@ -26,6 +26,7 @@ mod tables;
 
 pub use consistency::{
     consistent_runs, consistent_states, periods_ready, run_periods_ready, runs_complete,
+    sound_states,
 };
 pub use day_data::DayData;
 pub use effects::{kept_files, load_effect, run_effect};

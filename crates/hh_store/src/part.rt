@@ -6,7 +6,7 @@ ghost use Rattle.hh_tables.specs.Tables.{IsTable, put_all};
 ghost use Rattle.hh_rows.specs.Keys.{contract_key_cmp, reallocation_key_cmp, settlement_period_cmp, unit_period_cmp};
 ghost use Rattle.hh_rules.specs.RegisterView.{held_row, holding, tables_in, AgreesOnParty, AgreesOnReference, AgreesOnUnit, ServesFor};
 ghost use Rattle.hh_store.specs.Parts.{is_after, is_named_in, whole_of, with_reallocations, AgreesOnNames, AreUntil, Grows, IsNamedIn, IsPartOf};
-ghost use Rattle.hh_store.specs.Soundness.{AreSound};
+ghost use Rattle.hh_store.specs.Soundness.{AreSound, NoneNegative};
 
 use crate::kept_register::KeptRegister;
 use crate::store_fault::StoreFault;
@@ -272,12 +272,24 @@ impl KeptRegister {
     pub(crate) fn reallocation_rows(&self) -> &[(ReallocationKey, Reallocation)]
         ensures rows { result.now ≡ self.now.reallocations }
         ensures rising { IsTable reallocation_key_cmp self.now.reallocations }
+        ensures positive { NoneNegative self.now.reallocations }
     {
         let rows = self.reallocations.rows();
         if let Some(first) = rows.first() {
             let _first = self.reallocations.get(&first.0);
         }
+        none_negative(rows);
         rows
+    }
+}
+
+/// Says what the type of a percentage says of those of rows: none is negative. The compiler leaves
+/// nothing of it.
+fn none_negative(rows: &[(ReallocationKey, Reallocation)])
+    ensures { NoneNegative rows.now }
+{
+    for row in rows {
+        let _units = row.1.percent.units();
     }
 }
 

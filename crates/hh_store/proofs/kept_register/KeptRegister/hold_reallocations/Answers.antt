@@ -21,7 +21,7 @@ loop-key-preserved c = elim c.if-contains.branch [
 pub returns-in_err-hold-clause-memory_alone : goal.returns-in_err-hold-clause-memory_alone
 returns-in_err-hold-clause-memory_alone c sound none =
     let takes : IsOk (held_row (row.Reallocation (record { key = c.loop-key-item.result.0; reallocation = c.loop-key-item.result.1 })) c.loop-key.part) =
-    takes_more c.args.self.now sound c.reallocation_rows-key-items.ensures.rising c.args.named.now c.reallocation_rows-key-items.result.now c.reallocation_rows-key-items.ensures.rows
+    takes_more c.args.self.now sound c.reallocation_rows-key-items.ensures.rising c.reallocation_rows-key-items.ensures.positive c.args.named.now c.reallocation_rows-key-items.result.now c.reallocation_rows-key-items.ensures.rows
     c.loop-key.key-index c.loop-key-item.result (omega arith) c.loop-key-item.is c.args.part.now c.loop-key.part none c.loop-key.invariant in
     let alone : c.in_err-hold.field-0.0 ≡ Memory = c.in_err-hold.ensures.memory_alone takes in
     search rules
