@@ -1,0 +1,3 @@
+pub mod NetLaws
+pub mod OutputLaws
+pub mod ReportLaws

@@ -1,0 +1,154 @@
+-- What amounts come to for accounts, one amount after the other.
+use Rattle.std.proofs.Common.{◌≡◌, ℕ, ◌+◌, ◌*◌, ◌<◌, ◌≤◌, Bool, true, false, cond, List, [], ◌∷◌, ◌++◌, map, length, take, get_or, Some, None, Ordering, refl, sym, ap, ◌∙◌, arith}
+use Rattle.std.specs.Prelude.{◌&&◌, ℤ, pos, ◌+ℤ◌, unsigned_abs, unwrap_or, is_some, T}
+use Rattle.std.specs.FinMap.{find, put, is_sorted}
+use Rattle.std.specs.FinMap.Entries.{below_all, find-put, is_sorted-put, same_entries}
+use Rattle.std.specs.Ordering.{eq_by_cmp, is_lt}
+use Rattle.std.specs.declared.cmp.Ordering.TheVariants.{Equal}
+use Rattle.std.proofs.Math.IntN.{+ℤ_idl, +ℤ_idr}
+use Rattle.std.proofs.lemmas.Cmp.{eq_by_cmp_equiv}
+use Rattle.std.proofs.lemmas.Int.{ints}
+use Rattle.std.proofs.lemmas.List.{take_more}
+use Rattle.std.proofs.lemmas.Map.Views.{tells_apart}
+use Rattle.hh_num.specs.Totals.{total}
+use Rattle.hh_num.proofs.TotalLaws.{total-append}
+use Rattle.hh_tables.specs.Tables.{Table, latest, table_of_last}
+use Rattle.hh_tables.proofs.TableLaws.{find-in_key_order, is_some-find-latest, is_sorted-in_key_order, table_of_last-append}
+use Rattle.hh_names.specs.declared.account.Account.{Account}
+use Rattle.hh_names.specs.Accounts.{account_cmp}
+use Rattle.hh_names.proofs.AccountLaws.{account_total, exact_accounts}
+use Rattle.hh_calc.specs.Formulas.{of_account}
+use Rattle.hh_reports.specs.Nets.{greatest_amount, sum_for, sum_in, sums_of, Amounts}
+
+-- Tables with other values under their keys.
+module _ {K V W : Type 0} (R : K → K → Ordering) (value : K → W) where
+  abbrev with_values : List (K × V) → List (K × W)
+  with_values es = map (λ e. (e.0, value e.0)) es
+
+  below_all-with : (k : K) (es : List (K × V)) → below_all R k (with_values es) ≡ below_all R k es
+  below_all-with k [] = refl
+  below_all-with k (e ∷ es) = ap (λ b. is_lt (R k e.0) && b) (below_all-with k es)
+
+  is_sorted-with : (es : List (K × V)) → is_sorted R (with_values es) ≡ is_sorted R es
+  is_sorted-with [] = refl
+  is_sorted-with (e ∷ es) = λ i. below_all-with e.0 es i && is_sorted-with es i
+
+  find-with : ((x y : K) → R x y ≡ Equal → x ≡ y) → (q : K) (es : List (K × V)) → find R q (with_values es) ≡ cond (is_some (find R q es)) (Some (value q)) None
+  find-with exact q [] = refl
+  find-with exact q (e ∷ es) =
+      elim (eq_by_cmp R q e.0) as (λ b. eq_by_cmp R q e.0 ≡ b → cond b (Some (value e.0)) (find R q (with_values es)) ≡ cond (is_some (cond b (Some e.1) (find R q es))) (Some (value q)) None) [
+        | true ↦ λ same. ap (λ k. Some (value k)) (sym (tells_apart exact q e.0 same))
+        | false ↦ λ other. find-with exact q es
+      ] refl
+
+-- a sum over one more place of a list
+pub total_next : {X : Type 0} (f : X → ℤ) (xs : List X) (x : X) → total f (xs ++ x ∷ []) ≡ total f xs +ℤ f x
+total_next f xs x = total-append f xs (x ∷ []) ∙ ap (λ z. total f xs +ℤ z) (+ℤ_idr (f x))
+
+-- an account that has no amount has no sum
+absent : (a : Account) (amounts : Amounts) → is_some (find account_cmp a amounts) ≡ false → sum_for a amounts ≡ pos 0
+absent a [] none = refl
+absent a (e ∷ amounts) none =
+    elim (eq_by_cmp account_cmp a e.0) as (λ b. eq_by_cmp account_cmp a e.0 ≡ b → is_some (cond b (Some e.1) (find account_cmp a amounts)) ≡ false → of_account a e.0 e.1 +ℤ sum_for a amounts ≡ pos 0) [
+      | true ↦ λ same there. cc
+      | false ↦ λ other later.
+          ap (λ b. cond b e.1 (pos 0) +ℤ sum_for a amounts) ((eq_by_cmp_equiv account_total).symm e.0 a ∙ other)
+          ∙ +ℤ_idl (sum_for a amounts) ∙ absent a amounts later
+    ] refl none
+
+-- what is found under an account, and what is not
+found_or_absent : (a : Account) (amounts : Amounts) (there : Bool) → is_some (find account_cmp a amounts) ≡ there
+    → unwrap_or (cond there (Some (sum_for a amounts)) None) (pos 0) ≡ sum_for a amounts
+found_or_absent a amounts true is = refl
+found_or_absent a amounts false is = sym (absent a amounts is)
+
+in_table : (a : Account) (amounts : Amounts) → is_some (find account_cmp a (table_of_last account_cmp amounts)) ≡ is_some (find account_cmp a amounts)
+in_table a amounts = ap is_some (find-in_key_order account_total (latest account_cmp amounts) a) ∙ is_some-find-latest account_total amounts a
+
+find_sum : (amounts : Amounts) (a : Account) → find account_cmp a (sums_of amounts) ≡ cond (is_some (find account_cmp a (table_of_last account_cmp amounts))) (Some (sum_for a amounts)) None
+find_sum amounts a = find-with account_cmp (λ k. sum_for k amounts) exact_accounts a (table_of_last account_cmp amounts)
+
+-- the sums hold of each account what its amounts come to
+pub sum_found : (amounts : Amounts) (a : Account) → sum_in (sums_of amounts) a ≡ sum_for a amounts
+sum_found amounts a =
+    ap (λ o. unwrap_or o (pos 0)) (find_sum amounts a)
+    ∙ ap (λ there. unwrap_or (cond there (Some (sum_for a amounts)) None) (pos 0)) (in_table a amounts)
+    ∙ found_or_absent a amounts (is_some (find account_cmp a amounts)) refl
+
+sums_sorted : (amounts : Amounts) → T (is_sorted account_cmp (sums_of amounts))
+sums_sorted amounts =
+    rw (is_sorted-with account_cmp (λ k. sum_for k amounts) (table_of_last account_cmp amounts)) (is_sorted-in_key_order account_total (latest account_cmp amounts))
+
+-- one more amount: it is added to the sum of its account
+one_more : (amounts : Amounts) (e : Account × ℤ) → put account_cmp e.0 (sum_for e.0 amounts +ℤ e.1) (sums_of amounts) ≡ sums_of (amounts ++ e ∷ [])
+one_more amounts e =
+    same_entries account_cmp account_total exact_accounts _ _
+    (is_sorted-put account_cmp account_total e.0 (sum_for e.0 amounts +ℤ e.1) (sums_of amounts) (sums_sorted amounts))
+    (sums_sorted (amounts ++ e ∷ []))
+    (λ q. find-put account_cmp account_total q e.0 (sum_for e.0 amounts +ℤ e.1) (sums_of amounts)
+    ∙ ap (λ o. cond (eq_by_cmp account_cmp q e.0) (Some (sum_for e.0 amounts +ℤ e.1)) o) (find_sum amounts q)
+    ∙ beside q
+    ∙ sym (find_sum (amounts ++ e ∷ []) q
+    ∙ ap (λ t. cond (is_some (find account_cmp q t)) (Some (sum_for q (amounts ++ e ∷ []))) None) (table_of_last-append account_total exact_accounts amounts e)
+    ∙ ap (λ o. cond (is_some o) (Some (sum_for q (amounts ++ e ∷ []))) None) (find-put account_cmp account_total q e.0 e.1 (table_of_last account_cmp amounts))))
+  where
+    sum_after : (q : Account) → sum_for q (amounts ++ e ∷ []) ≡ sum_for q amounts +ℤ of_account q e.0 e.1
+    sum_after q = total_next (λ x. of_account q x.0 x.1) amounts e
+
+    beside : (q : Account) → cond (eq_by_cmp account_cmp q e.0) (Some (sum_for e.0 amounts +ℤ e.1)) (cond (is_some (find account_cmp q (table_of_last account_cmp amounts))) (Some (sum_for q amounts)) None)
+        ≡ cond (is_some (cond (eq_by_cmp account_cmp q e.0) (Some e.1) (find account_cmp q (table_of_last account_cmp amounts)))) (Some (sum_for q (amounts ++ e ∷ []))) None
+    beside q =
+        elim (eq_by_cmp account_cmp q e.0) as (λ b. eq_by_cmp account_cmp q e.0 ≡ b → cond b (Some (sum_for e.0 amounts +ℤ e.1)) (cond (is_some (find account_cmp q (table_of_last account_cmp amounts))) (Some (sum_for q amounts)) None)
+        ≡ cond (is_some (cond b (Some e.1) (find account_cmp q (table_of_last account_cmp amounts)))) (Some (sum_for q (amounts ++ e ∷ []))) None) [
+          | true ↦ λ same. ap Some (
+              ap (λ k. sum_for k amounts +ℤ e.1) (sym (tells_apart exact_accounts q e.0 same))
+              ∙ ap (λ b. sum_for q amounts +ℤ cond b e.1 (pos 0)) (sym ((eq_by_cmp_equiv account_total).symm e.0 q ∙ same))
+              ∙ sym (sum_after q))
+          | false ↦ λ other. ap (λ z. cond (is_some (find account_cmp q (table_of_last account_cmp amounts))) (Some z) None) (
+              sym (+ℤ_idr (sum_for q amounts))
+              ∙ ap (λ b. sum_for q amounts +ℤ cond b e.1 (pos 0)) (sym ((eq_by_cmp_equiv account_total).symm e.0 q ∙ other))
+              ∙ sym (sum_after q))
+        ] refl
+
+-- the first places of a list, and one more
+pub next_place : {X : Type 0} (xs : List X) (i : ℕ) (x : X) → i < length xs → x ≡ get_or xs i x → take i xs ++ x ∷ [] ≡ take (i + 1) xs
+next_place xs i x inside is = ap (λ y. take i xs ++ y ∷ []) is ∙ sym (take_more xs i x inside)
+
+pub sums_next : (amounts : Amounts) (i : ℕ) (e : Account × ℤ) (sums new : Table Account ℤ) → i < length amounts → e ≡ get_or amounts i e
+    → sums ≡ sums_of (take i amounts) → new ≡ put account_cmp e.0 (sum_in sums e.0 +ℤ e.1) sums → new ≡ sums_of (take (i + 1) amounts)
+sums_next amounts i e sums new inside is so_far added =
+    added
+    ∙ ap (λ t. put account_cmp e.0 (sum_in t e.0 +ℤ e.1) t) so_far
+    ∙ ap (λ z. put account_cmp e.0 (z +ℤ e.1) (sums_of (take i amounts))) (sum_found (take i amounts) e.0)
+    ∙ one_more (take i amounts) e
+    ∙ ap sums_of (next_place amounts i e inside is)
+
+-- so many amounts have sums of no greater size than this
+abbrev pub AreBounded : ℕ → Amounts → Type 0
+AreBounded count amounts = (a : Account) → unsigned_abs (sum_for a amounts) ≤ count * greatest_amount
+
+bounded_none : AreBounded 0 []
+bounded_none a = omega arith
+
+pub bounded_first : (amounts : Amounts) → AreBounded 0 (take 0 amounts)
+bounded_first amounts a = omega arith
+
+of_small : (b : Bool) (x : ℤ) (n : ℕ) → unsigned_abs x ≤ n → unsigned_abs (cond b x (pos 0)) ≤ n
+of_small true x n small = small
+of_small false x n small = omega arith
+
+sum_small : (x y : ℤ) (m n : ℕ) → unsigned_abs x ≤ m → unsigned_abs y ≤ n → unsigned_abs (x +ℤ y) ≤ m + n
+sum_small x y m n p q = omega (arith, ints)
+
+pub bounded_next : (amounts : Amounts) (i : ℕ) (e : Account × ℤ) → i < length amounts → e ≡ get_or amounts i e → unsigned_abs e.1 ≤ greatest_amount
+    → AreBounded i (take i amounts) → AreBounded (i + 1) (take (i + 1) amounts)
+bounded_next amounts i e inside is small so_far a =
+    let step : sum_for a (take (i + 1) amounts) ≡ sum_for a (take i amounts) +ℤ of_account a e.0 e.1
+    = ap (sum_for a) (sym (next_place amounts i e inside is)) ∙ total_next (λ x. of_account a x.0 x.1) (take i amounts) e in
+    let bound : unsigned_abs (sum_for a (take i amounts) +ℤ of_account a e.0 e.1) ≤ i * greatest_amount + greatest_amount
+    = sum_small (sum_for a (take i amounts)) (of_account a e.0 e.1) (i * greatest_amount) greatest_amount (so_far a) (of_small _ e.1 greatest_amount small) in
+    rw step (omega arith)
+
+-- the sums that are looked up are those of the amounts
+pub sums_found : (amounts : Amounts) (sums : Table Account ℤ) → sums ≡ sums_of amounts → sum_in sums ≡ (λ a. sum_for a amounts)
+sums_found amounts sums is = λ i a. (ap (λ t. sum_in t a) is ∙ sum_found amounts a) i

@@ -1,0 +1,6 @@
+pub mod DayReport
+pub mod Exports
+pub mod Fields
+pub mod Names
+pub mod Nets
+pub mod Output

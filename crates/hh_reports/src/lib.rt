@@ -1,0 +1,18 @@
+//! The reports of an office: what a run settled, and what was posted to accounts in all.
+#![tactic(auto)]
+
+mod day_report;
+mod exports;
+mod fault;
+mod line;
+mod output;
+mod run;
+mod sums;
+
+pub use day_report::write_day_report;
+pub use exports::{write_balances, write_results};
+pub use fault::ReportFault;
+pub use run::ReportedRun;
+
+#[cfg(test)]
+mod tests;

@@ -1,0 +1,178 @@
+//! Lines of reports while they are made.
+
+ghost use Rattle.std.specs.Prelude.{◌≡◌, ◌≤◌, ◌++◌, [], replicate, OnOk};
+ghost use Rattle.hh_reports.specs.Fields.{energy_text, left_in, pence_text, right_in};
+ghost use Rattle.hh_reports.specs.Names.{account_text, side_letter};
+
+use hh_names::{Account, Side};
+use hh_num::Ticks;
+use itoa::Buffer;
+use std::alloc::{AllocError, Global};
+use std::marker::Model;
+
+/// A line of a report while it is made, in memory that serves one line after the other. Contracts see
+/// its bytes.
+#[derive(Drop)]
+pub(crate) struct Line {
+    text: Vec<u8>,
+    /// A field that is to stand in a width, while it is made.
+    field: Vec<u8>,
+}
+
+impl Model for Line {
+    ghost use Rattle.std.specs.Prelude.{ℕ, List};
+
+    ghost Value = { List ℕ };
+
+    ghost view = { λ line. line.text.items };
+}
+
+impl Line {
+    /// The empty line. Takes no memory.
+    pub(crate) fn new(alloc: Global) -> Line
+        ensures { result ≡ [] }
+    {
+        Line {
+            text: Vec::new(alloc),
+            field: Vec::new(alloc),
+        }
+    }
+
+    /// Empties the line, and keeps its memory.
+    pub(crate) fn clear(&mut self)
+        ensures { self.new ≡ [] }
+    {
+        self.text.clear();
+    }
+
+    /// The bytes of the line.
+    pub(crate) fn as_bytes(&self) -> &[u8]
+        ensures { result.now ≡ self.now }
+    {
+        &self.text
+    }
+
+    /// Appends a text.
+    pub(crate) fn push(&mut self, text: &[u8]) -> Result<(), AllocError>
+        ensures { OnOk result (self.new ≡ self.old ++ text.now) }
+    {
+        self.text.extend_from_slice(text)
+    }
+
+    /// Appends a text behind so many blanks that it fills a width.
+    pub(crate) fn push_right(&mut self, width: u8, text: &[u8]) -> Result<(), AllocError>
+        ensures { OnOk result (self.new ≡ self.old ++ right_in width text.now) }
+    {
+        push_right(&mut self.text, width, text)
+    }
+
+    /// Appends a text before so many blanks that it fills a width.
+    pub(crate) fn push_left(&mut self, width: u8, text: &[u8]) -> Result<(), AllocError>
+        ensures { OnOk result (self.new ≡ self.old ++ left_in width text.now) }
+    {
+        push_left(&mut self.text, width, text)
+    }
+
+    /// Appends the name of an account.
+    pub(crate) fn push_account(&mut self, account: &Account) -> Result<(), AllocError>
+        ensures { OnOk result (self.new ≡ self.old ++ account_text account.now) }
+    {
+        push_account(&mut self.text, account)
+    }
+
+    /// Appends the name of an account before so many blanks that it fills a width.
+    pub(crate) fn push_account_left(
+        &mut self,
+        width: u8,
+        account: &Account,
+    ) -> Result<(), AllocError>
+        ensures { OnOk result (self.new ≡ self.old ++ left_in width (account_text account.now)) }
+    {
+        self.field.clear();
+        push_account(&mut self.field, account)?;
+        push_left(&mut self.text, width, &self.field)
+    }
+
+    /// Appends an energy in MWh.
+    #[tactic(auto, unfolding(crate::specs::Fields::energy_text))]
+    pub(crate) fn push_energy(&mut self, energy: Ticks) -> Result<(), AllocError>
+        ensures { OnOk result (self.new ≡ self.old ++ energy_text energy) }
+    {
+        energy.write_to(&mut self.text)
+    }
+
+    /// Appends an energy in MWh behind so many blanks that it fills a width.
+    #[tactic(auto, unfolding(crate::specs::Fields::energy_text))]
+    pub(crate) fn push_energy_right(&mut self, width: u8, energy: Ticks) -> Result<(), AllocError>
+        ensures { OnOk result (self.new ≡ self.old ++ right_in width (energy_text energy)) }
+    {
+        self.field.clear();
+        energy.write_to(&mut self.field)?;
+        push_right(&mut self.text, width, &self.field)
+    }
+
+    /// Appends an amount of pence.
+    #[tactic(auto, unfolding(crate::specs::Fields::pence_text))]
+    pub(crate) fn push_pence(&mut self, pence: i128) -> Result<(), AllocError>
+        ensures { OnOk result (self.new ≡ self.old ++ pence_text pence) }
+    {
+        let mut buffer = Buffer::new();
+        self.text.extend_from_slice(buffer.format(pence).as_bytes())
+    }
+
+    /// Appends an amount of pence behind so many blanks that it fills a width.
+    #[tactic(auto, unfolding(crate::specs::Fields::pence_text))]
+    pub(crate) fn push_pence_right(&mut self, width: u8, pence: i128) -> Result<(), AllocError>
+        ensures { OnOk result (self.new ≡ self.old ++ right_in width (pence_text pence)) }
+    {
+        let mut buffer = Buffer::new();
+        push_right(&mut self.text, width, buffer.format(pence).as_bytes())
+    }
+}
+
+/// The letter by which a side is written.
+fn letter_of(side: Side) -> u8
+    ensures { result ≡ side_letter side }
+{
+    match side {
+        Side::Production => b'P',
+        Side::Consumption => b'C',
+    }
+}
+
+/// Appends the name of an account: its party, a dash and its side.
+#[tactic(auto, unfolding(crate::specs::Names::account_text))]
+fn push_account(text: &mut Vec<u8>, account: &Account) -> Result<(), AllocError>
+    ensures { OnOk result (text.new.items ≡ text.old.items ++ account_text account.now) }
+{
+    text.extend_from_slice(account.party.as_bytes())?;
+    text.push(b'-')?;
+    text.push(letter_of(account.side))?;
+    Ok(())
+}
+
+/// Appends so many blanks.
+fn push_blanks(text: &mut Vec<u8>, count: usize) -> Result<(), AllocError>
+    requires { count ≤ 255 }
+    ensures { OnOk result (text.new.items ≡ text.old.items ++ replicate count 32) }
+{
+    text.resize(text.len() + count, b' ')
+}
+
+/// Appends a field behind so many blanks that it fills a width.
+#[tactic(auto, unfolding(crate::specs::Fields::right_in))]
+fn push_right(text: &mut Vec<u8>, width: u8, field: &[u8]) -> Result<(), AllocError>
+    ensures { OnOk result (text.new.items ≡ text.old.items ++ right_in width field.now) }
+{
+    push_blanks(text, usize::from(width).saturating_sub(field.len()))?;
+    text.extend_from_slice(field)
+}
+
+/// Appends a field before so many blanks that it fills a width.
+#[tactic(auto, unfolding(crate::specs::Fields::left_in))]
+fn push_left(text: &mut Vec<u8>, width: u8, field: &[u8]) -> Result<(), AllocError>
+    ensures { OnOk result (text.new.items ≡ text.old.items ++ left_in width field.now) }
+{
+    text.extend_from_slice(field)?;
+    push_blanks(text, usize::from(width).saturating_sub(field.len()))
+}
