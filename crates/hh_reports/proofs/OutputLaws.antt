@@ -24,10 +24,6 @@ appends_more (Some x) (Some y) (Some z) s t h k = rw (k, h) (append_assoc x s t)
 abbrev pub Stops : Option (List ℕ) → Option (List ℕ) → ℕ → ℕ → List ℕ → ReportFault → Type 0
 Stops a b f g text fault = AppendsFront a b text × CountsFault fault f g
 
--- a text of which nothing went out
-pub unwritten : (a : Option (List ℕ)) (f : ℕ) (text : List ℕ) → Stops a a f f text Memory
-unwritten a f text = (([], text, refl, appends_none a), refl)
-
 counted_on : (fault : ReportFault) (f g h : ℕ) → g ≡ f → CountsFault fault g h → CountsFault fault f h
 counted_on fault f g h same counts = subst (λ n. CountsFault fault n h) same counts
 

@@ -37,7 +37,8 @@ pub fn write_day_report<S: Sink>(
     rows: &[(PeriodNumber, AccountRow)],
     out: &mut S,
 ) -> Result<(), ReportFault>
-    ensures writes { Writes (S.taken out.old) (S.taken out.new) (S.failures out.old) (S.failures out.new)
+    ensures writes { Writes (S.taken out.old) (S.taken out.new)
+        (S.failures out.old) (S.failures out.new)
         (day_report_text run.now rows.now) result }
 {
     let nets = day_nets(alloc, rows)?;

@@ -42,7 +42,8 @@ pub fn write_results<S: Sink>(
     rows: &[(PeriodNumber, AccountRow)],
     out: &mut S,
 ) -> Result<(), ReportFault>
-    ensures writes { Writes (S.taken out.old) (S.taken out.new) (S.failures out.old) (S.failures out.new)
+    ensures writes { Writes (S.taken out.old) (S.taken out.new)
+        (S.failures out.old) (S.failures out.new)
         (results_text run.now rows.now) result }
 {
     let mut line = Line::new(alloc);
@@ -158,7 +159,8 @@ pub fn write_balances<S: Sink>(
     postings: &[(Account, Pence)],
     out: &mut S,
 ) -> Result<(), ReportFault>
-    ensures writes { Writes (S.taken out.old) (S.taken out.new) (S.failures out.old) (S.failures out.new)
+    ensures writes { Writes (S.taken out.old) (S.taken out.new)
+        (S.failures out.old) (S.failures out.new)
         (balances_text parties.now postings.now) result }
 {
     let sums = posted_sums(alloc, postings)?;
