@@ -2,7 +2,7 @@
 //! requests are those that the market's rules give.
 
 use hh_names::{Account, Fault, FileName, OperatorKey, Refusal};
-use hh_office::{Action, Bytes, Office, Reply, Request, Upload};
+use hh_office::{Action, Bytes, ContractsReply, Office, Reply, Request, Upload};
 use hh_rows::{ContractRow, FileKind, LeadMinutes, Settings};
 use hh_store::PlainTables;
 use hh_time::{SettlementDate, london};
