@@ -1,3 +1,4 @@
 pub mod AccountLaws
+pub mod AsciiLaws
 pub mod ByteFacts
 pub mod WordFacts

@@ -1,14 +1,15 @@
 -- Words in buffers padded with zeros.
-use Rattle.std.proofs.Common.{◌≡◌, ℕ, zero, suc, ◌-◌, ◌≤◌, ◌++◌, ◌&&◌, List, [], ◌∷◌, drop, length, Bool, true, false, cond, refl, sym, ap, ◌∙◌, arith}
+use Rattle.std.proofs.Common.{◌≡◌, ℕ, zero, suc, ◌-◌, ◌<◌, ◌≤◌, ◌++◌, ◌&&◌, List, [], ◌∷◌, drop, length, Bool, true, false, cond, refl, sym, ap, ◌∙◌, arith}
 use Rattle.std.proofs.Math.Bool.{true≢false}
 use Rattle.std.proofs.lemmas.Bool.{and_from, and_parts, eqb-true}
 use Rattle.std.proofs.lemmas.Bool.Decides.{nat_tests}
-use Rattle.std.specs.Prelude.{replicate, codes, bytes_eq, nat_eq, nat_le}
+use Rattle.std.specs.Prelude.{replicate, codes, bytes_eq, nat_eq, nat_le, IsAscii}
 use Rattle.std.specs.List.{list_all}
 use Rattle.std.proofs.lemmas.List.{drop-replicate}
 use Rattle.std.proofs.lemmas.List.Sums.{take_while-cons}
 use Rattle.std.specs.Ordering.{nat_cmp}
 use Rattle.std.specs.Cmp.Lexicographic.{slice_cmp}
+use Rattle.hh_names.proofs.AsciiLaws.{all_ascii}
 use Rattle.hh_names.proofs.ByteFacts.{padded_order}
 use Rattle.hh_names.specs.Words.{is_letter_or_digit, is_not_zero, is_operator_key, is_reference_byte, is_word, padded, word_in}
 
@@ -97,3 +98,8 @@ operator_key_is_word (a ∷ b ∷ c ∷ rest) h =
     let sizes = and_parts (nat_le 8 (length rest) && nat_le (length rest) 61) (list_all is_letter_or_digit rest) parts.1 in
     let fits : (nat_le 11 (suc (suc (suc (length rest)))) && nat_le (suc (suc (suc (length rest)))) 64) ≡ true = grind (arith, nat_tests) in
     rw (eqb-true a 111 first.0, eqb-true b 112 second.0, eqb-true c 45 third.0) (and_from _ _ fits (letters_allowed rest sizes.1))
+
+-- a word of an alphabet below 128 is ASCII
+pub word_is_ascii : (allows : ℕ → Bool) → ((b : ℕ) → allows b ≡ true → b < 128) → (least most : ℕ) (text : List ℕ) → is_word allows least most text ≡ true → IsAscii text
+unfolding is_word
+word_is_ascii allows below least most text h = all_ascii allows below text (and_parts (nat_le least (length text) && nat_le (length text) most) (list_all allows text) h).1

@@ -1,5 +1,5 @@
 -- Energy accounts: their order, and the texts that name them.
-use Rattle.std.specs.Prelude.{ℕ, ◌-◌, nat_lt, ◌==◌, List, length, take, drop, slice_index, Bool, Option, Some, None, codes, if◌then◌else◌}
+use Rattle.std.specs.Prelude.{ℕ, ◌-◌, nat_lt, ◌==◌, List, [], ◌∷◌, ◌++◌, length, take, drop, slice_index, Bool, Option, Some, None, codes, if◌then◌else◌}
 use Rattle.std.specs.declared.cmp.Ordering.{Ordering}
 use Rattle.std.specs.Ordering.{nat_cmp, eq_by_cmp, on, then_cmp}
 use Rattle.std.specs.Cmp.Lexicographic.{slice_cmp}
@@ -43,3 +43,12 @@ account_value text =
     if nat_lt (length text) 2 then None
     else if slice_index text (length text - 2) == 45 then account_from (side_value (drop (length text - 1) text)) (party_value (take (length text - 2) text))
     else None
+
+-- the letter by which a side is written
+abbrev pub side_letter : Side → ℕ
+side_letter Production = 80
+side_letter Consumption = 67
+
+-- the text that names an account: its party, a dash and its side
+abbrev pub account_text : Account → List ℕ
+account_text a = a.party ++ 45 ∷ side_letter a.side ∷ []

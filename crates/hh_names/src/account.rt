@@ -1,14 +1,15 @@
 //! Energy accounts: each party has two.
 
-ghost use Rattle.std.specs.Prelude.{◌≡◌};
+ghost use Rattle.std.specs.Prelude.{◌≡◌, Some};
 ghost use Rattle.std.specs.Cmp.{partial_order_from_own_ties};
 ghost use Rattle.std.specs.Cmp.Rules.{comparing};
 ghost use Rattle.std.specs.Ordering.{as_partial_cmp};
 ghost use Rattle.std.proofs.Common.{rules};
-ghost use Rattle.hh_names.specs.Accounts.{account_cmp, account_value, is_same_account, side_value};
+ghost use Rattle.hh_names.specs.Accounts.{account_cmp, account_text, account_value, is_same_account, side_letter, side_value};
 
 use crate::word::PartyId;
 use std::cmp::Ordering;
+use std::fmt;
 
 /// Which of a party's two accounts (Section P in shape).
 #[derive(Clone, Copy, Debug, PartialEq, Eq, PartialOrd, Ord)]
@@ -37,6 +38,16 @@ impl Side {
             _ => None,
         }
     }
+
+    /// The letter by which the side is written.
+    pub fn letter(self) -> u8
+        ensures { result ≡ side_letter self }
+    {
+        match self {
+            Side::Production => b'P',
+            Side::Consumption => b'C',
+        }
+    }
 }
 
 impl Account {
@@ -51,6 +62,19 @@ impl Account {
         let side = Side::read(&text[text.len() - 1..])?;
         let party = PartyId::read(&text[..text.len() - 2])?;
         Some(Account { party, side })
+    }
+}
+
+/// The text is the party's id, a dash and `P` or `C`.
+impl fmt::Display for Account {
+    ghost output = { λ account. Some (account_text account) };
+
+    fn fmt<W: fmt::Write>(&self, f: &mut fmt::Formatter<W>) -> fmt::Result {
+        let party = self.party.as_str();
+        match self.side {
+            Side::Production => write!(f, "{party}-P"),
+            Side::Consumption => write!(f, "{party}-C"),
+        }
     }
 }
 

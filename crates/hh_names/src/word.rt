@@ -1,6 +1,6 @@
 //! Words: ids of parties and units, references, access keys and names of files.
 
-ghost use Rattle.std.specs.Prelude.{◌≡◌, ℕ, Bool, true, false, refl, nat_eq};
+ghost use Rattle.std.specs.Prelude.{◌≡◌, ◌<◌, ℕ, Bool, true, false, refl, nat_eq};
 ghost use Rattle.std.specs.List.{list_all};
 ghost use Rattle.std.specs.Cmp.{partial_order_from_own_ties};
 ghost use Rattle.std.specs.Cmp.Rules.{comparing};
@@ -12,6 +12,7 @@ ghost use Rattle.hh_names.specs.Words.{is_capital_or_digit, is_file_name_byte, i
 use crate::bytes::order_of_bytes;
 use std::cmp::Ordering;
 use std::marker::{Model, PhantomData};
+use std::str;
 
 /// Which bytes a word may have.
 pub trait Alphabet {
@@ -22,6 +23,9 @@ pub trait Alphabet {
 
     // Zeros fill the rest of a word's buffer.
     ghost no_zero: { allows 0 ≡ false };
+
+    // A word is text.
+    ghost ascii: { (b : ℕ) → allows b ≡ true → b < 128 };
 }
 
 /// `LEAST` to `MOST` bytes of one alphabet, kept in place and followed by zeros. Contracts see the
@@ -53,8 +57,26 @@ impl<A: Alphabet, const LEAST: usize, const MOST: usize> Word<A, LEAST, MOST> {
     pub fn as_bytes(&self) -> &[u8]
         ensures { result.now ≡ self.now }
     {
+        self.spelled()
+    }
+
+    /// The bytes of the word, some of its alphabet.
+    fn spelled(&self) -> &[u8]
+        ensures bytes { result.now ≡ self.now }
+        ensures word { is_word A.allows LEAST MOST self.now ≡ true }
+    {
         let len = self.bytes.iter().take_while(|byte| **byte != 0).count();
         &self.bytes[..len]
+    }
+
+    /// The word as text.
+    pub fn as_str(&self) -> &str
+        ensures { result.now ≡ self.now }
+    {
+        match str::from_utf8(self.spelled()) {
+            Ok(text) => text,
+            Err(_) => unreachable!(),
+        }
     }
 
     /// The word that these bytes are, if they are one.
@@ -109,6 +131,8 @@ impl Alphabet for PartyIdAlphabet {
     }
 
     ghost no_zero = { refl };
+
+    ghost ascii = { Prim.search rules };
 }
 
 /// A party's id: 1 to 10 capital letters or digits (profile).
@@ -126,6 +150,8 @@ impl Alphabet for UnitIdAlphabet {
     }
 
     ghost no_zero = { refl };
+
+    ghost ascii = { Prim.search rules };
 }
 
 /// A BM Unit's id: 1 to 16 capital letters, digits, underscores or dashes (profile).
@@ -143,6 +169,8 @@ impl Alphabet for ReferenceAlphabet {
     }
 
     ghost no_zero = { refl };
+
+    ghost ascii = { Prim.search rules };
 }
 
 /// A contract's reference: 1 to 20 letters, digits, underscores or dashes (profile).
@@ -160,6 +188,8 @@ impl Alphabet for AccessKeyAlphabet {
     }
 
     ghost no_zero = { refl };
+
+    ghost ascii = { Prim.search rules };
 }
 
 /// The key that a party shows: 8 to 64 letters or digits (profile).
@@ -177,6 +207,8 @@ impl Alphabet for FileNameAlphabet {
     }
 
     ghost no_zero = { refl };
+
+    ghost ascii = { Prim.search rules };
 }
 
 /// The name by which a file is registered, never a path: 1 to 64 letters, digits, points, underscores

@@ -2,21 +2,11 @@
 use Rattle.std.specs.Prelude.{ℕ, ℤ, List, [], ◌∷◌, ◌++◌, codes}
 use Rattle.std.specs.List.{flat_map}
 use Rattle.hh_num.specs.Fixed.{fixed_text}
-use Rattle.hh_names.specs.declared.account.Account.{Account}
-use Rattle.hh_names.specs.declared.account.Side.{Side}
-use Rattle.hh_names.specs.declared.account.Side.TheVariants.{Consumption, Production}
+use Rattle.hh_names.specs.Accounts.{account_text}
 use Rattle.hh_calc.specs.declared.result.Figures.{Figures}
 use Rattle.hh_calc.specs.Formulas.{figures, residual}
 use Rattle.hh_calc.specs.Settled.{figures_of}
 use Rattle.hh_calc.specs.Terms.{PeriodTerms, Settled}
-
-abbrev pub side_letter : Side → ℕ
-side_letter Production = 80
-side_letter Consumption = 67
-
--- an account's party, a dash and its side
-abbrev pub account_text : Account → List ℕ
-account_text a = a.party ++ 45 ∷ side_letter a.side ∷ []
 
 -- a number behind its name
 abbrev pub named : List ℕ → ℕ → ℤ → List ℕ

@@ -2,22 +2,13 @@
 
 ghost use Rattle.std.specs.Prelude.{◌≡◌, ◌++◌, OnOk};
 ghost use Rattle.hh_calc.specs.Settled.{figures_of};
-ghost use Rattle.hh_period.specs.PeriodText.{account_line, account_text, figures_text, named, residual_line, settled_lines, side_letter};
+ghost use Rattle.hh_names.specs.Accounts.{account_text};
+ghost use Rattle.hh_period.specs.PeriodText.{account_line, figures_text, named, residual_line, settled_lines};
 
 use hh_calc::{AccountRow, PeriodResult};
-use hh_names::{Account, Side};
+use hh_names::Account;
 use hh_num::{Pence, Quantity, Scaled};
 use std::alloc::AllocError;
-
-/// The letter by which a side is written.
-fn letter_of(side: Side) -> u8
-    ensures { result ≡ side_letter side }
-{
-    match side {
-        Side::Production => b'P',
-        Side::Consumption => b'C',
-    }
-}
 
 /// Appends the name of an account: its party, a dash and its side.
 fn push_account(text: &mut Vec<u8>, account: &Account) -> Result<(), AllocError>
@@ -25,7 +16,7 @@ fn push_account(text: &mut Vec<u8>, account: &Account) -> Result<(), AllocError>
 {
     text.extend_from_slice(account.party.as_bytes())?;
     text.push(b'-')?;
-    text.push(letter_of(account.side))?;
+    text.push(account.side.letter())?;
     Ok(())
 }
 

@@ -5,4 +5,6 @@ pub mod LengthLemmas
 pub mod MessageLemmas
 pub mod OneMessage
 pub mod PartLemmas
+pub mod ReplyLemmas
 pub mod TermLemmas
+pub mod TextLemmas

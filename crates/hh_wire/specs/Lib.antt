@@ -1,4 +1,5 @@
 pub mod Behind
+pub mod Bodies
 pub mod Causes
 pub mod Fields
 pub mod Found

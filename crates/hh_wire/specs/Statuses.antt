@@ -2,6 +2,8 @@
 use Rattle.std.specs.Prelude.{ℕ, ◌==◌, List, codes, if◌then◌else◌}
 use Rattle.hh_names.specs.declared.fault.Refusal.{Refusal}
 use Rattle.hh_names.specs.declared.fault.Refusal.TheVariants as refusal
+use Rattle.hh_office.specs.declared.reply.Reply.{Reply}
+use Rattle.hh_office.specs.declared.reply.Reply.TheVariants as reply
 
 -- the number of a refusal's status
 abbrev pub status_of : Refusal → ℕ
@@ -27,6 +29,11 @@ status_of refusal.BodyTooLarge = 413
 status_of refusal.Memory = 503
 status_of refusal.Store = 503
 status_of _ = 422
+
+-- the number of a reply's status
+abbrev pub reply_status : Reply → ℕ
+reply_status (reply.Refused fault) = status_of fault.refusal
+reply_status given = 200
 
 -- the phrase that stands with a status
 abbrev pub phrase_of : ℕ → List ℕ

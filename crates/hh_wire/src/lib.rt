@@ -7,9 +7,11 @@ mod front;
 mod head;
 mod incoming;
 mod length;
+mod member_text;
 mod piece;
 mod reply;
 mod reply_text;
+mod reply_value;
 mod request;
 mod route;
 mod status;
@@ -17,8 +19,10 @@ mod stop;
 mod terms;
 
 pub use incoming::{Incoming, Refused, RequestRefusal, WireFault};
-pub use reply::{WriteFault, write_refused};
+pub use reply::{WriteFault, write_refused, write_reply};
 pub use request::{message_is_one, read_request};
 
+#[cfg(test)]
+mod reply_tests;
 #[cfg(test)]
 mod tests;

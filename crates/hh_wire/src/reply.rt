@@ -1,12 +1,15 @@
 //! Replies, written to connections.
 
-ghost use Rattle.std.specs.Prelude.{◌≡◌, ◌≢◌, Err};
+ghost use Rattle.std.specs.Prelude.{◌≡◌, ◌≢◌, Err, IsTrue};
+ghost use Rattle.hh_names.specs.Faults.{memory_fault};
 ghost use Rattle.hh_wire.specs.Writes.{WritesReply};
-ghost use Rattle.hh_wire.specs.ReplyText.{refused_text};
+ghost use Rattle.hh_wire.specs.ReplyText.{refused_text, reply_text};
 
 use crate::incoming::{Refused, RequestRefusal};
-use crate::reply_text::{memory_text, refused_text};
+use crate::reply_text::{memory_text, refused_text, reply_with};
 use hh_devices::{DeviceFailed, Sink, write_whole};
+use hh_names::{Fault, Refusal};
+use hh_office::Reply;
 use std::alloc::{AllocError, Global};
 
 /// Why a reply was not written.
@@ -26,6 +29,47 @@ impl From<AllocError> for WriteFault {
     fn from(_error: AllocError) -> WriteFault {
         WriteFault::Memory
     }
+}
+
+/// Writes a reply of the office (profile): its head alone where that is asked for. The reply that
+/// tells of refused memory takes none.
+///
+/// # Errors
+///
+/// `Write` where the sink failed or took nothing in this call, and then a beginning of the reply went
+/// out. `Memory` where the reply cannot be built, and then nothing went out.
+pub fn write_reply<S: Sink>(
+    alloc: Global,
+    reply: &Reply,
+    head_only: bool,
+    sink: &mut S,
+) -> Result<(), WriteFault>
+    ensures reply { WritesReply (S.taken sink.old) (S.taken sink.new) (S.failures sink.old)
+        (S.failures sink.new) (reply_text reply.now head_only) result }
+    ensures no_memory { reply.now ≡ Reply.Refused memory_fault → result ≢ Err WriteFault.Memory }
+{
+    if tells_no_memory(reply) {
+        return send(sink, memory_text(head_only));
+    }
+    let text = reply_with(alloc, "", reply, head_only)?;
+    send(sink, text.as_bytes())
+}
+
+/// Whether a reply tells of refused memory.
+fn tells_no_memory(reply: &Reply) -> bool
+    ensures yes { IsTrue result → reply.now ≡ Reply.Refused memory_fault }
+    ensures no { reply.now ≡ Reply.Refused memory_fault → IsTrue result }
+{
+    matches!(
+        reply,
+        Reply::Refused(Fault {
+            refusal: Refusal::Memory,
+            row: None,
+            column: None,
+            unit: None,
+            period: None,
+        })
+    )
 }
 
 /// Writes the reply to a request that is refused before the office is asked (profile): its head alone

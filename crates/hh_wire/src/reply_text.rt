@@ -1,18 +1,18 @@
 //! Replies as bytes.
 
 ghost use Rattle.std.specs.Prelude.{◌≡◌, string_bytes, IfOk};
-ghost use Rattle.serde_json.specs.Data.{Data};
-ghost use Rattle.serde_json.specs.View.{view};
 ghost use Rattle.serde_json.specs.Written.{compact_text};
-ghost use Rattle.hh_wire.specs.ReplyText.{allow_line, memory_text, refusal_body, refused_text, reply_head, reply_text};
+ghost use Rattle.hh_wire.specs.Bodies.{reply_body};
+ghost use Rattle.hh_wire.specs.ReplyText.{allow_line, memory_text, refused_text, reply_head, reply_with};
 
 use crate::incoming::{Refused, RequestRefusal};
-use crate::status::{phrase_of, status_of};
-use hh_names::Refusal;
-use serde_json::{Value, json};
+use crate::reply_value::reply_value;
+use crate::status::{phrase_of, reply_status};
+use hh_names::Fault;
+use hh_office::Reply;
 use std::alloc::{AllocError, Global};
 
-/// The head of a reply with this phrase and a body of so many bytes, and a further line.
+/// The head of a reply with this status and phrase and a body of so many bytes, and a further line.
 fn reply_head(
     alloc: Global,
     status: u16,
@@ -29,39 +29,31 @@ fn reply_head(
     )
 }
 
-/// A reply of this status with this body, or without it where the head alone is asked for.
-fn reply_text(
-    alloc: Global,
-    status: u16,
-    body: &str,
-    head_only: bool,
-    line: &str,
-) -> Result<String, AllocError>
-    ensures { IfOk result (λ text.
-        string_bytes text ≡ reply_text status body.now head_only line.now) }
+/// The body of a reply.
+fn body_text(alloc: Global, reply: &Reply) -> Result<String, AllocError>
+    ensures { IfOk result (λ text. string_bytes text ≡ compact_text (reply_body reply.now)) }
 {
+    let value = reply_value(alloc, reply)?;
+    value.to_string(alloc)
+}
+
+/// A reply with a further line in its head, or its head where that alone is asked for.
+pub(crate) fn reply_with(
+    alloc: Global,
+    line: &str,
+    reply: &Reply,
+    head_only: bool,
+) -> Result<String, AllocError>
+    ensures { IfOk result (λ text. string_bytes text ≡ reply_with line.now reply.now head_only) }
+{
+    let body = body_text(alloc, reply)?;
+    let status = reply_status(reply).as_u16();
     let mut text = reply_head(alloc, status, phrase_of(status), body.len(), line)?;
     if head_only {
         return Ok(text);
     }
-    text.push_str(body)?;
+    text.push_str(&body)?;
     Ok(text)
-}
-
-/// The body of a refusal of a whole request.
-fn refusal_value(alloc: Global, refusal: Refusal) -> Result<Value, AllocError>
-    ensures { IfOk result (λ value. view value ≡ refusal_body refusal) }
-{
-    let (name, number) = (refusal.name(), refusal.number());
-    json!(in alloc; {"name": name, "refused": number})
-}
-
-/// The same as text.
-fn refusal_text(alloc: Global, refusal: Refusal) -> Result<String, AllocError>
-    ensures { IfOk result (λ text. string_bytes text ≡ compact_text (refusal_body refusal)) }
-{
-    let value = refusal_value(alloc, refusal)?;
-    value.to_string(alloc)
 }
 
 /// The line that tells the method that a path has.
@@ -85,11 +77,9 @@ fn allow_line(alloc: Global, cause: &RequestRefusal) -> Result<String, AllocErro
 pub(crate) fn refused_text(alloc: Global, refused: &Refused) -> Result<String, AllocError>
     ensures { IfOk result (λ text. string_bytes text ≡ refused_text refused.now) }
 {
-    let refusal = refused.cause.refusal();
     let line = allow_line(alloc, &refused.cause)?;
-    let body = refusal_text(alloc, refusal)?;
-    let status = status_of(refusal).as_u16();
-    reply_text(alloc, status, &body, refused.head_only, &line)
+    let reply = Reply::Refused(Fault::of(refused.cause.refusal()));
+    reply_with(alloc, &line, &reply, refused.head_only)
 }
 
 /// The reply where memory was refused, which takes none.

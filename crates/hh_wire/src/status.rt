@@ -1,9 +1,10 @@
 //! The statuses of replies, and the phrases that stand with them.
 
 ghost use Rattle.std.specs.Prelude.{◌≡◌};
-ghost use Rattle.hh_wire.specs.Statuses.{phrase_of, status_of};
+ghost use Rattle.hh_wire.specs.Statuses.{phrase_of, reply_status, status_of};
 
 use hh_names::Refusal;
+use hh_office::Reply;
 use http::StatusCode;
 
 /// The status of a refusal's reply (profile).
@@ -41,6 +42,21 @@ pub(crate) fn status_of(refusal: Refusal) -> StatusCode
         | Refusal::LeadIsSubsidiary
         | Refusal::TooMany => StatusCode::UNPROCESSABLE_ENTITY,
         Refusal::Memory | Refusal::Store => StatusCode::SERVICE_UNAVAILABLE,
+    }
+}
+
+/// The status of a reply (profile).
+pub(crate) fn reply_status(reply: &Reply) -> StatusCode
+    ensures { result ≡ reply_status reply.now }
+{
+    match reply {
+        Reply::Refused(fault) => status_of(fault.refusal),
+        Reply::Loaded(_)
+        | Reply::Ran { .. }
+        | Reply::Account(_)
+        | Reply::Balance { .. }
+        | Reply::Contracts(_)
+        | Reply::Runs(_) => StatusCode::OK,
     }
 }
 
