@@ -1,3 +1,6 @@
 pub mod Faults
+pub mod Reports
 pub mod Script
+pub mod Serves
 pub mod Steps
+pub mod WordValues

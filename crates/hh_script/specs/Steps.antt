@@ -1,36 +1,22 @@
 -- The steps of a script: what its lines ask for by their words.
 use Rattle.std.specs.Prelude.{◌≡◌, ℕ, ℤ, ◌==◌, List, [], ◌∷◌, Option, Some, None, option_map, codes, bytes_eq, IsTrue, if◌then◌else◌}
-use Rattle.std.specs.List.{after_last, slice_split}
+use Rattle.std.specs.List.{after_last}
 use Rattle.std.specs.Str.{is_utf8}
-use Rattle.hh_num.specs.Fixed.{fixed_value, fits_i64, kept_if}
 use Rattle.hh_time.specs.DateText.{date_value}
 use Rattle.hh_time.specs.Days.{is_accepted}
-use Rattle.hh_names.specs.Words.{access_key_value, is_file_name_byte, operator_key_value, word_value}
+use Rattle.hh_names.specs.Words.{is_file_name_byte, word_value}
 use Rattle.hh_rows.specs.Kinds.{kind_value}
 use Rattle.hh_rows.specs.declared.file_kind.FileKind.{FileKind}
 use Rattle.hh_runs.specs.RunKinds.{run_kind_value}
 use Rattle.hh_runs.specs.declared.run_kind.RunKind.{RunKind}
 use Rattle.hh_script.specs.declared.load.LoadLine.{LoadLine}
 use Rattle.hh_script.specs.declared.run.RunLine.{RunLine}
+use Rattle.hh_script.specs.declared.serve.ServeLine.{ServeLine}
 use Rattle.hh_script.specs.declared.script_line.ScriptLine.{ScriptLine}
 use Rattle.hh_script.specs.declared.script_line.ScriptLine.TheVariants as line
-
--- the words of a line, parted by single blanks
-abbrev pub words_of : List ℕ → List (List ℕ)
-words_of text = slice_split (λ b. b == 32) text
-
--- a moment: a whole number of seconds
-abbrev pub moment_value : List ℕ → Option ℤ
-moment_value word = kept_if fits_i64 (fixed_value 0 word)
-
--- the first of two values that is there
-abbrev pub either : {A : Type 0} → Option A → Option A → Option A
-either (Some x) other = Some x
-either None other = other
-
--- a key that is shown: the operator's or a party's
-unfoldable pub shown_key_value : List ℕ → Option (List ℕ)
-shown_key_value word = either (operator_key_value word) (access_key_value word)
+use Rattle.hh_script.specs.Reports.{IsOfAcceptedDate, ReportStep, report_of, report_value}
+use Rattle.hh_script.specs.Serves.{serve_value}
+use Rattle.hh_script.specs.WordValues.{moment_value, shown_key_value, words_of}
 
 -- the name of what lies at a path: what follows the last `/`
 unfoldable pub path_name : List ℕ → Option (List ℕ)
@@ -59,11 +45,15 @@ pub record RunStep : Type 0 where
 pub data Step : Type 0 where
   LoadFile : LoadStep → Step
   MakeRun : RunStep → Step
+  WriteReport : ReportStep → Step
+  Serve : ServeLine → Step
 
 -- a step names its file as the register can, or a date that is accepted
 abbrev pub IsWellNamed : Step → Type 0
 IsWellNamed (LoadFile load) = word_value is_file_name_byte 1 64 load.name ≡ Some load.name
 IsWellNamed (MakeRun run) = IsTrue (is_accepted run.date)
+IsWellNamed (WriteReport asked) = IsOfAcceptedDate asked.report
+IsWellNamed (Serve line) = Unit {0}
 
 -- the load that a line says
 abbrev pub load_of : LoadLine → LoadStep
@@ -77,6 +67,8 @@ run_of r = record { moment = r.moment; key = r.key.now; date = r.date; kind = r.
 abbrev pub step_of : ScriptLine → Step
 step_of (line.Load l) = LoadFile (load_of l)
 step_of (line.Run r) = MakeRun (run_of r)
+step_of (line.Report r) = WriteReport (report_of r)
+step_of (line.Serve s) = Serve s
 
 -- the values of a load, if all are there
 abbrev pub load_from : Option ℤ → Option (List ℕ) → Option FileKind → Option (List ℕ) → Option (List ℕ) → Option LoadStep
@@ -108,6 +100,8 @@ step_of_words [] = None
 step_of_words (command ∷ words) =
     if bytes_eq command (codes "load") then option_map LoadFile (load_value words)
     else if bytes_eq command (codes "run") then option_map MakeRun (run_value words)
+    else if bytes_eq command (codes "report") then option_map WriteReport (report_value words)
+    else if bytes_eq command (codes "serve") then option_map Serve (serve_value words)
     else None
 
 -- the step that a line asks for, if it has a form

@@ -3,15 +3,19 @@
 
 mod load;
 mod path;
+mod report;
 mod run;
 mod script;
 mod script_line;
+mod serve;
 mod words;
 
 pub use load::LoadLine;
+pub use report::{AskedReport, ReportLine};
 pub use run::RunLine;
 pub use script::{ScriptFault, read_script};
 pub use script_line::ScriptLine;
+pub use serve::ServeLine;
 
 #[cfg(test)]
 mod tests;

@@ -2,7 +2,8 @@
 
 ghost use Rattle.std.specs.Prelude.{◌≡◌, option_map, IfSome};
 ghost use Rattle.hh_rows.specs.Kinds.{kind_value};
-ghost use Rattle.hh_script.specs.Steps.{IsWellNamed, LoadFile, load_from, load_of, load_value, moment_value, path_name, path_value, shown_key_value, words_of};
+ghost use Rattle.hh_script.specs.Steps.{IsWellNamed, LoadFile, load_from, load_of, load_value, path_name, path_value};
+ghost use Rattle.hh_script.specs.WordValues.{moment_value, shown_key_value, words_of};
 
 use crate::path::{read_path, read_path_name};
 use crate::words::{only_word, read_shown_key, split_word};

@@ -3,7 +3,8 @@
 ghost use Rattle.std.specs.Prelude.{◌≡◌, option_map, IfSome};
 ghost use Rattle.hh_runs.specs.RunKinds.{run_kind_value};
 ghost use Rattle.hh_time.specs.DateText.{date_value};
-ghost use Rattle.hh_script.specs.Steps.{IsWellNamed, MakeRun, moment_value, run_from, run_of, run_value, shown_key_value, words_of};
+ghost use Rattle.hh_script.specs.Steps.{IsWellNamed, MakeRun, run_from, run_of, run_value};
+ghost use Rattle.hh_script.specs.WordValues.{moment_value, shown_key_value, words_of};
 
 use crate::words::{only_word, read_shown_key, split_word};
 use hh_num::read_fixed;

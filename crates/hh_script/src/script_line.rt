@@ -4,7 +4,9 @@ ghost use Rattle.std.specs.Prelude.{◌≡◌, option_map, IfSome};
 ghost use Rattle.hh_script.specs.Steps.{IsWellNamed, step_of, step_value};
 
 use crate::load::LoadLine;
+use crate::report::ReportLine;
 use crate::run::RunLine;
+use crate::serve::ServeLine;
 use crate::words::split_word;
 
 /// What a line of a script asks for (profile).
@@ -14,6 +16,10 @@ pub enum ScriptLine<'a> {
     Load(LoadLine<'a>),
     /// That a run be made (profile).
     Run(RunLine<'a>),
+    /// That a report be written (profile).
+    Report(ReportLine<'a>),
+    /// That connections be served (profile).
+    Serve(ServeLine),
 }
 
 impl<'a> ScriptLine<'a> {
@@ -29,6 +35,12 @@ impl<'a> ScriptLine<'a> {
         }
         if command == b"run".as_slice() {
             return RunLine::read(words).map(ScriptLine::Run);
+        }
+        if command == b"report".as_slice() {
+            return ReportLine::read(words).map(ScriptLine::Report);
+        }
+        if command == b"serve".as_slice() {
+            return Some(ScriptLine::Serve(ServeLine::read(words)?));
         }
         None
     }

@@ -13,6 +13,15 @@ const RUNS: &[u8] = b"run 1719874800 op-settle001 2024-07-01 SF
 load 007 op-settle001 meters meters
 run -1 Genco0001 2024-07-01 DF";
 
+const REPORTS: &[u8] = b"report op-settle001 day 2024-07-01 SF
+report Genco0001 csv 2024-07-01 R3
+report op-settle001 balances
+";
+
+const SERVES: &[u8] = b"serve 1719961200 8080 1000000
+serve -1 0 0
+serve 5 65535 0007";
+
 /// The days from 1970-01-01 to 2024-07-01: 54 years with 13 leap days, and 182 days of a leap year.
 const FIRST_OF_JULY_2024: u16 = 54 * 365 + 13 + 182;
 
@@ -67,6 +76,53 @@ fn reads_lines_that_make_runs(rt: HostRuntime) -> Result<(), Fail> {
     assert_eq!(rt; runs[1].key, b"Genco0001".as_slice());
     assert_eq!(rt; runs[1].date, FIRST_OF_JULY_2024);
     assert_eq!(rt; runs[1].kind, RunKind::DF);
+    Ok(())
+}
+
+/// The lines of a script.
+fn lines_of<'a>(rt: &impl AllocGlobal, script: &'a [u8]) -> Result<Vec<ScriptLine<'a>>, Fail> {
+    Ok(read_script(rt.alloc(), script)?)
+}
+
+#[test]
+fn reads_lines_that_ask_for_reports(rt: HostRuntime) -> Result<(), Fail> {
+    let lines = lines_of(&rt, REPORTS)?;
+    let date = FIRST_OF_JULY_2024;
+    let reports = [
+        AskedReport::Day {
+            date,
+            kind: RunKind::SF,
+        },
+        AskedReport::Results {
+            date,
+            kind: RunKind::R3,
+        },
+        AskedReport::Balances,
+    ];
+    let keys: [&[u8]; 3] = [b"op-settle001", b"Genco0001", b"op-settle001"];
+    assert_eq!(rt; lines.len(), 3);
+    for (place, line) in lines.iter().enumerate().take(3) {
+        let report = reports[place];
+        let key = keys[place];
+        assert_eq!(rt; *line, ScriptLine::Report(ReportLine { key, report }));
+    }
+    Ok(())
+}
+
+#[test]
+fn reads_lines_that_serve(rt: HostRuntime) -> Result<(), Fail> {
+    let lines = lines_of(&rt, SERVES)?;
+    let wanted = [(1_719_961_200, 8080, 1_000_000), (-1, 0, 0), (5, 65535, 7)];
+    assert_eq!(rt; lines.len(), 3);
+    for (place, line) in lines.iter().enumerate().take(3) {
+        let (moment, port, count) = wanted[place];
+        let serve = ServeLine {
+            moment,
+            port,
+            count,
+        };
+        assert_eq!(rt; *line, ScriptLine::Serve(serve));
+    }
     Ok(())
 }
 
@@ -148,6 +204,38 @@ fn refuses_runs_off_their_form(rt: HostRuntime) -> Result<(), Fail> {
         b"run 9223372036854775808 op-settle001 2024-07-01 SF",
         b"run op-settle001 2024-07-01 SF",
         b"Run 1 op-settle001 2024-07-01 SF",
+    ];
+    for line in lines {
+        assert_eq!(rt; outcome(&rt, line), (0, 1));
+    }
+    Ok(())
+}
+
+#[test]
+fn refuses_reports_and_serves_off_their_form(rt: HostRuntime) -> Result<(), Fail> {
+    let lines: [&[u8]; 22] = [
+        b"report op-settle001",
+        b"report op-settle001 day",
+        b"report op-settle001 day 2024-07-01",
+        b"report op-settle001 day SF 2024-07-01",
+        b"report op-settle001 day 2024-07-01 SF ",
+        b"report op-settle001 day 2024-02-30 SF",
+        b"report op-settle001 csv 2024-07-01 sf",
+        b"report op-settle001 CSV 2024-07-01 SF",
+        b"report op-settle001 balances 2024-07-01 SF",
+        b"report op-settle001 balance",
+        b"report op-settle balances",
+        b"report balances",
+        b"report 5 op-settle001 balances",
+        b"serve 5 8080",
+        b"serve 5 8080 1 1",
+        b"serve 5 65536 1",
+        b"serve 5 -1 1",
+        b"serve 5 80 1000001",
+        b"serve 5 80 -1",
+        b"serve 5 +80 1",
+        b"serve now 80 1",
+        b"serve 5 80 1.0",
     ];
     for line in lines {
         assert_eq!(rt; outcome(&rt, line), (0, 1));

@@ -2,7 +2,7 @@
 
 ghost use Rattle.std.specs.Prelude.{◌≡◌, ◌<◌, ◌==◌, [], ◌∷◌, length, position, IfNone, IfSome};
 ghost use Rattle.std.specs.Option.{option_copied};
-ghost use Rattle.hh_script.specs.Steps.{shown_key_value, words_of};
+ghost use Rattle.hh_script.specs.WordValues.{shown_key_value, words_of};
 
 use hh_names::{AccessKey, OperatorKey};
 
@@ -35,7 +35,7 @@ pub(crate) fn only_word(text: &[u8]) -> Option<&[u8]>
 }
 
 /// The key that a word is: the operator's, or that of a party, which may or may not be registered.
-#[tactic(auto, unfolding(crate::specs::Steps::shown_key_value))]
+#[tactic(auto, unfolding(crate::specs::WordValues::shown_key_value))]
 pub(crate) fn read_shown_key(word: &[u8]) -> Option<&[u8]>
     ensures { option_copied result ≡ shown_key_value word.now }
 {

@@ -10,8 +10,9 @@ use Rattle.jiff.specs.Words.{plain_zone}
 use Rattle.hh_time.specs.Days.{Midnights}
 use Rattle.hh_time.specs.Zone.{midnight_in}
 use Rattle.hh_names.specs.declared.fault.Refusal.TheVariants.{FileTooLarge, Forbidden}
+use Rattle.hh_names.specs.Faults.{memory_fault}
 use Rattle.hh_script.specs.declared.script_line.ScriptLine.{ScriptLine}
-use Rattle.hh_script.specs.Steps.{LoadFile, LoadStep, MakeRun, RunStep, Step, step_of}
+use Rattle.hh_script.specs.Steps.{LoadFile, LoadStep, MakeRun, RunStep, Serve, Step, WriteReport, step_of}
 use Rattle.hh_texts.specs.Rows.{most_bytes}
 use Rattle.hh_store.specs.Content.{tables_of}
 use Rattle.hh_store.specs.States.{State, file_key_cmp}
@@ -21,11 +22,13 @@ use Rattle.hh_office.specs.declared.reply.Reply.{Reply}
 use Rattle.hh_office.specs.Machine.{key_of, load_beside, may, step}
 use Rattle.hh_office.specs.Transitions.{Transition, refused_for}
 use Rattle.hh_office.specs.Promises.{HandleStep, Stands, StandsAfter, is_given_up}
+use Rattle.hh_office.specs.Reports.{report_for}
 use Rattle.hh_office.specs.Views.{OfficeView, midnight_of}
 use Rattle.hh_session.specs.declared.told.Told.{Told}
 use Rattle.hh_session.specs.declared.told.Told.TheVariants.{Replied}
-use Rattle.hh_session.specs.Course.{BeginsLine, StepComesTo, LeavesRefused, LoadDoes, MakesRun, RunDoes, RunsLoad, RunsScript, RunsStep, ScriptDoes, StandsNow, StepDoes, StopsScript, StopsStep, TellsLine, no_memory, request_for, request_of}
+use Rattle.hh_session.specs.Course.{BeginsLine, IsLineOf, LeavesRefused, LoadDoes, MakesRun, RunDoes, RunsLoad, RunsScript, RunsStep, ScriptDoes, StandsNow, StepDoes, StopsScript, StopsStep, TellsLine, no_memory, request_for, request_of}
 use Rattle.hh_session.specs.Lines.{told_line}
+use Rattle.hh_session.specs.Reporting.{report_asked, report_begun}
 
 -- A load asks the machine for the same by so many bytes of its file that a larger one is told.
 module _ (midnight : Midnights) (s : State) (l : LoadStep) (all : List ℕ) where
@@ -94,61 +97,72 @@ module _ (old new : OfficeView) (run : RunStep) (request : Request) (is : reques
       made_by s transition.state transition.reply (is_given_up given) refl
       (ap (step (midnight_of old) s run.moment) is) (steps s stands) (after s stands)
 
--- a step that is given up for want of memory leaves the state
-gives_up : (reads : List ℕ → Option (List ℕ) → Type 0) (midnight : Midnights) (s : State) (step : Step) → StepDoes reads midnight s step no_memory s
-gives_up reads midnight s (LoadFile load) = inr (refl, refl)
-gives_up reads midnight s (MakeRun run) = inr (refl, refl)
+-- a load and a run that are given up for want of memory leave the state
+pub load_gives_up : (reads : List ℕ → Option (List ℕ) → Type 0) (midnight : Midnights) (load : LoadStep) (s : State) → LoadDoes reads midnight s load no_memory s
+load_gives_up reads midnight load s = inr (refl, refl)
 
--- What a line does, by what it came to and what went out.
-module _ (reads : List ℕ → Option (List ℕ) → Type 0) (old new : OfficeView) (before after : Option (List ℕ)) (step : Step) (told : Told)
-    (comes : StepComesTo reads old new step told) (leaves : LeavesRefused old new told) where
-  pub line_done : TellsLine before after told → RunsStep reads old new before after step
-  line_done (inl went) s stands = let (t, does, now) = comes s stands in (told, t, does, went, now)
+pub run_gives_up : (midnight : Midnights) (run : RunStep) (s : State) → RunDoes midnight s run no_memory s
+run_gives_up midnight run s = inr (refl, refl)
+
+-- and so does each step
+gives_up : (reads : List ℕ → Option (List ℕ) → Type 0) (midnight : Midnights) (s : State) (step : Step) → StepDoes reads midnight s step (told_line no_memory) s
+gives_up reads midnight s (LoadFile load) = (no_memory, inr (refl, refl), refl)
+gives_up reads midnight s (MakeRun run) = (no_memory, inr (refl, refl), refl)
+gives_up reads midnight s (WriteReport asked) = (inr ([], report_begun (report_for midnight s asked.key (report_asked asked.report)), memory_fault, refl, refl, refl), refl)
+gives_up reads midnight s (Serve line) = inl (inr refl, refl)
+
+-- What a line that is told in a line of its own does, by what it came to and what went out.
+module _ (old new : OfficeView) (before after : Option (List ℕ)) (told : Told) (does : State → Told → State → Type 0) (up : (s : State) → does s no_memory s)
+    (comes : (s : State) → Stands old s → (t : State) × does s told t × StandsNow old new t) (leaves : LeavesRefused old new told) where
+  pub line_done : TellsLine before after told → (s : State) → Stands old s
+      → (text : List ℕ) × (t : State) × IsLineOf (λ given. does s given t) text × Appends before after text × StandsNow old new t
+  line_done (inl went) s stands = let (t, done, now) = comes s stands in (told_line told, t, (told, done, refl), went, now)
   line_done (inr (refusal, went)) s stands =
       let same : new ≡ old = leaves s stands refusal in
-      (no_memory, s, gives_up reads (midnight_of old) s step, went, (subst (λ o. Stands o s) (sym same) stands, ap (λ (o : OfficeView). o.zone) same))
+      (told_line no_memory, s, (no_memory, up s, refl), went, (subst (λ o. Stands o s) (sym same) stands, ap (λ (o : OfficeView). o.zone) same))
 
-  pub line_cut : BeginsLine before after told → StopsStep reads old new before after step
-  line_cut (inl went) s stands = let (t, does, now) = comes s stands in (told, t, does, went, now)
+  pub line_cut : BeginsLine before after told → (s : State) → Stands old s
+      → (text : List ℕ) × (t : State) × IsLineOf (λ given. does s given t) text × AppendsFront before after text × StandsNow old new t
+  line_cut (inl went) s stands = let (t, done, now) = comes s stands in (told_line told, t, (told, done, refl), went, now)
   line_cut (inr (refusal, went)) s stands =
       let same : new ≡ old = leaves s stands refusal in
-      (no_memory, s, gives_up reads (midnight_of old) s step, went, (subst (λ o. Stands o s) (sym same) stands, ap (λ (o : OfficeView). o.zone) same))
+      (told_line no_memory, s, (no_memory, up s, refl), went, (subst (λ o. Stands o s) (sym same) stands, ap (λ (o : OfficeView). o.zone) same))
 
 -- a line for which memory is refused before anything is done
 pub memory_done : (reads : List ℕ → Option (List ℕ) → Type 0) (old : OfficeView) (before after : Option (List ℕ)) (step : Step)
     → Appends before after (told_line no_memory) → RunsStep reads old old before after step
-memory_done reads old before after step went s stands = (no_memory, s, gives_up reads (midnight_of old) s step, went, (stands, refl))
+memory_done reads old before after step went s stands = (told_line no_memory, s, gives_up reads (midnight_of old) s step, went, (stands, refl))
 
 pub memory_cut : (reads : List ℕ → Option (List ℕ) → Type 0) (old : OfficeView) (before after : Option (List ℕ)) (step : Step)
     → AppendsFront before after (told_line no_memory) → StopsStep reads old old before after step
-memory_cut reads old before after step went s stands = (no_memory, s, gives_up reads (midnight_of old) s step, went, (stands, refl))
+memory_cut reads old before after step went s stands = (told_line no_memory, s, gives_up reads (midnight_of old) s step, went, (stands, refl))
 
 -- ---- lines one after the other
 
-appends_more : (before between after : Option (List ℕ)) (text line : List ℕ) → Appends before between text → Appends between after line → Appends before after (text ++ line)
+pub appends_more : (before between after : Option (List ℕ)) (text line : List ℕ) → Appends before between text → Appends between after line → Appends before after (text ++ line)
 appends_more None between after text line first second = tt
 appends_more (Some xs) None after text line first second = absurd first
 appends_more (Some xs) (Some ys) None text line first second = absurd second
 appends_more (Some xs) (Some ys) (Some zs) text line first second = second ∙ ap (λ bytes. bytes ++ line) first ∙ append_assoc xs text line
 
 module _ (reads : List ℕ → Option (List ℕ) → Type 0) (midnight : Midnights) where
-  does_more : (s t u : State) (steps : List Step) (text : List ℕ) (step : Step) (told : Told) → ScriptDoes reads midnight s steps text t → StepDoes reads midnight t step told u
-      → ScriptDoes reads midnight s (steps ++ step ∷ []) (text ++ told_line told) u
-  does_more s t u [] text step told (none, same) does = (
-    told,
+  does_more : (s t u : State) (steps : List Step) (text : List ℕ) (step : Step) (line : List ℕ) → ScriptDoes reads midnight s steps text t → StepDoes reads midnight t step line u
+      → ScriptDoes reads midnight s (steps ++ step ∷ []) (text ++ line) u
+  does_more s t u [] text step line (none, same) does = (
+    line,
     u,
     [],
-    subst (λ v. StepDoes reads midnight v step told u) same does,
+    subst (λ v. StepDoes reads midnight v step line u) same does,
     (refl, refl),
-    ap (λ bytes. bytes ++ told_line told) none ∙ sym (append-nil (told_line told)),
+    ap (λ bytes. bytes ++ line) none ∙ sym (append-nil line),
   )
-  does_more s t u (first ∷ steps) text step told (told0, v, rest, does0, others, is) does = (
-    told0,
+  does_more s t u (first ∷ steps) text step line (line0, v, rest, does0, others, is) does = (
+    line0,
     v,
-    rest ++ told_line told,
+    rest ++ line,
     does0,
-    does_more v t u steps rest step told others does,
-    ap (λ bytes. bytes ++ told_line told) is ∙ append_assoc (told_line told0) rest (told_line told),
+    does_more v t u steps rest step line others does,
+    ap (λ bytes. bytes ++ line) is ∙ append_assoc line0 rest line,
   )
 
 module _ (reads : List ℕ → Option (List ℕ) → Type 0) (old now new : OfficeView) (before between after : Option (List ℕ)) (steps : List Step) (step : Step)
@@ -157,11 +171,11 @@ module _ (reads : List ℕ → Option (List ℕ) → Type 0) (old now new : Offi
   pub script_more : RunsStep reads now new between after step → RunsScript reads old new before after (steps ++ step ∷ [])
   script_more runs s stands =
       let (text, t, does, went, (now_stands, zone)) = ran s stands in
-      let (told, u, line, line_went, (new_stands, new_zone)) = runs t now_stands in (
-        text ++ told_line told,
+      let (line, u, done, line_went, (new_stands, new_zone)) = runs t now_stands in (
+        text ++ line,
         u,
-        does_more reads (midnight_of old) s t u steps text step told does (subst (λ z. StepDoes reads (midnight_in (plain_zone z)) t step told u) zone line),
-        appends_more before between after text (told_line told) went line_went,
+        does_more reads (midnight_of old) s t u steps text step line does (subst (λ z. StepDoes reads (midnight_in (plain_zone z)) t step line u) zone done),
+        appends_more before between after text line went line_went,
         (new_stands, new_zone ∙ zone),
       )
 
@@ -169,12 +183,12 @@ module _ (reads : List ℕ → Option (List ℕ) → Type 0) (old now new : Offi
   pub script_stops : (all : List Step) (count : ℕ) → take count all ≡ steps ++ step ∷ [] → StopsStep reads now new between after step → StopsScript reads old new before after all
   script_stops all count is stops s stands =
       let (text, t, does, went, (now_stands, zone)) = ran s stands in
-      let (told, u, line, (front, rest, cut, line_went), (new_stands, new_zone)) = stops t now_stands in (
+      let (line, u, done, (front, rest, cut, line_went), (new_stands, new_zone)) = stops t now_stands in (
         count,
-        text ++ told_line told,
+        text ++ line,
         u,
-        subst (λ xs. ScriptDoes reads (midnight_of old) s xs (text ++ told_line told) u) (sym is)
-            (does_more reads (midnight_of old) s t u steps text step told does (subst (λ z. StepDoes reads (midnight_in (plain_zone z)) t step told u) zone line)),
+        subst (λ xs. ScriptDoes reads (midnight_of old) s xs (text ++ line) u) (sym is)
+            (does_more reads (midnight_of old) s t u steps text step line does (subst (λ z. StepDoes reads (midnight_in (plain_zone z)) t step line u) zone done)),
         (
           text ++ front,
           rest,

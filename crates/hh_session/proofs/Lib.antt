@@ -1,2 +1,4 @@
 pub mod CourseLaws
+pub mod ReportingLaws
 pub mod ScriptLaws
+pub mod ServingLaws

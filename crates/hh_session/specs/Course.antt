@@ -4,7 +4,7 @@ use Rattle.std.specs.Io.KnownBytes.{Appends}
 use Rattle.hh_devices.specs.Devices.{AppendsFront}
 use Rattle.hh_time.specs.Days.{Midnights}
 use Rattle.hh_names.specs.Faults.{memory_fault}
-use Rattle.hh_script.specs.Steps.{LoadFile, LoadStep, MakeRun, RunStep, Step}
+use Rattle.hh_script.specs.Steps.{LoadFile, LoadStep, MakeRun, RunStep, Serve, Step, WriteReport}
 use Rattle.hh_store.specs.States.{State}
 use Rattle.hh_office.specs.declared.request.Action.TheVariants as ask
 use Rattle.hh_office.specs.declared.request.Request.{Request}
@@ -16,6 +16,8 @@ use Rattle.hh_office.specs.Views.{OfficeView, midnight_of}
 use Rattle.hh_session.specs.declared.told.Told.{Told}
 use Rattle.hh_session.specs.declared.told.Told.TheVariants.{Replied, Unreadable}
 use Rattle.hh_session.specs.Lines.{told_line}
+use Rattle.hh_session.specs.Reporting.{ReportDoes}
+use Rattle.hh_session.specs.Serving.{ServeDoes}
 
 -- memory was refused
 abbrev pub no_memory : Told
@@ -54,6 +56,10 @@ RunDoes midnight s run (Replied given) t =
     (let transition : Transition = step midnight s run.moment (request_for run) in (given ≡ transition.reply) × (t ≡ transition.state))
     ⊎ (IsTrue (is_given_up given) × (t ≡ s))
 
+-- a text is the line that tells what was done
+abbrev pub IsLineOf : (Told → Type 0) → List ℕ → Type 0
+IsLineOf does text = (told : Told) × does told × (text ≡ told_line told)
+
 -- What a path may read as: the bytes of its file, or nothing where it cannot be read.
 module _ (reads : List ℕ → Option (List ℕ) → Type 0) (midnight : Midnights) where
   -- the file of a load was read, and the machine answered
@@ -67,17 +73,19 @@ module _ (reads : List ℕ → Option (List ℕ) → Type 0) (midnight : Midnigh
   LoadDoes s load Unreadable t = reads load.path None × (t ≡ s)
   LoadDoes s load (Replied given) t = IsAnswered s load (Replied given) t ⊎ (IsTrue (is_given_up given) × (t ≡ s))
 
-  -- what a step comes to in a state, and the state after it
-  abbrev pub StepDoes : State → Step → Told → State → Type 0
-  StepDoes s (LoadFile load) told t = LoadDoes s load told t
-  StepDoes s (MakeRun run) told t = RunDoes midnight s run told t
+  -- what a step writes in a state, and the state after it
+  abbrev pub StepDoes : State → Step → List ℕ → State → Type 0
+  StepDoes s (LoadFile load) text t = IsLineOf (λ told. LoadDoes s load told t) text
+  StepDoes s (MakeRun run) text t = IsLineOf (λ told. RunDoes midnight s run told t) text
+  StepDoes s (WriteReport asked) text t = ReportDoes midnight s asked text × (t ≡ s)
+  StepDoes s (Serve line) text t = ServeDoes midnight s line text t
 
   -- what the steps of a script write, one after the other, and the state after them
   abbrev pub ScriptDoes : State → List Step → List ℕ → State → Type 0
   ScriptDoes s [] text t = (text ≡ []) × (t ≡ s)
   ScriptDoes s (step ∷ steps) text t =
-      (told : Told) × (between : State) × (rest : List ℕ)
-      × StepDoes s step told between × ScriptDoes between steps rest t × (text ≡ told_line told ++ rest)
+      (line : List ℕ) × (between : State) × (rest : List ℕ)
+      × StepDoes s step line between × ScriptDoes between steps rest t × (text ≡ line ++ rest)
 
 -- the office stands for a state now, in the same zone as before
 abbrev pub StandsNow : OfficeView → OfficeView → State → Type 0
@@ -91,25 +99,21 @@ RunsLoad reads old new load told = (s : State) → Stands old s → (t : State) 
 abbrev pub MakesRun : OfficeView → OfficeView → RunStep → Told → Type 0
 MakesRun old new run told = (s : State) → Stands old s → (t : State) × RunDoes (midnight_of old) s run told t × StandsNow old new t
 
--- what a step comes to, and the office after it
-abbrev pub StepComesTo : (List ℕ → Option (List ℕ) → Type 0) → OfficeView → OfficeView → Step → Told → Type 0
-StepComesTo reads old new step told = (s : State) → Stands old s → (t : State) × StepDoes reads (midnight_of old) s step told t × StandsNow old new t
-
 -- what is refused leaves the office as it is
 abbrev pub LeavesRefused : OfficeView → OfficeView → Told → Type 0
 LeavesRefused old new told = (s : State) → Stands old s → IsRefusal told → new ≡ old
 
 -- An output had these bytes before and has those after.
 module _ (reads : List ℕ → Option (List ℕ) → Type 0) (old new : OfficeView) (before after : Option (List ℕ)) where
-  -- a step was run from each state that the office stood for, and its line went out
+  -- a step was run from each state that the office stood for, and what it writes went out
   abbrev pub RunsStep : Step → Type 0
   RunsStep step = (s : State) → Stands old s
-      → (told : Told) × (t : State) × StepDoes reads (midnight_of old) s step told t × Appends before after (told_line told) × StandsNow old new t
+      → (text : List ℕ) × (t : State) × StepDoes reads (midnight_of old) s step text t × Appends before after text × StandsNow old new t
 
-  -- a step was run from each state that the office stood for, and a beginning of its line went out
+  -- a step was run from each state that the office stood for, and a beginning of what it writes went out
   abbrev pub StopsStep : Step → Type 0
   StopsStep step = (s : State) → Stands old s
-      → (told : Told) × (t : State) × StepDoes reads (midnight_of old) s step told t × AppendsFront before after (told_line told) × StandsNow old new t
+      → (text : List ℕ) × (t : State) × StepDoes reads (midnight_of old) s step text t × AppendsFront before after text × StandsNow old new t
 
   -- steps were run from each state that the office stood for, and what they write went out
   abbrev pub RunsScript : List Step → Type 0

@@ -1,4 +1,6 @@
 pub mod Course
 pub mod Lines
+pub mod Reporting
 pub mod Script
 pub mod ScriptStops
+pub mod Serving

@@ -2,6 +2,7 @@
 use Rattle.std.specs.Prelude.{ℕ, List, [], ◌++◌, codes, decimal}
 use Rattle.std.specs.Fmt.{signed_decimal}
 use Rattle.hh_time.specs.DateText.{date_text}
+use Rattle.hh_names.specs.declared.fault.Fault.{Fault}
 use Rattle.hh_names.specs.FaultText.{fault_text}
 use Rattle.hh_runs.specs.RunKinds.{run_kind_code}
 use Rattle.hh_runs.specs.declared.summary.Summary.{Summary}
@@ -30,6 +31,10 @@ summary_text summary =
 abbrev pub run_line : RunKey → Summary → List ℕ
 run_line run summary = run_name run ++ summary_text summary ++ codes "\n"
 
+-- the line of a refusal
+abbrev pub refusal_line : Fault → List ℕ
+refusal_line fault = fault_text fault ++ codes "\n"
+
 -- the line of a reply; no line of a script asks for accounts, balances, contracts or the runs of a date
 abbrev pub reply_line : Reply → List ℕ
 reply_line (reply.Loaded loaded) = loaded_line loaded
@@ -38,7 +43,7 @@ reply_line (reply.Account rows) = []
 reply_line (reply.Balance account moved) = []
 reply_line (reply.Contracts contracts) = []
 reply_line (reply.Runs runs) = []
-reply_line (reply.Refused fault) = fault_text fault ++ codes "\n"
+reply_line (reply.Refused fault) = refusal_line fault
 
 -- the line that tells what a line of a script came to
 abbrev pub told_line : Told → List ℕ

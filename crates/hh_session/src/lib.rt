@@ -2,8 +2,10 @@
 #![tactic(auto)]
 
 mod lines;
+mod reporting;
 mod run;
 mod script;
+mod serving;
 mod tell;
 mod told;
 

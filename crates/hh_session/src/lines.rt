@@ -5,6 +5,7 @@ ghost use Rattle.std.specs.Fmt.{signed_decimal};
 ghost use Rattle.hh_time.specs.DateText.{date_text};
 ghost use Rattle.hh_runs.specs.RunKinds.{run_kind_code};
 ghost use Rattle.hh_session.specs.Lines.{loaded_line, run_line, run_name, summary_text};
+ghost use Rattle.hh_session.specs.Serving.{listening_line};
 
 use hh_num::Pence;
 use hh_office::Loaded;
@@ -119,5 +120,15 @@ pub(crate) fn push_run(line: &mut Vec<u8>, run: &RunKey, summary: &Summary)
 {
     push_run_name(line, run);
     push_summary(line, summary);
+    push(line, b"\n");
+}
+
+/// The line that tells where connections are awaited, in a vector that has the room.
+pub(crate) fn push_listening(line: &mut Vec<u8>, port: u16)
+    requires { vec_len line.old + 61 ≤ vec_capacity line.old }
+    ensures { line.new.items ≡ line.old.items ++ listening_line port }
+{
+    push(line, b"listening 127.0.0.1:");
+    push_number(line, u32::from(port));
     push(line, b"\n");
 }

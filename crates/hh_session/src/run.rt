@@ -3,9 +3,11 @@
 ghost use Rattle.std.specs.Prelude.{◌≡◌, ℕ, List, Some, None, map, take, All, IfOk, IsErrOf, OnErr, OnOk};
 ghost use Rattle.hh_devices.specs.Devices.{Failed};
 ghost use Rattle.hh_script.specs.Steps.{IsWellNamed, LoadFile, MakeRun, load_of, run_of, step_of};
-ghost use Rattle.hh_session.specs.Course.{StepComesTo, LeavesRefused, MakesRun, RunsLoad, RunsScript, RunsStep, StopsScript, StopsStep, request_for, request_of};
+ghost use Rattle.hh_session.specs.Course.{LeavesRefused, MakesRun, RunsLoad, RunsScript, RunsStep, StopsScript, StopsStep, request_for, request_of};
 
 use crate::lines::LINE_ROOM;
+use crate::reporting::write_report;
+use crate::serving::serve_connections;
 use crate::tell::{tell, tell_no_memory};
 use crate::told::Told;
 use hh_devices::{DeviceFailed, Sink};
@@ -13,6 +15,7 @@ use hh_inputs::{InputFault, Inputs};
 use hh_names::FileName;
 use hh_office::{Action, Bytes, Office, Request, Upload};
 use hh_script::{LoadLine, RunLine, ScriptLine};
+use hh_sockets::Loopback;
 use hh_store::{RunKey, Tables};
 use hh_texts::MOST_BYTES;
 use hh_time::SettlementDate;
@@ -22,18 +25,20 @@ use std::alloc::{AllocError, Global};
 /// told, and an endless one ends.
 const MOST_READ: usize = MOST_BYTES + 1;
 
-/// Runs the lines of a script over an office, one after the other, and writes a line for each
-/// (profile): `applied=N late=M`, `run DATE KIND periods N accounts N residual T postings N`, a
-/// refusal's text, or `fault file` where the file cannot be read.
+/// Runs the lines of a script over an office, one after the other, and writes what comes of each
+/// (profile): `applied=N late=M`; `run DATE KIND periods N accounts N residual T postings N`; a
+/// report; `listening 127.0.0.1:PORT`, before connections are served; a refusal's text; `fault file`
+/// where the file cannot be read, and `fault socket` where the port is not listened on.
 ///
 /// # Errors
 ///
 /// The output failed or took nothing in this call. The first of the lines were run, and a beginning of
 /// what they write went out.
-pub fn run_lines<T: Tables, I: Inputs, O: Sink>(
+pub fn run_lines<T: Tables, I: Inputs, L: Loopback, O: Sink>(
     alloc: Global,
     office: &mut Office<'_, T>,
     inputs: &I,
+    loopback: &L,
     lines: &[ScriptLine<'_>],
     out: &mut O,
 ) -> Result<(), DeviceFailed>
@@ -46,16 +51,17 @@ pub fn run_lines<T: Tables, I: Inputs, O: Sink>(
     ensures failed { OnErr result (Failed (O.failures out.old) (O.failures out.new)) }
 {
     for line in lines.iter() {
-        run_line(alloc, office, inputs, line, out)?;
+        run_line(alloc, office, inputs, loopback, line, out)?;
     }
     Ok(())
 }
 
-/// Runs a line of a script over an office, and writes its line.
-fn run_line<T: Tables, I: Inputs, O: Sink>(
+/// Runs a line of a script over an office, and writes what comes of it.
+fn run_line<T: Tables, I: Inputs, L: Loopback, O: Sink>(
     alloc: Global,
     office: &mut Office<'_, T>,
     inputs: &I,
+    loopback: &L,
     line: &ScriptLine<'_>,
     out: &mut O,
 ) -> Result<(), DeviceFailed>
@@ -67,31 +73,21 @@ fn run_line<T: Tables, I: Inputs, O: Sink>(
         (O.taken out.old) (O.taken out.new) (step_of line.now)) }
     ensures failed { OnErr result (Failed (O.failures out.old) (O.failures out.new)) }
 {
-    // Room for the line of an accepted file or of a run that is made, taken before the office acts.
-    match Vec::with_capacity(alloc, LINE_ROOM) {
-        Ok(room) => {
-            let told = answer_line(alloc, office, inputs, line);
+    // Room for the line of what is done, taken before the office acts.
+    let Ok(room) = Vec::with_capacity(alloc, LINE_ROOM) else {
+        return tell_no_memory(out);
+    };
+    match line {
+        ScriptLine::Load(load) => {
+            let told = run_load(alloc, office, inputs, load);
             tell(alloc, room, &told, out)
         }
-        Err(AllocError) => tell_no_memory(out),
-    }
-}
-
-/// What a line comes to.
-fn answer_line<T: Tables, I: Inputs>(
-    alloc: Global,
-    office: &mut Office<'_, T>,
-    inputs: &I,
-    line: &ScriptLine<'_>,
-) -> Told
-    requires { IsWellNamed (step_of line.now) }
-    ensures comes { StepComesTo (I.reads_as inputs.now) office.old office.new
-        (step_of line.now) result }
-    ensures untouched { LeavesRefused office.old office.new result }
-{
-    match line {
-        ScriptLine::Load(load) => run_load(alloc, office, inputs, load),
-        ScriptLine::Run(run) => make_run(alloc, office, run),
+        ScriptLine::Run(run) => {
+            let told = make_run(alloc, office, run);
+            tell(alloc, room, &told, out)
+        }
+        ScriptLine::Report(report) => write_report(alloc, office, report, out),
+        ScriptLine::Serve(serve) => serve_connections(alloc, office, loopback, serve, room, out),
     }
 }
 

@@ -12,6 +12,7 @@ use hh_names::{Fault, Refusal};
 use hh_office::Office;
 use hh_rows::Settings;
 use hh_script::{ScriptFault, ScriptLine, read_script};
+use hh_sockets::Loopback;
 use hh_store::PlainTables;
 use hh_time::london;
 use std::alloc::Global;
@@ -61,16 +62,17 @@ impl From<ScriptFault> for ScriptStop {
 }
 
 /// Runs the script in a file over a new office with these settings, whose tables are in memory, and
-/// writes a line for each of its lines (profile). All lines are read before any is run.
+/// writes what comes of each of its lines (profile). All lines are read before any is run.
 ///
 /// # Errors
 ///
 /// `File`, `Off` and `Refused`, with nothing written; `Output` where the output failed or took nothing
 /// in this call.
-pub fn run_script<I: Inputs, O: Sink>(
+pub fn run_script<I: Inputs, L: Loopback, O: Sink>(
     alloc: Global,
     settings: Settings,
     inputs: &I,
+    loopback: &L,
     path: &str,
     out: &mut O,
 ) -> Result<(), ScriptStop>
@@ -83,7 +85,7 @@ pub fn run_script<I: Inputs, O: Sink>(
 {
     let bytes = read_whole(alloc, inputs, path)?;
     let lines = read_script(alloc, &bytes)?;
-    match run_new_office(alloc, settings, inputs, &lines, out) {
+    match run_new_office(alloc, settings, inputs, loopback, &lines, out) {
         Ok(()) => Ok(()),
         Err(DeviceFailed) => Err(ScriptStop::Output),
     }
@@ -104,10 +106,11 @@ fn read_whole<I: Inputs>(alloc: Global, inputs: &I, path: &str) -> Result<Vec<u8
 }
 
 /// Runs lines over a new office, whose tables are in memory.
-fn run_new_office<I: Inputs, O: Sink>(
+fn run_new_office<I: Inputs, L: Loopback, O: Sink>(
     alloc: Global,
     settings: Settings,
     inputs: &I,
+    loopback: &L,
     lines: &[ScriptLine<'_>],
     out: &mut O,
 ) -> Result<(), DeviceFailed>
@@ -120,5 +123,5 @@ fn run_new_office<I: Inputs, O: Sink>(
     ensures failed { OnErr result (Failed (O.failures out.old) (O.failures out.new)) }
 {
     let mut office = Office::new(alloc, PlainTables::new(alloc, settings), london());
-    run_lines(alloc, &mut office, inputs, lines, out)
+    run_lines(alloc, &mut office, inputs, loopback, lines, out)
 }

@@ -15,6 +15,7 @@ use hh_inputs::{InputFault, Inputs};
 use hh_names::Refusal;
 use hh_period::{PeriodFault, Rejection, period};
 use hh_session::{ScriptStop, run_script};
+use hh_sockets::Loopback;
 use hh_texts::MOST_BYTES;
 use itoa::Buffer;
 use std::alloc::{AllocError, Global};
@@ -99,9 +100,10 @@ impl From<ScriptStop> for Stop {
 
 /// Runs the line of words that the program was called with, as `command` does (profile). No contract
 /// knows which words these are. Words that are not text are told as such, with status 2.
-pub fn run<R: Env + AllocGlobal, I: Inputs, O: Sink, E: Sink>(
+pub fn run<R: Env + AllocGlobal, I: Inputs, L: Loopback, O: Sink, E: Sink>(
     rt: &R,
     inputs: &I,
+    loopback: &L,
     out: &mut O,
     err: &mut E,
 ) -> u8
@@ -122,7 +124,7 @@ pub fn run<R: Env + AllocGlobal, I: Inputs, O: Sink, E: Sink>(
     ensures untouched { result ≡ 2 → out.new ≡ out.old }
 {
     match arguments(rt) {
-        Ok(words) => command(rt.alloc(), inputs, &words, out, err),
+        Ok(words) => command(rt.alloc(), inputs, loopback, &words, out, err),
         Err(error) if error.kind() == ErrorKind::OutOfMemory => refused(
             rt.alloc(),
             err,
@@ -137,13 +139,14 @@ fn arguments<R: Env + AllocGlobal>(rt: &R) -> io::Result<Vec<String>> {
     Ok(words)
 }
 
-/// Runs one line of words, the program's own name in front, over files and two sinks, and answers
+/// Runs one line of words, the program's own name in front, over files, the loopback and two sinks, and answers
 /// the exit status (profile): 0 done, 1 refused or a fault of a file or of the output, 2 wrong words, a
 /// line of a script off its form, or a call for help. What ends it is told on `err`; where `err` fails,
 /// the status alone tells it.
-pub fn command<I: Inputs, O: Sink, E: Sink>(
+pub fn command<I: Inputs, L: Loopback, O: Sink, E: Sink>(
     alloc: Global,
     inputs: &I,
+    loopback: &L,
     words: &[String],
     out: &mut O,
     err: &mut E,
@@ -168,7 +171,7 @@ pub fn command<I: Inputs, O: Sink, E: Sink>(
     ensures untouched { result ≡ 2 → out.new ≡ out.old }
 {
     match read_words(alloc, words) {
-        Ok(command) => match perform(alloc, inputs, &command, out) {
+        Ok(command) => match perform(alloc, inputs, loopback, &command, out) {
             Ok(()) => DONE,
             Err(stop) => stopped(alloc, err, stop),
         },
@@ -178,9 +181,10 @@ pub fn command<I: Inputs, O: Sink, E: Sink>(
 }
 
 /// Does what a line of words asks for.
-fn perform<I: Inputs, O: Sink>(
+fn perform<I: Inputs, L: Loopback, O: Sink>(
     alloc: Global,
     inputs: &I,
+    loopback: &L,
     command: &Command<'_>,
     out: &mut O,
 ) -> Result<(), Stop>
@@ -195,7 +199,7 @@ fn perform<I: Inputs, O: Sink>(
     match command {
         Command::Period(words) => settle_files(alloc, inputs, MOST_READ, *words, out),
         Command::Script(words) => {
-            run_script(alloc, words.settings, inputs, words.file, out)?;
+            run_script(alloc, words.settings, inputs, loopback, words.file, out)?;
             Ok(())
         }
     }

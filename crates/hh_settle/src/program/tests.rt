@@ -3,6 +3,7 @@ use crate::words::tests::line;
 use hh_devices::MemorySink;
 use hh_inputs::{MemoryFile, MemoryInputs};
 use hh_names::{Fault, PeriodNumber, UnitId};
+use hh_sockets::NoLoopback;
 use std::process::Abort;
 use std::test::Fail;
 
@@ -56,6 +57,7 @@ fn settles<R: AllocGlobal + Abort>(rt: &R, case: &Case<'_>) -> Result<(), Fail> 
     let status = command(
         alloc,
         &MemoryInputs::new(&files),
+        &NoLoopback,
         &words,
         &mut out,
         &mut err,
@@ -166,7 +168,7 @@ fn wrong_words_are_told(rt: HostRuntime) -> Result<(), Fail> {
     for room in [0, 4096] {
         let mut out = MemorySink::with_room(alloc, 4096)?;
         let mut err = MemorySink::with_room(alloc, room)?;
-        let status = command(alloc, &MemoryInputs::new(&[]), &[], &mut out, &mut err);
+        let status = command(alloc, &MemoryInputs::new(&[]), &NoLoopback, &[], &mut out, &mut err);
         assert_eq!(&rt; status, 2);
         assert_eq!(&rt; out.taken().is_empty(), true);
         assert_eq!(&rt; err.taken().is_empty(), room == 0);

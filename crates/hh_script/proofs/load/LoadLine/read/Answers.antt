@@ -1,6 +1,7 @@
 use Rattle.std.proofs.Common.{ap, ◌∙◌}
 use Rattle.std.specs.Prelude.{option_map}
-use Rattle.hh_script.specs.Steps.{load_of, words_of}
+use Rattle.hh_script.specs.Steps.{load_of}
+use Rattle.hh_script.specs.WordValues.{words_of}
 use Rattle.hh_script.proofs.LoadFacts.{five_words}
 use Rattle.hh_script.proofs.load.LoadLine.read.Goals as goal
 

@@ -1,6 +1,7 @@
 use Rattle.std.proofs.Common.{ap, ◌∙◌}
 use Rattle.std.specs.Prelude.{option_map}
-use Rattle.hh_script.specs.Steps.{run_of, words_of}
+use Rattle.hh_script.specs.Steps.{run_of}
+use Rattle.hh_script.specs.WordValues.{words_of}
 use Rattle.hh_script.proofs.RunFacts.{five_words}
 use Rattle.hh_script.proofs.run.RunLine.read.Goals as goal
 

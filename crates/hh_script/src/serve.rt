@@ -1,0 +1,66 @@
+//! Lines that serve connections.
+
+ghost use Rattle.std.specs.Prelude.{◌≡◌};
+ghost use Rattle.hh_script.specs.Serves.{count_value, port_value, serve_from, serve_value};
+ghost use Rattle.hh_script.specs.WordValues.{moment_value, words_of};
+
+use crate::words::{only_word, split_word};
+use hh_num::read_fixed;
+
+/// The most connections that a line may serve (profile).
+const MOST_CONNECTIONS: u32 = 1_000_000;
+
+/// `serve SECONDS PORT COUNT`: connections to be served on a port of the loopback (profile).
+#[derive(Clone, Copy, Debug, PartialEq, Eq)]
+pub struct ServeLine {
+    /// The moment of each request that comes, in seconds since 1970-01-01T00:00:00Z.
+    pub moment: i64,
+    /// The port; for 0 the machine chooses a free one.
+    pub port: u16,
+    /// How many connections are served before the script goes on: at most 1,000,000.
+    pub count: u32,
+}
+
+impl ServeLine {
+    /// The line that the words behind `serve` are, if they are one.
+    pub(crate) fn read(text: &[u8]) -> Option<ServeLine>
+        ensures { result ≡ serve_value (words_of text.now) }
+    {
+        let (moment, text) = split_word(text)?;
+        let (port, count) = split_word(text)?;
+        ServeLine::of(moment, port, only_word(count)?)
+    }
+
+    /// The line of these three words, if each is on its grammar.
+    fn of(moment: &[u8], port: &[u8], count: &[u8]) -> Option<ServeLine>
+        ensures { result ≡ serve_from (moment_value moment.now) (port_value port.now)
+            (count_value count.now) }
+    {
+        Some(ServeLine {
+            moment: read_fixed(moment, 0)?,
+            port: read_port(port)?,
+            count: read_count(count)?,
+        })
+    }
+}
+
+/// The port that a word is: 0 to 65,535.
+#[tactic(auto, unfolding(crate::specs::Serves::port_value))]
+fn read_port(word: &[u8]) -> Option<u16>
+    ensures { result ≡ port_value word.now }
+{
+    u16::try_from(read_fixed(word, 0)?).ok()
+}
+
+/// The count of connections that a word is: 0 to 1,000,000.
+#[tactic(auto, unfolding(crate::specs::Serves::count_value))]
+fn read_count(word: &[u8]) -> Option<u32>
+    ensures { result ≡ count_value word.now }
+{
+    let count = u32::try_from(read_fixed(word, 0)?).ok()?;
+    if count <= MOST_CONNECTIONS {
+        Some(count)
+    } else {
+        None
+    }
+}

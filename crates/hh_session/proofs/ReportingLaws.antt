@@ -1,0 +1,65 @@
+-- What goes out for a line that asks for a report, by what the office wrote and what was told behind it.
+use Rattle.std.proofs.Common.{◌≡◌, ◌⊎◌, ◌×◌, ℕ, List, [], ◌++◌, refl, sym, ap, subst, ◌∙◌, Bool, true, false, Option, Result, Ok, Err, inl, inr}
+use Rattle.std.specs.Prelude.{IsTrue, MatchBool}
+use Rattle.std.specs.Io.KnownBytes.{Appends}
+use Rattle.std.proofs.lemmas.List.{append_assoc}
+use Rattle.hh_devices.specs.Devices.{AppendsFront}
+use Rattle.hh_names.specs.declared.fault.Fault.{Fault}
+use Rattle.hh_names.specs.declared.fault.Refusal.{Refusal}
+use Rattle.hh_names.specs.Faults.{memory_fault, plain_fault}
+use Rattle.hh_office.specs.declared.reply.Reply.TheVariants as reply
+use Rattle.hh_office.specs.declared.report.ReportStop.TheVariants.{Refused, Write}
+use Rattle.hh_office.specs.Promises.{gives_up}
+use Rattle.hh_office.specs.Reports.{ReportsAs}
+use Rattle.hh_session.specs.declared.told.Told.TheVariants.{Replied}
+use Rattle.hh_session.specs.Course.{BeginsLine, TellsLine}
+use Rattle.hh_session.specs.Lines.{refusal_line}
+use Rattle.hh_session.specs.Reporting.{IsGivenUp, report_written}
+use Rattle.hh_session.proofs.CourseLaws.{appends_more}
+
+-- what may be written of a report
+abbrev IsOut : Result (List ℕ) Refusal → List ℕ → Type 0
+IsOut report text = (text ≡ report_written report) ⊎ IsGivenUp report text
+
+front_behind : (before between after : Option (List ℕ)) (text line : List ℕ) → Appends before between text → AppendsFront between after line → AppendsFront before after (text ++ line)
+front_behind before between after text line went (front, rest, cut, more) =
+    (text ++ front, rest, ap (λ bytes. text ++ bytes) cut ∙ sym (append_assoc text front rest), appends_more before between after text front went more)
+
+-- An output had these bytes before, these once the office was done, and these in the end.
+module _ (before between after : Option (List ℕ)) (counted counts : ℕ) where
+  pub whole_report : (report : Result (List ℕ) Refusal) (u : Unit {0}) → ReportsAs before between counted counts report (Ok u) → (text : List ℕ) × IsOut report text × Appends before between text
+  whole_report (Ok text) u (went, same) = (text, inl refl, went)
+  whole_report (Err why) u none = absurd none
+
+  pub cut_report : (report : Result (List ℕ) Refusal) → ReportsAs {Unit {0}} before between counted counts report (Err Write)
+      → (text : List ℕ) × IsOut report text × AppendsFront before between text
+  cut_report (Ok text) (went, failed) = (text, inl refl, went)
+  cut_report (Err why) none = absurd none
+
+  module _ (fault : Fault) where
+    -- the refusal of the whole, where it isn't one that gives up
+    refused_as : (b : Bool) → gives_up fault ≡ b → (why : Refusal) → MatchBool b (Unit {0}) (fault ≡ plain_fault why) → IsOut (Err why) (refusal_line fault)
+    refused_as true up why is = inr ([], [], fault, refl, up, refl)
+    refused_as false up why is = inl (ap refusal_line is)
+
+    pub told_report : (report : Result (List ℕ) Refusal) → ReportsAs {Unit {0}} before between counted counts report (Err (Refused fault))
+        → TellsLine between after (Replied (reply.Refused fault)) → (text : List ℕ) × IsOut report text × Appends before after text
+    told_report (Ok text) ((front, rest, cut, went), (up, same)) (inl told) =
+        (front ++ refusal_line fault, inr (front, rest, fault, cut, up, refl), appends_more before between after front (refusal_line fault) went told)
+    told_report (Ok text) ((front, rest, cut, went), (up, same)) (inr (refusal, told)) =
+        (front ++ refusal_line memory_fault, inr (front, rest, memory_fault, cut, refl, refl), appends_more before between after front (refusal_line memory_fault) went told)
+    told_report (Err why) (is, (none, same)) (inl told) =
+        (refusal_line fault, refused_as (gives_up fault) refl why is, subst (λ b. Appends b after (refusal_line fault)) none told)
+    told_report (Err why) (is, (none, same)) (inr (refusal, told)) =
+        (refusal_line memory_fault, inr ([], [], memory_fault, refl, refl, refl), subst (λ b. Appends b after (refusal_line memory_fault)) none told)
+
+    pub begun_report : (report : Result (List ℕ) Refusal) → ReportsAs {Unit {0}} before between counted counts report (Err (Refused fault))
+        → BeginsLine between after (Replied (reply.Refused fault)) → (text : List ℕ) × IsOut report text × AppendsFront before after text
+    begun_report (Ok text) ((front, rest, cut, went), (up, same)) (inl told) =
+        (front ++ refusal_line fault, inr (front, rest, fault, cut, up, refl), front_behind before between after front (refusal_line fault) went told)
+    begun_report (Ok text) ((front, rest, cut, went), (up, same)) (inr (refusal, told)) =
+        (front ++ refusal_line memory_fault, inr (front, rest, memory_fault, cut, refl, refl), front_behind before between after front (refusal_line memory_fault) went told)
+    begun_report (Err why) (is, (none, same)) (inl told) =
+        (refusal_line fault, refused_as (gives_up fault) refl why is, subst (λ b. AppendsFront b after (refusal_line fault)) none told)
+    begun_report (Err why) (is, (none, same)) (inr (refusal, told)) =
+        (refusal_line memory_fault, inr ([], [], memory_fault, refl, refl, refl), subst (λ b. AppendsFront b after (refusal_line memory_fault)) none told)

@@ -1,0 +1,69 @@
+-- What connections that are served, one after the other, lead to.
+use Rattle.std.proofs.Common.{◌≡◌, ◌≢◌, ◌⊎◌, ◌×◌, ℕ, ℤ, ◌+◌, ◌≤◌, List, [], ◌∷◌, ◌++◌, length, refl, sym, ap, subst, ◌∙◌, arith, Option, inl, inr}
+use Rattle.std.specs.Io.KnownBytes.{Appends}
+use Rattle.std.proofs.lemmas.List.{append-length, map-append}
+use Rattle.jiff.specs.Words.{plain_zone}
+use Rattle.hh_devices.specs.Devices.{AppendsFront}
+use Rattle.hh_time.specs.Days.{Midnights}
+use Rattle.hh_time.specs.Zone.{midnight_in}
+use Rattle.hh_script.specs.declared.serve.ServeLine.{ServeLine}
+use Rattle.hh_store.specs.States.{State}
+use Rattle.hh_office.specs.declared.request.Request.{Request}
+use Rattle.hh_office.specs.Machine.{Timed, next, state_after}
+use Rattle.hh_office.specs.Promises.{Stands}
+use Rattle.hh_office.specs.Views.{OfficeView, midnight_of}
+use Rattle.hh_wire.specs.Serves.{StandsAfterOne}
+use Rattle.hh_session.specs.Serving.{IsPortFor, IsServed, RunsServing, ServesUpTo, StopsServing, all_at, listening_line, no_socket_line}
+
+-- the state after one more request
+after_last : (midnight : Midnights) (s : State) (requests : List Request) (moment : ℤ) (request : Request)
+    → next midnight (state_after midnight s (all_at moment requests)) moment request ≡ state_after midnight s (all_at moment (requests ++ request ∷ []))
+after_last midnight s [] moment request = refl
+after_last midnight s (first ∷ requests) moment request = after_last midnight (next midnight s moment first) requests moment request
+
+-- before any connection
+pub serves_none : (office : OfficeView) (moment : ℤ) → ServesUpTo office office moment 0
+serves_none office moment s stands = (s, ([], omega arith, refl), stands, refl)
+
+-- one more connection
+pub serves_more : (old now new : OfficeView) (moment : ℤ) (count : ℕ) → ServesUpTo old now moment count → StandsAfterOne now new moment → ServesUpTo old new moment (count + 1)
+serves_more old now new moment count served one s stands =
+    let (t, (requests, few, is), now_stands, zone) = served s stands in
+    let (new_zone, comes) = one t now_stands in
+    go t requests few is zone new_zone comes
+  where
+    go : (t : State) (requests : List Request) → length requests ≤ count → t ≡ state_after (midnight_of old) s (all_at moment requests)
+        → now.zone ≡ old.zone → new.zone ≡ now.zone → (Stands new t ⊎ ((request : Request) × Stands new (next (midnight_of now) t moment request)))
+        → (u : State) × IsServed (midnight_of old) moment (count + 1) s u × Stands new u × (new.zone ≡ old.zone)
+    go t requests few is zone new_zone (inl stays) = (t, (requests, omega (arith, few), is), stays, new_zone ∙ zone)
+    go t requests few is zone new_zone (inr (request, comes)) = (
+      next (midnight_of now) t moment request,
+      (
+        requests ++ request ∷ [],
+        omega (arith, append-length requests (request ∷ []), few),
+        ap (λ z. next (midnight_in (plain_zone z)) t moment request) zone
+            ∙ ap (λ u. next (midnight_of old) u moment request) is
+            ∙ after_last (midnight_of old) s requests moment request,
+      ),
+      comes,
+      new_zone ∙ zone,
+    )
+
+-- A line that serves was run.
+module _ (old new : OfficeView) (before after : Option (List ℕ)) (line : ServeLine) where
+  pub serving_done : (port : ℕ) → IsPortFor line.port port → Appends before after (listening_line port) → ServesUpTo old new line.moment line.count
+      → RunsServing old new before after line
+  serving_done port is went served s stands =
+      let (t, does, now, zone) = served s stands in
+      (listening_line port, t, inr (port, is, refl, does), went, now, zone)
+
+-- A line that serves was begun, and the office stays.
+module _ (office : OfficeView) (before after : Option (List ℕ)) (line : ServeLine) where
+  pub serving_cut : (port : ℕ) → IsPortFor line.port port → AppendsFront before after (listening_line port) → StopsServing office office before after line
+  serving_cut port is went s stands = (listening_line port, s, inr (port, is, refl, ([], omega arith, refl)), went, stands, refl)
+
+  pub no_socket_done : Appends before after no_socket_line → RunsServing office office before after line
+  no_socket_done went s stands = (no_socket_line, s, inl (inl refl, refl), went, stands, refl)
+
+  pub no_socket_cut : AppendsFront before after no_socket_line → StopsServing office office before after line
+  no_socket_cut went s stands = (no_socket_line, s, inl (inl refl, refl), went, stands, refl)

@@ -1,0 +1,56 @@
+-- What comes of the lines of a script that ask for a report.
+use Rattle.std.specs.Prelude.{◌≡◌, ◌⊎◌, ℕ, List, [], ◌++◌, Option, Result, Ok, Err, IsTrue}
+use Rattle.std.specs.Io.KnownBytes.{Appends}
+use Rattle.hh_devices.specs.Devices.{AppendsFront}
+use Rattle.hh_time.specs.Days.{Midnights}
+use Rattle.hh_names.specs.declared.fault.Fault.{Fault}
+use Rattle.hh_names.specs.declared.fault.Refusal.{Refusal}
+use Rattle.hh_names.specs.Faults.{plain_fault}
+use Rattle.hh_script.specs.declared.report.AskedReport.{AskedReport}
+use Rattle.hh_script.specs.declared.report.AskedReport.TheVariants as asked
+use Rattle.hh_script.specs.Reports.{ReportStep}
+use Rattle.hh_store.specs.States.{State}
+use Rattle.hh_office.specs.declared.report.Report.{Report}
+use Rattle.hh_office.specs.declared.report.Report.TheVariants.{Balances, Day, Results}
+use Rattle.hh_office.specs.Promises.{Stands, gives_up}
+use Rattle.hh_office.specs.Reports.{report_for}
+use Rattle.hh_office.specs.Views.{OfficeView, midnight_of}
+use Rattle.hh_session.specs.Lines.{refusal_line}
+
+-- the report that the words of a line ask for
+abbrev pub report_asked : AskedReport → Report
+report_asked (asked.Day date kind) = Day (record { date = date; kind = kind })
+report_asked (asked.Results date kind) = Results (record { date = date; kind = kind })
+report_asked asked.Balances = Balances
+
+-- what is written of a report: its text, or the line of its refusal
+abbrev pub report_written : Result (List ℕ) Refusal → List ℕ
+report_written (Ok text) = text
+report_written (Err why) = refusal_line (plain_fault why)
+
+-- what may be written of a report before it is given up: a beginning of its text
+abbrev pub report_begun : Result (List ℕ) Refusal → List ℕ
+report_begun (Ok text) = text
+report_begun (Err why) = []
+
+-- a report was given up: a beginning of it was written, and the line that tells why
+abbrev pub IsGivenUp : Result (List ℕ) Refusal → List ℕ → Type 0
+IsGivenUp report text =
+    (front rest : List ℕ) × (fault : Fault)
+    × (report_begun report ≡ front ++ rest) × IsTrue (gives_up fault) × (text ≡ front ++ refusal_line fault)
+
+-- what a line that asks for a report writes in a state
+abbrev pub ReportDoes : Midnights → State → ReportStep → List ℕ → Type 0
+ReportDoes midnight s step text =
+    let report : Result (List ℕ) Refusal = report_for midnight s step.key (report_asked step.report) in
+    (text ≡ report_written report) ⊎ IsGivenUp report text
+
+-- An output had these bytes before and has those after.
+module _ (office : OfficeView) (before after : Option (List ℕ)) (step : ReportStep) where
+  -- what the line writes in each state that the office stands for went out
+  abbrev pub RunsReport : Type 0
+  RunsReport = (s : State) → Stands office s → (text : List ℕ) × ReportDoes (midnight_of office) s step text × Appends before after text
+
+  -- a beginning of it went out
+  abbrev pub BeginsReport : Type 0
+  BeginsReport = (s : State) → Stands office s → (text : List ℕ) × ReportDoes (midnight_of office) s step text × AppendsFront before after text

@@ -1,0 +1,63 @@
+-- What comes of the lines of a script that serve connections.
+use Rattle.std.specs.Prelude.{◌≡◌, ◌≢◌, ◌⊎◌, ◌≤◌, ℕ, ℤ, List, Option, ◌++◌, map, length, codes, decimal}
+use Rattle.std.specs.Io.KnownBytes.{Appends}
+use Rattle.hh_devices.specs.Devices.{AppendsFront}
+use Rattle.hh_time.specs.Days.{Midnights}
+use Rattle.hh_names.specs.Faults.{memory_fault}
+use Rattle.hh_script.specs.declared.serve.ServeLine.{ServeLine}
+use Rattle.hh_store.specs.States.{State}
+use Rattle.hh_office.specs.declared.request.Request.{Request}
+use Rattle.hh_office.specs.Machine.{Timed, state_after}
+use Rattle.hh_office.specs.Promises.{Stands}
+use Rattle.hh_office.specs.Views.{OfficeView, midnight_of}
+use Rattle.hh_session.specs.Lines.{refusal_line}
+
+-- the line that tells where connections are awaited
+abbrev pub listening_line : ℕ → List ℕ
+listening_line port = codes "listening 127.0.0.1:" ++ decimal port ++ codes "\n"
+
+-- the line of a port that is not listened on
+abbrev pub no_socket_line : List ℕ
+no_socket_line = codes "fault socket\n"
+
+-- a port is the one that was asked for; for 0 it may be any
+abbrev pub IsPortFor : ℕ → ℕ → Type 0
+IsPortFor asked port = asked ≢ 0 → port ≡ asked
+
+-- requests that all come at one moment
+abbrev pub all_at : ℤ → List Request → List Timed
+all_at moment requests = map (λ request. (moment, request)) requests
+
+-- at most so many requests came at a moment, one after the other, and led from one state to the other
+abbrev pub IsServed : Midnights → ℤ → ℕ → State → State → Type 0
+IsServed midnight moment count s t =
+    (requests : List Request) × (length requests ≤ count) × (t ≡ state_after midnight s (all_at moment requests))
+
+-- the port is not listened on, or memory is refused for the line that tells of it
+abbrev pub IsUnserved : List ℕ → Type 0
+IsUnserved text = (text ≡ no_socket_line) ⊎ (text ≡ refusal_line memory_fault)
+
+-- what a line that serves writes in a state, and the state after it
+abbrev pub ServeDoes : Midnights → State → ServeLine → List ℕ → State → Type 0
+ServeDoes midnight s line text t =
+    (IsUnserved text × (t ≡ s))
+    ⊎ ((port : ℕ) × IsPortFor line.port port × (text ≡ listening_line port) × IsServed midnight line.moment line.count s t)
+
+-- An office was the one before and is the other after connections that were served at a moment.
+module _ (old new : OfficeView) (moment : ℤ) where
+  -- it stands for what at most so many requests led to from each state that it stood for
+  abbrev pub ServesUpTo : ℕ → Type 0
+  ServesUpTo count = (s : State) → Stands old s
+      → (t : State) × IsServed (midnight_of old) moment count s t × Stands new t × (new.zone ≡ old.zone)
+
+-- An output had these bytes before and has those after.
+module _ (old new : OfficeView) (before after : Option (List ℕ)) (line : ServeLine) where
+  -- a line that serves was run from each state that the office stood for, and what it writes went out
+  abbrev pub RunsServing : Type 0
+  RunsServing = (s : State) → Stands old s
+      → (text : List ℕ) × (t : State) × ServeDoes (midnight_of old) s line text t × Appends before after text × Stands new t × (new.zone ≡ old.zone)
+
+  -- the same, and a beginning of what it writes went out
+  abbrev pub StopsServing : Type 0
+  StopsServing = (s : State) → Stands old s
+      → (text : List ℕ) × (t : State) × ServeDoes (midnight_of old) s line text t × AppendsFront before after text × Stands new t × (new.zone ≡ old.zone)

@@ -1,0 +1,96 @@
+//! The lines of a script that serve connections.
+
+ghost use Rattle.std.specs.Prelude.{◌≡◌, ◌≤◌, [], vec_capacity, OnErr, OnOk};
+ghost use Rattle.std.specs.Io.KnownBytes.{Appends};
+ghost use Rattle.hh_devices.specs.Devices.{AppendsFront, Failed};
+ghost use Rattle.hh_wire.specs.Serves.{StandsAfterOne};
+ghost use Rattle.hh_session.specs.Serving.{RunsServing, ServesUpTo, StopsServing, listening_line};
+
+use crate::lines::push_listening;
+use hh_devices::{DeviceFailed, Sink, write_whole};
+use hh_office::Office;
+use hh_script::ServeLine;
+use hh_sockets::{Listener, Loopback, SocketFailed};
+use hh_store::Tables;
+use hh_wire::serve_one;
+use std::alloc::Global;
+
+/// Listens on a port of the loopback, tells which, and then serves so many connections, one after the
+/// other. A port that is not listened on is told in its place.
+pub(crate) fn serve_connections<T: Tables, L: Loopback, O: Sink>(
+    alloc: Global,
+    office: &mut Office<'_, T>,
+    loopback: &L,
+    line: &ServeLine,
+    room: Vec<u8>,
+    out: &mut O,
+) -> Result<(), DeviceFailed>
+    requires empty { room.items ≡ [] }
+    requires ample { 217 ≤ vec_capacity room }
+    ensures done { OnOk result (RunsServing office.old office.new
+        (O.taken out.old) (O.taken out.new) line.now) }
+    ensures well { OnOk result (O.failures out.new ≡ O.failures out.old) }
+    ensures cut { OnErr result (StopsServing office.old office.new
+        (O.taken out.old) (O.taken out.new) line.now) }
+    ensures failed { OnErr result (Failed (O.failures out.old) (O.failures out.new)) }
+{
+    match loopback.listen(line.port) {
+        Ok(listener) => {
+            tell_listening(room, listener.port(), out)?;
+            serve_each(alloc, office, &listener, line.moment, line.count);
+            Ok(())
+        }
+        Err(SocketFailed) => write_whole(out, b"fault socket\n"),
+    }
+}
+
+/// Tells on which port connections are awaited. What went out is not held back.
+fn tell_listening<O: Sink>(mut room: Vec<u8>, port: u16, out: &mut O) -> Result<(), DeviceFailed>
+    requires empty { room.items ≡ [] }
+    requires ample { 217 ≤ vec_capacity room }
+    ensures told { OnOk result (Appends (O.taken out.old) (O.taken out.new)
+        (listening_line port)) }
+    ensures well { OnOk result (O.failures out.new ≡ O.failures out.old) }
+    ensures cut { OnErr result (AppendsFront (O.taken out.old) (O.taken out.new)
+        (listening_line port)) }
+    ensures failed { OnErr result (Failed (O.failures out.old) (O.failures out.new)) }
+{
+    push_listening(&mut room, port);
+    write_whole(out, &room)
+}
+
+/// Serves so many connections, whatever becomes of each.
+fn serve_each<T: Tables, L: Listener>(
+    alloc: Global,
+    office: &mut Office<'_, T>,
+    listener: &L,
+    moment: i64,
+    count: u32,
+)
+    ensures { ServesUpTo office.old office.new moment count }
+{
+    for _ in 0..count {
+        serve_next(alloc, office, listener, moment);
+    }
+}
+
+/// Serves the next connection. What fails in it ends it alone.
+fn serve_next<T: Tables, L: Listener>(
+    alloc: Global,
+    office: &mut Office<'_, T>,
+    listener: &L,
+    moment: i64,
+)
+    ensures { StandsAfterOne office.old office.new moment }
+{
+    if let Ok(mut connection) = listener.accept() {
+        let _ = serve_one(
+            alloc,
+            office,
+            moment,
+            &mut connection.source,
+            &mut connection.sink,
+        );
+        listener.close(connection);
+    }
+}

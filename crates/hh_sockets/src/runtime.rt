@@ -1,0 +1,98 @@
+//! The sockets of the system.
+
+ghost use Rattle.std.specs.Prelude.{◌≡◌};
+
+use crate::loopback::{Connection, Listener, Loopback, SocketFailed};
+use hh_devices::{Source, StreamSink, StreamSource};
+use std::net::{Ipv4Addr, Net, OpenListener, OpenStream, Shutdown, TcpListener};
+use std::time::Duration;
+
+/// How long a client is awaited in one read or write, in seconds.
+const MOST_SECONDS: u64 = 10;
+
+/// How long a client that has its reply is awaited in one read, in milliseconds.
+const MOST_MILLISECONDS_BEHIND: u64 = 500;
+
+/// How many times a client that has its reply is read.
+const MOST_READS_BEHIND: u32 = 4_096;
+
+/// How many bytes of a client that has its reply are read in one call.
+const PIECE: usize = 8_192;
+
+/// The loopback of the system. No clause of std ties a port to what is listened on, so none does here
+/// beside the port's number.
+#[derive(Clone, Copy)]
+pub struct RuntimeLoopback<'a, R>(pub &'a R);
+
+/// What the system listens on.
+#[derive(Drop)]
+pub struct RuntimeListener<L> {
+    listener: L,
+    port: u16,
+}
+
+impl<R: Net> Loopback for RuntimeLoopback<'_, R> {
+    type Listener = RuntimeListener<R::Listener>;
+
+    fn listen(&self, port: u16) -> Result<RuntimeListener<R::Listener>, SocketFailed> {
+        let listener = TcpListener::bind(self.0, (Ipv4Addr::LOCALHOST, port))?;
+        let port = if port == 0 {
+            listener.local_addr()?.port()
+        } else {
+            port
+        };
+        Ok(RuntimeListener { listener, port })
+    }
+}
+
+impl<L> Listener for RuntimeListener<L>
+where
+    L: OpenListener,
+    L::Stream: std::io::Read + std::io::Write + OpenStream + Drop,
+{
+    type Source = StreamSource<L::Stream>;
+    type Sink = StreamSink<L::Stream>;
+
+    ghost port_of = { λ l. l.port };
+
+    fn port(&self) -> u16 {
+        self.port
+    }
+
+    /// A client that is silent or reads nothing for ten seconds has failed.
+    fn accept(&self) -> Result<Connection<Self::Source, Self::Sink>, SocketFailed> {
+        let (stream, _) = self.listener.accept()?;
+        let most = Some(Duration::from_secs(MOST_SECONDS));
+        stream.set_read_timeout(most)?;
+        stream.set_write_timeout(most)?;
+        Ok(Connection {
+            source: StreamSource::new(stream.try_clone()?),
+            sink: StreamSink::new(stream),
+        })
+    }
+
+    /// Says that no more goes out, and reads what the client still sends, for a while: a system that
+    /// closes a socket with bytes unread may take back what went out before.
+    fn close(&self, connection: Connection<Self::Source, Self::Sink>) {
+        let Connection { mut source, sink } = connection;
+        let stream = sink.into_inner();
+        if stream.shutdown(Shutdown::Write).is_err() {
+            return;
+        }
+        let most = Some(Duration::from_millis(MOST_MILLISECONDS_BEHIND));
+        if stream.set_read_timeout(most).is_ok() {
+            read_behind(&mut source);
+        }
+    }
+}
+
+/// Reads on until the end, a failure, or so many reads.
+fn read_behind<S: Source>(source: &mut S) {
+    let mut piece = [0u8; PIECE];
+    for _ in 0..MOST_READS_BEHIND {
+        match source.read(&mut piece) {
+            Ok(count) if count > 0 => (),
+            _ => return,
+        }
+    }
+}
