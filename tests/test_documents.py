@@ -1,4 +1,5 @@
-"""Runs the commands of the README, of `examples/` and of the guide, and compares what they print, word for word."""
+"""Runs the commands of the README, of `examples/` and of the guide, and compares what they print, word for word;
+a line of three points stands for lines that a document leaves out."""
 import re
 import shlex
 import subprocess
@@ -35,7 +36,12 @@ class Documents(unittest.TestCase):
     def compare(self, words, printed):
         """Runs a command at the top of the repository. Standard error comes behind standard output."""
         made = subprocess.run([SETTLE, *shlex.split(words)], cwd=HOME, capture_output=True, text=True)
-        self.assertEqual(made.stdout + made.stderr, printed)
+        told = made.stdout + made.stderr
+        if "\n...\n" not in f"\n{printed}":
+            self.assertEqual(told, printed)
+            return
+        parts = [re.escape(part) for part in re.split(r"^\.\.\.\n", printed, flags=re.MULTILINE)]
+        self.assertRegex(told, r"\A" + r"(?:.*\n)+?".join(parts) + r"\Z")
 
     def test_how_commands_are_found(self):
         text = "a\n```\nsettle period a 'b c' 1\n```\nb\n```sh\nx\ny\n```\n```\n./settle period METER\n```\n```\nrt ci\n```\n"
