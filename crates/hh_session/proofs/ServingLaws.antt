@@ -1,7 +1,7 @@
 -- What connections that are served, one after the other, lead to.
-use Rattle.std.proofs.Common.{◌≡◌, ◌≢◌, ◌⊎◌, ◌×◌, ℕ, ℤ, ◌+◌, ◌≤◌, List, [], ◌∷◌, ◌++◌, length, refl, sym, ap, subst, ◌∙◌, arith, Option, inl, inr}
+use Rattle.std.proofs.Common.{◌≡◌, ◌⊎◌, ℕ, ℤ, ◌+◌, ◌≤◌, List, [], ◌∷◌, ◌++◌, length, refl, sym, ap, subst, ◌∙◌, arith, Option, inl, inr}
 use Rattle.std.specs.Io.KnownBytes.{Appends}
-use Rattle.std.proofs.lemmas.List.{append-length, map-append}
+use Rattle.std.proofs.lemmas.List.{length-append, map-append}
 use Rattle.jiff.specs.Words.{plain_zone}
 use Rattle.hh_devices.specs.Devices.{AppendsFront}
 use Rattle.hh_time.specs.Days.{Midnights}
@@ -13,7 +13,8 @@ use Rattle.hh_office.specs.Machine.{Timed, next, state_after}
 use Rattle.hh_office.specs.Promises.{Stands}
 use Rattle.hh_office.specs.Views.{OfficeView, midnight_of}
 use Rattle.hh_wire.specs.Serves.{StandsAfterOne}
-use Rattle.hh_session.specs.Serving.{IsPortFor, IsServed, RunsServing, ServesUpTo, StopsServing, all_at, listening_line, no_socket_line}
+use Rattle.hh_sockets.specs.Ports.{IsPortFor}
+use Rattle.hh_session.specs.Serving.{IsServed, RunsServing, ServesUpTo, StopsServing, all_at, listening_line, no_socket_line}
 
 -- the state after one more request
 after_last : (midnight : Midnights) (s : State) (requests : List Request) (moment : ℤ) (request : Request)
@@ -40,7 +41,7 @@ serves_more old now new moment count served one s stands =
       next (midnight_of now) t moment request,
       (
         requests ++ request ∷ [],
-        omega (arith, append-length requests (request ∷ []), few),
+        omega (arith, length-append requests (request ∷ []), few),
         ap (λ z. next (midnight_in (plain_zone z)) t moment request) zone
             ∙ ap (λ u. next (midnight_of old) u moment request) is
             ∙ after_last (midnight_of old) s requests moment request,

@@ -1,5 +1,5 @@
 -- What comes of the lines of a script that serve connections.
-use Rattle.std.specs.Prelude.{◌≡◌, ◌≢◌, ◌⊎◌, ◌≤◌, ℕ, ℤ, List, Option, ◌++◌, map, length, codes, decimal}
+use Rattle.std.specs.Prelude.{◌≡◌, ◌⊎◌, ◌≤◌, ℕ, ℤ, List, Option, ◌++◌, map, length, codes, decimal}
 use Rattle.std.specs.Io.KnownBytes.{Appends}
 use Rattle.hh_devices.specs.Devices.{AppendsFront}
 use Rattle.hh_time.specs.Days.{Midnights}
@@ -10,6 +10,7 @@ use Rattle.hh_office.specs.declared.request.Request.{Request}
 use Rattle.hh_office.specs.Machine.{Timed, state_after}
 use Rattle.hh_office.specs.Promises.{Stands}
 use Rattle.hh_office.specs.Views.{OfficeView, midnight_of}
+use Rattle.hh_sockets.specs.Ports.{IsPortFor}
 use Rattle.hh_session.specs.Lines.{refusal_line}
 
 -- the line that tells where connections are awaited
@@ -19,10 +20,6 @@ listening_line port = codes "listening 127.0.0.1:" ++ decimal port ++ codes "\n"
 -- the line of a port that is not listened on
 abbrev pub no_socket_line : List ℕ
 no_socket_line = codes "fault socket\n"
-
--- a port is the one that was asked for; for 0 it may be any
-abbrev pub IsPortFor : ℕ → ℕ → Type 0
-IsPortFor asked port = asked ≢ 0 → port ≡ asked
 
 -- requests that all come at one moment
 abbrev pub all_at : ℤ → List Request → List Timed

@@ -1,6 +1,7 @@
 //! What listens on ports of the loopback, and what comes of it.
 
-ghost use Rattle.std.specs.Prelude.{◌≡◌, ◌≢◌, ℕ, IfOk};
+ghost use Rattle.std.specs.Prelude.{◌≡◌, ℕ, IfOk};
+ghost use Rattle.hh_sockets.specs.Ports.{IsPortFor};
 
 use hh_devices::{Sink, Source};
 use std::io;
@@ -28,7 +29,7 @@ pub trait Loopback {
 
     /// Listens on a port; for 0 the machine chooses a free one.
     fn listen(&self, port: u16) -> Result<Self::Listener, SocketFailed>
-        ensures { port ≢ 0 → IfOk result (λ listener. Self.Listener.port_of listener ≡ port) };
+        ensures { IfOk result (λ listener. IsPortFor port (Self.Listener.port_of listener)) };
 }
 
 /// What awaits connections on a port.

@@ -41,6 +41,9 @@ impl<R: Net> Loopback for RuntimeLoopback<'_, R> {
         } else {
             port
         };
+        if port == 0 {
+            return Err(SocketFailed);
+        }
         Ok(RuntimeListener { listener, port })
     }
 }

@@ -234,3 +234,20 @@ fn stops_where_the_output_is_full(rt: HostRuntime) -> Result<(), Fail> {
     )?;
     runs(&rt, &files, 0, 1, "", "fault output\n")
 }
+
+#[test]
+fn goes_on_where_no_port_is_had(rt: HostRuntime) -> Result<(), Fail> {
+    let files = [file(
+        "s.script",
+        "serve 5 8080 1\nload 5 op-settle001 prices gone.csv\nserve 5 0 0\n",
+    )];
+    runs(
+        &rt,
+        &files,
+        ROOM,
+        0,
+        "fault socket\nfault file\nfault socket\n",
+        "",
+    )?;
+    runs(&rt, &files, 9, 1, "fault soc", "fault output\n")
+}

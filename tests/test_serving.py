@@ -1,0 +1,380 @@
+"""What a client of the office meets over the loopback: a script serves connections, and each request is answered
+by one reply, whose bytes are known."""
+import socket
+import subprocess
+import threading
+import time
+import unittest
+
+from programs import SETTLE
+from test_desk import APPLIED, DAY, EARLY, END, NEXT_END, OPERATOR, SETTLED, Desk, text_of
+
+GENCO = "genco0001"
+SUPCO = "supco0001"
+PHRASES = {
+    200: "OK",
+    400: "Bad Request",
+    403: "Forbidden",
+    404: "Not Found",
+    405: "Method Not Allowed",
+    409: "Conflict",
+    411: "Length Required",
+    413: "Content Too Large",
+    422: "Unprocessable Content",
+}
+MOVED = '{"account":"SUPCO-C","moved_pence":-45}'
+RUNS = f'{{"date":"{DAY}","runs":["SF","R1"]}}'
+
+
+def request(method, path, key=None, body=None, headers=()):
+    """The bytes of a request."""
+    lines = [f"{method} {path} HTTP/1.1", "Host: localhost"]
+    lines += [f"x-office-key: {key}"] if key is not None else []
+    lines += [f"Content-Length: {len(body)}"] if body is not None else []
+    return "".join(f"{line}\r\n" for line in [*lines, *headers, ""]).encode() + (body or b"")
+
+
+def reply(status, body, line=""):
+    """The bytes of a reply."""
+    head = f"HTTP/1.1 {status} {PHRASES[status]}\r\nContent-Type: application/json\r\nContent-Length: {len(body)}\r\nConnection: close\r\n"
+    return (head + line + "\r\n" + body).encode()
+
+
+def refusal(number, name, ahead="", behind=""):
+    """The body of a refusal, with what stands before its name and behind its number."""
+    return f'{{{ahead}"name":"{name}","refused":{number}{behind}}}'
+
+
+BAD = reply(400, refusal(65, "BadRequest"))
+NO_ROUTE = reply(404, refusal(61, "NoRoute"))
+TOO_LARGE = reply(413, refusal(66, "BodyTooLarge"))
+
+
+class Served(Desk):
+    """An office that has loaded the market, made both runs, and serves."""
+
+    def setUp(self):
+        super().setUp()
+        self.program = None
+        self.addCleanup(self.stop)
+
+    def stop(self):
+        """Ends a script that awaits connections still."""
+        if self.program is not None and self.program.poll() is None:
+            self.program.kill()
+        if self.program is not None:
+            self.program.communicate()
+
+    def serve(self, count, *lines, moment=NEXT_END, before=None):
+        """Begins a script that serves so many connections and then runs these lines, and reads where it listens."""
+        before = [*self.market(), self.order("SF", END), self.dearer(), self.order("R1")] if before is None else before
+        script = "".join(f"{line}\n" for line in [*before, f"serve {moment} 0 {count}", *lines])
+        words = [SETTLE, "script", "--operator-key", OPERATOR, self.file("served.script", script)]
+        self.program = subprocess.Popen(words, stdout=subprocess.PIPE, stderr=subprocess.PIPE)
+        for _ in before:
+            self.program.stdout.readline()
+        told = self.program.stdout.readline().decode()
+        self.assertRegex(told, r"\Alistening 127\.0\.0\.1:[1-9][0-9]*\n\Z")
+        self.port = int(told.strip().rpartition(":")[2])
+
+    def rest(self):
+        """What the script prints once it has served, when it ends with status 0."""
+        written, told = self.program.communicate(timeout=60)
+        self.assertEqual((self.program.returncode, told), (0, b""))
+        return written.decode().splitlines()
+
+    def connect(self):
+        return socket.create_connection(("127.0.0.1", self.port), timeout=30)
+
+    def ask(self, *pieces, end=False):
+        """The reply to a request that is sent in these pieces, without an end of what is sent where none is asked."""
+        with self.connect() as client:
+            for piece in pieces:
+                client.sendall(piece)
+            if end:
+                client.shutdown(socket.SHUT_WR)
+            return self.read(client)
+
+    def read(self, client):
+        got = b""
+        while piece := client.recv(65_536):
+            got += piece
+        return got
+
+
+class Replies(Served):
+    """One request, one reply."""
+
+    def test_a_balance(self):
+        wanted = reply(200, MOVED)
+        asked = request("GET", "/balances/SUPCO-C", SUPCO)
+        self.assertEqual((len(asked), len(wanted), len(MOVED)), (76, 129, 39))
+        forbidden = refusal(60, "Forbidden")
+        self.assertEqual(len(forbidden), 33)
+        self.serve(4)
+        self.assertEqual(self.ask(asked), wanted)
+        self.assertEqual(self.ask(request("GET", "/balances/SUPCO-C", GENCO)), reply(403, forbidden))
+        self.assertEqual(self.ask(request("GET", "/balances/SUPCO-C", OPERATOR)), wanted)
+        self.assertEqual(self.ask(request("GET", "/balances/SUPCO-C")), reply(403, forbidden))
+        self.assertEqual(self.rest(), [])
+
+    def test_the_runs_of_a_date(self):
+        self.serve(3)
+        for key in (GENCO, SUPCO):
+            self.assertEqual(self.ask(request("GET", f"/runs/{DAY}", key)), reply(200, RUNS))
+        none = '{"date":"2024-07-02","runs":[]}'
+        self.assertEqual(self.ask(request("GET", "/runs/2024-07-02", GENCO)), reply(200, none))
+
+    def test_the_contracts_of_an_account(self):
+        def body(account, other, role):
+            row = f'{{"counterparty":"{other}","mwh":"99.000","period":1,"reference":"C1","role":"{role}"}}'
+            return f'{{"account":"{account}","contracts":[{row}],"date":"{DAY}"}}'
+
+        self.serve(3)
+        seller = body("GENCO-P", "SUPCO-C", "seller")
+        self.assertEqual(self.ask(request("GET", f"/contracts/GENCO-P/{DAY}", GENCO)), reply(200, seller))
+        buyer = body("SUPCO-C", "GENCO-P", "buyer")
+        self.assertEqual(self.ask(request("GET", f"/contracts/SUPCO-C/{DAY}", SUPCO)), reply(200, buyer))
+        none = f'{{"account":"GENCO-C","contracts":[],"date":"{DAY}"}}'
+        self.assertEqual(self.ask(request("GET", f"/contracts/GENCO-C/{DAY}", GENCO)), reply(200, none))
+
+    def test_an_account(self):
+        """By the latest run of the date, R1: in period 1 at 60 pounds, in the others nothing."""
+
+        def period(number, credited, contracts, imbalance, charge, share):
+            return (
+                f'{{"balancing":"0.0000000000","charge_pence":{charge},"contracts":"{contracts}","credited":"{credited}",'
+                f'"imbalance":"{imbalance}","period":{number},"share_pence":{share}}}'
+            )
+
+        still = [period(number, *["0.0000000000"] * 3, 0, 0) for number in range(2, 49)]
+        rows = [period(1, "99.5000000000", "99.0000000000", "0.5000000000", -3000, 3045), *still]
+        body = f'{{"account":"GENCO-P","date":"{DAY}","kind":"R1","net_pence":45,"periods":[{",".join(rows)}]}}'
+        self.serve(3)
+        self.assertEqual(self.ask(request("GET", f"/accounts/GENCO-P/{DAY}", GENCO)), reply(200, body))
+        none = reply(404, refusal(63, "NoRun"))
+        self.assertEqual(self.ask(request("GET", "/accounts/GENCO-P/2024-07-02", GENCO)), none)
+        self.assertEqual(self.ask(request("GET", "/accounts/NOBODY-P/2024-07-01", OPERATOR)), none)
+
+    def test_files_are_loaded(self):
+        """What clients send and what the script's lines load comes into one office."""
+        rows = text_of("contracts", [f"C2,GENCO-P,SUPCO-C,{DAY},2,1.000"])
+        changed = rows.replace(b"1.000", b"2.000")
+        bad = text_of("contracts", [f"C3,GENCO-P,SUPCO-C,{DAY},2,1.000", f"C4,GENCO-P,GENCO-P,{DAY},2,1.000"])
+        field = text_of("contracts", [f"C5,GENCO-P,SUPCO-C,{DAY},2,1.0000"])
+        self.serve(7, f"load 0 {OPERATOR} contracts {self.path('c2.csv', rows)}", moment=EARLY)
+        loaded = reply(200, '{"applied":1,"late":0}')
+        path = "/files/contracts/c2.csv"
+        self.assertEqual(self.ask(request("POST", path, OPERATOR, rows)), loaded)
+        self.assertEqual(self.ask(request("POST", path, OPERATOR, rows)), loaded)
+        self.assertEqual(self.ask(request("POST", path, OPERATOR, changed)), reply(409, refusal(20, "FileChanged")))
+        self.assertEqual(self.ask(request("POST", path, GENCO, rows)), reply(403, refusal(60, "Forbidden")))
+        same = refusal(35, "SameAccount", behind=',"row":2')
+        self.assertEqual(self.ask(request("POST", "/files/contracts/c3.csv", OPERATOR, bad)), reply(422, same))
+        off = refusal(14, "BadField", ahead='"column":6,', behind=',"row":1')
+        self.assertEqual(self.ask(request("POST", "/files/contracts/c5.csv", OPERATOR, field)), reply(400, off))
+        self.assertEqual(self.ask(request("POST", path, OPERATOR)), reply(411, refusal(64, "LengthRequired")))
+        self.assertEqual(self.rest(), [APPLIED])
+
+    def test_runs_are_made(self):
+        body = f'{{"accounts":4,"date":"{DAY}","kind":"SF","periods":48,"postings":2,"residual_pence":5050}}'
+        self.assertEqual(len(body), 94)
+        self.serve(4, self.order("SF"), moment=END, before=self.market())
+        self.assertEqual(self.ask(request("POST", f"/runs/{DAY}/R1", OPERATOR)), reply(409, refusal(51, "NoInitialRun")))
+        self.assertEqual(self.ask(request("POST", f"/runs/{DAY}/SF", OPERATOR)), reply(200, body))
+        self.assertEqual(self.ask(request("POST", f"/runs/{DAY}/SF", OPERATOR, b"ignored")), reply(200, body))
+        later = reply(409, refusal(52, "DayNotOver"))
+        self.assertEqual(self.ask(request("POST", "/runs/2024-07-02/SF", OPERATOR)), later)
+        self.assertEqual(self.rest(), [SETTLED])
+
+    def test_a_reading_is_missing(self):
+        """The unit and the period are told, in the order of their names' bytes."""
+        prices = [f"2024-07-02,{period},0" for period in range(1, 49)]
+        self.serve(1, before=[*self.market(), self.load("prices", prices, "later.csv")])
+        body = '{"name":"MissingMeter","period":1,"refused":54,"unit":"G1"}'
+        self.assertEqual(self.ask(request("POST", "/runs/2024-07-02/SF", OPERATOR)), reply(409, body))
+
+    def test_paths_and_methods(self):
+        route = refusal(61, "NoRoute")
+        method = refusal(62, "BadMethod")
+        self.assertEqual((len(route), len(method)), (31, 33))
+        self.serve(8)
+        for path in ("/nowhere", "/balances/SUPCO-X", "/balances/SUPCO-C?", "/"):
+            self.assertEqual(self.ask(request("GET", path, SUPCO)), NO_ROUTE)
+        self.assertEqual(self.ask(request("POST", f"/runs/{DAY}/XX", OPERATOR)), NO_ROUTE)
+        get, post = "Allow: GET\r\n", "Allow: POST\r\n"
+        self.assertEqual(self.ask(request("DELETE", "/balances/SUPCO-C", SUPCO)), reply(405, method, get))
+        self.assertEqual(self.ask(request("GET", f"/runs/{DAY}/SF", OPERATOR)), reply(405, method, post))
+        whole = reply(405, method, get)
+        self.assertEqual(self.ask(request("HEAD", f"/runs/{DAY}", SUPCO)), whole[: -len(method)])
+
+
+class Bytes(Served):
+    """However a request is cut, and whatever is wrong with it."""
+
+    ASKED = request("GET", "/balances/SUPCO-C", SUPCO)
+
+    def test_cut_after_each_byte(self):
+        """Bad, once its end is seen; nothing is replied to nothing."""
+        self.serve(len(self.ASKED))
+        self.assertEqual(self.ask(b"", end=True), b"")
+        for size in range(1, len(self.ASKED)):
+            self.assertEqual(self.ask(self.ASKED[:size], end=True), BAD, size)
+        self.assertEqual(self.rest(), [])
+
+    def test_in_pieces(self):
+        self.serve(4)
+        for size in (1, 7, 40, 75):
+            pieces = [self.ASKED[start : start + size] for start in range(0, len(self.ASKED), size)]
+            self.assertEqual(self.ask(*pieces), reply(200, MOVED), size)
+
+    def test_a_body_that_is_cut(self):
+        rows = text_of("prices", [f"{DAY},1,5"])
+        asked = request("POST", "/files/prices/cut.csv", OPERATOR, rows)
+        self.serve(len(rows) + 1)
+        for size in range(len(rows)):
+            self.assertEqual(self.ask(asked[: len(asked) - len(rows) + size], end=True), BAD, size)
+        self.assertEqual(self.ask(asked + b"what stands behind it"), reply(200, '{"applied":1,"late":0}'))
+
+    def test_lengths(self):
+        """One byte too many is told before the body is read, and a length may have any number of digits."""
+
+        def ask(length, body=b""):
+            return self.ask(request("POST", "/files/meters/a.csv", OPERATOR, headers=[f"Content-Length: {length}"]) + body)
+
+        self.assertEqual(len(refusal(66, "BodyTooLarge")), 36)
+        empty = reply(400, refusal(12, "BadHeader"))
+        self.serve(7)
+        self.assertEqual(ask(1_048_577), TOO_LARGE)
+        self.assertEqual(ask("9" * 40), TOO_LARGE)
+        self.assertEqual(ask("0" * 40), empty)
+        self.assertEqual(ask("0" * 40 + "5", b"empty"), empty)
+        self.assertEqual(ask("+5"), BAD)
+        self.assertEqual(ask(2_000_000, b"x" * 2_000_000), TOO_LARGE)
+        self.assertEqual(ask(1_048_576, b"x" * 1_048_576), empty)
+
+    def test_the_limits_of_heads(self):
+        def padded(size):
+            bare = request("GET", "/balances/SUPCO-C", SUPCO, headers=["x: "])
+            return bare.replace(b"x: \r\n", b"x: " + b"a" * (size - len(bare)) + b"\r\n")
+
+        def many(count):
+            return request("GET", "/balances/SUPCO-C", SUPCO, headers=[f"x{number}: 1" for number in range(count - 2)])
+
+        self.assertEqual((len(padded(8192)), len(padded(8193))), (8192, 8193))
+        self.serve(5)
+        self.assertEqual(self.ask(padded(8192)), reply(200, MOVED))
+        self.assertEqual(self.ask(padded(8193)), BAD)
+        self.assertEqual(self.ask(many(32)), reply(200, MOVED))
+        self.assertEqual(self.ask(many(33)), BAD)
+        self.assertEqual(self.ask(b"\x00\x01\x02\r\n\r\n"), BAD)
+
+    def test_rules_of_heads(self):
+        asked = "GET /balances/SUPCO-C HTTP/1.1\r\n"
+        key = f"x-office-key: {SUPCO}\r\n"
+        self.serve(5)
+        for head in (
+            asked + key,
+            asked + "Host: a\r\nhost: b\r\n" + key,
+            asked + "Host: a\r\n" + key * 2,
+            asked + "Host: a\r\nTransfer-Encoding: chunked\r\n" + key,
+        ):
+            self.assertEqual(self.ask(f"{head}\r\n".encode()), BAD, head)
+        older = asked.replace("1.1", "1.0") + f"X-OFFICE-KEY:   {SUPCO} \r\n\r\n"
+        self.assertEqual(self.ask(older.encode()), reply(200, MOVED))
+
+
+class Clients(Served):
+    """A connection that fails ends itself alone."""
+
+    def test_one_that_resets(self):
+        self.serve(3)
+        for sent in (b"", b"GET /balances"):
+            client = self.connect()
+            client.sendall(sent)
+            client.setsockopt(socket.SOL_SOCKET, socket.SO_LINGER, b"\x01\x00\x00\x00\x00\x00\x00\x00")
+            client.close()
+        self.assertEqual(self.ask(request("GET", "/balances/SUPCO-C", SUPCO)), reply(200, MOVED))
+        self.assertEqual(self.rest(), [])
+
+    def test_one_that_never_reads_nor_closes(self):
+        """The next is answered all the same."""
+        self.serve(2)
+        with self.connect() as silent:
+            silent.sendall(request("GET", f"/accounts/GENCO-P/{DAY}", GENCO))
+            self.assertEqual(self.ask(request("GET", "/balances/SUPCO-C", SUPCO)), reply(200, MOVED))
+            self.assertEqual(self.rest(), [])
+
+    def test_one_that_sends_on(self):
+        """It has its reply before it is done with sending."""
+        self.serve(1)
+        with self.connect() as client:
+            client.sendall(request("GET", "/balances/SUPCO-C", SUPCO))
+            self.assertEqual(client.recv(65_536), reply(200, MOVED))
+            for _ in range(20):
+                try:
+                    client.sendall(b"x" * 1000)
+                except OSError:
+                    break
+        self.assertEqual(self.rest(), [])
+
+    def test_several_that_wait(self):
+        """They are answered one after the other."""
+        self.serve(8)
+        got = []
+        threads = [threading.Thread(target=lambda: got.append(self.ask(request("GET", f"/runs/{DAY}", GENCO)))) for _ in range(8)]
+        for thread in threads:
+            thread.start()
+        for thread in threads:
+            thread.join()
+        self.assertEqual(got, [reply(200, RUNS)] * 8)
+
+    def test_no_more_than_the_count(self):
+        self.serve(1, f"report {OPERATOR} balances")
+        self.assertEqual(self.ask(request("GET", f"/runs/{DAY}", GENCO)), reply(200, RUNS))
+        self.assertEqual(self.rest()[0], "account,moved_pence")
+        with self.assertRaises(OSError):
+            self.connect()
+
+
+class Ports(Served):
+    """Which port is listened on."""
+
+    def test_none_is_served(self):
+        """A line that serves no connection listens and goes on."""
+        self.serve(0, self.order("SF"))
+        self.assertEqual(self.rest(), [SETTLED])
+
+    def test_a_port_that_is_taken(self):
+        """The script goes on without it."""
+        self.serve(1)
+        taken = self.replies(f"serve 5 {self.port} 1", f"load 5 {OPERATOR} prices /nowhere/p.csv")
+        self.assertEqual(taken, ["fault socket", "fault file"])
+        self.ask(request("GET", f"/runs/{DAY}", GENCO))
+        self.assertEqual(self.rest(), [])
+
+    def test_a_port_that_is_asked_for(self):
+        self.serve(1)
+        self.ask(request("GET", f"/runs/{DAY}", GENCO))
+        self.rest()
+        for _ in range(20):
+            told = self.replies(f"serve 5 {self.port} 0")
+            if told != ["fault socket"]:
+                break
+            time.sleep(0.1)
+        self.assertEqual(told, [f"listening 127.0.0.1:{self.port}"])
+
+    def test_a_moment_of_its_own(self):
+        """A request comes at the moment of the line that serves."""
+        late = text_of("contracts", [f"C1,GENCO-P,SUPCO-C,{DAY},1,1.000"])
+        self.serve(1, moment=END, before=self.market())
+        body = '{"applied":0,"late":1}'
+        self.assertEqual(self.ask(request("POST", "/files/contracts/late.csv", OPERATOR, late)), reply(200, body))
+
+    def test_lines_off_their_form(self):
+        for line in ("serve 5 65536 1", "serve 5 80", "serve 5 -1 1", "serve 5 80 1000001"):
+            self.is_wrong(self.run_script(f"{line}\n"), 1)
+
+
+if __name__ == "__main__":
+    unittest.main()
