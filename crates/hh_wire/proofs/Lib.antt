@@ -6,5 +6,6 @@ pub mod MessageLemmas
 pub mod OneMessage
 pub mod PartLemmas
 pub mod ReplyLemmas
+pub mod ServeLemmas
 pub mod TermLemmas
 pub mod TextLemmas

@@ -1,8 +1,8 @@
 -- Bytes ask one thing at most.
-use Rattle.std.proofs.Common.{◌≡◌, ◌≢◌, ◌∙◌, ℕ, ◌<◌, List, [], ◌∷◌, ◌++◌, length, inl, inr, sym, ap, arith}
+use Rattle.std.proofs.Common.{◌≡◌, ◌∙◌, ℕ, ◌<◌, List, [], ◌++◌, length, inl, inr, sym, ap, arith}
 use Rattle.std.proofs.lemmas.List.{length-append}
 use Rattle.httparse.proofs.GrammarLemmas.{request_unique}
-use Rattle.httparse.specs.Grammar.{RequestHead, print_end, print_request, print_section, print_version}
+use Rattle.httparse.specs.Grammar.{RequestHead, print_request}
 use Rattle.hh_wire.specs.Fronts.{IsFront}
 use Rattle.hh_wire.specs.Headings.{heading_of}
 use Rattle.hh_wire.specs.Message.{IsMessage, Message, asked_by}

@@ -10,6 +10,8 @@ pub mod Lengths
 pub mod Message
 pub mod ReplyText
 pub mod Routes
+pub mod ServeFaults
+pub mod Serves
 pub mod Statuses
 pub mod Stops
 pub mod Writes

@@ -1,5 +1,5 @@
 -- The bytes of replies (RFC 9112 in the office's profile): a status line, the headers, an empty line, and a body of compact JSON.
-use Rattle.std.specs.Prelude.{ℕ, List, [], ◌++◌, length, Bool, false, decimal, codes, if◌then◌else◌}
+use Rattle.std.specs.Prelude.{ℕ, List, [], ◌++◌, length, Bool, decimal, codes, if◌then◌else◌}
 use Rattle.serde_json.specs.Written.{compact_text}
 use Rattle.hh_names.specs.Faults.{plain_fault}
 use Rattle.hh_office.specs.declared.reply.Reply.{Reply}

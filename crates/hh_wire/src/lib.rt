@@ -14,6 +14,7 @@ mod reply_text;
 mod reply_value;
 mod request;
 mod route;
+mod serve;
 mod status;
 mod stop;
 mod terms;
@@ -21,6 +22,7 @@ mod terms;
 pub use incoming::{Incoming, Refused, RequestRefusal, WireFault};
 pub use reply::{WriteFault, write_refused, write_reply};
 pub use request::{message_is_one, read_request};
+pub use serve::{ServeFault, Served, serve_one};
 
 #[cfg(test)]
 mod reply_tests;

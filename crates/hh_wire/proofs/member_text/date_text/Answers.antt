@@ -1,4 +1,4 @@
-use Rattle.std.proofs.Common.{◌≡◌, ◌≤◌, List, ℕ, subst, sym, ◌∙◌, arith, rules}
+use Rattle.std.proofs.Common.{◌≡◌, subst, sym, arith, rules}
 use Rattle.std.specs.Prelude.{IsAscii}
 use Rattle.hh_time.specs.DateText.{date_text}
 use Rattle.hh_wire.proofs.TextLemmas.{date_is_ascii}

@@ -1,4 +1,4 @@
-use Rattle.std.proofs.Common.{◌≡◌, List, ℕ, ℤ, subst, sym, rules, w64}
+use Rattle.std.proofs.Common.{◌≡◌, subst, sym, rules, w64}
 use Rattle.std.specs.Prelude.{FitsSigned, IsAscii}
 use Rattle.hh_num.specs.Fixed.{fixed_text}
 use Rattle.hh_wire.proofs.TextLemmas.{decimal_is_ascii}
