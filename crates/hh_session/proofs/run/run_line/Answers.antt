@@ -1,25 +1,90 @@
-use Rattle.hh_script.specs.Steps.{step_of}
-use Rattle.hh_session.proofs.CourseLaws.{OnErr-map, OnOk-map, line_cut, line_done, memory_cut, memory_done}
+use Rattle.std.proofs.Common.{subst, sym}
+use Rattle.std.specs.Prelude.{OnErr, OnOk}
+use Rattle.hh_script.specs.Steps.{load_of, run_of, step_of}
+use Rattle.hh_office.specs.Views.{midnight_of}
+use Rattle.hh_session.specs.Course.{LoadDoes, RunDoes, RunsStep, StopsStep}
+use Rattle.hh_session.proofs.CourseLaws.{OnErr-map, OnOk-map, line_cut, line_done, load_gives_up, memory_cut, memory_done, run_gives_up}
+use Rattle.hh_session.proofs.ServingLaws.{served_step, served_stop}
 use Rattle.hh_session.proofs.run.run_line.Goals as goal
 
-pub returns-in-Ok-clause-done : goal.returns-in-Ok-clause-done
-returns-in-Ok-clause-done g c =
-    OnOk-map c.tell.result _ _
-    (line_done (g.I.Inputs.reads_as c.args.inputs.now) c.args.office.now c.answer_line-told.new.office (g.O.Sink.taken c.args.out.now) (g.O.Sink.taken c.tell.new.out)
-    (step_of c.args.line.now) c.answer_line-told.result c.answer_line-told.ensures.comes c.answer_line-told.ensures.untouched) c.tell.ensures.told
-
-pub returns-in-Ok-clause-cut : goal.returns-in-Ok-clause-cut
-returns-in-Ok-clause-cut g c =
-    OnErr-map c.tell.result _ _
-    (line_cut (g.I.Inputs.reads_as c.args.inputs.now) c.args.office.now c.answer_line-told.new.office (g.O.Sink.taken c.args.out.now) (g.O.Sink.taken c.tell.new.out)
-    (step_of c.args.line.now) c.answer_line-told.result c.answer_line-told.ensures.comes c.answer_line-told.ensures.untouched) c.tell.ensures.cut
-
-pub returns-in-Err-clause-done : goal.returns-in-Err-clause-done
-returns-in-Err-clause-done g c =
+pub returns-in_default-clause-done : goal.returns-in_default-clause-done
+returns-in_default-clause-done g c =
     OnOk-map c.tell_no_memory.result _ _
     (memory_done (g.I.Inputs.reads_as c.args.inputs.now) c.args.office.now (g.O.Sink.taken c.args.out.now) (g.O.Sink.taken c.tell_no_memory.new.out) (step_of c.args.line.now)) c.tell_no_memory.ensures.told
 
-pub returns-in-Err-clause-cut : goal.returns-in-Err-clause-cut
-returns-in-Err-clause-cut g c =
+pub returns-in_default-clause-cut : goal.returns-in_default-clause-cut
+returns-in_default-clause-cut g c =
     OnErr-map c.tell_no_memory.result _ _
     (memory_cut (g.I.Inputs.reads_as c.args.inputs.now) c.args.office.now (g.O.Sink.taken c.args.out.now) (g.O.Sink.taken c.tell_no_memory.new.out) (step_of c.args.line.now)) c.tell_no_memory.ensures.cut
+
+pub returns-in-Load-clause-done : goal.returns-in-Load-clause-done
+returns-in-Load-clause-done g c =
+    let reads = g.I.Inputs.reads_as c.args.inputs.now in
+    let old = c.args.office.now in
+    let new = c.run_load-told.new.office in
+    let before = g.O.Sink.taken c.args.out.now in
+    let after = g.O.Sink.taken c.tell.new.out in
+    let load = load_of c.in-Load.load in
+    subst (λ line. OnOk c.tell.result (RunsStep reads old new before after (step_of line))) (sym c.in-Load.is)
+    (OnOk-map c.tell.result _ _
+    (line_done old new before after c.run_load-told.result (λ s told t. LoadDoes reads (midnight_of old) s load told t) (load_gives_up reads (midnight_of old) load)
+    c.run_load-told.ensures.runs c.run_load-told.ensures.untouched) c.tell.ensures.told)
+
+pub returns-in-Load-clause-cut : goal.returns-in-Load-clause-cut
+returns-in-Load-clause-cut g c =
+    let reads = g.I.Inputs.reads_as c.args.inputs.now in
+    let old = c.args.office.now in
+    let new = c.run_load-told.new.office in
+    let before = g.O.Sink.taken c.args.out.now in
+    let after = g.O.Sink.taken c.tell.new.out in
+    let load = load_of c.in-Load.load in
+    subst (λ line. OnErr c.tell.result (StopsStep reads old new before after (step_of line))) (sym c.in-Load.is)
+    (OnErr-map c.tell.result _ _
+    (line_cut old new before after c.run_load-told.result (λ s told t. LoadDoes reads (midnight_of old) s load told t) (load_gives_up reads (midnight_of old) load)
+    c.run_load-told.ensures.runs c.run_load-told.ensures.untouched) c.tell.ensures.cut)
+
+pub returns-in-Run-clause-done : goal.returns-in-Run-clause-done
+returns-in-Run-clause-done g c =
+    let reads = g.I.Inputs.reads_as c.args.inputs.now in
+    let old = c.args.office.now in
+    let new = c.make_run-told.new.office in
+    let before = g.O.Sink.taken c.args.out.now in
+    let after = g.O.Sink.taken c.tell-in-Run.new.out in
+    let run = run_of c.in-Run.run' in
+    subst (λ line. OnOk c.tell-in-Run.result (RunsStep reads old new before after (step_of line))) (sym c.in-Run.is)
+    (OnOk-map c.tell-in-Run.result _ _
+    (line_done old new before after c.make_run-told.result (λ s told t. RunDoes (midnight_of old) s run told t) (run_gives_up (midnight_of old) run)
+    c.make_run-told.ensures.runs c.make_run-told.ensures.untouched) c.tell-in-Run.ensures.told)
+
+pub returns-in-Run-clause-cut : goal.returns-in-Run-clause-cut
+returns-in-Run-clause-cut g c =
+    let reads = g.I.Inputs.reads_as c.args.inputs.now in
+    let old = c.args.office.now in
+    let new = c.make_run-told.new.office in
+    let before = g.O.Sink.taken c.args.out.now in
+    let after = g.O.Sink.taken c.tell-in-Run.new.out in
+    let run = run_of c.in-Run.run' in
+    subst (λ line. OnErr c.tell-in-Run.result (StopsStep reads old new before after (step_of line))) (sym c.in-Run.is)
+    (OnErr-map c.tell-in-Run.result _ _
+    (line_cut old new before after c.make_run-told.result (λ s told t. RunDoes (midnight_of old) s run told t) (run_gives_up (midnight_of old) run)
+    c.make_run-told.ensures.runs c.make_run-told.ensures.untouched) c.tell-in-Run.ensures.cut)
+
+pub returns-in-Serve-clause-done : goal.returns-in-Serve-clause-done
+returns-in-Serve-clause-done g c =
+    let reads = g.I.Inputs.reads_as c.args.inputs.now in
+    let old = c.args.office.now in
+    let new = c.serve_connections.new.office in
+    let before = g.O.Sink.taken c.args.out.now in
+    let after = g.O.Sink.taken c.serve_connections.new.out in
+    subst (λ line. OnOk c.serve_connections.result (RunsStep reads old new before after (step_of line))) (sym c.in-Serve.is)
+    (OnOk-map c.serve_connections.result _ _ (served_step reads old new before after c.in-Serve.serve) c.serve_connections.ensures.done)
+
+pub returns-in-Serve-clause-cut : goal.returns-in-Serve-clause-cut
+returns-in-Serve-clause-cut g c =
+    let reads = g.I.Inputs.reads_as c.args.inputs.now in
+    let old = c.args.office.now in
+    let new = c.serve_connections.new.office in
+    let before = g.O.Sink.taken c.args.out.now in
+    let after = g.O.Sink.taken c.serve_connections.new.out in
+    subst (λ line. OnErr c.serve_connections.result (StopsStep reads old new before after (step_of line))) (sym c.in-Serve.is)
+    (OnErr-map c.serve_connections.result _ _ (served_stop reads old new before after c.in-Serve.serve) c.serve_connections.ensures.cut)
