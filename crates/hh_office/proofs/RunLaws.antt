@@ -283,6 +283,11 @@ on_its_date key (e ∷ entries) =
           ∙ on_its_date key entries
     ] refl
 
+-- so is what is kept of it
+pub kept_of : (key : RunKey) (entries : Table RunKey Summary)
+    → option_map (λ (r : RunKind × Summary). r.1) (words.find (λ (r : RunKind × Summary). eq_by_cmp run_kind_cmp key.kind r.0) (filter_map (summary_on key.date) entries)) ≡ find run_key_cmp key entries
+kept_of key entries = first_found run_kind_cmp key.kind (filter_map (summary_on key.date) entries) ∙ sym (on_its_date key entries)
+
 module _ (office : OfficeView) (s : State) (stands : Stands office s) (summaries : HoldsSummaries) (runs : HoldsRuns) (key : RunKey) where
   -- what is kept of a run is what stands under its kind among the runs of its date
   kept_by_kind : find run_kind_cmp key.kind (runs_in office.content key.date) ≡ kept_summary (midnight_of office) s key

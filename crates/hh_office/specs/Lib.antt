@@ -4,6 +4,7 @@ pub mod Machine
 pub mod PartyViews
 pub mod Promises
 pub mod Reads
+pub mod Reports
 pub mod Runs
 pub mod Settling
 pub mod Transitions

@@ -45,7 +45,7 @@ impl<'z, T: Tables> Office<'z, T> {
     }
 
     /// Whether a key is the operator's.
-    fn is_operator(&mut self, key: &[u8]) -> Result<bool, StoreFault>
+    pub(crate) fn is_operator(&mut self, key: &[u8]) -> Result<bool, StoreFault>
         ensures told { IfOk result (λ told. TellsTruly self.old told
             (λ midnight s. is_operator midnight s key.now)) }
         ensures same { self.new ≡ self.old }

@@ -6,9 +6,12 @@ mod enquiries;
 mod loads;
 mod office;
 mod reply;
+mod report;
+mod reports;
 mod request;
 mod runs;
 
 pub use office::Office;
 pub use reply::{AccountReply, ContractsReply, Loaded, Reply, RunsReply};
+pub use report::{Report, ReportStop};
 pub use request::{Action, Bytes, Request, Upload};

@@ -49,7 +49,10 @@ impl<'z, T: Tables> Office<'z, T> {
     }
 
     /// The runs of a date, in the order of their kinds.
-    fn runs_of(&mut self, date: SettlementDate) -> Result<Vec<(RunKind, Summary)>, StoreFault>
+    pub(crate) fn runs_of(
+        &mut self,
+        date: SettlementDate,
+    ) -> Result<Vec<(RunKind, Summary)>, StoreFault>
         ensures value { IfOk result (λ runs. runs.items ≡ runs_in self.old.content date) }
         ensures same { self.new ≡ self.old }
     {
@@ -165,7 +168,7 @@ fn order_of(
 }
 
 /// The summary of the run of a kind among those of a date, if it is there.
-fn summary_of(runs: &[(RunKind, Summary)], kind: RunKind) -> Option<Summary>
+pub(crate) fn summary_of(runs: &[(RunKind, Summary)], kind: RunKind) -> Option<Summary>
     ensures { result ≡ option_map (λ r. r.1)
         (find (λ r. eq_by_cmp run_kind_cmp kind r.0) runs.now) }
 {

@@ -1,5 +1,5 @@
 -- What goes out call after call.
-use Rattle.std.proofs.Common.{◌≡◌, ℕ, ◌+◌, ◌<◌, List, [], ◌∷◌, ◌++◌, length, take, drop, get_or, Option, Some, None, Result, Ok, Err, refl, sym, ap, subst, ◌∙◌, append_assoc}
+use Rattle.std.proofs.Common.{◌≡◌, ℕ, ◌+◌, ◌<◌, List, [], ◌∷◌, ◌++◌, length, take, drop, get_or, Option, Some, None, Result, Ok, Err, sym, ap, subst, ◌∙◌, append_assoc}
 use Rattle.std.specs.Io.KnownBytes.{Appends}
 use Rattle.std.specs.Prelude.{IsErrAnd}
 use Rattle.std.specs.List.{flat_map}
@@ -7,8 +7,7 @@ use Rattle.std.proofs.lemmas.List.{append-nil, take-append-drop, take_more}
 use Rattle.std.proofs.lemmas.List.Concat.{flat_map-append}
 use Rattle.hh_devices.specs.Devices.{AppendsFront}
 use Rattle.hh_reports.specs.declared.fault.ReportFault.{ReportFault}
-use Rattle.hh_reports.specs.declared.fault.ReportFault.TheVariants.{Memory}
-use Rattle.hh_reports.specs.Output.{CountsFault, Writes}
+use Rattle.hh_reports.specs.Output.{CountsFault, Sends}
 
 appends_none : (a : Option (List ℕ)) → Appends a a []
 appends_none None = tt
@@ -35,7 +34,7 @@ stopped_on a b c f g h s t fault before now =
     ((s ++ front, rest, ap (λ u. s ++ u) whole ∙ sym (append_assoc s front rest), appends_more a b c s front before.0 sent), counted_on fault f g h before.1 now.1)
 
 pub written_on : {A : Type 0} (a b c : Option (List ℕ)) (f g h : ℕ) (s t : List ℕ) (r : Result A ReportFault)
-    → Appends a b s × (g ≡ f) → Writes b c g h t r → Writes a c f h (s ++ t) r
+    → Appends a b s × (g ≡ f) → Sends b c g h t r → Sends a c f h (s ++ t) r
 written_on a b c f g h s t (Ok x) before now = (appends_more a b c s t before.0 now.0, now.1 ∙ before.1)
 written_on a b c f g h s t (Err fault) before now = stopped_on a b c f g h s t fault before now
 
@@ -47,12 +46,12 @@ stopped_before a b f g s t fault now =
 
 -- the fault of a call that is told on
 pub told_on : {A : Type 0} (a b : Option (List ℕ)) (f g : ℕ) (text : List ℕ) (fault : ReportFault) (r : Result A ReportFault)
-    → IsErrAnd r (λ e. e ≡ fault) → Stops a b f g text fault → Writes a b f g text r
+    → IsErrAnd r (λ e. e ≡ fault) → Stops a b f g text fault → Sends a b f g text r
 told_on a b f g text fault (Ok x) is now = absurd is
 told_on a b f g text fault (Err e) is now = (now.0, subst (λ x. CountsFault x f g) (sym is) now.1)
 
 -- nothing more behind a text
-pub at_the_end : {A : Type 0} (a b : Option (List ℕ)) (f g : ℕ) (text : List ℕ) (r : Result A ReportFault) → Writes a b f g text r → Writes a b f g (text ++ []) r
+pub at_the_end : {A : Type 0} (a b : Option (List ℕ)) (f g : ℕ) (text : List ℕ) (r : Result A ReportFault) → Sends a b f g text r → Sends a b f g (text ++ []) r
 at_the_end a b f g text r now = rw (append-nil text) now
 
 -- The lines of the elements of a list, one after the other.

@@ -9,23 +9,23 @@ use Rattle.std.proofs.lemmas.List.{take_all}
 use Rattle.std.proofs.lemmas.List.FromFn.{get_or-range_with_len, length-range_with_len}
 use Rattle.hh_num.specs.Totals.{total}
 use Rattle.hh_calc.specs.declared.result.AccountRow.{AccountRow}
-use Rattle.hh_reports.specs.DayReport.{account_line, charge_in, row_lines, rows_of}
+use Rattle.hh_reports.specs.DayReport.{period_account_line, charge_in, row_lines, rows_of_period}
 use Rattle.hh_reports.proofs.NetLaws.{next_place, total_next}
 
 -- the lines of the rows of a period are those of all rows that are of it
-pub accounts_lines : (period : ℕ) (rows : List (ℕ × AccountRow)) → flat_map (row_lines period) rows ≡ flat_map (account_line period) (rows_of period rows)
+pub accounts_lines : (period : ℕ) (rows : List (ℕ × AccountRow)) → flat_map (row_lines period) rows ≡ flat_map (period_account_line period) (rows_of_period period rows)
 accounts_lines period [] = refl
 accounts_lines period (e ∷ rows) =
-    elim (eqb e.0 period) as (λ b. cond b (account_line period e.1) [] ++ flat_map (row_lines period) rows ≡ flat_map (account_line period) (cons_option (cond b (Some e.1) None) (rows_of period rows))) [
-      | true ↦ ap (λ more. account_line period e.1 ++ more) (accounts_lines period rows)
+    elim (eqb e.0 period) as (λ b. cond b (period_account_line period e.1) [] ++ flat_map (row_lines period) rows ≡ flat_map (period_account_line period) (cons_option (cond b (Some e.1) None) (rows_of_period period rows))) [
+      | true ↦ ap (λ more. period_account_line period e.1 ++ more) (accounts_lines period rows)
       | false ↦ accounts_lines period rows
     ]
 
 -- and so are their charges
-pub charges_of_period : (period : ℕ) (rows : List (ℕ × AccountRow)) → total (charge_in period) rows ≡ total (λ row. row.charge) (rows_of period rows)
+pub charges_of_period : (period : ℕ) (rows : List (ℕ × AccountRow)) → total (charge_in period) rows ≡ total (λ row. row.charge) (rows_of_period period rows)
 charges_of_period period [] = refl
 charges_of_period period (e ∷ rows) =
-    elim (eqb e.0 period) as (λ b. cond b e.1.charge (pos 0) +ℤ total (charge_in period) rows ≡ total (λ row. row.charge) (cons_option (cond b (Some e.1) None) (rows_of period rows))) [
+    elim (eqb e.0 period) as (λ b. cond b e.1.charge (pos 0) +ℤ total (charge_in period) rows ≡ total (λ row. row.charge) (cons_option (cond b (Some e.1) None) (rows_of_period period rows))) [
       | true ↦ ap (λ more. e.1.charge +ℤ more) (charges_of_period period rows)
       | false ↦ +ℤ_idl (total (charge_in period) rows) ∙ charges_of_period period rows
     ]

@@ -7,9 +7,9 @@ use Rattle.hh_names.specs.declared.account.Account.{Account}
 use Rattle.hh_calc.specs.declared.result.AccountRow.{AccountRow}
 use Rattle.hh_runs.specs.RunKinds.{run_kind_code}
 use Rattle.hh_reports.specs.declared.run.ReportedRun.{ReportedRun}
-use Rattle.hh_reports.specs.Fields.{cash_of, energies_of, energy_text, left_in, pence_text, right_in, spaced_line}
-use Rattle.hh_reports.specs.Names.{account_text}
-use Rattle.hh_reports.specs.Nets.{day_nets}
+use Rattle.hh_reports.specs.Fields.{cash_of, energies_of, energy_text, flush_left, pence_text, flush_right, spaced_line}
+use Rattle.hh_names.specs.Accounts.{account_text}
+use Rattle.hh_reports.specs.Nets.{nets_from_rows}
 
 -- `DAY REPORT DATE KIND`
 unfoldable pub title_line : ReportedRun → List ℕ
@@ -18,39 +18,39 @@ title_line run = spaced_line (codes "DAY" ∷ codes "REPORT" ∷ date_text run.d
 -- the heads of the columns
 unfoldable pub heads_line : List ℕ
 heads_line = spaced_line (
-    right_in 3 (codes "PER") ∷ left_in 12 (codes "ACCOUNT")
-    ∷ right_in 20 (codes "CREDITED") ∷ right_in 20 (codes "BALANCING") ∷ right_in 20 (codes "CONTRACTS") ∷ right_in 20 (codes "IMBALANCE")
-    ∷ right_in 14 (codes "CHARGE") ∷ right_in 14 (codes "SHARE") ∷ [])
+    flush_right 3 (codes "PER") ∷ flush_left 12 (codes "ACCOUNT")
+    ∷ flush_right 20 (codes "CREDITED") ∷ flush_right 20 (codes "BALANCING") ∷ flush_right 20 (codes "CONTRACTS") ∷ flush_right 20 (codes "IMBALANCE")
+    ∷ flush_right 14 (codes "CHARGE") ∷ flush_right 14 (codes "SHARE") ∷ [])
 
 -- the period, the account, its energies and its cash
-unfoldable pub account_line : ℕ → AccountRow → List ℕ
-account_line period row = spaced_line (
-    right_in 3 (decimal period) ∷ left_in 12 (account_text row.account)
-    ∷ map (λ e. right_in 20 (energy_text e)) (energies_of row) ++ map (λ c. right_in 14 (pence_text c)) (cash_of row))
+unfoldable pub period_account_line : ℕ → AccountRow → List ℕ
+period_account_line period row = spaced_line (
+    flush_right 3 (decimal period) ∷ flush_left 12 (account_text row.account)
+    ∷ map (λ e. flush_right 20 (energy_text e)) (energies_of row) ++ map (λ c. flush_right 14 (pence_text c)) (cash_of row))
 
 -- the period and its residual
-unfoldable pub residual_line : ℕ → ℤ → List ℕ
-residual_line period pence = spaced_line (right_in 3 (decimal period) ∷ left_in 12 (codes "RESIDUAL") ∷ right_in 14 (pence_text pence) ∷ [])
+unfoldable pub period_residual_line : ℕ → ℤ → List ℕ
+period_residual_line period pence = spaced_line (flush_right 3 (decimal period) ∷ flush_left 12 (codes "RESIDUAL") ∷ flush_right 14 (pence_text pence) ∷ [])
 
 -- an account and its day net
 unfoldable pub net_line : Account × ℤ → List ℕ
-net_line net = spaced_line (codes "NET" ∷ left_in 12 (account_text net.0) ∷ right_in 16 (pence_text net.1) ∷ [])
+net_line net = spaced_line (codes "NET" ∷ flush_left 12 (account_text net.0) ∷ flush_right 16 (pence_text net.1) ∷ [])
 
 -- a row without its period, if it is of this one
-abbrev pub row_of : ℕ → ℕ × AccountRow → Option AccountRow
-row_of period e = if e.0 == period then Some e.1 else None
+abbrev pub row_of_period : ℕ → ℕ × AccountRow → Option AccountRow
+row_of_period period e = if e.0 == period then Some e.1 else None
 
 -- the rows of a Settlement Period
-abbrev pub rows_of : ℕ → List (ℕ × AccountRow) → List AccountRow
-rows_of period rows = filter_map (row_of period) rows
+abbrev pub rows_of_period : ℕ → List (ℕ × AccountRow) → List AccountRow
+rows_of_period period rows = filter_map (row_of_period period) rows
 
 -- a line for each account, then the residual: minus the sum of the charges
 unfoldable pub period_lines : ℕ → List AccountRow → List ℕ
-period_lines period rows = flat_map (account_line period) rows ++ residual_line period (neg_ℤ (total (λ row. row.charge) rows))
+period_lines period rows = flat_map (period_account_line period) rows ++ period_residual_line period (neg_ℤ (total (λ row. row.charge) rows))
 
 -- the line of a row, if it is of this Settlement Period
 abbrev pub row_lines : ℕ → ℕ × AccountRow → List ℕ
-row_lines period e = if e.0 == period then account_line period e.1 else []
+row_lines period e = if e.0 == period then period_account_line period e.1 else []
 
 -- the charge of a row, if it is of this Settlement Period
 abbrev pub charge_in : ℕ → ℕ × AccountRow → ℤ
@@ -58,9 +58,9 @@ charge_in period e = if e.0 == period then e.1.charge else pos 0
 
 -- the lines of so many Settlement Periods
 abbrev pub periods_lines : ℕ → List (ℕ × AccountRow) → List ℕ
-periods_lines count rows = flat_map (λ period. period_lines period (rows_of period rows)) (range_with_len 1 count)
+periods_lines count rows = flat_map (λ period. period_lines period (rows_of_period period rows)) (range_with_len 1 count)
 
 -- the day report of a run with these rows: the lines of its periods, then the day net of each account
 unfoldable pub day_report_text : ReportedRun → List (ℕ × AccountRow) → List ℕ
 day_report_text run rows =
-    title_line run ++ heads_line ++ periods_lines run.periods rows ++ flat_map net_line (day_nets rows) ++ codes "END\n"
+    title_line run ++ heads_line ++ periods_lines run.periods rows ++ flat_map net_line (nets_from_rows rows) ++ codes "END\n"

@@ -8,8 +8,7 @@ use Rattle.hh_calc.specs.declared.result.AccountRow.{AccountRow}
 use Rattle.hh_runs.specs.RunKinds.{run_kind_code}
 use Rattle.hh_reports.specs.declared.run.ReportedRun.{ReportedRun}
 use Rattle.hh_reports.specs.Fields.{cash_of, comma_line, energies_of, energy_text, pence_text}
-use Rattle.hh_reports.specs.Names.{account_text}
-use Rattle.hh_reports.specs.Nets.{Amounts, sum_for}
+use Rattle.hh_names.specs.Accounts.{account_text}
 
 -- the date, the kind, the account, the period, the account's energies and its cash
 unfoldable pub result_line : ReportedRun → ℕ × AccountRow → List ℕ
@@ -34,6 +33,6 @@ balance_line a pence = comma_line (account_text a ∷ pence_text pence ∷ [])
 abbrev pub party_lines : (Account → ℤ) → List ℕ → List ℕ
 party_lines balance party = flat_map (λ a. balance_line a (balance a)) (accounts_of_party party)
 
--- the balances of parties by these postings: both accounts of each party, also where nothing was posted
-unfoldable pub balances_text : List (List ℕ) → Amounts → List ℕ
-balances_text parties postings = codes "account,moved_pence\n" ++ flat_map (party_lines (λ a. sum_for a postings)) parties
+-- the balances of both accounts of these parties
+unfoldable pub balances_text : List (List ℕ) → (Account → ℤ) → List ℕ
+balances_text parties balance = codes "account,moved_pence\n" ++ flat_map (party_lines balance) parties

@@ -14,12 +14,12 @@ unfoldable pub pence_text : ℤ → List ℕ
 pence_text pence = signed_decimal pence
 
 -- a text behind so many blanks that it fills a width
-unfoldable pub right_in : ℕ → List ℕ → List ℕ
-right_in width text = replicate (width - length text) 32 ++ text
+unfoldable pub flush_right : ℕ → List ℕ → List ℕ
+flush_right width text = replicate (width - length text) 32 ++ text
 
 -- a text before so many blanks that it fills a width
-unfoldable pub left_in : ℕ → List ℕ → List ℕ
-left_in width text = text ++ replicate (width - length text) 32
+unfoldable pub flush_left : ℕ → List ℕ → List ℕ
+flush_left width text = text ++ replicate (width - length text) 32
 
 -- fields with a blank between each two
 unfoldable pub spaced_line : List (List ℕ) → List ℕ

@@ -33,5 +33,5 @@ abbrev pub cash_moved : ℕ × AccountRow → Account × ℤ
 cash_moved e = (e.1.account, e.1.charge +ℤ e.1.share)
 
 -- the day net of each account of these rows, in account order: the sum of its charges and shares
-abbrev pub day_nets : List (ℕ × AccountRow) → Table Account ℤ
-day_nets rows = sums_of (map cash_moved rows)
+abbrev pub nets_from_rows : List (ℕ × AccountRow) → Table Account ℤ
+nets_from_rows rows = sums_of (map cash_moved rows)

@@ -13,6 +13,6 @@ CountsFault Write old new = Failed old new
 -- A sink had taken these bytes before and has taken those after, and had counted so many failures and counts so many.
 module _ (before after : Option (List ℕ)) (counted counts : ℕ) where
   -- the text went out and the sink did not fail, or a beginning of it went out
-  abbrev pub Writes : {A : Type 0} → List ℕ → Result A ReportFault → Type 0
-  Writes text (Ok x) = Appends before after text × (counts ≡ counted)
-  Writes text (Err fault) = AppendsFront before after text × CountsFault fault counted counts
+  abbrev pub Sends : {A : Type 0} → List ℕ → Result A ReportFault → Type 0
+  Sends text (Ok x) = Appends before after text × (counts ≡ counted)
+  Sends text (Err fault) = AppendsFront before after text × CountsFault fault counted counts

@@ -3,9 +3,9 @@
 ghost use Rattle.std.specs.Prelude.{◌≡◌, ◌≤◌, ◌^◌, ◌++◌, codes, decimal, unsigned_abs, IfOk, OnOk};
 ghost use Rattle.std.specs.List.{flat_map};
 ghost use Rattle.hh_num.specs.Totals.{total};
-ghost use Rattle.hh_reports.specs.DayReport.{account_line, charge_in, day_report_text, heads_line, net_line, period_lines, periods_lines, residual_line, row_lines, rows_of, title_line};
-ghost use Rattle.hh_reports.specs.Fields.{cash_of, energies_of, energy_text, pence_text, right_in};
-ghost use Rattle.hh_reports.specs.Output.{Writes};
+ghost use Rattle.hh_reports.specs.DayReport.{period_account_line, charge_in, day_report_text, heads_line, net_line, period_lines, periods_lines, period_residual_line, row_lines, rows_of_period, title_line};
+ghost use Rattle.hh_reports.specs.Fields.{cash_of, energies_of, energy_text, pence_text, flush_right};
+ghost use Rattle.hh_reports.specs.Output.{Sends};
 
 use crate::fault::ReportFault;
 use crate::line::Line;
@@ -37,7 +37,7 @@ pub fn write_day_report<S: Sink>(
     rows: &[(PeriodNumber, AccountRow)],
     out: &mut S,
 ) -> Result<(), ReportFault>
-    ensures writes { Writes (S.taken out.old) (S.taken out.new)
+    ensures writes { Sends (S.taken out.old) (S.taken out.new)
         (S.failures out.old) (S.failures out.new)
         (day_report_text run.now rows.now) result }
 {
@@ -51,7 +51,7 @@ pub fn write_day_report<S: Sink>(
 }
 
 /// The line of the heads of the columns.
-#[tactic(auto, unfolding(crate::specs::DayReport::heads_line, crate::specs::Fields::spaced_line, crate::specs::Fields::right_in, crate::specs::Fields::left_in))]
+#[tactic(auto, unfolding(crate::specs::DayReport::heads_line, crate::specs::Fields::spaced_line, crate::specs::Fields::flush_right, crate::specs::Fields::flush_left))]
 fn heads() -> &'static [u8]
     ensures { result.now ≡ heads_line }
 {
@@ -60,7 +60,7 @@ fn heads() -> &'static [u8]
 
 /// Writes the line that tells the run.
 fn write_title<S: Sink>(line: &mut Line, run: &ReportedRun, out: &mut S) -> Result<(), ReportFault>
-    ensures { Writes (S.taken out.old) (S.taken out.new) (S.failures out.old) (S.failures out.new)
+    ensures { Sends (S.taken out.old) (S.taken out.new) (S.failures out.old) (S.failures out.new)
         (title_line run.now) result }
 {
     line.clear();
@@ -87,7 +87,7 @@ fn write_periods<S: Sink>(
     rows: &[(PeriodNumber, AccountRow)],
     out: &mut S,
 ) -> Result<(), ReportFault>
-    ensures { Writes (S.taken out.old) (S.taken out.new) (S.failures out.old) (S.failures out.new)
+    ensures { Sends (S.taken out.old) (S.taken out.new) (S.failures out.old) (S.failures out.new)
         (periods_lines periods rows.now) result }
 {
     for count in 0..periods {
@@ -104,8 +104,8 @@ fn write_period<S: Sink>(
     rows: &[(PeriodNumber, AccountRow)],
     out: &mut S,
 ) -> Result<(), ReportFault>
-    ensures { Writes (S.taken out.old) (S.taken out.new) (S.failures out.old) (S.failures out.new)
-        (period_lines period (rows_of period rows.now)) result }
+    ensures { Sends (S.taken out.old) (S.taken out.new) (S.failures out.old) (S.failures out.new)
+        (period_lines period (rows_of_period period rows.now)) result }
 {
     let charges = write_accounts(line, period, rows, out)?;
     write_residual(line, period, -charges, out)
@@ -118,7 +118,7 @@ fn write_accounts<S: Sink>(
     rows: &[(PeriodNumber, AccountRow)],
     out: &mut S,
 ) -> Result<i128, ReportFault>
-    ensures writes { Writes (S.taken out.old) (S.taken out.new)
+    ensures writes { Sends (S.taken out.old) (S.taken out.new)
         (S.failures out.old) (S.failures out.new) (flat_map (row_lines period) rows.now) result }
     ensures charges { IfOk result (λ charges. charges ≡ total (charge_in period) rows.now) }
     ensures small { IfOk result (λ charges. unsigned_abs charges ≤ 2 ^ 126) }
@@ -138,7 +138,7 @@ fn write_row<S: Sink>(
     entry: &(PeriodNumber, AccountRow),
     out: &mut S,
 ) -> Result<i128, ReportFault>
-    ensures writes { Writes (S.taken out.old) (S.taken out.new)
+    ensures writes { Sends (S.taken out.old) (S.taken out.new)
         (S.failures out.old) (S.failures out.new) (row_lines period entry.now) result }
     ensures charge { IfOk result (λ charge. charge ≡ charge_in period entry.now) }
     ensures small { IfOk result (λ charge. unsigned_abs charge ≤ 2 ^ 63) }
@@ -158,8 +158,8 @@ fn write_account<S: Sink>(
     row: &AccountRow,
     out: &mut S,
 ) -> Result<(), ReportFault>
-    ensures { Writes (S.taken out.old) (S.taken out.new) (S.failures out.old) (S.failures out.new)
-        (account_line period row.now) result }
+    ensures { Sends (S.taken out.old) (S.taken out.new) (S.failures out.old) (S.failures out.new)
+        (period_account_line period row.now) result }
 {
     line.clear();
     push_account_line(line, period, row)?;
@@ -167,9 +167,9 @@ fn write_account<S: Sink>(
 }
 
 /// Appends the line of an account in a Settlement Period.
-#[tactic(auto, unfolding(crate::specs::DayReport::account_line, crate::specs::Fields::spaced_line))]
+#[tactic(auto, unfolding(crate::specs::DayReport::period_account_line, crate::specs::Fields::spaced_line))]
 fn push_account_line(line: &mut Line, period: u8, row: &AccountRow) -> Result<(), AllocError>
-    ensures { OnOk result (line.new ≡ line.old ++ account_line period row.now) }
+    ensures { OnOk result (line.new ≡ line.old ++ period_account_line period row.now) }
 {
     push_period(line, period)?;
     line.push_account_left(12, &row.account)?;
@@ -180,7 +180,7 @@ fn push_account_line(line: &mut Line, period: u8, row: &AccountRow) -> Result<()
 
 /// Appends the number of a Settlement Period and a blank.
 fn push_period(line: &mut Line, period: u8) -> Result<(), AllocError>
-    ensures { OnOk result (line.new ≡ line.old ++ (right_in 3 (decimal period) ++ codes " ")) }
+    ensures { OnOk result (line.new ≡ line.old ++ (flush_right 3 (decimal period) ++ codes " ")) }
 {
     let mut buffer = Buffer::new();
     line.push_right(3, buffer.format(period).as_bytes())?;
@@ -190,7 +190,7 @@ fn push_period(line: &mut Line, period: u8) -> Result<(), AllocError>
 /// Appends the energies of a row, each behind a blank.
 fn push_energies(line: &mut Line, row: &AccountRow) -> Result<(), AllocError>
     ensures { OnOk result (line.new ≡ line.old
-        ++ flat_map (λ e. codes " " ++ right_in 20 (energy_text e)) (energies_of row.now)) }
+        ++ flat_map (λ e. codes " " ++ flush_right 20 (energy_text e)) (energies_of row.now)) }
 {
     line.push(b" ")?;
     line.push_energy_right(20, row.credited)?;
@@ -205,7 +205,7 @@ fn push_energies(line: &mut Line, row: &AccountRow) -> Result<(), AllocError>
 /// Appends the cash of a row, each amount behind a blank.
 fn push_cash(line: &mut Line, row: &AccountRow) -> Result<(), AllocError>
     ensures { OnOk result (line.new ≡ line.old
-        ++ flat_map (λ c. codes " " ++ right_in 14 (pence_text c)) (cash_of row.now)) }
+        ++ flat_map (λ c. codes " " ++ flush_right 14 (pence_text c)) (cash_of row.now)) }
 {
     line.push(b" ")?;
     line.push_pence_right(14, i128::from(row.charge.units()))?;
@@ -220,8 +220,8 @@ fn write_residual<S: Sink>(
     residual: i128,
     out: &mut S,
 ) -> Result<(), ReportFault>
-    ensures { Writes (S.taken out.old) (S.taken out.new) (S.failures out.old) (S.failures out.new)
-        (residual_line period residual) result }
+    ensures { Sends (S.taken out.old) (S.taken out.new) (S.failures out.old) (S.failures out.new)
+        (period_residual_line period residual) result }
 {
     line.clear();
     push_residual_line(line, period, residual)?;
@@ -229,9 +229,9 @@ fn write_residual<S: Sink>(
 }
 
 /// Appends the line of the residual of a Settlement Period.
-#[tactic(auto, unfolding(crate::specs::DayReport::residual_line, crate::specs::Fields::spaced_line))]
+#[tactic(auto, unfolding(crate::specs::DayReport::period_residual_line, crate::specs::Fields::spaced_line))]
 fn push_residual_line(line: &mut Line, period: u8, residual: i128) -> Result<(), AllocError>
-    ensures { OnOk result (line.new ≡ line.old ++ residual_line period residual) }
+    ensures { OnOk result (line.new ≡ line.old ++ period_residual_line period residual) }
 {
     push_period(line, period)?;
     line.push_left(12, b"RESIDUAL")?;
@@ -246,7 +246,7 @@ fn write_nets<S: Sink>(
     nets: &[(Account, i128)],
     out: &mut S,
 ) -> Result<(), ReportFault>
-    ensures { Writes (S.taken out.old) (S.taken out.new) (S.failures out.old) (S.failures out.new)
+    ensures { Sends (S.taken out.old) (S.taken out.new) (S.failures out.old) (S.failures out.new)
         (flat_map net_line nets.now) result }
 {
     for net in nets {
@@ -261,7 +261,7 @@ fn write_net<S: Sink>(
     net: &(Account, i128),
     out: &mut S,
 ) -> Result<(), ReportFault>
-    ensures { Writes (S.taken out.old) (S.taken out.new) (S.failures out.old) (S.failures out.new)
+    ensures { Sends (S.taken out.old) (S.taken out.new) (S.failures out.old) (S.failures out.new)
         (net_line net.now) result }
 {
     line.clear();

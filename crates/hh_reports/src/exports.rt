@@ -6,8 +6,8 @@ ghost use Rattle.hh_time.specs.DateText.{date_text};
 ghost use Rattle.hh_runs.specs.RunKinds.{run_kind_code};
 ghost use Rattle.hh_reports.specs.Exports.{balance_line, balances_text, party_lines, result_line, results_text};
 ghost use Rattle.hh_reports.specs.Fields.{cash_of, energies_of, energy_text, pence_text};
-ghost use Rattle.hh_reports.specs.Nets.{sum_in};
-ghost use Rattle.hh_reports.specs.Output.{Writes};
+ghost use Rattle.hh_reports.specs.Nets.{sum_for, sum_in};
+ghost use Rattle.hh_reports.specs.Output.{Sends};
 
 use crate::fault::ReportFault;
 use crate::line::Line;
@@ -42,7 +42,7 @@ pub fn write_results<S: Sink>(
     rows: &[(PeriodNumber, AccountRow)],
     out: &mut S,
 ) -> Result<(), ReportFault>
-    ensures writes { Writes (S.taken out.old) (S.taken out.new)
+    ensures writes { Sends (S.taken out.old) (S.taken out.new)
         (S.failures out.old) (S.failures out.new)
         (results_text run.now rows.now) result }
 {
@@ -58,7 +58,7 @@ fn write_rows<S: Sink>(
     rows: &[(PeriodNumber, AccountRow)],
     out: &mut S,
 ) -> Result<(), ReportFault>
-    ensures { Writes (S.taken out.old) (S.taken out.new) (S.failures out.old) (S.failures out.new)
+    ensures { Sends (S.taken out.old) (S.taken out.new) (S.failures out.old) (S.failures out.new)
         (flat_map (result_line run.now) rows.now) result }
 {
     for row in rows {
@@ -74,7 +74,7 @@ fn write_result<S: Sink>(
     row: &(PeriodNumber, AccountRow),
     out: &mut S,
 ) -> Result<(), ReportFault>
-    ensures { Writes (S.taken out.old) (S.taken out.new) (S.failures out.old) (S.failures out.new)
+    ensures { Sends (S.taken out.old) (S.taken out.new) (S.failures out.old) (S.failures out.new)
         (result_line run.now row.now) result }
 {
     line.clear();
@@ -159,9 +159,9 @@ pub fn write_balances<S: Sink>(
     postings: &[(Account, Pence)],
     out: &mut S,
 ) -> Result<(), ReportFault>
-    ensures writes { Writes (S.taken out.old) (S.taken out.new)
+    ensures writes { Sends (S.taken out.old) (S.taken out.new)
         (S.failures out.old) (S.failures out.new)
-        (balances_text parties.now postings.now) result }
+        (balances_text parties.now (λ a. sum_for a postings.now)) result }
 {
     let sums = posted_sums(alloc, postings)?;
     let mut line = Line::new(alloc);
@@ -176,7 +176,7 @@ fn write_parties<S: Sink>(
     sums: &SumTable,
     out: &mut S,
 ) -> Result<(), ReportFault>
-    ensures { Writes (S.taken out.old) (S.taken out.new) (S.failures out.old) (S.failures out.new)
+    ensures { Sends (S.taken out.old) (S.taken out.new) (S.failures out.old) (S.failures out.new)
         (flat_map (party_lines (sum_in sums.now)) parties.now) result }
 {
     for party in parties {
@@ -192,7 +192,7 @@ fn write_party<S: Sink>(
     sums: &SumTable,
     out: &mut S,
 ) -> Result<(), ReportFault>
-    ensures { Writes (S.taken out.old) (S.taken out.new) (S.failures out.old) (S.failures out.new)
+    ensures { Sends (S.taken out.old) (S.taken out.new) (S.failures out.old) (S.failures out.new)
         (party_lines (sum_in sums.now) party) result }
 {
     let (production, consumption) = (Side::Production, Side::Consumption);
@@ -223,7 +223,7 @@ fn write_balance<S: Sink>(
     sums: &SumTable,
     out: &mut S,
 ) -> Result<(), ReportFault>
-    ensures { Writes (S.taken out.old) (S.taken out.new) (S.failures out.old) (S.failures out.new)
+    ensures { Sends (S.taken out.old) (S.taken out.new) (S.failures out.old) (S.failures out.new)
         (balance_line account (sum_in sums.now account)) result }
 {
     line.clear();

@@ -1,10 +1,10 @@
 //! Lines of reports while they are made.
 
 ghost use Rattle.std.specs.Prelude.{◌≡◌, ◌≤◌, ◌++◌, [], replicate, OnOk};
-ghost use Rattle.hh_reports.specs.Fields.{energy_text, left_in, pence_text, right_in};
-ghost use Rattle.hh_reports.specs.Names.{account_text, side_letter};
+ghost use Rattle.hh_names.specs.Accounts.{account_text};
+ghost use Rattle.hh_reports.specs.Fields.{energy_text, flush_left, pence_text, flush_right};
 
-use hh_names::{Account, Side};
+use hh_names::Account;
 use hh_num::Ticks;
 use itoa::Buffer;
 use std::alloc::{AllocError, Global};
@@ -61,14 +61,14 @@ impl Line {
 
     /// Appends a text behind so many blanks that it fills a width.
     pub(crate) fn push_right(&mut self, width: u8, text: &[u8]) -> Result<(), AllocError>
-        ensures { OnOk result (self.new ≡ self.old ++ right_in width text.now) }
+        ensures { OnOk result (self.new ≡ self.old ++ flush_right width text.now) }
     {
         push_right(&mut self.text, width, text)
     }
 
     /// Appends a text before so many blanks that it fills a width.
     pub(crate) fn push_left(&mut self, width: u8, text: &[u8]) -> Result<(), AllocError>
-        ensures { OnOk result (self.new ≡ self.old ++ left_in width text.now) }
+        ensures { OnOk result (self.new ≡ self.old ++ flush_left width text.now) }
     {
         push_left(&mut self.text, width, text)
     }
@@ -86,7 +86,7 @@ impl Line {
         width: u8,
         account: &Account,
     ) -> Result<(), AllocError>
-        ensures { OnOk result (self.new ≡ self.old ++ left_in width (account_text account.now)) }
+        ensures { OnOk result (self.new ≡ self.old ++ flush_left width (account_text account.now)) }
     {
         self.field.clear();
         push_account(&mut self.field, account)?;
@@ -104,7 +104,7 @@ impl Line {
     /// Appends an energy in MWh behind so many blanks that it fills a width.
     #[tactic(auto, unfolding(crate::specs::Fields::energy_text))]
     pub(crate) fn push_energy_right(&mut self, width: u8, energy: Ticks) -> Result<(), AllocError>
-        ensures { OnOk result (self.new ≡ self.old ++ right_in width (energy_text energy)) }
+        ensures { OnOk result (self.new ≡ self.old ++ flush_right width (energy_text energy)) }
     {
         self.field.clear();
         energy.write_to(&mut self.field)?;
@@ -123,31 +123,20 @@ impl Line {
     /// Appends an amount of pence behind so many blanks that it fills a width.
     #[tactic(auto, unfolding(crate::specs::Fields::pence_text))]
     pub(crate) fn push_pence_right(&mut self, width: u8, pence: i128) -> Result<(), AllocError>
-        ensures { OnOk result (self.new ≡ self.old ++ right_in width (pence_text pence)) }
+        ensures { OnOk result (self.new ≡ self.old ++ flush_right width (pence_text pence)) }
     {
         let mut buffer = Buffer::new();
         push_right(&mut self.text, width, buffer.format(pence).as_bytes())
     }
 }
 
-/// The letter by which a side is written.
-fn letter_of(side: Side) -> u8
-    ensures { result ≡ side_letter side }
-{
-    match side {
-        Side::Production => b'P',
-        Side::Consumption => b'C',
-    }
-}
-
 /// Appends the name of an account: its party, a dash and its side.
-#[tactic(auto, unfolding(crate::specs::Names::account_text))]
 fn push_account(text: &mut Vec<u8>, account: &Account) -> Result<(), AllocError>
     ensures { OnOk result (text.new.items ≡ text.old.items ++ account_text account.now) }
 {
     text.extend_from_slice(account.party.as_bytes())?;
     text.push(b'-')?;
-    text.push(letter_of(account.side))?;
+    text.push(account.side.letter())?;
     Ok(())
 }
 
@@ -160,18 +149,18 @@ fn push_blanks(text: &mut Vec<u8>, count: usize) -> Result<(), AllocError>
 }
 
 /// Appends a field behind so many blanks that it fills a width.
-#[tactic(auto, unfolding(crate::specs::Fields::right_in))]
+#[tactic(auto, unfolding(crate::specs::Fields::flush_right))]
 fn push_right(text: &mut Vec<u8>, width: u8, field: &[u8]) -> Result<(), AllocError>
-    ensures { OnOk result (text.new.items ≡ text.old.items ++ right_in width field.now) }
+    ensures { OnOk result (text.new.items ≡ text.old.items ++ flush_right width field.now) }
 {
     push_blanks(text, usize::from(width).saturating_sub(field.len()))?;
     text.extend_from_slice(field)
 }
 
 /// Appends a field before so many blanks that it fills a width.
-#[tactic(auto, unfolding(crate::specs::Fields::left_in))]
+#[tactic(auto, unfolding(crate::specs::Fields::flush_left))]
 fn push_left(text: &mut Vec<u8>, width: u8, field: &[u8]) -> Result<(), AllocError>
-    ensures { OnOk result (text.new.items ≡ text.old.items ++ left_in width field.now) }
+    ensures { OnOk result (text.new.items ≡ text.old.items ++ flush_left width field.now) }
 {
     text.extend_from_slice(field)?;
     push_blanks(text, usize::from(width).saturating_sub(field.len()))

@@ -3,7 +3,7 @@
 ghost use Rattle.std.specs.Prelude.{◌≡◌, ◌≤◌, ◌*◌, ◌^◌, ◌+ℤ◌, map, unsigned_abs, IfOk, OnOk};
 ghost use Rattle.std.specs.FinMap.{put};
 ghost use Rattle.hh_names.specs.Accounts.{account_cmp};
-ghost use Rattle.hh_reports.specs.Nets.{cash_moved, day_nets, greatest_amount, sum_in, sums_of};
+ghost use Rattle.hh_reports.specs.Nets.{cash_moved, greatest_amount, nets_from_rows, sum_in, sums_of};
 
 use hh_calc::AccountRow;
 use hh_names::{Account, PeriodNumber};
@@ -41,7 +41,7 @@ pub(crate) fn day_nets(
     alloc: Global,
     rows: &[(PeriodNumber, AccountRow)],
 ) -> Result<SumTable, AllocError>
-    ensures { IfOk result (λ nets. nets ≡ day_nets rows.now) }
+    ensures { IfOk result (λ nets. nets ≡ nets_from_rows rows.now) }
 {
     sums_of(alloc, &cash_moved(alloc, rows)?)
 }

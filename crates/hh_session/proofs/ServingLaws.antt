@@ -7,6 +7,7 @@ use Rattle.hh_devices.specs.Devices.{AppendsFront}
 use Rattle.hh_time.specs.Days.{Midnights}
 use Rattle.hh_time.specs.Zone.{midnight_in}
 use Rattle.hh_script.specs.declared.serve.ServeLine.{ServeLine}
+use Rattle.hh_script.specs.Steps.{Serve}
 use Rattle.hh_store.specs.States.{State}
 use Rattle.hh_office.specs.declared.request.Request.{Request}
 use Rattle.hh_office.specs.Machine.{Timed, next, state_after}
@@ -14,6 +15,7 @@ use Rattle.hh_office.specs.Promises.{Stands}
 use Rattle.hh_office.specs.Views.{OfficeView, midnight_of}
 use Rattle.hh_wire.specs.Serves.{StandsAfterOne}
 use Rattle.hh_sockets.specs.Ports.{IsPortFor}
+use Rattle.hh_session.specs.Course.{RunsStep, StopsStep}
 use Rattle.hh_session.specs.Serving.{IsServed, RunsServing, ServesUpTo, StopsServing, all_at, listening_line, no_socket_line}
 
 -- the state after one more request
@@ -68,3 +70,11 @@ module _ (office : OfficeView) (before after : Option (List ℕ)) (line : ServeL
 
   pub no_socket_cut : AppendsFront before after no_socket_line → StopsServing office office before after line
   no_socket_cut went s stands = (no_socket_line, s, inl (inl refl, refl), went, stands, refl)
+
+-- A line that serves is a step of a script.
+module _ (reads : List ℕ → Option (List ℕ) → Type 0) (old new : OfficeView) (before after : Option (List ℕ)) (line : ServeLine) where
+  pub served_step : RunsServing old new before after line → RunsStep reads old new before after (Serve line)
+  served_step runs s stands = let (text, t, does, went, now, zone) = runs s stands in (text, t, does, went, (now, zone))
+
+  pub served_stop : StopsServing old new before after line → StopsStep reads old new before after (Serve line)
+  served_stop stops s stands = let (text, t, does, went, now, zone) = stops s stands in (text, t, does, went, (now, zone))

@@ -12,6 +12,7 @@ pub mod KeyLaws
 mod KeptLaws
 mod LoadLaws
 mod NamedLaws
+pub mod OutputLaws
 mod PartLaws
 pub mod PostingLaws
 mod PutLaws
@@ -19,6 +20,7 @@ mod RangeLaws
 pub mod ReachLaws
 pub mod ReadLaws
 pub mod ReadyLaws
+pub mod ReportLaws
 pub mod ResultLaws
 mod RisingLaws
 pub mod RunLaws

@@ -193,7 +193,7 @@ holds_no_other_results midnight s key none =
     tt
 
 -- the postings that are read for an account come to those of its keys
-postings_read : (a : Account) (es : List (PostingKey × ℤ)) → total (λ e. e.1) (filter_map (posting_to a) es) ≡ posted_to a es
+pub postings_read : (a : Account) (es : List (PostingKey × ℤ)) → total (λ e. e.1) (filter_map (posting_to a) es) ≡ posted_to a es
 postings_read a [] = refl
 postings_read a (e ∷ es) =
     let rest = postings_read a es in

@@ -6,10 +6,12 @@ pub mod KeptContracts
 pub mod KeptReallocations
 pub mod KeptRuns
 pub mod KeptTables
+pub mod Outputs
 pub mod Parts
 pub mod PeriodSettlement
 pub mod Readiness
 pub mod Reads
+pub mod Reports
 pub mod RunReads
 pub mod Runs
 pub mod Soundness

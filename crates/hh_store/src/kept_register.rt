@@ -1,6 +1,6 @@
 //! What is registered and in force, in memory.
 
-ghost use Rattle.std.specs.Prelude.{◌≡◌, filter_map, length, unwrap_or, IfOk};
+ghost use Rattle.std.specs.Prelude.{◌≡◌, filter_map, length, map, unwrap_or, IfOk};
 ghost use Rattle.std.specs.FinMap.{find};
 ghost use Rattle.hh_tables.specs.Tables.{put_all};
 ghost use Rattle.hh_names.specs.Accounts.{bytes_cmp};
@@ -75,6 +75,14 @@ impl KeptRegister {
             contracts: ListTable::new(alloc),
             reallocations: ListTable::new(alloc),
         }
+    }
+
+    /// The registered parties, in the order of their ids. `Err` only where memory is refused.
+    pub(crate) fn party_ids(&self, alloc: Global) -> Result<Vec<PartyId>, AllocError>
+        ensures { IfOk result (λ parties.
+            parties.items ≡ map (λ e. e.0) self.now.parties) }
+    {
+        self.parties.rows().iter().map(|row| row.0).collect(alloc)
     }
 
     /// What is registered of a party, if it is registered.

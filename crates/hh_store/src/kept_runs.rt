@@ -1,10 +1,11 @@
 //! What is kept of runs, in memory.
 
-ghost use Rattle.std.specs.Prelude.{◌≡◌, filter_map, IfOk, OnErr, OnOk};
-ghost use Rattle.std.specs.FinMap.{put};
+ghost use Rattle.std.specs.Prelude.{◌≡◌, filter_map, map, option_map, IfOk, OnErr, OnOk};
+ghost use Rattle.std.specs.FinMap.{find, put};
 ghost use Rattle.hh_tables.specs.Tables.{put_all};
 ghost use Rattle.hh_store.specs.Content.{credit_key_cmp, posting_key_cmp, result_key_cmp};
 ghost use Rattle.hh_store.specs.KeptRuns.{kept_with, no_runs};
+ghost use Rattle.hh_store.specs.Outputs.{reported_as};
 ghost use Rattle.hh_store.specs.Reads.{posting_to, result_in, summary_on};
 ghost use Rattle.hh_store.specs.Runs.{run_key_cmp};
 
@@ -13,6 +14,7 @@ use crate::run_keys::{CreditKey, PostingKey, ResultKey, RunKey};
 use hh_calc::AccountRow;
 use hh_names::{Account, PeriodNumber};
 use hh_num::{Pence, Ticks};
+use hh_reports::ReportedRun;
 use hh_runs::{RunKind, Summary};
 use hh_tables::ListTable;
 use hh_time::SettlementDate;
@@ -171,6 +173,31 @@ impl KeptRuns {
             }
         }
         Ok(found)
+    }
+
+    /// A run as its reports show it, if it is there.
+    pub(crate) fn reported(&self, run: &RunKey) -> Option<ReportedRun>
+        ensures { result ≡ option_map (reported_as run.now)
+            (find run_key_cmp run.now self.now.runs) }
+    {
+        let summary = self.runs.get(run)?;
+        Some(ReportedRun {
+            date: run.date,
+            kind: run.kind,
+            periods: summary.periods,
+        })
+    }
+
+    /// All that runs have posted, each amount under its account. `Err` only where memory is refused.
+    pub(crate) fn amounts_posted(&self, alloc: Global) -> Result<Vec<(Account, Pence)>, AllocError>
+        ensures { IfOk result (λ amounts.
+            amounts.items ≡ map (λ e. (e.0.account, e.1)) self.now.postings) }
+    {
+        self.postings
+            .rows()
+            .iter()
+            .map(|row| (row.0.account, row.1))
+            .collect(alloc)
     }
 }
 

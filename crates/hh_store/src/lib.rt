@@ -14,6 +14,7 @@ mod kept_reallocations;
 mod kept_register;
 mod kept_runs;
 mod load_change;
+mod output_fault;
 mod part;
 mod plain_tables;
 mod run_change;
@@ -33,12 +34,13 @@ pub use effects::{kept_files, load_effect, run_effect};
 pub use file_key::FileKey;
 pub use kept_file::KeptFile;
 pub use load_change::LoadChange;
+pub use output_fault::OutputFault;
 pub use plain_tables::PlainTables;
 pub use run_change::RunChange;
 pub use run_keys::{CreditKey, PostingKey, ResultKey, RunKey};
 pub use run_reads::{
-    day_nets_from_results, kept_kinds_of_dates, kept_postings, kept_results, kept_runs_of_dates,
-    kept_summaries, no_other_results,
+    day_nets_from_results, kept_kinds_of_dates, kept_postings, kept_reports, kept_results,
+    kept_runs_of_dates, kept_summaries, no_other_results,
 };
 pub use settlement_periods::periods_of;
 pub use store_fault::StoreFault;

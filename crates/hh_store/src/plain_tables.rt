@@ -1,12 +1,13 @@
 //! The tables of an office, kept in memory.
 
-ghost use Rattle.std.specs.Prelude.{◌≡◌, IfErr, IfOk, IsOk, OnErr, OnOk};
+ghost use Rattle.std.specs.Prelude.{◌≡◌, ◌≢◌, IfErr, IfOk, IfSome, IsOk, OnErr, OnOk};
 ghost use Rattle.hh_time.specs.Days.{Midnights};
 ghost use Rattle.hh_rules.specs.RegisterView.{ServesFor};
 ghost use Rattle.hh_store.specs.Changes.{IsLoadFrom, IsRunFrom, effect_of_load, effect_of_run};
 ghost use Rattle.hh_store.specs.Content.{empty_content, tables_of};
 ghost use Rattle.hh_store.specs.DayReads.{IsDayData};
 ghost use Rattle.hh_store.specs.DaySettlement.{periods_on};
+ghost use Rattle.hh_store.specs.Outputs.{Outputs, balances_in, day_report_in, export_in};
 ghost use Rattle.hh_store.specs.Reads.{contracts_in, file_in, is_key_known, party_in, postings_in, reference_in, results_in, runs_in, unit_in, whole_register};
 ghost use Rattle.hh_store.specs.Soundness.{AreSound};
 ghost use Rattle.hh_store.specs.States.{empty_state};
@@ -17,13 +18,16 @@ use crate::kept_file::KeptFile;
 use crate::kept_register::KeptRegister;
 use crate::kept_runs::KeptRuns;
 use crate::load_change::LoadChange;
+use crate::output_fault::OutputFault;
 use crate::run_change::RunChange;
 use crate::run_keys::RunKey;
 use crate::store_fault::StoreFault;
 use crate::tables::Tables;
 use hh_calc::AccountRow;
+use hh_devices::Sink;
 use hh_names::{Account, Counterparties, FileName, PartyId, PeriodNumber, Reference, UnitId};
 use hh_num::Pence;
+use hh_reports::{write_balances, write_day_report, write_results};
 use hh_rows::{ContractRow, FileKind, PartyRegistration, Row, Settings, UnitRegistration};
 use hh_rules::Register;
 use hh_runs::{RunKind, Summary};
@@ -185,6 +189,45 @@ impl Tables for PlainTables {
         ensures same { self.new ≡ self.old }
     {
         Ok(self.runs.postings_to(self.alloc, account)?)
+    }
+
+    fn export<S: Sink>(&mut self, run: &RunKey, out: &mut S) -> Result<(), OutputFault>
+        ensures writes { IfSome (export_in self.old run.now) (λ text.
+            Outputs (S.taken out.old) (S.taken out.new)
+            (S.failures out.old) (S.failures out.new) text result) }
+        ensures never_store { IfErr result (λ fault. fault ≢ OutputFault.Store) }
+        ensures same { self.new ≡ self.old }
+    {
+        let Some(reported) = self.runs.reported(run) else {
+            return Ok(());
+        };
+        let rows = self.runs.results_of(self.alloc, run)?;
+        Ok(write_results(self.alloc, &reported, &rows, out)?)
+    }
+
+    fn day_report<S: Sink>(&mut self, run: &RunKey, out: &mut S) -> Result<(), OutputFault>
+        ensures writes { IfSome (day_report_in self.old run.now) (λ text.
+            Outputs (S.taken out.old) (S.taken out.new)
+            (S.failures out.old) (S.failures out.new) text result) }
+        ensures never_store { IfErr result (λ fault. fault ≢ OutputFault.Store) }
+        ensures same { self.new ≡ self.old }
+    {
+        let Some(reported) = self.runs.reported(run) else {
+            return Ok(());
+        };
+        let rows = self.runs.results_of(self.alloc, run)?;
+        Ok(write_day_report(self.alloc, &reported, &rows, out)?)
+    }
+
+    fn balances<S: Sink>(&mut self, out: &mut S) -> Result<(), OutputFault>
+        ensures writes { Outputs (S.taken out.old) (S.taken out.new)
+            (S.failures out.old) (S.failures out.new) (balances_in self.old) result }
+        ensures never_store { IfErr result (λ fault. fault ≢ OutputFault.Store) }
+        ensures same { self.new ≡ self.old }
+    {
+        let parties = self.register.party_ids(self.alloc)?;
+        let postings = self.runs.amounts_posted(self.alloc)?;
+        Ok(write_balances(self.alloc, &parties, &postings, out)?)
     }
 
     fn apply_load(&mut self, change: LoadChange) -> Result<(), StoreFault>

@@ -9,6 +9,7 @@ ghost use Rattle.hh_store.specs.RunReads.{
   HoldsRunsOfDates,
   HoldsSummaries,
 };
+ghost use Rattle.hh_store.specs.Reports.{HoldsReports};
 
 /// That the summary of a run in the tables is the one that is kept of the run: in each state, for
 /// each date and kind (profile).
@@ -49,6 +50,13 @@ pub fn no_other_results()
 #[tactic(auto, using(crate::proofs::ResultLaws::holds_postings))]
 pub fn kept_postings()
     ensures { HoldsPostings }
+{}
+
+/// That the day reports and the results of runs and the balances of parties, as the tables give them, are
+/// those of the state: in each state that the machine reaches (profile).
+#[tactic(auto, using(crate::proofs::ReportLaws::holds_reports))]
+pub fn kept_reports()
+    ensures { HoldsReports }
 {}
 
 /// That what an account pays by the rows of a run in the tables is its day net in the run: in each

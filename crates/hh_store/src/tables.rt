@@ -1,21 +1,24 @@
 //! The tables of an office, however they are kept.
 
-ghost use Rattle.std.specs.Prelude.{◌≡◌, IfOk, OnOk, OnErr};
+ghost use Rattle.std.specs.Prelude.{◌≡◌, IfOk, IfSome, OnOk, OnErr};
 ghost use Rattle.hh_time.specs.Days.{Midnights};
 ghost use Rattle.hh_rules.specs.RegisterView.{ServesFor};
 ghost use Rattle.hh_store.specs.Changes.{IsLoadFrom, IsRunFrom, effect_of_load, effect_of_run};
 ghost use Rattle.hh_store.specs.Content.{Content};
 ghost use Rattle.hh_store.specs.DayReads.{IsDayData};
 ghost use Rattle.hh_store.specs.DaySettlement.{periods_on};
+ghost use Rattle.hh_store.specs.Outputs.{Outputs, balances_in, day_report_in, export_in};
 ghost use Rattle.hh_store.specs.Reads.{contracts_in, file_in, is_key_known, party_in, postings_in, reference_in, results_in, runs_in, unit_in, whole_register};
 
 use crate::day_data::DayData;
 use crate::kept_file::KeptFile;
 use crate::load_change::LoadChange;
+use crate::output_fault::OutputFault;
 use crate::run_change::RunChange;
 use crate::run_keys::RunKey;
 use crate::store_fault::StoreFault;
 use hh_calc::AccountRow;
+use hh_devices::Sink;
 use hh_names::{Account, Counterparties, FileName, PartyId, PeriodNumber, Reference, UnitId};
 use hh_num::Pence;
 use hh_rows::{ContractRow, FileKind, PartyRegistration, Row, Settings, UnitRegistration};
@@ -103,6 +106,44 @@ pub trait Tables {
     fn postings(&mut self, account: &Account) -> Result<Vec<(RunKey, Pence)>, StoreFault>
         ensures value { IfOk result (λ rows.
             rows.items ≡ postings_in (content self.old) account.now) }
+        ensures same { content self.new ≡ content self.old };
+
+    /// Writes the results of a run as comma-separated values: its rows as the tables hold them, in the
+    /// order of `results`, and nothing else; or a beginning of that. Of a run that is not there no more is
+    /// promised than that the tables stay (profile).
+    ///
+    /// # Errors
+    ///
+    /// `Memory` where memory was refused, `Store` where the store refuses for another cause or holds what
+    /// no office wrote, `Write` only where the output failed or took nothing in this call.
+    fn export<S: Sink>(&mut self, run: &RunKey, out: &mut S) -> Result<(), OutputFault>
+        ensures writes { IfSome (export_in (content self.old) run.now) (λ text.
+            Outputs (S.taken out.old) (S.taken out.new)
+            (S.failures out.old) (S.failures out.new) text result) }
+        ensures same { content self.new ≡ content self.old };
+
+    /// Writes the day report of a run, from its rows as the tables hold them, and nothing else; or a
+    /// beginning of it. Of a run that is not there no more is promised than that the tables stay (profile).
+    ///
+    /// # Errors
+    ///
+    /// As of `export`.
+    fn day_report<S: Sink>(&mut self, run: &RunKey, out: &mut S) -> Result<(), OutputFault>
+        ensures writes { IfSome (day_report_in (content self.old) run.now) (λ text.
+            Outputs (S.taken out.old) (S.taken out.new)
+            (S.failures out.old) (S.failures out.new) text result) }
+        ensures same { content self.new ≡ content self.old };
+
+    /// Writes the balances of both accounts of each registered party, in order, as comma-separated values,
+    /// and nothing else; or a beginning of that. A balance is the sum of all that runs have posted to the
+    /// account, in pence, 0 where nothing was posted (profile).
+    ///
+    /// # Errors
+    ///
+    /// As of `export`.
+    fn balances<S: Sink>(&mut self, out: &mut S) -> Result<(), OutputFault>
+        ensures writes { Outputs (S.taken out.old) (S.taken out.new)
+            (S.failures out.old) (S.failures out.new) (balances_in (content self.old)) result }
         ensures same { content self.new ≡ content self.old };
 
     /// Writes what an accepted file changes, whole or not at all. Of a change that the machine does

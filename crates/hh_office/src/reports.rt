@@ -1,0 +1,148 @@
+//! Reports, which the operator alone gets.
+
+ghost use Rattle.std.specs.Prelude.{◌≡◌, IfOk};
+ghost use Rattle.std.specs.FinMap.{find};
+ghost use Rattle.hh_store.specs.Outputs.{balances_in, day_report_in, export_in};
+ghost use Rattle.hh_store.specs.Runs.{run_key_cmp};
+ghost use Rattle.hh_office.specs.Reports.{Reports, ReportsAs, WritesReport, or_no_run};
+ghost use Rattle.hh_office.specs.declared.report.Report.TheVariants.{Balances, Day, Results};
+
+use crate::office::Office;
+use crate::report::{Report, ReportStop};
+use crate::runs::summary_of;
+use hh_devices::Sink;
+use hh_names::Refusal;
+use hh_runs::{RunKind, Summary};
+use hh_store::{RunKey, StoreFault, Tables, kept_reports};
+use hh_time::SettlementDate;
+
+impl<'z, T: Tables> Office<'z, T> {
+    /// Writes a report to an output, for the operator's key (profile): the text of the machine's state, and
+    /// nothing else. The office stays as it is.
+    ///
+    /// # Errors
+    ///
+    /// Refusal 60 for another key than the operator's, and with the operator's 63 where the run of the report
+    /// is not there: then nothing is written. Refusals 90, where memory is refused, and 91, where the store
+    /// refuses, may stand in their place, or come when a beginning of the report has gone out. `Write` comes
+    /// only where the output failed or took nothing in this call, and a beginning has gone out.
+    pub fn report<S: Sink>(
+        &mut self,
+        key: &[u8],
+        report: &Report,
+        out: &mut S,
+    ) -> Result<(), ReportStop>
+        ensures reports { Reports (S.taken out.old) (S.taken out.new)
+            (S.failures out.old) (S.failures out.new) self.old key.now report.now result }
+        ensures same { self.new ≡ self.old }
+    {
+        // Does nothing, but carries a law for the proof: the reports that the tables give are the machine's.
+        kept_reports();
+        if !self.is_operator(key)? {
+            return Err(ReportStop::of(Refusal::Forbidden));
+        }
+        match report {
+            Report::Day(run) => self.write_day_report(run, out),
+            Report::Results(run) => self.write_results(run, out),
+            Report::Balances => self.write_balances(out),
+        }
+    }
+
+    /// Writes the day report of a run, as `report` does.
+    ///
+    /// # Errors
+    ///
+    /// As of `report`.
+    pub fn report_day<S: Sink>(
+        &mut self,
+        key: &[u8],
+        date: SettlementDate,
+        kind: RunKind,
+        out: &mut S,
+    ) -> Result<(), ReportStop>
+        ensures reports { Reports (S.taken out.old) (S.taken out.new)
+            (S.failures out.old) (S.failures out.new) self.old key.now
+            (Day (record { date = date; kind = kind })) result }
+        ensures same { self.new ≡ self.old }
+    {
+        self.report(key, &Report::Day(RunKey { date, kind }), out)
+    }
+
+    /// Writes the results of a run, as `report` does.
+    ///
+    /// # Errors
+    ///
+    /// As of `report`.
+    pub fn report_results<S: Sink>(
+        &mut self,
+        key: &[u8],
+        date: SettlementDate,
+        kind: RunKind,
+        out: &mut S,
+    ) -> Result<(), ReportStop>
+        ensures reports { Reports (S.taken out.old) (S.taken out.new)
+            (S.failures out.old) (S.failures out.new) self.old key.now
+            (Results (record { date = date; kind = kind })) result }
+        ensures same { self.new ≡ self.old }
+    {
+        self.report(key, &Report::Results(RunKey { date, kind }), out)
+    }
+
+    /// Writes the balances of both accounts of every registered party, as `report` does.
+    ///
+    /// # Errors
+    ///
+    /// As of `report`, but never refusal 63.
+    pub fn report_balances<S: Sink>(&mut self, key: &[u8], out: &mut S) -> Result<(), ReportStop>
+        ensures reports { Reports (S.taken out.old) (S.taken out.new)
+            (S.failures out.old) (S.failures out.new) self.old key.now Balances result }
+        ensures same { self.new ≡ self.old }
+    {
+        self.report(key, &Report::Balances, out)
+    }
+
+    /// Writes the day report of a run that is there.
+    fn write_day_report<S: Sink>(&mut self, run: &RunKey, out: &mut S) -> Result<(), ReportStop>
+        ensures reports { ReportsAs (S.taken out.old) (S.taken out.new)
+            (S.failures out.old) (S.failures out.new)
+            (or_no_run (day_report_in self.old.content run.now)) result }
+        ensures same { self.new ≡ self.old }
+    {
+        if self.kept_run(run)?.is_none() {
+            return Err(ReportStop::of(Refusal::NoRun));
+        }
+        Ok(self.tables.day_report(run, out)?)
+    }
+
+    /// Writes the results of a run that is there.
+    fn write_results<S: Sink>(&mut self, run: &RunKey, out: &mut S) -> Result<(), ReportStop>
+        ensures reports { ReportsAs (S.taken out.old) (S.taken out.new)
+            (S.failures out.old) (S.failures out.new)
+            (or_no_run (export_in self.old.content run.now)) result }
+        ensures same { self.new ≡ self.old }
+    {
+        if self.kept_run(run)?.is_none() {
+            return Err(ReportStop::of(Refusal::NoRun));
+        }
+        Ok(self.tables.export(run, out)?)
+    }
+
+    /// Writes the balances of both accounts of every registered party.
+    fn write_balances<S: Sink>(&mut self, out: &mut S) -> Result<(), ReportStop>
+        ensures writes { WritesReport (S.taken out.old) (S.taken out.new)
+            (S.failures out.old) (S.failures out.new) (balances_in self.old.content) result }
+        ensures same { self.new ≡ self.old }
+    {
+        Ok(self.tables.balances(out)?)
+    }
+
+    /// What is kept of a run, if it is there.
+    fn kept_run(&mut self, run: &RunKey) -> Result<Option<Summary>, StoreFault>
+        ensures value { IfOk result (λ found.
+            found ≡ find run_key_cmp run.now self.old.content.runs) }
+        ensures same { self.new ≡ self.old }
+    {
+        let runs = self.runs_of(run.date)?;
+        Ok(summary_of(&runs, run.kind))
+    }
+}

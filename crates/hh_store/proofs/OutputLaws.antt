@@ -1,0 +1,47 @@
+-- Reports that are written, as the tables tell it; and the balances that are written from all postings.
+use Rattle.std.proofs.Common.{◌≡◌, ℕ, List, map, Option, Result, Ok, Err, sym, ap, subst, ◌∙◌}
+use Rattle.std.specs.Prelude.{ℤ, IsErrAnd, filter_map}
+use Rattle.hh_num.specs.Totals.{total}
+use Rattle.hh_num.proofs.TotalLaws.{total-map}
+use Rattle.hh_tables.specs.Tables.{Table}
+use Rattle.hh_devices.specs.Devices.{AppendsFront}
+use Rattle.hh_names.specs.declared.account.Account.{Account}
+use Rattle.hh_rows.specs.declared.rows.PartyRegistration.{PartyRegistration}
+use Rattle.hh_calc.specs.Formulas.{of_account}
+use Rattle.hh_reports.specs.Exports.{balances_text}
+use Rattle.hh_reports.specs.Nets.{Amounts, sum_for}
+use Rattle.hh_reports.specs.Output.{CountsFault}
+use Rattle.hh_reports.specs.declared.fault.ReportFault.{ReportFault}
+use Rattle.hh_reports.specs.declared.fault.ReportFault.TheVariants as report
+use Rattle.hh_store.specs.declared.output_fault.OutputFault.{OutputFault}
+use Rattle.hh_store.specs.declared.run_keys.PostingKey.{PostingKey}
+use Rattle.hh_store.specs.Outputs.{CountsOutput, Outputs}
+use Rattle.hh_store.specs.Reads.{posting_to}
+use Rattle.hh_store.specs.StoreFaults.{output_fault}
+use Rattle.hh_store.proofs.ResultLaws.{postings_read}
+
+counted_alike : (fault : ReportFault) (f g : ℕ) → CountsFault fault f g → CountsOutput (output_fault fault) f g
+counted_alike report.Memory f g counts = counts
+counted_alike report.Write f g counts = counts
+
+-- the fault of a writer is told on
+pub told_as_output : {A : Type 0} (a b : Option (List ℕ)) (f g : ℕ) (text : List ℕ) (fault : ReportFault) (r : Result A OutputFault)
+    → IsErrAnd r (λ e. e ≡ output_fault fault) → AppendsFront a b text × CountsFault fault f g → Outputs a b f g text r
+told_as_output a b f g text fault (Ok x) is sent = absurd is
+told_as_output a b f g text fault (Err e) is sent = (sent.0, subst (λ x. CountsOutput x f g) (sym is) (counted_alike fault f g sent.1))
+
+-- all postings, each under its account
+abbrev amounts_posted : Table PostingKey ℤ → Amounts
+amounts_posted postings = map (λ e. (e.0.account, e.1)) postings
+
+-- they come to the same as those that are read for an account
+sum_read : (a : Account) (postings : Table PostingKey ℤ) → sum_for a (amounts_posted postings) ≡ total (λ e. e.1) (filter_map (posting_to a) postings)
+sum_read a postings =
+    total-map (λ (e : Account × ℤ). of_account a e.0 e.1) (λ (e : PostingKey × ℤ). (e.0.account, e.1)) postings ∙ sym (postings_read a postings)
+
+-- so the balances by them are those of the postings that are read for each account
+pub balances_read : (registered : Table (List ℕ) PartyRegistration) (postings : Table PostingKey ℤ) (parties : List (List ℕ)) (amounts : Amounts)
+    → parties ≡ map (λ e. e.0) registered → amounts ≡ amounts_posted postings
+    → balances_text parties (λ a. sum_for a amounts) ≡ balances_text (map (λ e. e.0) registered) (λ a. total (λ e. e.1) (filter_map (posting_to a) postings))
+balances_read registered postings parties amounts are come =
+    λ i. balances_text (are i) (λ a. (ap (sum_for a) come ∙ sum_read a postings) i)

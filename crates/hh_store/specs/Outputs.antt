@@ -1,0 +1,55 @@
+-- The reports that tables write, and what a call that is to write one comes to.
+use Rattle.std.specs.Prelude.{◌≡◌, ℕ, ℤ, List, map, Option, option_map, Result, Ok, Err}
+use Rattle.std.specs.FinMap.{find}
+use Rattle.std.specs.Io.KnownBytes.{Appends}
+use Rattle.hh_num.specs.Totals.{total}
+use Rattle.hh_devices.specs.Devices.{AppendsFront, Failed}
+use Rattle.hh_names.specs.declared.account.Account.{Account}
+use Rattle.hh_runs.specs.declared.summary.Summary.{Summary}
+use Rattle.hh_reports.specs.declared.run.ReportedRun.{ReportedRun}
+use Rattle.hh_reports.specs.DayReport.{day_report_text}
+use Rattle.hh_reports.specs.Exports.{balances_text, results_text}
+use Rattle.hh_store.specs.declared.output_fault.OutputFault.{OutputFault}
+use Rattle.hh_store.specs.declared.output_fault.OutputFault.TheVariants.{Memory, Store, Write}
+use Rattle.hh_store.specs.declared.run_keys.RunKey.{RunKey}
+use Rattle.hh_store.specs.Content.{Content}
+use Rattle.hh_store.specs.Reads.{postings_in, results_in}
+use Rattle.hh_store.specs.Runs.{run_key_cmp}
+
+-- a run with this summary, as its reports show it
+abbrev pub reported_as : RunKey → Summary → ReportedRun
+reported_as key summary = record { date = key.date; kind = key.kind; periods = summary.periods }
+
+module _ (content : Content) where
+  -- a run as its reports show it, if it is there
+  abbrev pub reported_in : RunKey → Option ReportedRun
+  reported_in key = option_map (reported_as key) (find run_key_cmp key content.runs)
+
+  -- the day report of a run, by its rows in the table of results, if the run is there
+  abbrev pub day_report_in : RunKey → Option (List ℕ)
+  day_report_in key = option_map (λ run. day_report_text run (results_in content key)) (reported_in key)
+
+  -- the results of a run, by its rows in that table, if the run is there
+  abbrev pub export_in : RunKey → Option (List ℕ)
+  export_in key = option_map (λ run. results_text run (results_in content key)) (reported_in key)
+
+  -- what was posted to an account in all
+  abbrev pub balance_in : Account → ℤ
+  balance_in account = total (λ e. e.1) (postings_in content account)
+
+  -- the balances of both accounts of every registered party
+  abbrev pub balances_in : List ℕ
+  balances_in = balances_text (map (λ e. e.0) content.registered.parties) balance_in
+
+-- a sink counts a failure where it is told as failed, and none elsewhere
+abbrev pub CountsOutput : OutputFault → ℕ → ℕ → Type 0
+CountsOutput Memory old new = new ≡ old
+CountsOutput Store old new = new ≡ old
+CountsOutput Write old new = Failed old new
+
+-- A sink had taken these bytes before and has taken those after, and had counted so many failures and counts so many.
+module _ (before after : Option (List ℕ)) (counted counts : ℕ) where
+  -- the text went out and nothing else, and the sink did not fail; or a beginning of the text went out
+  abbrev pub Outputs : {A : Type 0} → List ℕ → Result A OutputFault → Type 0
+  Outputs text (Ok x) = Appends before after text × (counts ≡ counted)
+  Outputs text (Err fault) = AppendsFront before after text × CountsOutput fault counted counts
