@@ -46,6 +46,12 @@ abbrev pub StopsReport : ReportStop → ℕ → ℕ → Type 0
 StopsReport (Refused fault) old new = IsTrue (gives_up fault) × (new ≡ old)
 StopsReport Write old new = Failed old new
 
+-- a sink counts one failure where a report stops for it, and none elsewhere
+abbrev pub CountsReport : {A : Type 0} → Result A ReportStop → ℕ → ℕ → Type 0
+CountsReport (Ok x) old new = new ≡ old
+CountsReport (Err (Refused fault)) old new = new ≡ old
+CountsReport (Err Write) old new = Failed old new
+
 -- A sink had taken these bytes before and has taken those after, and had counted so many failures and counts so many.
 module _ (before after : Option (List ℕ)) (counted counts : ℕ) where
   -- nothing was written

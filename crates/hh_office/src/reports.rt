@@ -4,7 +4,7 @@ ghost use Rattle.std.specs.Prelude.{◌≡◌, IfOk};
 ghost use Rattle.std.specs.FinMap.{find};
 ghost use Rattle.hh_store.specs.Outputs.{balances_in, day_report_in, export_in};
 ghost use Rattle.hh_store.specs.Runs.{run_key_cmp};
-ghost use Rattle.hh_office.specs.Reports.{Reports, ReportsAs, WritesReport, or_no_run};
+ghost use Rattle.hh_office.specs.Reports.{CountsReport, Reports, ReportsAs, WritesReport, or_no_run};
 ghost use Rattle.hh_office.specs.declared.report.Report.TheVariants.{Balances, Day, Results};
 
 use crate::office::Office;
@@ -34,6 +34,7 @@ impl<'z, T: Tables> Office<'z, T> {
     ) -> Result<(), ReportStop>
         ensures reports { Reports (S.taken out.old) (S.taken out.new)
             (S.failures out.old) (S.failures out.new) self.old key.now report.now result }
+        ensures counted { CountsReport result (S.failures out.old) (S.failures out.new) }
         ensures same { self.new ≡ self.old }
     {
         // Does nothing, but carries a law for the proof: the reports that the tables give are the machine's.
@@ -63,6 +64,7 @@ impl<'z, T: Tables> Office<'z, T> {
         ensures reports { Reports (S.taken out.old) (S.taken out.new)
             (S.failures out.old) (S.failures out.new) self.old key.now
             (Day (record { date = date; kind = kind })) result }
+        ensures counted { CountsReport result (S.failures out.old) (S.failures out.new) }
         ensures same { self.new ≡ self.old }
     {
         self.report(key, &Report::Day(RunKey { date, kind }), out)
@@ -83,6 +85,7 @@ impl<'z, T: Tables> Office<'z, T> {
         ensures reports { Reports (S.taken out.old) (S.taken out.new)
             (S.failures out.old) (S.failures out.new) self.old key.now
             (Results (record { date = date; kind = kind })) result }
+        ensures counted { CountsReport result (S.failures out.old) (S.failures out.new) }
         ensures same { self.new ≡ self.old }
     {
         self.report(key, &Report::Results(RunKey { date, kind }), out)
@@ -96,6 +99,7 @@ impl<'z, T: Tables> Office<'z, T> {
     pub fn report_balances<S: Sink>(&mut self, key: &[u8], out: &mut S) -> Result<(), ReportStop>
         ensures reports { Reports (S.taken out.old) (S.taken out.new)
             (S.failures out.old) (S.failures out.new) self.old key.now Balances result }
+        ensures counted { CountsReport result (S.failures out.old) (S.failures out.new) }
         ensures same { self.new ≡ self.old }
     {
         self.report(key, &Report::Balances, out)
@@ -106,6 +110,7 @@ impl<'z, T: Tables> Office<'z, T> {
         ensures reports { ReportsAs (S.taken out.old) (S.taken out.new)
             (S.failures out.old) (S.failures out.new)
             (or_no_run (day_report_in self.old.content run.now)) result }
+        ensures counted { CountsReport result (S.failures out.old) (S.failures out.new) }
         ensures same { self.new ≡ self.old }
     {
         if self.kept_run(run)?.is_none() {
@@ -119,6 +124,7 @@ impl<'z, T: Tables> Office<'z, T> {
         ensures reports { ReportsAs (S.taken out.old) (S.taken out.new)
             (S.failures out.old) (S.failures out.new)
             (or_no_run (export_in self.old.content run.now)) result }
+        ensures counted { CountsReport result (S.failures out.old) (S.failures out.new) }
         ensures same { self.new ≡ self.old }
     {
         if self.kept_run(run)?.is_none() {
@@ -131,6 +137,7 @@ impl<'z, T: Tables> Office<'z, T> {
     fn write_balances<S: Sink>(&mut self, out: &mut S) -> Result<(), ReportStop>
         ensures writes { WritesReport (S.taken out.old) (S.taken out.new)
             (S.failures out.old) (S.failures out.new) (balances_in self.old.content) result }
+        ensures counted { CountsReport result (S.failures out.old) (S.failures out.new) }
         ensures same { self.new ≡ self.old }
     {
         Ok(self.tables.balances(out)?)

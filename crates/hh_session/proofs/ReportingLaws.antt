@@ -9,12 +9,16 @@ use Rattle.hh_names.specs.declared.fault.Refusal.{Refusal}
 use Rattle.hh_names.specs.Faults.{memory_fault, plain_fault}
 use Rattle.hh_office.specs.declared.reply.Reply.TheVariants as reply
 use Rattle.hh_office.specs.declared.report.ReportStop.TheVariants.{Refused, Write}
-use Rattle.hh_office.specs.Promises.{gives_up}
+use Rattle.hh_office.specs.Promises.{Stands, gives_up}
 use Rattle.hh_office.specs.Reports.{ReportsAs}
 use Rattle.hh_session.specs.declared.told.Told.TheVariants.{Replied}
-use Rattle.hh_session.specs.Course.{BeginsLine, TellsLine}
+use Rattle.hh_script.specs.Reports.{ReportStep}
+use Rattle.hh_script.specs.Steps.{WriteReport}
+use Rattle.hh_store.specs.States.{State}
+use Rattle.hh_office.specs.Views.{OfficeView}
+use Rattle.hh_session.specs.Course.{BeginsLine, RunsStep, StandsNow, StopsStep, TellsLine}
 use Rattle.hh_session.specs.Lines.{refusal_line}
-use Rattle.hh_session.specs.Reporting.{IsGivenUp, report_written}
+use Rattle.hh_session.specs.Reporting.{BeginsReport, IsGivenUp, RunsReport, report_written}
 use Rattle.hh_session.proofs.CourseLaws.{appends_more}
 
 -- what may be written of a report
@@ -63,3 +67,14 @@ module _ (before between after : Option (List ℕ)) (counted counts : ℕ) where
         (refusal_line fault, refused_as (gives_up fault) refl why is, subst (λ b. AppendsFront b after (refusal_line fault)) none told)
     begun_report (Err why) (is, (none, same)) (inr (refusal, told)) =
         (refusal_line memory_fault, inr ([], [], memory_fault, refl, refl, refl), subst (λ b. AppendsFront b after (refusal_line memory_fault)) none told)
+
+-- A line that asks for a report is a step of a script, which leaves the office.
+module _ (reads : List ℕ → Option (List ℕ) → Type 0) (old new : OfficeView) (same : new ≡ old) (before after : Option (List ℕ)) (step : ReportStep) where
+  stays : (s : State) → Stands old s → StandsNow old new s
+  stays s stands = (subst (λ o. Stands o s) (sym same) stands, ap (λ (o : OfficeView). o.zone) same)
+
+  pub report_step : RunsReport old before after step → RunsStep reads old new before after (WriteReport step)
+  report_step runs s stands = let (text, does, went) = runs s stands in (text, s, (does, refl), went, stays s stands)
+
+  pub report_stop : BeginsReport old before after step → StopsStep reads old new before after (WriteReport step)
+  report_stop begins s stands = let (text, does, went) = begins s stands in (text, s, (does, refl), went, stays s stands)

@@ -1,9 +1,11 @@
 use Rattle.std.proofs.Common.{subst, sym}
 use Rattle.std.specs.Prelude.{OnErr, OnOk}
+use Rattle.hh_script.specs.Reports.{report_of}
 use Rattle.hh_script.specs.Steps.{load_of, run_of, step_of}
 use Rattle.hh_office.specs.Views.{midnight_of}
 use Rattle.hh_session.specs.Course.{LoadDoes, RunDoes, RunsStep, StopsStep}
 use Rattle.hh_session.proofs.CourseLaws.{OnErr-map, OnOk-map, line_cut, line_done, load_gives_up, memory_cut, memory_done, run_gives_up}
+use Rattle.hh_session.proofs.ReportingLaws.{report_step, report_stop}
 use Rattle.hh_session.proofs.ServingLaws.{served_step, served_stop}
 use Rattle.hh_session.proofs.run.run_line.Goals as goal
 
@@ -88,3 +90,23 @@ returns-in-Serve-clause-cut g c =
     let after = g.O.Sink.taken c.serve_connections.new.out in
     subst (λ line. OnErr c.serve_connections.result (StopsStep reads old new before after (step_of line))) (sym c.in-Serve.is)
     (OnErr-map c.serve_connections.result _ _ (served_stop reads old new before after c.in-Serve.serve) c.serve_connections.ensures.cut)
+
+pub returns-in-Report-clause-done : goal.returns-in-Report-clause-done
+returns-in-Report-clause-done g c =
+    let reads = g.I.Inputs.reads_as c.args.inputs.now in
+    let old = c.args.office.now in
+    let new = c.write_report.new.office in
+    let before = g.O.Sink.taken c.args.out.now in
+    let after = g.O.Sink.taken c.write_report.new.out in
+    subst (λ line. OnOk c.write_report.result (RunsStep reads old new before after (step_of line))) (sym c.in-Report.is)
+    (OnOk-map c.write_report.result _ _ (report_step reads old new c.write_report.ensures.same before after (report_of c.in-Report.report)) c.write_report.ensures.done)
+
+pub returns-in-Report-clause-cut : goal.returns-in-Report-clause-cut
+returns-in-Report-clause-cut g c =
+    let reads = g.I.Inputs.reads_as c.args.inputs.now in
+    let old = c.args.office.now in
+    let new = c.write_report.new.office in
+    let before = g.O.Sink.taken c.args.out.now in
+    let after = g.O.Sink.taken c.write_report.new.out in
+    subst (λ line. OnErr c.write_report.result (StopsStep reads old new before after (step_of line))) (sym c.in-Report.is)
+    (OnErr-map c.write_report.result _ _ (report_stop reads old new c.write_report.ensures.same before after (report_of c.in-Report.report)) c.write_report.ensures.cut)
