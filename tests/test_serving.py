@@ -1,5 +1,6 @@
 """What a client of the office meets over the loopback: a script serves connections, and each request is answered
 by one reply, whose bytes are known."""
+import json
 import socket
 import subprocess
 import threading
@@ -7,7 +8,7 @@ import time
 import unittest
 
 from programs import SETTLE
-from test_desk import APPLIED, DAY, EARLY, END, NEXT_END, OPERATOR, SETTLED, Desk, text_of
+from test_desk import APPLIED, DAY, EARLY, END, IDLE, NEXT_END, OPERATOR, SETTLED, Desk, text_of
 
 GENCO = "genco0001"
 SUPCO = "supco0001"
@@ -137,6 +138,76 @@ class Replies(Served):
         self.assertEqual(self.ask(request("GET", f"/contracts/SUPCO-C/{DAY}", SUPCO)), reply(200, buyer))
         none = f'{{"account":"GENCO-C","contracts":[],"date":"{DAY}"}}'
         self.assertEqual(self.ask(request("GET", f"/contracts/GENCO-C/{DAY}", GENCO)), reply(200, none))
+
+    def test_contracts_stand_in_order(self):
+        """By period, then by the bytes of the reference, each in the sign of its row."""
+        rows = [
+            f"c1,GENCO-P,SUPCO-C,{DAY},1,1",
+            f"C2,SUPCO-P,GENCO-P,{DAY},48,-2",
+            f"C2,SUPCO-P,GENCO-P,{DAY},2,3",
+            f"C10,GENCO-P,GENCO-C,{DAY},2,4",
+            f"C3,SUPCO-P,SUPCO-C,{DAY},2,5",
+            "C10,GENCO-P,GENCO-C,2024-07-02,2,6",
+        ]
+        wanted = {
+            "GENCO-P": [
+                ("SUPCO-C", "99.000", 1, "C1", "seller"),
+                ("SUPCO-C", "1.000", 1, "c1", "seller"),
+                ("GENCO-C", "4.000", 2, "C10", "seller"),
+                ("SUPCO-P", "3.000", 2, "C2", "buyer"),
+                ("SUPCO-P", "-2.000", 48, "C2", "buyer"),
+            ],
+            "GENCO-C": [("GENCO-P", "4.000", 2, "C10", "buyer")],
+            "NOONE-C": [],
+        }
+        self.serve(3, before=[*self.market(), self.load("contracts", rows, "more.csv")])
+        for account, found in wanted.items():
+            got = self.ask(request("GET", f"/contracts/{account}/{DAY}", OPERATOR))
+            body = json.loads(got.partition(b"\r\n\r\n")[2])
+            names = ("counterparty", "mwh", "period", "reference", "role")
+            self.assertEqual(body["contracts"], [dict(zip(names, row)) for row in found], account)
+
+    def test_keys(self):
+        """The operator asks for any account, and a party for its own two; others are refused alike."""
+        cases = [
+            (OPERATOR, "GENCO-P", True),
+            (OPERATOR, "NOONE-P", True),
+            (GENCO, "GENCO-P", True),
+            (GENCO, "GENCO-C", True),
+            (SUPCO, "SUPCO-C", True),
+            (GENCO, "SUPCO-C", False),
+            (SUPCO, "GENCO-P", False),
+            ("newco0001", "GENCO-P", False),
+            (GENCO, "NOONE-P", False),
+            ("op-nobody001", "GENCO-P", False),
+            ("", "NOONE-P", False),
+        ]
+        forms = ("/balances/{}", f"/contracts/{{}}/{DAY}", f"/accounts/{{}}/{DAY}")
+        forbidden = reply(403, refusal(60, "Forbidden"))
+        self.serve(len(cases) * len(forms) + 2)
+        for key, account, allowed in cases:
+            for form in forms:
+                got = self.ask(request("GET", form.format(account), key))
+                self.assertEqual(got != forbidden, allowed, (key, account, form))
+        self.assertEqual(self.ask(request("GET", f"/runs/{DAY}", "newco0001")), forbidden)
+        self.assertEqual(self.ask(request("GET", f"/runs/{DAY}", OPERATOR)), reply(200, RUNS))
+
+    def test_a_party_that_has_joined(self):
+        """Its own account by the run after it joined; 63 by the one before."""
+        readings = [f"N1,{DAY},1,10.000,1.0000000,0"] + [f"N1,{DAY},{period},0,1,0" for period in IDLE]
+        joins = [
+            self.load("parties", "NEWCO,2024-01-01,,newco0001"),
+            self.load("units", "N1,NEWCO,P,no,2024-01-01,"),
+            self.load("meters", readings),
+        ]
+        self.serve(3, before=[*self.market(), self.order("SF"), *joins])
+        asked = request("GET", f"/accounts/NEWCO-P/{DAY}", "newco0001")
+        self.assertEqual(self.ask(asked), reply(404, refusal(63, "NoRun")))
+        self.ask(request("POST", f"/runs/{DAY}/R1", OPERATOR))
+        body = json.loads(self.ask(asked).partition(b"\r\n\r\n")[2])
+        first = body["periods"][0]
+        self.assertEqual((body["kind"], body["net_pence"], len(body["periods"])), ("R1", -47_353, 48))
+        self.assertEqual((first["credited"], first["charge_pence"], first["share_pence"]), ("10.0000000000", -50_000, 2_647))
 
     def test_an_account(self):
         """By the latest run of the date, R1: in period 1 at 60 pounds, in the others nothing."""
