@@ -2,9 +2,10 @@
 //! replies are those that the market's rules give.
 
 use crate::office_tests::{MOMENT, OPERATOR, file, office};
+use hh_devices::MemorySink;
 use hh_names::{Account, Fault, Refusal};
 use hh_num::Pence;
-use hh_office::{Action, Bytes, Office, Reply, Request};
+use hh_office::{Action, Bytes, Office, Reply, Report, ReportStop, Request};
 use hh_rows::FileKind;
 use hh_runs::{RunKind, Summary};
 use hh_store::{PlainTables, RunKey};
@@ -93,12 +94,17 @@ fn ask(desk: &mut Desk, alloc: Global, key: &[u8], action: Action) -> Option<Rep
     Some(desk.handle(LATER, &request))
 }
 
-/// The summary of a run that is ordered with the operator's key.
-fn ran(desk: &mut Desk, alloc: Global, kind: RunKind) -> Option<Summary> {
-    let run = RunKey {
+/// A run of the day.
+fn run_of(kind: RunKind) -> Option<RunKey> {
+    Some(RunKey {
         date: date()?,
         kind,
-    };
+    })
+}
+
+/// The summary of a run that is ordered with the operator's key.
+fn ran(desk: &mut Desk, alloc: Global, kind: RunKind) -> Option<Summary> {
+    let run = run_of(kind)?;
     let reply = ask(desk, alloc, OPERATOR, Action::Run(run))?;
     match &reply {
         Reply::Ran { summary, .. } => Some(*summary),
@@ -211,4 +217,36 @@ fn a_key_shows_its_own_accounts(rt: HostRuntime) {
     assert!(rt; moved(&mut desk, alloc, b"genco0001", b"SUPCO-C").is_none());
     assert!(rt; run_count(&mut desk, alloc, b"newco0001").is_none());
     assert!(rt; run_count(&mut desk, alloc, b"genco0001") == Some(1));
+}
+
+/// How many bytes a report has that is asked for with a key; or why it is not written.
+fn reported(
+    desk: &mut Desk,
+    alloc: Global,
+    key: &[u8],
+    report: &Report,
+) -> Option<Result<usize, ReportStop>> {
+    let mut sink = MemorySink::with_room(alloc, 30_000).ok()?;
+    match desk.report(key, report, &mut sink) {
+        Ok(()) => Some(Ok(sink.taken().len())),
+        Err(stop) => Some(Err(stop)),
+    }
+}
+
+#[test]
+fn reports_are_the_operators(rt: HostRuntime) {
+    let mut desk = settled_desk(&rt);
+    let alloc = rt.alloc();
+    let (Some(there), Some(missing)) = (run_of(RunKind::SF), run_of(RunKind::R3)) else {
+        panic!(rt; "runs");
+    };
+    let forbidden = Some(Err(ReportStop::Refused(Fault::of(Refusal::Forbidden))));
+    let no_run = Some(Err(ReportStop::Refused(Fault::of(Refusal::NoRun))));
+    assert!(rt; reported(&mut desk, alloc, OPERATOR, &Report::Day(there)) == Some(Ok(26_984)));
+    assert!(rt; reported(&mut desk, alloc, OPERATOR, &Report::Results(there)) == Some(Ok(15_613)));
+    assert!(rt; reported(&mut desk, alloc, OPERATOR, &Report::Balances) == Some(Ok(63)));
+    assert!(rt; reported(&mut desk, alloc, OPERATOR, &Report::Day(missing)) == no_run);
+    assert!(rt; reported(&mut desk, alloc, OPERATOR, &Report::Results(missing)) == no_run);
+    assert!(rt; reported(&mut desk, alloc, b"genco0001", &Report::Day(missing)) == forbidden);
+    assert!(rt; reported(&mut desk, alloc, b"genco0001", &Report::Balances) == forbidden);
 }
