@@ -35,7 +35,7 @@ module _ (before between after : Option (List ℕ)) (counted counts : ℕ) where
   whole_report (Ok text) u (went, same) = (text, inl refl, went)
   whole_report (Err why) u none = absurd none
 
-  pub cut_report : (report : Result (List ℕ) Refusal) → ReportsAs {A = Unit {0}} before between counted counts report (Err Write)
+  pub cut_report : (report : Result (List ℕ) Refusal) → ReportsAs before between counted counts {A = Unit {0}} report (Err Write)
       → (text : List ℕ) × IsOut report text × AppendsFront before between text
   cut_report (Ok text) (went, failed) = (text, inl refl, went)
   cut_report (Err why) none = absurd none
@@ -46,7 +46,7 @@ module _ (before between after : Option (List ℕ)) (counted counts : ℕ) where
     refused_as true up why is = inr ([], [], fault, refl, up, refl)
     refused_as false up why is = inl (ap refusal_line is)
 
-    pub told_report : (report : Result (List ℕ) Refusal) → ReportsAs {A = Unit {0}} before between counted counts report (Err (Refused fault))
+    pub told_report : (report : Result (List ℕ) Refusal) → ReportsAs before between counted counts {A = Unit {0}} report (Err (Refused fault))
         → TellsLine between after (Replied (reply.Refused fault)) → (text : List ℕ) × IsOut report text × Appends before after text
     told_report (Ok text) ((front, rest, cut, went), (up, same)) (inl told) =
         (front ++ refusal_line fault, inr (front, rest, fault, cut, up, refl), appends_more before between after front (refusal_line fault) went told)
@@ -57,7 +57,7 @@ module _ (before between after : Option (List ℕ)) (counted counts : ℕ) where
     told_report (Err why) (is, (none, same)) (inr (refusal, told)) =
         (refusal_line memory_fault, inr ([], [], memory_fault, refl, refl, refl), subst (λ b. Appends b after (refusal_line memory_fault)) none told)
 
-    pub begun_report : (report : Result (List ℕ) Refusal) → ReportsAs {A = Unit {0}} before between counted counts report (Err (Refused fault))
+    pub begun_report : (report : Result (List ℕ) Refusal) → ReportsAs before between counted counts {A = Unit {0}} report (Err (Refused fault))
         → BeginsLine between after (Replied (reply.Refused fault)) → (text : List ℕ) × IsOut report text × AppendsFront before after text
     begun_report (Ok text) ((front, rest, cut, went), (up, same)) (inl told) =
         (front ++ refusal_line fault, inr (front, rest, fault, cut, up, refl), front_behind before between after front (refusal_line fault) went told)

@@ -27,4 +27,6 @@ pub use serve::{ServeFault, Served, serve_one};
 #[cfg(test)]
 mod reply_tests;
 #[cfg(test)]
+mod serve_tests;
+#[cfg(test)]
 mod tests;

@@ -18,7 +18,7 @@ returns-in-Err-Refused-clause-done g c =
     OnOk-map c.tell_refused.result _ _
     (λ told s stands. told_report (taken old) (taken mid) (taken c.tell_refused.new.out) (failures old) (failures mid) fault
     (report_for (midnight_of c.args.office.now) s key (report_asked c.args.line.now.report))
-    (subst (λ r. ReportsAs {A = Unit {0}} (taken old) (taken mid) (failures old) (failures mid) (report_for (midnight_of c.args.office.now) s key r) (Err (Refused fault)))
+    (subst (λ r. ReportsAs (taken old) (taken mid) (failures old) (failures mid) {A = Unit {0}} (report_for (midnight_of c.args.office.now) s key r) (Err (Refused fault)))
     c.asked_for.ensures (c.in-Err-Refused.ensures.reports s stands)) told) c.tell_refused.ensures.told
 
 pub returns-in-Err-Refused-clause-cut : goal.returns-in-Err-Refused-clause-cut
@@ -32,7 +32,7 @@ returns-in-Err-Refused-clause-cut g c =
     OnErr-map c.tell_refused.result _ _
     (λ told s stands. begun_report (taken old) (taken mid) (taken c.tell_refused.new.out) (failures old) (failures mid) fault
     (report_for (midnight_of c.args.office.now) s key (report_asked c.args.line.now.report))
-    (subst (λ r. ReportsAs {A = Unit {0}} (taken old) (taken mid) (failures old) (failures mid) (report_for (midnight_of c.args.office.now) s key r) (Err (Refused fault)))
+    (subst (λ r. ReportsAs (taken old) (taken mid) (failures old) (failures mid) {A = Unit {0}} (report_for (midnight_of c.args.office.now) s key r) (Err (Refused fault)))
     c.asked_for.ensures (c.in-Err-Refused.ensures.reports s stands)) told) c.tell_refused.ensures.cut
 
 pub returns-in-Err-Write-clause-cut : goal.returns-in-Err-Write-clause-cut
@@ -44,5 +44,5 @@ returns-in-Err-Write-clause-cut g c =
     let key = c.args.line.now.key.now in
     λ s stands. cut_report (taken old) (taken mid) (taken mid) (failures old) (failures mid)
     (report_for (midnight_of c.args.office.now) s key (report_asked c.args.line.now.report))
-    (subst (λ r. ReportsAs {A = Unit {0}} (taken old) (taken mid) (failures old) (failures mid) (report_for (midnight_of c.args.office.now) s key r) (Err Write))
+    (subst (λ r. ReportsAs (taken old) (taken mid) (failures old) (failures mid) {A = Unit {0}} (report_for (midnight_of c.args.office.now) s key r) (Err Write))
     c.asked_for.ensures (c.in-Err-Write.ensures.reports s stands))
