@@ -69,7 +69,11 @@ fn tell_reply<O: Sink>(
 }
 
 /// Tells a refusal, or that of memory where memory is refused for its line.
-pub(crate) fn tell_refused<O: Sink>(alloc: Global, fault: Fault, out: &mut O) -> Result<(), DeviceFailed>
+pub(crate) fn tell_refused<O: Sink>(
+    alloc: Global,
+    fault: Fault,
+    out: &mut O,
+) -> Result<(), DeviceFailed>
     ensures told { OnOk result (TellsLine (O.taken out.old) (O.taken out.new)
         (Replied (Refused fault))) }
     ensures well { OnOk result (O.failures out.new ≡ O.failures out.old) }

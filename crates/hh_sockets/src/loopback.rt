@@ -35,6 +35,7 @@ pub trait Loopback {
 /// What awaits connections on a port.
 pub trait Listener {
     type Source: Source + Drop;
+
     type Sink: Sink + Drop;
 
     /// The port.

@@ -23,6 +23,7 @@ impl Loopback for NoLoopback {
 
 impl Listener for NoListener {
     type Source = MemorySource<'static>;
+
     type Sink = MemorySink;
 
     ghost port_of = { λ l. l.port };

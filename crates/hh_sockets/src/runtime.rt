@@ -54,6 +54,7 @@ where
     L::Stream: std::io::Read + std::io::Write + OpenStream + Drop,
 {
     type Source = StreamSource<L::Stream>;
+
     type Sink = StreamSink<L::Stream>;
 
     ghost port_of = { λ l. l.port };

@@ -78,11 +78,7 @@ fn office(alloc: Global) -> Result<Office<'static, PlainTables>, Fail> {
         lead_minutes: LeadMinutes::default(),
         operator_key: OperatorKey::read(OPERATOR).ok_or("key")?,
     };
-    Ok(Office::new(
-        alloc,
-        PlainTables::new(alloc, settings),
-        london(),
-    ))
+    Ok(Office::new(alloc, PlainTables::new(alloc, settings), london()))
 }
 
 #[test]
@@ -124,9 +120,18 @@ fn reports_have_names_of_their_own(rt: HostRuntime) -> Result<(), Fail> {
     let no_run = Err(ReportStop::Refused(Fault::of(Refusal::NoRun)));
     let forbidden = Err(ReportStop::Refused(Fault::of(Refusal::Forbidden)));
     let mut out = MemorySink::with_room(alloc, 100)?;
-    assert_eq!(rt; office.report_day(OPERATOR, date, RunKind::SF, &mut out), no_run);
-    assert_eq!(rt; office.report_results(OPERATOR, date, RunKind::SF, &mut out), no_run);
-    assert_eq!(rt; office.report_day(GENCO, date, RunKind::SF, &mut out), forbidden);
+    assert_eq!(rt;
+        office.report_day(OPERATOR, date, RunKind::SF, &mut out),
+        no_run
+    );
+    assert_eq!(rt;
+        office.report_results(OPERATOR, date, RunKind::SF, &mut out),
+        no_run
+    );
+    assert_eq!(rt;
+        office.report_day(GENCO, date, RunKind::SF, &mut out),
+        forbidden
+    );
     assert_eq!(rt; office.report_balances(GENCO, &mut out), forbidden);
     assert_eq!(rt; office.report_balances(OPERATOR, &mut out), Ok(()));
     assert_eq!(rt; out.taken(), b"account,moved_pence\n".as_slice());

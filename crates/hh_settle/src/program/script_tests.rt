@@ -180,7 +180,14 @@ fn runs<R: AllocGlobal + Abort>(
     )?;
     let mut out = MemorySink::with_room(alloc, room)?;
     let mut err = MemorySink::with_room(alloc, 4096)?;
-    let made = command(alloc, &MemoryInputs::new(files), &NoLoopback, &words, &mut out, &mut err);
+    let made = command(
+        alloc,
+        &MemoryInputs::new(files),
+        &NoLoopback,
+        &words,
+        &mut out,
+        &mut err,
+    );
     assert_eq!(rt; out.taken(), out_text.as_bytes());
     assert_eq!(rt; err.taken(), err_text.as_bytes());
     assert_eq!(rt; made, status);

@@ -168,7 +168,14 @@ fn wrong_words_are_told(rt: HostRuntime) -> Result<(), Fail> {
     for room in [0, 4096] {
         let mut out = MemorySink::with_room(alloc, 4096)?;
         let mut err = MemorySink::with_room(alloc, room)?;
-        let status = command(alloc, &MemoryInputs::new(&[]), &NoLoopback, &[], &mut out, &mut err);
+        let status = command(
+            alloc,
+            &MemoryInputs::new(&[]),
+            &NoLoopback,
+            &[],
+            &mut out,
+            &mut err,
+        );
         assert_eq!(&rt; status, 2);
         assert_eq!(&rt; out.taken().is_empty(), true);
         assert_eq!(&rt; err.taken().is_empty(), room == 0);

@@ -19,7 +19,9 @@ returns-in-Err-Refused-clause-done g c =
     (λ told s stands. told_report (taken old) (taken mid) (taken c.tell_refused.new.out) (failures old) (failures mid) fault
     (report_for (midnight_of c.args.office.now) s key (report_asked c.args.line.now.report))
     (subst (λ r. ReportsAs (taken old) (taken mid) (failures old) (failures mid) {A = Unit {0}} (report_for (midnight_of c.args.office.now) s key r) (Err (Refused fault)))
-    c.asked_for.ensures (c.in-Err-Refused.ensures.reports s stands)) told) c.tell_refused.ensures.told
+    c.asked_for.ensures
+    (subst (λ stop. ReportsAs (taken old) (taken mid) (failures old) (failures mid) {A = Unit {0}} (report_for (midnight_of c.args.office.now) s key c.asked_for.result) (Err stop))
+    c.in-Err-Refused.field-0-is (c.in-Err-Refused.ensures.reports s stands))) told) c.tell_refused.ensures.told
 
 pub returns-in-Err-Refused-clause-cut : goal.returns-in-Err-Refused-clause-cut
 returns-in-Err-Refused-clause-cut g c =
@@ -33,7 +35,9 @@ returns-in-Err-Refused-clause-cut g c =
     (λ told s stands. begun_report (taken old) (taken mid) (taken c.tell_refused.new.out) (failures old) (failures mid) fault
     (report_for (midnight_of c.args.office.now) s key (report_asked c.args.line.now.report))
     (subst (λ r. ReportsAs (taken old) (taken mid) (failures old) (failures mid) {A = Unit {0}} (report_for (midnight_of c.args.office.now) s key r) (Err (Refused fault)))
-    c.asked_for.ensures (c.in-Err-Refused.ensures.reports s stands)) told) c.tell_refused.ensures.cut
+    c.asked_for.ensures
+    (subst (λ stop. ReportsAs (taken old) (taken mid) (failures old) (failures mid) {A = Unit {0}} (report_for (midnight_of c.args.office.now) s key c.asked_for.result) (Err stop))
+    c.in-Err-Refused.field-0-is (c.in-Err-Refused.ensures.reports s stands))) told) c.tell_refused.ensures.cut
 
 pub returns-in-Err-Write-clause-cut : goal.returns-in-Err-Write-clause-cut
 returns-in-Err-Write-clause-cut g c =
@@ -45,4 +49,6 @@ returns-in-Err-Write-clause-cut g c =
     λ s stands. cut_report (taken old) (taken mid) (taken mid) (failures old) (failures mid)
     (report_for (midnight_of c.args.office.now) s key (report_asked c.args.line.now.report))
     (subst (λ r. ReportsAs (taken old) (taken mid) (failures old) (failures mid) {A = Unit {0}} (report_for (midnight_of c.args.office.now) s key r) (Err Write))
-    c.asked_for.ensures (c.in-Err-Write.ensures.reports s stands))
+    c.asked_for.ensures
+    (subst (λ stop. ReportsAs (taken old) (taken mid) (failures old) (failures mid) {A = Unit {0}} (report_for (midnight_of c.args.office.now) s key c.asked_for.result) (Err stop))
+    c.in-Err-Write.field-0-is (c.in-Err-Write.ensures.reports s stands)))
