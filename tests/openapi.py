@@ -1,0 +1,155 @@
+"""What docs/openapi.yaml says of the office over HTTP, and whether a reply is as it says. Python has no reader of
+YAML, so this reads the part of it that the file keeps to."""
+import json
+import re
+
+from programs import HOME
+
+PATH = HOME / "docs" / "openapi.yaml"
+WHOLE = re.compile(r"\A-?(0|[1-9][0-9]*)\Z")
+
+
+class Lines:
+    """The lines of a file that are left to read, each with its indent."""
+
+    def __init__(self, text):
+        lines = [line for line in text.splitlines() if line.strip()]
+        self.left = [(len(line) - len(line.lstrip()), line.strip()) for line in reversed(lines)]
+
+    def indent(self):
+        return self.left[-1][0] if self.left else -1
+
+    def value(self):
+        """The mapping or the list that begins at the next line."""
+        return self.items() if self.left[-1][1].startswith("- ") else self.mapping()
+
+    def items(self):
+        indent, found = self.indent(), []
+        while self.indent() == indent:
+            text = self.left.pop()[1]
+            if not text.startswith("- "):
+                raise ValueError(f"no item: {text}")
+            self.left.append((indent + 2, text[2:]))
+            found.append(self.mapping())
+        return found
+
+    def mapping(self):
+        indent, found = self.indent(), {}
+        while self.indent() == indent:
+            key, colon, text = self.left.pop()[1].partition(":")
+            key = scalar(key)
+            if not colon or text[:1] not in ("", " ") or key in found:
+                raise ValueError(f"no new key: {key}{colon}{text}")
+            found[key] = self.behind(indent, text.strip())
+        return found
+
+    def behind(self, indent, text):
+        """What stands behind a key: a text on its line or on those below it, or what is indented there."""
+        if text == ">-":
+            folded = []
+            while self.indent() > indent:
+                folded.append(self.left.pop()[1])
+            return " ".join(folded)
+        if text:
+            return flow(text)
+        if self.indent() <= indent:
+            raise ValueError("nothing stands behind a key")
+        return self.value()
+
+
+def flow(text):
+    """A text, a number, a word, or a list of these in brackets."""
+    if text.startswith("["):
+        inner = text.removeprefix("[").removesuffix("]")
+        return [scalar(item.strip()) for item in inner.split(",")] if inner else []
+    return scalar(text)
+
+
+def scalar(text):
+    if text.startswith("'"):
+        return text[1:-1].replace("''", "'")
+    if text in ("true", "false"):
+        return text == "true"
+    return int(text) if WHOLE.match(text) else text
+
+
+class Description:
+    """The office as the file describes it."""
+
+    def __init__(self):
+        self.whole = Lines(PATH.read_text(encoding="utf-8")).value()
+        self.parts = self.whole["components"]
+
+    def resolved(self, part):
+        """A part, or the one that it refers to."""
+        while "$ref" in part:
+            found = self.whole
+            for name in part["$ref"].removeprefix("#/").split("/"):
+                found = found[name]
+            part = found
+        return part
+
+    def operations(self):
+        """Each method and path with what is said of it."""
+        for path, methods in self.whole["paths"].items():
+            for method, operation in methods.items():
+                yield method.upper(), path, operation
+
+    def path_of(self, target):
+        """The path that a target is one of, if it is one of some; its parts need not read."""
+        parts = target.split("/")
+        for path in self.whole["paths"]:
+            names = path.split("/")
+            if len(names) == len(parts) and all(n == p or n.startswith("{") for n, p in zip(names, parts)):
+                return path
+        return None
+
+    def response_to(self, method, target, status):
+        """What is said of a reply, which is none of an operation where the path or its method is not there."""
+        path = self.path_of(target)
+        operation = self.whole["paths"].get(path, {}).get(method.lower())
+        if operation is None:
+            names = {404: "NoRoute", 405: "BadMethod", 400: "BadRequest"}
+            return self.parts["responses"][names[status]]
+        return self.resolved(operation["responses"][str(status)])
+
+    def faults(self, method, target, status, headers, body):
+        """In what a reply is not as the file says."""
+        response = self.response_to(method, target, status)
+        wanted = {name for name, header in response.get("headers", {}).items() if header.get("required")}
+        found = [f"no header {name}" for name in wanted - headers.keys()]
+        for name in wanted & headers.keys():
+            found += self.differences(response["headers"][name]["schema"], headers[name], name)
+        (kind, content), = response["content"].items()
+        if headers["Content-Type"] != kind:
+            found.append(f"content of type {headers['Content-Type']}")
+        if method == "HEAD":
+            return found
+        return found + self.differences(content["schema"], json.loads(body), "body")
+
+    def differences(self, schema, value, at):
+        """In what a value is not of a schema."""
+        schema = self.resolved(schema)
+        kinds = {"object": dict, "array": list, "string": str, "integer": int}
+        if not isinstance(value, kinds[schema["type"]]):
+            return [f"{at}: {value!r} is no {schema['type']}"]
+        found = [f"{at}: {value!r} {why}" for why in self.misfits(schema, value)]
+        if isinstance(value, dict):
+            names = schema["properties"]
+            found += [f"{at} lacks {name}" for name in schema["required"] if name not in value]
+            found += [f"{at} has {name}" for name in value if name not in names]
+            for name in names.keys() & value.keys():
+                found += self.differences(names[name], value[name], f"{at}.{name}")
+        if isinstance(value, list):
+            for number, item in enumerate(value):
+                found += self.differences(schema["items"], item, f"{at}[{number}]")
+        return found
+
+    def misfits(self, schema, value):
+        """What a text or number breaks of a schema."""
+        if value not in schema.get("enum", [value]):
+            yield "is none of those that may stand there"
+        if "pattern" in schema and not re.search(schema["pattern"], value):
+            yield "is off its pattern"
+        if isinstance(value, int) and not schema.get("minimum", value) <= value <= schema.get("maximum", value):
+            yield "is out of its range"

@@ -1,0 +1,243 @@
+"""docs/http.md and docs/openapi.yaml: a script serves the example market, each command of the page is sent as bytes and
+by `curl`, and what comes is compared with both. What no page shows is in test_serving.py."""
+import csv
+import io
+import json
+import re
+import shlex
+import shutil
+import socket
+import subprocess
+import sys
+import unittest
+
+from openapi import Description
+from programs import HOME, SETTLE, need
+from test_desk import DAY, HEADERS, Desk
+
+PATIENCE = 60
+PAGE = HOME / "docs" / "http.md"
+ADDRESS = "127.0.0.1:8080"
+BLOCK = re.compile(r"^```[^\n`]*\n(.*?)^```[ \t]*$", re.MULTILINE | re.DOTALL)
+LISTENING = re.compile(rb"\Alistening 127\.0\.0\.1:([0-9]+)\n\Z")
+
+
+class Served:
+    """A script that serves connections while a test runs. It has to end by itself."""
+
+    def __init__(self, test, script, operator, before):
+        words = [SETTLE, "script", "--operator-key", operator, script]
+        how = {"stdin": subprocess.DEVNULL, "stdout": subprocess.PIPE, "stderr": subprocess.PIPE}
+        self.made = subprocess.Popen(words, cwd=HOME, **how)
+        test.addCleanup(self.stop)
+        self.test = test
+        for line in before:
+            test.assertEqual(self.made.stdout.readline().decode(), f"{line}\n")
+        line = self.made.stdout.readline()
+        test.assertRegex(line, LISTENING)
+        self.port = int(LISTENING.match(line)[1])
+
+    def stop(self):
+        self.made.kill()
+        self.made.wait()
+        self.made.stdout.close()
+        self.made.stderr.close()
+
+    def ask(self, sent):
+        """The reply to these bytes."""
+        with socket.create_connection(("127.0.0.1", self.port), timeout=PATIENCE) as client:
+            client.sendall(sent)
+            return b"".join(iter(lambda: client.recv(65_536), b""))
+
+    def end(self):
+        """The script ends, and prints nothing more."""
+        written, told = self.made.communicate(timeout=PATIENCE)
+        self.test.assertEqual((self.made.returncode, written, told), (0, b"", b""))
+
+
+class Exchange:
+    """A command of the page, and what it prints."""
+
+    def __init__(self, command, printed):
+        self.command, self.printed = command, printed
+        self.before, _, words = command.rpartition(" | ")
+        self.method, self.target, self.data, self.shown, self.headers = "GET", None, None, "body", {}
+        words = iter(shlex.split(words)[1:])
+        for word in words:
+            self.take(word, words)
+
+    def take(self, word, words):
+        """An option, or the address."""
+        if word == "-X":
+            self.method = next(words)
+        elif word == "-H":
+            name, _, value = next(words).partition(":")
+            self.headers[name] = value.strip()
+        elif word == "--data-binary":
+            self.method, self.data = "POST", next(words)
+        elif word in ("-si", "-sI"):
+            self.shown = "whole"
+            self.method = "HEAD" if word == "-sI" else self.method
+        elif word == "-sw":
+            assert next(words) == r" %{http_code}\n", self.command
+        else:
+            assert word.startswith(f"http://{ADDRESS}/"), self.command
+            self.target = word.removeprefix(f"http://{ADDRESS}")
+
+    def body(self):
+        """What is sent behind the head."""
+        if self.data is None:
+            return b""
+        if self.data == "@-":
+            return subprocess.run(["sh", "-c", self.before], cwd=HOME, check=True, capture_output=True).stdout
+        return (HOME / self.data.removeprefix("@")).read_bytes()
+
+    def sent(self):
+        """The bytes of the request. A header without a value is left out, as `curl` does."""
+        body = self.body()
+        headers = {"Host": "localhost", **self.headers}
+        if self.data is not None and "Transfer-Encoding" not in headers:
+            headers["Content-Length"] = str(len(body))
+        lines = [f"{name}: {value}" for name, value in headers.items() if value]
+        return "".join(f"{line}\r\n" for line in [f"{self.method} {self.target} HTTP/1.1", *lines, ""]).encode() + body
+
+    def as_printed(self, answer):
+        """What `curl` prints of a reply."""
+        if self.shown == "whole":
+            return answer
+        head, _, body = answer.partition(b"\r\n\r\n")
+        return body + b" " + head.split(b" ")[1] + b"\n"
+
+    def differs(self, printed):
+        """Whether something else is printed than the page has; `..` there stands for what is left out."""
+        printed = printed.decode().replace("\r\n", "\n").rstrip("\n")
+        first, dots, last = self.printed.rstrip("\n").partition("..")
+        if not dots:
+            return printed != first
+        return not (printed.startswith(first) and printed.endswith(last) and len(printed) > len(first) + len(last))
+
+
+def blocks_of_page():
+    return BLOCK.findall(PAGE.read_text(encoding="utf-8"))
+
+
+def exchanges():
+    """The commands of the page in order."""
+    blocks = blocks_of_page()
+    found = [Exchange(one.strip(), two) for one, two in zip(blocks, blocks[1:]) if re.search(r"(^|\| )curl ", one)]
+    assert len(found) > 40, "the page has lost its commands"
+    return found
+
+
+def parts_of(answer):
+    """The status, the headers and the body of a reply."""
+    head, _, body = answer.decode().partition("\r\n\r\n")
+    first, *lines = head.split("\r\n")
+    return int(first.split(" ")[1]), dict(line.split(": ", 1) for line in lines), body
+
+
+class ThePage(Desk):
+    """docs/http.md, over the example market."""
+
+    def setUp(self):
+        super().setUp()
+        need(SETTLE)
+        self.exchanges = exchanges()
+
+    def start(self):
+        """Serves the market as the page says, on a free port and for as many connections as it has commands."""
+        command, printed = next((one, two) for one, two in zip(blocks_of_page(), blocks_of_page()[1:]) if "./settle" in one)
+        words = command.split()
+        *files, line = (HOME / words[-1]).read_text().splitlines()
+        self.assertRegex(line, r"\Aserve [0-9]+ 8080 1000000\Z")
+        line = line.replace(" 8080 1000000", f" 0 {len(self.exchanges)}")
+        *before, listening = printed.splitlines()
+        self.assertEqual(listening, f"listening {ADDRESS}")
+        return Served(self, self.file("served", "\n".join([*files, line])), words[words.index("--operator-key") + 1], before)
+
+    def replies_to_bytes(self):
+        """Each exchange with the reply to it."""
+        office = self.start()
+        found = [(exchange, office.ask(exchange.sent())) for exchange in self.exchanges]
+        office.end()
+        return found
+
+    def test_as_bytes(self):
+        for exchange, answer in self.replies_to_bytes():
+            with self.subTest(exchange.command):
+                printed = exchange.as_printed(answer)
+                self.assertFalse(exchange.differs(printed), printed)
+
+    def test_by_curl(self):
+        """Each command as it stands, but for the port. Without `curl` its bytes are sent by test_as_bytes alone."""
+        if shutil.which("curl") is None:
+            return
+        office = self.start()
+        for exchange in self.exchanges:
+            with self.subTest(exchange.command):
+                command = exchange.command.replace(ADDRESS, f"127.0.0.1:{office.port}")
+                how = {"cwd": HOME, "capture_output": True, "timeout": PATIENCE, "stdin": subprocess.DEVNULL}
+                made = subprocess.run(["sh", "-c", command], **how)
+                self.assertEqual((made.returncode, made.stderr), (0, b""))
+                self.assertFalse(exchange.differs(made.stdout), made.stdout)
+        office.end()
+
+    def test_the_replies_are_as_openapi_says(self):
+        description = Description()
+        shown = set()
+        for exchange, answer in self.replies_to_bytes():
+            with self.subTest(exchange.command):
+                status, headers, body = parts_of(answer)
+                self.assertEqual(description.faults(exchange.method, exchange.target, status, headers, body), [])
+                shown.add((exchange.method, description.path_of(exchange.target), status))
+                if exchange.method != "HEAD":
+                    self.assertEqual(int(headers["Content-Length"]), len(body))
+        self.every_refusal_is_shown(description)
+        for method, path, operation in description.operations():
+            self.assertIn((method, path, 200), shown)
+
+    def every_refusal_is_shown(self, description):
+        """But for 90 and 91, which no command brings about."""
+        named = {}
+        for name, schema in description.parts["schemas"].items():
+            if name.startswith("Refusal"):
+                properties = schema["properties"]
+                named.update(zip(properties["refused"]["enum"], properties["name"]["enum"], strict=True))
+        text = "".join(exchange.printed for exchange in self.exchanges)
+        shown = {int(number): name for name, number in re.findall(r'"name":"(\w+)",(?:"period":\d+,)?"refused":(\d+)', text)}
+        self.assertEqual({**shown, 90: "Memory", 91: "Store"}, named)
+
+    def test_an_account_as_another_program_settles_it(self):
+        """The whole reply for an account, whose figures are those of bench/peer_office.py."""
+        wanted = [e for e in self.exchanges if e.target.startswith("/accounts/CITYSUP-C/2024-07-01")]
+        answers = {e.command: parts_of(answer)[2] for e, answer in self.replies_to_bytes()}
+        self.assertEqual(answers[wanted[0].command], self.account_of_peer("CITYSUP-C"))
+
+    def account_of_peer(self, account):
+        """The body for an account in run R1 of the page."""
+        market = HOME / "examples" / "market"
+        steps = [["init"]]
+        steps += [["load", kind, str(market / f"{kind}.csv")] for kind in HEADERS]
+        steps += [["run", DAY, "SF"], ["load", "meters", str(market / "meters-2.csv")], ["run", DAY, "R1"]]
+        for step in steps:
+            self.peer(*step)
+        rows = csv.DictReader(io.StringIO(self.peer("report", DAY, "R1")))
+        energies, pence = ("balancing", "contracts", "credited", "imbalance"), ("charge", "share")
+        periods = [
+            {name: row[name] for name in energies}
+            | {f"{name}_pence": int(row[name]) for name in pence}
+            | {"period": int(row["period"])}
+            for row in rows
+            if row["account"] == account
+        ]
+        net = sum(row["charge_pence"] + row["share_pence"] for row in periods)
+        whole = {"account": account, "date": DAY, "kind": "R1", "net_pence": net, "periods": periods}
+        return json.dumps(whole, sort_keys=True, separators=(",", ":"))
+
+    def peer(self, command, *words):
+        call = [sys.executable, str(HOME / "bench" / "peer_office.py"), command, str(self.room / "peer.db"), *words]
+        return subprocess.run(call, check=True, capture_output=True, text=True).stdout
+
+
+if __name__ == "__main__":
+    unittest.main()
