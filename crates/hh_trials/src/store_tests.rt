@@ -1,21 +1,15 @@
 //! What no clause says: that a change and a file hold what they were made with, with ample memory.
 
-use hh_calc::AccountRow;
-use hh_devices::MemorySink;
 use hh_names::{
     AccessKey, Account, Counterparties, Fault, FileName, OperatorKey, PartyId, PeriodNumber,
     Reference, Refusal, Side, UnitId,
 };
-use hh_num::{Pence, Price, Ticks};
+use hh_num::Price;
 use hh_rows::{
     DateRange, FileKind, LeadMinutes, PartyRegistration, PartyRow, PriceRow, Row, Settings,
     SettlementPeriod,
 };
-use hh_runs::{RunKind, Summary};
-use hh_store::{
-    KeptFile, LoadChange, OutputFault, PlainTables, PostingKey, ResultKey, RunChange, RunKey,
-    StoreFault, Tables,
-};
+use hh_store::{KeptFile, LoadChange, PlainTables, StoreFault, Tables};
 use hh_time::SettlementDate;
 use std::alloc::Global;
 use std::test::Fail;
@@ -132,68 +126,5 @@ fn plain_tables_have_nothing_of_others(rt: HostRuntime) -> Result<(), Fail> {
     let row = party_row().ok_or("row")?;
     let part = tables.register(&[row]);
     assert!(rt; part.is_ok_and(|part| part.party_count() == 1 && part.party(&party).is_some()));
-    Ok(())
-}
-
-/// A run with the row of an account in its one period, which posts 38 pence to the account.
-fn run_change(alloc: Global, run: RunKey) -> Option<RunChange> {
-    let account = Account::read(b"GENCO-P")?;
-    let row = AccountRow {
-        account,
-        credited: Ticks::of(995_000_000_000),
-        balancing: Ticks::of(0),
-        contracts: Ticks::of(990_000_000_000),
-        imbalance: Ticks::of(5_000_000_000),
-        charge: Pence::of(-2500),
-        share: Pence::of(2538),
-    };
-    let key = ResultKey {
-        run,
-        period: PeriodNumber::new(1)?,
-        account,
-    };
-    let summary = Summary {
-        periods: 1,
-        accounts: 1,
-        residual: Pence::of(2500),
-        postings: 1,
-    };
-    let results = vec![in alloc; (key, row)].ok()?;
-    let postings = vec![in alloc; (PostingKey { run, account }, Pence::of(38))].ok()?;
-    Some(RunChange::new(run, summary, results, Vec::new(alloc), postings))
-}
-
-/// The day report of that run.
-const DAY_REPORT: &str =
-    "DAY REPORT 2024-07-01 SF\nPER ACCOUNT                  CREDITED            BALANCING            CONTRACTS            IMBALANCE         CHARGE          SHARE\n  1 GENCO-P             99.5000000000         0.0000000000        99.0000000000         0.5000000000          -2500           2538\n  1 RESIDUAL               2500\nNET GENCO-P                    38\nEND\n";
-
-/// The results of that run.
-const RESULTS: &str =
-    "date,kind,account,period,credited,balancing,contracts,imbalance,charge,share\n2024-07-01,SF,GENCO-P,1,99.5000000000,0.0000000000,99.0000000000,0.5000000000,-2500,2538\n";
-
-#[test]
-fn plain_tables_write_reports(rt: HostRuntime) -> Result<(), Fail> {
-    let mut tables = tables_with_a_party(rt.alloc()).ok_or("tables")?;
-    let run = RunKey {
-        date: SettlementDate::new(19_905).ok_or("date")?,
-        kind: RunKind::SF,
-    };
-    let change = run_change(rt.alloc(), run).ok_or("change")?;
-    assert!(rt; tables.apply_run(change).is_ok());
-    let mut sink = MemorySink::with_room(rt.alloc(), 1000)?;
-    assert_eq!(rt; tables.day_report(&run, &mut sink), Ok(()));
-    assert_eq!(rt; sink.taken(), DAY_REPORT.as_bytes());
-    let mut sink = MemorySink::with_room(rt.alloc(), 1000)?;
-    assert_eq!(rt; tables.export(&run, &mut sink), Ok(()));
-    assert_eq!(rt; sink.taken(), RESULTS.as_bytes());
-    let mut sink = MemorySink::with_room(rt.alloc(), 1000)?;
-    assert_eq!(rt; tables.balances(&mut sink), Ok(()));
-    assert_eq!(rt;
-        sink.taken(),
-        b"account,moved_pence\nGENCO-P,38\nGENCO-C,0\n".as_slice()
-    );
-    let mut narrow = MemorySink::with_room(rt.alloc(), 20)?;
-    assert_eq!(rt; tables.balances(&mut narrow), Err(OutputFault::Write));
-    assert_eq!(rt; narrow.taken(), b"account,moved_pence\n".as_slice());
     Ok(())
 }
