@@ -6,6 +6,7 @@ files before, and the nanoseconds that `hh_bench` tells are not compared. A scri
 that was refused memory. The first run in which nothing was refused any more ends the turn. A C
 compiler builds what refuses, `failing_malloc.c`.
 """
+import itertools
 import os
 import pathlib
 import shutil
@@ -136,6 +137,71 @@ RUNS = [
 ]
 
 
+# What each account has in period 1 of that day's run: credited energy, contracts and imbalance in MWh, charge and share
+# in pence. In the other periods nobody has anything.
+NOTHING = (0, 0, 0, 0, 0)
+IN_PERIOD_1 = {"A-P": (1, 1, 0, 0, 1000), "A-C": NOTHING, "B-P": NOTHING, "B-C": (0, -1, 1, -1000, 0)}
+WITHOUT_UNITS = {**IN_PERIOD_1, "A-P": (0, 1, -1, 1000, 0)}
+WITHOUT_CONTRACT = {**dict.fromkeys(IN_PERIOD_1, NOTHING), "A-P": (1, 0, 1, -1000, 1000)}
+HEADS = ["PER", "ACCOUNT", "CREDITED", "BALANCING", "CONTRACTS", "IMBALANCE", "CHARGE", "SHARE"]
+COLUMNS = "date,kind,account,period,credited,balancing,contracts,imbalance,charge,share"
+
+
+def rows_of(accounts):
+    """The period, the account and the figures of each row, where accounts have these in period 1."""
+    for period in range(1, 49):
+        for account, figures in accounts.items():
+            credited, contracts, imbalance, charge, share = figures if period == 1 else NOTHING
+            energies = [f"{energy}.0000000000" for energy in (credited, 0, contracts, imbalance)]
+            yield period, account, [*energies, charge, share]
+
+
+def account_line(fields):
+    return f"{fields[0]:>3} {fields[1]:<12} " + " ".join(f"{field:>20}" for field in fields[2:6]) + f" {fields[6]:>14} {fields[7]:>14}"
+
+
+def day_report(accounts):
+    """The day report of SF, where accounts have these figures in period 1."""
+    lines = [f"DAY REPORT {DAY} SF", account_line(HEADS)]
+    for period in range(1, 49):
+        rows = [(account, figures) for at, account, figures in rows_of(accounts) if at == period]
+        lines += [account_line([period, account, *figures]) for account, figures in rows]
+        lines.append(f"{period:>3} {'RESIDUAL':<12} {-sum(figures[4] for _, figures in rows):>14}")
+    lines += [f"NET {account:<12} {figures[3] + figures[4]:>16}" for account, figures in accounts.items()]
+    return "\n".join([*lines, "END"]).encode()
+
+
+def results(accounts):
+    """The results of SF, likewise."""
+    rows = (f"{DAY},SF,{account},{period},{','.join(map(str, figures))}" for period, account, figures in rows_of(accounts))
+    return "\n".join([COLUMNS, *rows]).encode()
+
+
+def balances(accounts):
+    """The balances after SF, likewise."""
+    return "\n".join(["account,moved_pence", *(f"{account},{row[3] + row[4]}" for account, row in accounts.items())]).encode()
+
+
+def reported(form, text, without_run):
+    """A report of that day's run as the files of a script, where a text is made of what accounts have in period 1."""
+    otherwise = {
+        "prices": without_run,
+        "parties": text({}),
+        "units": text(WITHOUT_UNITS),
+        "meters": without_run,
+        "contracts": text(WITHOUT_CONTRACT),
+        "SF": without_run,
+    }
+    return form, text(IN_PERIOD_1), otherwise, None
+
+
+REPORTS = [
+    reported(f"day {DAY} SF", day_report, b"refused 63 NoRun"),
+    reported(f"csv {DAY} SF", results, b"refused 63 NoRun"),
+    reported("balances", balances, balances(dict.fromkeys(IN_PERIOD_1, NOTHING))),
+]
+
+
 @unittest.skipUnless(shutil.which("cc"), "no C compiler `cc` is on the path, so memory was not refused")
 class Refused(unittest.TestCase):
     @classmethod
@@ -160,24 +226,28 @@ class Refused(unittest.TestCase):
         return status == 1 and told == REFUSED and most.startswith(written)
 
     def is_script_answered(self, got, replies):
-        """Whether a script's run answered each line as it has to, but for at most one that was refused
-        memory, or ended with refusal 90 behind a beginning of its lines."""
+        """Whether a script's run answered each line as it has to, but for at most one that was refused memory: then
+        the line of the refusal stands in the place of the reply, or behind the first lines of a report. Or the
+        run ended with refusal 90 behind a beginning of its lines."""
         status, written, told = got
-        lines = written.splitlines()
-        whole = status == 0 and told == [] and len(lines) == len(replies)
-        ended = status == 1 and told == REFUSED and (not written or written.endswith(b"\n"))
-        if not whole and not ended:
+        ended = (status, told) == (1, REFUSED)
+        if (status, told) != (0, []) and not ended or written[-1:] not in (b"", b"\n"):
             return False
-        registered, refused = set(), status
-        for line, (reply, otherwise, registers) in zip(lines, replies):
-            wanted = next((other for what, other in otherwise.items() if what not in registered), reply)
-            if [line] == REFUSED:
-                refused += 1
-            elif line != wanted:
+        lines, registered, refused = written.splitlines(), set(), status
+        for reply, otherwise, registers in replies:
+            if ended and not lines:
+                break
+            text = next((other for what, other in otherwise.items() if what not in registered), reply)
+            wanted = text.splitlines()
+            same = sum(1 for _ in itertools.takewhile(lambda pair: pair[0] == pair[1], zip(lines, wanted)))
+            if same == len(wanted):
+                registered |= {registers} if text == reply else set()
+            elif lines[same : same + 1] == REFUSED:
+                refused, same = refused + 1, same + 1
+            else:
                 return False
-            elif line == reply:
-                registered.add(registers)
-        return refused <= 1
+            lines = lines[same:]
+        return not lines and refused <= 1
 
     def refuse_each(self, call, status, writes_by_file=False, replies=None):
         """Refuses each allocation of a call in turn. With ample memory it has this status, and a script
@@ -257,6 +327,13 @@ class Refused(unittest.TestCase):
         lines, replies = self.loads(SETTLED_DAY)
         lines += [f"run 1719874800 {OPERATOR} {DAY} {kind}\n" for kind, *_ in RUNS]
         replies += [answers for _, *answers in RUNS]
+        self.refuse_each_of_script(lines, replies)
+
+    def test_reports_of_a_script(self):
+        """The three reports after a run. One that is given up leaves whole lines, and the next is whole again."""
+        lines, replies = self.loads(SETTLED_DAY)
+        lines += [f"run 1719874800 {OPERATOR} {DAY} SF\n", *(f"report {OPERATOR} {form}\n" for form, *_ in REPORTS)]
+        replies += [RUNS[0][1:], *(answers for _, *answers in REPORTS)]
         self.refuse_each_of_script(lines, replies)
 
     def test_a_script_that_is_not_run(self):

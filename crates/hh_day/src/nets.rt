@@ -20,16 +20,19 @@ pub(crate) fn nets_of<K>(alloc: Global, rows: &[(K, AccountRow)]) -> Result<DayN
     let mut place = 0;
     for row in rows {
         add_row(&mut nets, place, &row.1)?;
-        place = place_behind(place, nets.len());
+        place = place_behind(&nets, place, &row.1);
     }
     Ok(nets)
 }
 
-/// The place behind a place among so many; behind the last it is the first. There the net of the next
-/// row's account likely lies: each Settlement Period has rows of the same accounts in the same order.
-fn place_behind(place: usize, count: usize) -> usize {
-    let next = place.saturating_add(1);
-    if next < count { next } else { 0 }
+/// The place behind that of a row's account, which likely has this one. There the net of the next row's
+/// account likely lies: each Settlement Period has rows of the same accounts in the same order.
+fn place_behind(nets: &DayNetTable, place: usize, row: &AccountRow) -> usize {
+    let rows = nets.rows();
+    if place < rows.len() && rows[place].0 == row.account {
+        return place + 1;
+    }
+    nets.count_below(&row.account).saturating_add(1)
 }
 
 /// Adds what a row moves to the net of its account, which is looked for at this place first.

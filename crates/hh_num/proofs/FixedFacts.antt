@@ -1,11 +1,11 @@
 -- Reading of numbers with a point.
-use Rattle.std.proofs.Common.{◌≡◌, ℕ, zero, suc, ◌+◌, ◌-◌, ◌*◌, ◌^◌, ◌<◌, ◌≤◌, Bool, true, false, cond, ◌&&◌, List, [], ◌∷◌, ◌++◌, length, get_or, drop, Option, Some, None, option_map, refl, ◌∙◌, arith, lit<}
+use Rattle.std.proofs.Common.{◌≡◌, ℕ, zero, suc, ◌+◌, ◌-◌, ◌*◌, ◌^◌, ◌<◌, ◌≤◌, Bool, true, false, cond, ◌&&◌, List, [], ◌∷◌, ◌++◌, length, get_or, set, drop, Option, Some, None, option_map, refl, sym, ap, ◌∙◌, arith, lit<, ◌/◌, ◌%◌}
 use Rattle.std.specs.Char.{digit_value}
 use Rattle.std.specs.Str.Parse.{digits_value_after}
 use Rattle.std.proofs.lemmas.Bool.Decides.{nat_tests}
-use Rattle.std.proofs.lemmas.List.{at_drop_more}
-use Rattle.std.proofs.Math.Nat.{mul-le-mul_left, one-le-pow}
-use Rattle.hh_num.specs.Fixed.{units_of, all_digits, digits_behind, kept_if, fits_u64, fits_i64, signed}
+use Rattle.std.proofs.lemmas.List.{at_drop_more, drop-set, length-set}
+use Rattle.std.proofs.Math.Nat.{div-div-eq-div-mul, mul-le-mul_left, one-le-pow, pow-suc}
+use Rattle.hh_num.specs.Fixed.{units_of, all_digits, digits_behind, kept_if, fits_u64, fits_i64, last_digits, signed}
 
 -- more digits make no smaller number
 pub digits_value_after_ge : (n : ℕ) (ds : List ℕ) → n ≤ digits_value_after 10 n ds
@@ -71,3 +71,31 @@ pub ruleset kept_signed = (kept_signed_none, kept_signed_some)
 
 pub ten_pow_pos : (k : ℕ) → 0 < 10 ^ k
 ten_pow_pos k = one-le-pow k 10 (lit< tt)
+
+-- one more of the last digits, in front of those that stand behind a place
+digits_next : (n k i rest : ℕ) (ds : List ℕ) → i < length ds → rest ≡ n / 10 ^ k → drop (i + 1) ds ≡ last_digits k n
+    → drop i (set ds i (48 + rest % 10)) ≡ last_digits (suc k) n
+digits_next n k i rest ds inside left stand =
+    drop-set ds i (48 + rest % 10) inside ∙ ap (λ more. (48 + rest % 10) ∷ more) stand ∙ ap (λ r. (48 + r % 10) ∷ last_digits k n) left
+
+-- the digits that stand behind a place, after one more
+abbrev after_put : ℕ → ℕ → List ℕ → ℕ
+after_put p rest ds = length (set ds (p - 1) (48 + rest % 10)) - (p - 1)
+
+one_more : (p rest : ℕ) (ds : List ℕ) → 0 < p → p ≤ length ds → after_put p rest ds ≡ suc (length ds - p)
+one_more p rest ds some inside = omega (arith, length-set ds (p - 1) (48 + rest % 10))
+
+pub digit_put : (n p rest : ℕ) (ds : List ℕ) → 0 < p → p ≤ length ds → drop p ds ≡ last_digits (length ds - p) n → rest ≡ n / 10 ^ (length ds - p)
+    → drop (p - 1) (set ds (p - 1) (48 + rest % 10)) ≡ last_digits (length (set ds (p - 1) (48 + rest % 10)) - (p - 1)) n
+digit_put n p rest ds some inside stand left =
+    let at : p - 1 + 1 ≡ p = omega arith in
+    let within : p - 1 < length ds = omega arith in
+    digits_next n (length ds - p) (p - 1) rest ds within left (ap (λ j. drop j ds) at ∙ stand)
+    ∙ sym (ap (λ k. last_digits k n) (one_more p rest ds some inside))
+
+pub rest_left : (n p rest : ℕ) (ds : List ℕ) → 0 < p → p ≤ length ds → rest ≡ n / 10 ^ (length ds - p)
+    → rest / 10 ≡ n / 10 ^ (length (set ds (p - 1) (48 + rest % 10)) - (p - 1))
+rest_left n p rest ds some inside left =
+    ap (λ r. r / 10) left ∙ div-div-eq-div-mul n (10 ^ (length ds - p)) 10
+    ∙ ap (λ m. n / m) (sym (pow-suc 10 (length ds - p)))
+    ∙ sym (ap (λ k. n / 10 ^ k) (one_more p rest ds some inside))

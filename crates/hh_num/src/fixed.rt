@@ -1,6 +1,6 @@
 //! Numbers with a point, as whole numbers of units, a unit being 10^-decimals.
 
-ghost use Rattle.std.specs.Prelude.{◌≡◌, ◌≤◌, ◌<◌, ◌^◌, ◌++◌, ℤ, ℕ, List, position, Some, IfSome, IfNone, OnOk, OnErr, FitsSigned};
+ghost use Rattle.std.specs.Prelude.{◌≡◌, ◌≤◌, ◌<◌, ◌^◌, ◌++◌, ℤ, ℕ, List, position, Some, IfSome, IfNone, OnOk, OnErr, FitsSigned, length};
 ghost use Rattle.std.specs.Int.{w64};
 ghost use Rattle.hh_num.specs.Fixed.{fixed_value, unsigned_units, digits_behind, kept_if, fits_u64, fits_i64, units_of, is_point, signed, IsFixed, fixed_text, fraction_text, last_digits, minus_of, Extends};
 
@@ -106,16 +106,27 @@ fn ten_to(place: u32) -> u64
     10u64.pow(place)
 }
 
+/// Puts the last digits of a number into a buffer, as many as it has room for.
+fn put_last_digits(digits: &mut [u8], number: u64)
+    ensures { digits.new ≡ last_digits (length digits.old) number }
+{
+    let mut rest = number;
+    for place in (0..digits.len()).rev() {
+        digits[place] = b'0' + (rest % 10) as u8;
+        rest /= 10;
+    }
+}
+
 /// The digits of a number below 10^count, all of them.
 fn push_last_digits(out: &mut Vec<u8>, number: u64, count: u32) -> Result<(), AllocError>
     requires { count ≤ 10 }
     ensures ok { OnOk result (out.new.items ≡ out.old.items ++ last_digits count number) }
     ensures kept { Extends out.old.items out.new.items }
 {
-    for place in (0..count).rev() {
-        out.push(b'0' + (number / ten_to(place) % 10) as u8)?;
-    }
-    Ok(())
+    let mut room = [0; 10];
+    let digits = &mut room[..count as usize];
+    put_last_digits(digits, number);
+    out.extend_from_slice(digits)
 }
 
 /// The sign of a number, where it is negative.

@@ -1,13 +1,13 @@
--- What goes out call after call.
-use Rattle.std.proofs.Common.{◌≡◌, ℕ, ◌+◌, ◌<◌, List, [], ◌∷◌, ◌++◌, length, take, drop, get_or, Option, Some, None, Result, Ok, Err, sym, ap, subst, ◌∙◌, append_assoc}
+-- What goes out and what is held back, call after call.
+use Rattle.std.proofs.Common.{◌≡◌, ℕ, ◌+◌, ◌<◌, List, [], ◌∷◌, ◌++◌, length, take, drop, get_or, Option, Some, None, Result, Ok, Err, refl, sym, ap, subst, ◌∙◌, append_assoc}
 use Rattle.std.specs.Io.KnownBytes.{Appends}
-use Rattle.std.specs.Prelude.{IsErrAnd}
+use Rattle.std.specs.Prelude.{IsErrAnd, OnOk}
 use Rattle.std.specs.List.{flat_map}
 use Rattle.std.proofs.lemmas.List.{append-nil, take-append-drop, take_more}
 use Rattle.std.proofs.lemmas.List.Concat.{flat_map-append}
 use Rattle.hh_devices.specs.Devices.{AppendsFront}
 use Rattle.hh_reports.specs.declared.fault.ReportFault.{ReportFault}
-use Rattle.hh_reports.specs.Output.{CountsFault, Sends}
+use Rattle.hh_reports.specs.Output.{CountsFault, IsPassed, Passes, Sends}
 
 appends_none : (a : Option (List ℕ)) → Appends a a []
 appends_none None = tt
@@ -26,33 +26,85 @@ Stops a b f g text fault = AppendsFront a b text × CountsFault fault f g
 counted_on : (fault : ReportFault) (f g h : ℕ) → g ≡ f → CountsFault fault g h → CountsFault fault f h
 counted_on fault f g h same counts = subst (λ n. CountsFault fault n h) same counts
 
--- a text behind one that went out whole
-pub stopped_on : (a b c : Option (List ℕ)) (f g h : ℕ) (s t : List ℕ) (fault : ReportFault)
-    → Appends a b s × (g ≡ f) → Stops b c g h t fault → Stops a c f h (s ++ t) fault
-stopped_on a b c f g h s t fault before now =
-    let (front, rest, whole, sent) = now.0 in
-    ((s ++ front, rest, ap (λ u. s ++ u) whole ∙ sym (append_assoc s front rest), appends_more a b c s front before.0 sent), counted_on fault f g h before.1 now.1)
+-- nothing went out
+pub held_back : (a : Option (List ℕ)) (h : List ℕ) (f : ℕ) → IsPassed a a h f f h
+held_back a h f = record { gone = []; went = appends_none a; rest = refl; same = refl }
 
-pub written_on : {A : Type 0} (a b c : Option (List ℕ)) (f g h : ℕ) (s t : List ℕ) (r : Result A ReportFault)
-    → Appends a b s × (g ≡ f) → Sends b c g h t r → Sends a c f h (s ++ t) r
-written_on a b c f g h s t (Ok x) before now = (appends_more a b c s t before.0 now.0, now.1 ∙ before.1)
-written_on a b c f g h s t (Err fault) before now = stopped_on a b c f g h s t fault before now
+-- a page that went out
+pub passed : {A : Type 0} (a b : Option (List ℕ)) (h k : List ℕ) (f g : ℕ) (r : Result A ReportFault) → Sends a b f g h r → OnOk r (k ≡ []) → Passes a b k f g h r
+passed a b h k f g (Ok x) now empty = record { gone = h; went = now.0; rest = sym (append-nil h) ∙ ap (λ u. h ++ u) (sym empty); same = now.1 }
+passed a b h k f g (Err fault) now empty = now
+
+-- a text behind one that went out or is held back
+pub stopped_on : (a b c : Option (List ℕ)) (h k : List ℕ) (f g n : ℕ) (s t : List ℕ) (fault : ReportFault)
+    → IsPassed a b k f g (h ++ s) → Stops b c g n (k ++ t) fault → Stops a c f n (h ++ (s ++ t)) fault
+stopped_on a b c h k f g n s t fault before now =
+    let (front, rest, cut, sent) = now.0 in (
+      (
+        before.gone ++ front,
+        rest,
+        sym (append_assoc h s t) ∙ ap (λ u. u ++ t) before.rest ∙ append_assoc before.gone k t ∙ ap (λ u. before.gone ++ u) cut
+            ∙ sym (append_assoc before.gone front rest),
+        appends_more a b c before.gone front before.went sent,
+      ),
+      counted_on fault f g n before.same now.1,
+    )
+
+pub went_on : (a b c : Option (List ℕ)) (h k m : List ℕ) (f g n : ℕ) (s t : List ℕ)
+    → IsPassed a b k f g (h ++ s) → IsPassed b c m g n (k ++ t) → IsPassed a c m f n (h ++ (s ++ t))
+went_on a b c h k m f g n s t before now =
+    record {
+      gone = before.gone ++ now.gone;
+      went = appends_more a b c before.gone now.gone before.went now.went;
+      rest = sym (append_assoc h s t) ∙ ap (λ u. u ++ t) before.rest ∙ append_assoc before.gone k t ∙ ap (λ u. before.gone ++ u) now.rest
+          ∙ sym (append_assoc before.gone now.gone m);
+      same = now.same ∙ before.same;
+    }
+
+pub written_on : {A : Type 0} (a b c : Option (List ℕ)) (h k m : List ℕ) (f g n : ℕ) (s t : List ℕ) (r : Result A ReportFault)
+    → IsPassed a b k f g (h ++ s) → Passes b c m g n (k ++ t) r → Passes a c m f n (h ++ (s ++ t)) r
+written_on a b c h k m f g n s t (Ok x) before now = went_on a b c h k m f g n s t before now
+written_on a b c h k m f g n s t (Err fault) before now = stopped_on a b c h k f g n s t fault before now
 
 -- a text that is not written to its end, and more behind it
-pub stopped_before : (a b : Option (List ℕ)) (f g : ℕ) (s t : List ℕ) (fault : ReportFault) → Stops a b f g s fault → Stops a b f g (s ++ t) fault
-stopped_before a b f g s t fault now =
-    let (front, rest, whole, sent) = now.0 in
-    ((front, rest ++ t, ap (λ u. u ++ t) whole ∙ append_assoc front rest t, sent), now.1)
+pub stopped_before : (a b : Option (List ℕ)) (h : List ℕ) (f g : ℕ) (s t : List ℕ) (fault : ReportFault)
+    → Stops a b f g (h ++ s) fault → Stops a b f g (h ++ (s ++ t)) fault
+stopped_before a b h f g s t fault now =
+    let (front, rest, cut, sent) = now.0 in
+    ((front, rest ++ t, sym (append_assoc h s t) ∙ ap (λ u. u ++ t) cut ∙ append_assoc front rest t, sent), now.1)
 
 -- the fault of a call that is told on
-pub told_on : {A : Type 0} (a b : Option (List ℕ)) (f g : ℕ) (text : List ℕ) (fault : ReportFault) (r : Result A ReportFault)
+pub told_on : {A : Type 0} (a b : Option (List ℕ)) (k : List ℕ) (f g : ℕ) (all : List ℕ) (fault : ReportFault) (r : Result A ReportFault)
+    → IsErrAnd r (λ e. e ≡ fault) → Stops a b f g all fault → Passes a b k f g all r
+told_on a b k f g all fault (Ok x) is now = absurd is
+told_on a b k f g all fault (Err e) is now = (now.0, subst (λ x. CountsFault x f g) (sym is) now.1)
+
+-- a fault that ends a report
+pub told_out : {A : Type 0} (a b : Option (List ℕ)) (f g : ℕ) (text : List ℕ) (fault : ReportFault) (r : Result A ReportFault)
     → IsErrAnd r (λ e. e ≡ fault) → Stops a b f g text fault → Sends a b f g text r
-told_on a b f g text fault (Ok x) is now = absurd is
-told_on a b f g text fault (Err e) is now = (now.0, subst (λ x. CountsFault x f g) (sym is) now.1)
+told_out a b f g text fault (Ok x) is now = absurd is
+told_out a b f g text fault (Err e) is now = (now.0, subst (λ x. CountsFault x f g) (sym is) now.1)
+
+-- the last page of a text
+pub finished : {A : Type 0} (a b c : Option (List ℕ)) (k : List ℕ) (f g n : ℕ) (text : List ℕ) (r : Result A ReportFault)
+    → IsPassed a b k f g text → Sends b c g n k r → Sends a c f n text r
+finished a b c k f g n text (Ok x) before now =
+    (subst (λ u. Appends a c u) (sym before.rest) (appends_more a b c before.gone k before.went now.0), now.1 ∙ before.same)
+finished a b c k f g n text (Err fault) before now =
+    let (front, rest, cut, sent) = now.0 in (
+      (
+        before.gone ++ front,
+        rest,
+        before.rest ∙ ap (λ u. before.gone ++ u) cut ∙ sym (append_assoc before.gone front rest),
+        appends_more a b c before.gone front before.went sent,
+      ),
+      counted_on fault f g n before.same now.1,
+    )
 
 -- nothing more behind a text
-pub at_the_end : {A : Type 0} (a b : Option (List ℕ)) (f g : ℕ) (text : List ℕ) (r : Result A ReportFault) → Sends a b f g text r → Sends a b f g (text ++ []) r
-at_the_end a b f g text r now = rw (append-nil text) now
+pub at_the_end : {A : Type 0} (a b : Option (List ℕ)) (h k : List ℕ) (f g : ℕ) (text : List ℕ) (r : Result A ReportFault)
+    → Passes a b k f g (h ++ text) r → Passes a b k f g (h ++ (text ++ [])) r
+at_the_end a b h k f g text r now = rw (append-nil text) now
 
 -- The lines of the elements of a list, one after the other.
 module _ {X : Type 0} (line : X → List ℕ) (xs : List X) (i : ℕ) (x : X) (inside : i < length xs) (is : x ≡ get_or xs i x) where
@@ -66,20 +118,16 @@ module _ {X : Type 0} (line : X → List ℕ) (xs : List X) (i : ℕ) (x : X) (i
       ap (flat_map line) (sym (take-append-drop (i + 1) xs)) ∙ flat_map-append line (take (i + 1) xs) (drop (i + 1) xs)
       ∙ ap (λ first. first ++ flat_map line (drop (i + 1) xs)) lines_next
 
-  -- the line of one more went out
-  pub lines_more : (a b c : Option (List ℕ)) (f g h : ℕ) → Appends a b (flat_map line (take i xs)) × (g ≡ f) → Appends b c (line x) × (h ≡ g)
-      → Appends a c (flat_map line (take (i + 1) xs)) × (h ≡ f)
-  lines_more a b c f g h before now =
-      rw lines_next (written_on a b c f g h (flat_map line (take i xs)) (line x) (Ok (tt {0})) before now)
+  -- the line of one more
+  pub lines_more : (a b c : Option (List ℕ)) (h k m : List ℕ) (f g n : ℕ) → IsPassed a b k f g (h ++ flat_map line (take i xs)) → IsPassed b c m g n (k ++ line x)
+      → IsPassed a c m f n (h ++ flat_map line (take (i + 1) xs))
+  lines_more a b c h k m f g n before now =
+      rw lines_next (went_on a b c h k m f g n (flat_map line (take i xs)) (line x) before now)
 
   -- a beginning of it went out, and the rest never
-  pub lines_stopped : (a b c : Option (List ℕ)) (f g h : ℕ) (fault : ReportFault) → Appends a b (flat_map line (take i xs)) × (g ≡ f)
-      → Stops b c g h (line x) fault → Stops a c f h (flat_map line xs) fault
-  lines_stopped a b c f g h fault before now =
+  pub lines_stopped : (a b c : Option (List ℕ)) (h k : List ℕ) (f g n : ℕ) (fault : ReportFault) → IsPassed a b k f g (h ++ flat_map line (take i xs))
+      → Stops b c g n (k ++ line x) fault → Stops a c f n (h ++ flat_map line xs) fault
+  lines_stopped a b c h k f g n fault before now =
       rw lines_whole
-      (stopped_before a c f h (flat_map line (take i xs) ++ line x) (flat_map line (drop (i + 1) xs)) fault
-      (stopped_on a b c f g h (flat_map line (take i xs)) (line x) fault before now))
-
--- two texts that went out, one behind the other
-pub went_on : (a b c : Option (List ℕ)) (f g h : ℕ) (s t : List ℕ) → Appends a b s × (g ≡ f) → Appends b c t × (h ≡ g) → Appends a c (s ++ t) × (h ≡ f)
-went_on a b c f g h s t before now = (appends_more a b c s t before.0 now.0, now.1 ∙ before.1)
+      (stopped_before a c h f n (flat_map line (take i xs) ++ line x) (flat_map line (drop (i + 1) xs)) fault
+      (stopped_on a b c h k f g n (flat_map line (take i xs)) (line x) fault before now))

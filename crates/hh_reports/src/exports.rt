@@ -7,11 +7,10 @@ ghost use Rattle.hh_runs.specs.RunKinds.{run_kind_code};
 ghost use Rattle.hh_reports.specs.Exports.{balance_line, balances_text, party_lines, result_line, results_text};
 ghost use Rattle.hh_reports.specs.Fields.{cash_of, energies_of, energy_text, pence_text};
 ghost use Rattle.hh_reports.specs.Nets.{sum_for, sum_in};
-ghost use Rattle.hh_reports.specs.Output.{Sends};
+ghost use Rattle.hh_reports.specs.Output.{Passes, Sends};
 
 use crate::fault::ReportFault;
-use crate::line::Line;
-use crate::output::send;
+use crate::page::Page;
 use crate::run::ReportedRun;
 use crate::sums::{SumTable, posted_sums};
 use hh_calc::AccountRow;
@@ -29,8 +28,8 @@ const RESULTS_HEADER: &[u8] =
 const BALANCES_HEADER: &[u8] = b"account,moved_pence\n";
 
 /// Writes the results of a run as comma-separated values: a header, then a line for each row, in the
-/// order of the rows, with energies in MWh and cash in pence (profile). Each line is made in memory and
-/// then written.
+/// order of the rows, with energies in MWh and cash in pence (profile). Lines are made in memory, and go out
+/// by the page.
 ///
 /// # Errors
 ///
@@ -46,108 +45,123 @@ pub fn write_results<S: Sink>(
         (S.failures out.old) (S.failures out.new)
         (results_text run.now rows.now) result }
 {
-    let mut line = Line::new(alloc);
-    send(RESULTS_HEADER, out)?;
-    write_rows(&mut line, run, rows, out)
+    let mut page = Page::new(alloc);
+    write_export(&mut page, run, rows, out)?;
+    page.finish(out)
 }
 
-/// Writes a line for each row.
-fn write_rows<S: Sink>(
-    line: &mut Line,
+/// Writes the header of results, and a line for each row.
+fn write_export<S: Sink>(
+    page: &mut Page,
     run: &ReportedRun,
     rows: &[(PeriodNumber, AccountRow)],
     out: &mut S,
 ) -> Result<(), ReportFault>
-    ensures { Sends (S.taken out.old) (S.taken out.new) (S.failures out.old) (S.failures out.new)
-        (flat_map (result_line run.now) rows.now) result }
+    ensures { Passes (S.taken out.old) (S.taken out.new) page.new
+        (S.failures out.old) (S.failures out.new)
+        (page.old ++ results_text run.now rows.now) result }
+{
+    page.put(RESULTS_HEADER, out)?;
+    write_rows(page, run, rows, out)
+}
+
+/// Writes a line for each row.
+fn write_rows<S: Sink>(
+    page: &mut Page,
+    run: &ReportedRun,
+    rows: &[(PeriodNumber, AccountRow)],
+    out: &mut S,
+) -> Result<(), ReportFault>
+    ensures { Passes (S.taken out.old) (S.taken out.new) page.new
+        (S.failures out.old) (S.failures out.new)
+        (page.old ++ flat_map (result_line run.now) rows.now) result }
 {
     for row in rows {
-        write_result(line, run, row, out)?;
+        write_result(page, run, row, out)?;
     }
     Ok(())
 }
 
 /// Writes the line of a row.
 fn write_result<S: Sink>(
-    line: &mut Line,
+    page: &mut Page,
     run: &ReportedRun,
     row: &(PeriodNumber, AccountRow),
     out: &mut S,
 ) -> Result<(), ReportFault>
-    ensures { Sends (S.taken out.old) (S.taken out.new) (S.failures out.old) (S.failures out.new)
-        (result_line run.now row.now) result }
+    ensures { Passes (S.taken out.old) (S.taken out.new) page.new
+        (S.failures out.old) (S.failures out.new) (page.old ++ result_line run.now row.now) result }
 {
-    line.clear();
-    push_result_line(line, run, row)?;
-    send(line.as_bytes(), out)
+    push_result_line(page, run, row)?;
+    page.pass(out)
 }
 
 /// Appends the line of a row.
 #[tactic(auto, unfolding(crate::specs::Exports::result_line, crate::specs::Fields::comma_line))]
 fn push_result_line(
-    line: &mut Line,
+    page: &mut Page,
     run: &ReportedRun,
     row: &(PeriodNumber, AccountRow),
 ) -> Result<(), AllocError>
-    ensures { OnOk result (line.new ≡ line.old ++ result_line run.now row.now) }
+    ensures { OnOk result (page.new ≡ page.old ++ result_line run.now row.now) }
 {
-    push_run(line, run)?;
-    line.push_account(&row.1.account)?;
-    push_period(line, row.0)?;
-    push_energies(line, &row.1)?;
-    push_cash(line, &row.1)?;
-    line.push(b"\n")
+    push_run(page, run)?;
+    page.push_account(&row.1.account)?;
+    push_period(page, row.0)?;
+    push_energies(page, &row.1)?;
+    push_cash(page, &row.1)?;
+    page.push(b"\n")
 }
 
 /// Appends the date and the kind of a run, each before a comma.
-fn push_run(line: &mut Line, run: &ReportedRun) -> Result<(), AllocError>
-    ensures { OnOk result (line.new
-        ≡ line.old ++ (date_text run.now.date ++ codes "," ++ run_kind_code run.now.kind ++ codes ",")) }
+fn push_run(page: &mut Page, run: &ReportedRun) -> Result<(), AllocError>
+    ensures { OnOk result (page.new
+        ≡ page.old ++ (date_text run.now.date ++ codes "," ++ run_kind_code run.now.kind ++ codes ",")) }
 {
-    line.push(&run.date.text())?;
-    line.push(b",")?;
-    line.push(run.kind.code().as_bytes())?;
-    line.push(b",")
+    page.push(&run.date.text())?;
+    page.push(b",")?;
+    page.push(run.kind.code().as_bytes())?;
+    page.push(b",")
 }
 
 /// Appends the number of a Settlement Period behind a comma.
-fn push_period(line: &mut Line, period: PeriodNumber) -> Result<(), AllocError>
-    ensures { OnOk result (line.new ≡ line.old ++ (codes "," ++ decimal period)) }
+fn push_period(page: &mut Page, period: PeriodNumber) -> Result<(), AllocError>
+    ensures { OnOk result (page.new ≡ page.old ++ (codes "," ++ decimal period)) }
 {
     let mut buffer = Buffer::new();
-    line.push(b",")?;
-    line.push(buffer.format(period.number()).as_bytes())
+    page.push(b",")?;
+    page.push(buffer.format(period.number()).as_bytes())
 }
 
 /// Appends the energies of a row, each behind a comma.
-fn push_energies(line: &mut Line, row: &AccountRow) -> Result<(), AllocError>
-    ensures { OnOk result (line.new ≡ line.old
+fn push_energies(page: &mut Page, row: &AccountRow) -> Result<(), AllocError>
+    ensures { OnOk result (page.new ≡ page.old
         ++ flat_map (λ e. codes "," ++ energy_text e) (energies_of row.now)) }
 {
-    line.push(b",")?;
-    line.push_energy(row.credited)?;
-    line.push(b",")?;
-    line.push_energy(row.balancing)?;
-    line.push(b",")?;
-    line.push_energy(row.contracts)?;
-    line.push(b",")?;
-    line.push_energy(row.imbalance)
+    page.push(b",")?;
+    page.push_energy(row.credited)?;
+    page.push(b",")?;
+    page.push_energy(row.balancing)?;
+    page.push(b",")?;
+    page.push_energy(row.contracts)?;
+    page.push(b",")?;
+    page.push_energy(row.imbalance)
 }
 
 /// Appends the cash of a row, each amount behind a comma.
-fn push_cash(line: &mut Line, row: &AccountRow) -> Result<(), AllocError>
-    ensures { OnOk result (line.new ≡ line.old
+fn push_cash(page: &mut Page, row: &AccountRow) -> Result<(), AllocError>
+    ensures { OnOk result (page.new ≡ page.old
         ++ flat_map (λ c. codes "," ++ pence_text c) (cash_of row.now)) }
 {
-    line.push(b",")?;
-    line.push_pence(i128::from(row.charge.units()))?;
-    line.push(b",")?;
-    line.push_pence(i128::from(row.share.units()))
+    page.push(b",")?;
+    page.push_pence(i128::from(row.charge.units()))?;
+    page.push(b",")?;
+    page.push_pence(i128::from(row.share.units()))
 }
 
 /// Writes the balances of the accounts of parties as comma-separated values: a header, then a line for
 /// both accounts of each party, in the order of the parties, with what was posted to the account in all,
-/// in pence; 0 where nothing was (profile). Each line is made in memory and then written.
+/// in pence; 0 where nothing was (profile). Lines are made in memory, and go out by the page.
 ///
 /// # Errors
 ///
@@ -164,40 +178,57 @@ pub fn write_balances<S: Sink>(
         (balances_text parties.now (λ a. sum_for a postings.now)) result }
 {
     let sums = posted_sums(alloc, postings)?;
-    let mut line = Line::new(alloc);
-    send(BALANCES_HEADER, out)?;
-    write_parties(&mut line, parties, &sums, out)
+    let mut page = Page::new(alloc);
+    write_sums(&mut page, parties, &sums, out)?;
+    page.finish(out)
 }
 
-/// Writes the lines of both accounts of each party.
-fn write_parties<S: Sink>(
-    line: &mut Line,
+/// Writes the header of balances, and the lines of both accounts of each party.
+fn write_sums<S: Sink>(
+    page: &mut Page,
     parties: &[PartyId],
     sums: &SumTable,
     out: &mut S,
 ) -> Result<(), ReportFault>
-    ensures { Sends (S.taken out.old) (S.taken out.new) (S.failures out.old) (S.failures out.new)
-        (flat_map (party_lines (sum_in sums.now)) parties.now) result }
+    ensures { Passes (S.taken out.old) (S.taken out.new) page.new
+        (S.failures out.old) (S.failures out.new)
+        (page.old ++ balances_text parties.now (sum_in sums.now)) result }
+{
+    page.put(BALANCES_HEADER, out)?;
+    write_parties(page, parties, sums, out)
+}
+
+/// Writes the lines of both accounts of each party.
+fn write_parties<S: Sink>(
+    page: &mut Page,
+    parties: &[PartyId],
+    sums: &SumTable,
+    out: &mut S,
+) -> Result<(), ReportFault>
+    ensures { Passes (S.taken out.old) (S.taken out.new) page.new
+        (S.failures out.old) (S.failures out.new)
+        (page.old ++ flat_map (party_lines (sum_in sums.now)) parties.now) result }
 {
     for party in parties {
-        write_party(line, *party, sums, out)?;
+        write_party(page, *party, sums, out)?;
     }
     Ok(())
 }
 
 /// Writes the lines of both accounts of a party.
 fn write_party<S: Sink>(
-    line: &mut Line,
+    page: &mut Page,
     party: PartyId,
     sums: &SumTable,
     out: &mut S,
 ) -> Result<(), ReportFault>
-    ensures { Sends (S.taken out.old) (S.taken out.new) (S.failures out.old) (S.failures out.new)
-        (party_lines (sum_in sums.now) party) result }
+    ensures { Passes (S.taken out.old) (S.taken out.new) page.new
+        (S.failures out.old) (S.failures out.new)
+        (page.old ++ party_lines (sum_in sums.now) party) result }
 {
     let (production, consumption) = (Side::Production, Side::Consumption);
     write_balance(
-        line,
+        page,
         Account {
             party,
             side: production,
@@ -206,7 +237,7 @@ fn write_party<S: Sink>(
         out,
     )?;
     write_balance(
-        line,
+        page,
         Account {
             party,
             side: consumption,
@@ -218,26 +249,26 @@ fn write_party<S: Sink>(
 
 /// Writes the line of an account's balance.
 fn write_balance<S: Sink>(
-    line: &mut Line,
+    page: &mut Page,
     account: Account,
     sums: &SumTable,
     out: &mut S,
 ) -> Result<(), ReportFault>
-    ensures { Sends (S.taken out.old) (S.taken out.new) (S.failures out.old) (S.failures out.new)
-        (balance_line account (sum_in sums.now account)) result }
+    ensures { Passes (S.taken out.old) (S.taken out.new) page.new
+        (S.failures out.old) (S.failures out.new)
+        (page.old ++ balance_line account (sum_in sums.now account)) result }
 {
-    line.clear();
-    push_balance_line(line, &account, sums.get(&account).unwrap_or(0))?;
-    send(line.as_bytes(), out)
+    push_balance_line(page, &account, sums.get(&account).unwrap_or(0))?;
+    page.pass(out)
 }
 
 /// Appends the line of an account's balance.
 #[tactic(auto, unfolding(crate::specs::Exports::balance_line, crate::specs::Fields::comma_line))]
-fn push_balance_line(line: &mut Line, account: &Account, balance: i128) -> Result<(), AllocError>
-    ensures { OnOk result (line.new ≡ line.old ++ balance_line account.now balance) }
+fn push_balance_line(page: &mut Page, account: &Account, balance: i128) -> Result<(), AllocError>
+    ensures { OnOk result (page.new ≡ page.old ++ balance_line account.now balance) }
 {
-    line.push_account(account)?;
-    line.push(b",")?;
-    line.push_pence(balance)?;
-    line.push(b"\n")
+    page.push_account(account)?;
+    page.push(b",")?;
+    page.push_pence(balance)?;
+    page.push(b"\n")
 }

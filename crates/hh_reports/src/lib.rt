@@ -4,8 +4,8 @@
 mod day_report;
 mod exports;
 mod fault;
-mod line;
-mod output;
+mod page;
+mod period_rows;
 mod run;
 mod sums;
 

@@ -94,16 +94,19 @@ fn sums_of(alloc: Global, amounts: &[Amount]) -> Result<SumTable, AllocError>
     let mut place = 0;
     for amount in amounts {
         add_to(&mut sums, place, *amount)?;
-        place = place_behind(place, sums.len());
+        place = place_behind(&sums, place, amount);
     }
     Ok(sums)
 }
 
-/// The place behind a place among so many; behind the last it is the first. There the sum of the next
+/// The place behind that of an amount's account, which likely has this one. There the sum of the next
 /// amount's account likely lies: each Settlement Period has rows of the same accounts in the same order.
-fn place_behind(place: usize, count: usize) -> usize {
-    let next = place.saturating_add(1);
-    if next < count { next } else { 0 }
+fn place_behind(sums: &SumTable, place: usize, amount: &Amount) -> usize {
+    let rows = sums.rows();
+    if place < rows.len() && rows[place].0 == amount.account {
+        return place + 1;
+    }
+    sums.count_below(&amount.account).saturating_add(1)
 }
 
 /// Adds an amount to the sum of its account, which is looked for at a place first.

@@ -31,10 +31,6 @@ front_behind before between after text line went (front, rest, cut, more) =
 
 -- An output had these bytes before, these once the office was done, and these in the end.
 module _ (before between after : Option (List ℕ)) (counted counts : ℕ) where
-  pub whole_report : (report : Result (List ℕ) Refusal) (u : Unit {0}) → ReportsAs before between counted counts report (Ok u) → (text : List ℕ) × IsOut report text × Appends before between text
-  whole_report (Ok text) u (went, same) = (text, inl refl, went)
-  whole_report (Err why) u none = absurd none
-
   pub cut_report : (report : Result (List ℕ) Refusal) → ReportsAs before between counted counts {A = Unit {0}} report (Err Write)
       → (text : List ℕ) × IsOut report text × AppendsFront before between text
   cut_report (Ok text) (went, failed) = (text, inl refl, went)

@@ -24,10 +24,6 @@ after_last : (midnight : Midnights) (s : State) (requests : List Request) (momen
 after_last midnight s [] moment request = refl
 after_last midnight s (first ∷ requests) moment request = after_last midnight (next midnight s moment first) requests moment request
 
--- before any connection
-pub serves_none : (office : OfficeView) (moment : ℤ) → ServesUpTo office office moment 0
-serves_none office moment s stands = (s, ([], omega arith, refl), stands, refl)
-
 -- one more connection
 pub serves_more : (old now new : OfficeView) (moment : ℤ) (count : ℕ) → ServesUpTo old now moment count → StandsAfterOne now new moment → ServesUpTo old new moment (count + 1)
 serves_more old now new moment count served one s stands =
@@ -52,21 +48,10 @@ serves_more old now new moment count served one s stands =
       new_zone ∙ zone,
     )
 
--- A line that serves was run.
-module _ (old new : OfficeView) (before after : Option (List ℕ)) (line : ServeLine) where
-  pub serving_done : (port : ℕ) → IsPortFor line.port port → Appends before after (listening_line port) → ServesUpTo old new line.moment line.count
-      → RunsServing old new before after line
-  serving_done port is went served s stands =
-      let (t, does, now, zone) = served s stands in
-      (listening_line port, t, inr (port, is, refl, does), went, now, zone)
-
 -- A line that serves was begun, and the office stays.
 module _ (office : OfficeView) (before after : Option (List ℕ)) (line : ServeLine) where
   pub serving_cut : (port : ℕ) → IsPortFor line.port port → AppendsFront before after (listening_line port) → StopsServing office office before after line
   serving_cut port is went s stands = (listening_line port, s, inr (port, is, refl, ([], omega arith, refl)), went, stands, refl)
-
-  pub no_socket_done : Appends before after no_socket_line → RunsServing office office before after line
-  no_socket_done went s stands = (no_socket_line, s, inl (inl refl, refl), went, stands, refl)
 
   pub no_socket_cut : AppendsFront before after no_socket_line → StopsServing office office before after line
   no_socket_cut went s stands = (no_socket_line, s, inl (inl refl, refl), went, stands, refl)

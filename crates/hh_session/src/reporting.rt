@@ -3,15 +3,15 @@
 ghost use Rattle.std.specs.Prelude.{◌≡◌, IsTrue, OnErr, OnOk};
 ghost use Rattle.hh_devices.specs.Devices.{Failed};
 ghost use Rattle.hh_time.specs.Days.{is_accepted};
+ghost use Rattle.hh_office.specs.Reports.{CountsReport, Reports};
 ghost use Rattle.hh_script.specs.Reports.{IsOfAcceptedDate, report_of};
 ghost use Rattle.hh_session.specs.Reporting.{BeginsReport, RunsReport, report_asked};
 
 use crate::tell::tell_refused;
 use hh_devices::{DeviceFailed, Sink};
-use hh_office::{Office, Report, ReportStop};
-use hh_runs::RunKind;
+use hh_office::{Office, ReportStop};
 use hh_script::{AskedReport, ReportLine};
-use hh_store::{RunKey, Tables};
+use hh_store::Tables;
 use hh_time::SettlementDate;
 use std::alloc::Global;
 
@@ -31,32 +31,45 @@ pub(crate) fn write_report<T: Tables, O: Sink>(
     ensures failed { OnErr result (Failed (O.failures out.old) (O.failures out.new)) }
     ensures same { office.new ≡ office.old }
 {
-    match office.report(line.key, &asked_for(line.report), out) {
+    match ask(office, line.key, line.report, out) {
         Ok(()) => Ok(()),
         Err(ReportStop::Refused(fault)) => tell_refused(alloc, fault, out),
         Err(ReportStop::Write) => Err(DeviceFailed),
     }
 }
 
-/// The report of the office that is asked for.
-fn asked_for(asked: AskedReport) -> Report
+/// Asks the office for the report that the words of a line ask for.
+fn ask<T: Tables, O: Sink>(
+    office: &mut Office<'_, T>,
+    key: &[u8],
+    asked: AskedReport,
+    out: &mut O,
+) -> Result<(), ReportStop>
     requires { IsOfAcceptedDate asked }
-    ensures { result ≡ report_asked asked }
+    ensures reports { Reports (O.taken out.old) (O.taken out.new)
+        (O.failures out.old) (O.failures out.new) office.old key.now (report_asked asked) result }
+    ensures counted { CountsReport result (O.failures out.old) (O.failures out.new) }
+    ensures same { office.new ≡ office.old }
 {
     match asked {
-        AskedReport::Day { date, kind } => Report::Day(run_key(date, kind)),
-        AskedReport::Results { date, kind } => Report::Results(run_key(date, kind)),
-        AskedReport::Balances => Report::Balances,
+        AskedReport::Day { date, kind } => office.report_day(key, accepted(date), kind, out),
+        AskedReport::Results { date, kind } => office.report_results(
+            key,
+            accepted(date),
+            kind,
+            out,
+        ),
+        AskedReport::Balances => office.report_balances(key, out),
     }
 }
 
-/// The run of an accepted date and a kind.
-fn run_key(date: u16, kind: RunKind) -> RunKey
+/// A date that is accepted.
+fn accepted(date: u16) -> SettlementDate
     requires { IsTrue (is_accepted date) }
-    ensures { result ≡ record { date = date; kind = kind } }
+    ensures { result ≡ date }
 {
     let Some(date) = SettlementDate::new(date) else {
         unreachable!()
     };
-    RunKey { date, kind }
+    date
 }

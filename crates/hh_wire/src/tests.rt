@@ -344,7 +344,7 @@ fn rules_of_heads(rt: HostRuntime) -> Result<(), Fail> {
 
 #[test]
 fn rules_of_headers(rt: HostRuntime) -> Result<(), Fail> {
-    let heads: [(&[u8], u8); 11] = [
+    let heads: [(&[u8], u8); 8] = [
         (
             b"GET / HTTP/1.1\r\nHost: a\r\nx-office-key: b\r\nX-Office-Key: b\r\n\r\n",
             65,
@@ -374,15 +374,6 @@ fn rules_of_headers(rt: HostRuntime) -> Result<(), Fail> {
             b"GET / HTTP/1.1\r\nHost: a\r\nContent-Length: \t5 \r\n\r\nabcde",
             61,
         ),
-        (b"POST /files/units/a HTTP/1.1\r\nHost: a\r\n\r\n", 64),
-        (
-            b"POST /files/units/a HTTP/1.1\r\nHost: a\r\nContent-Length: 0\r\n\r\n",
-            ASKED,
-        ),
-        (
-            b"POST /files/units/a HTTP/1.1\r\nHost: a\r\nExpect: 100-continue\r\n\r\n",
-            64,
-        ),
     ];
     for (head, wanted) in heads {
         assert_eq!(rt; number(&rt, head), wanted);
@@ -392,7 +383,7 @@ fn rules_of_headers(rt: HostRuntime) -> Result<(), Fail> {
 
 #[test]
 fn the_first_cause_is_told(rt: HostRuntime) -> Result<(), Fail> {
-    let requests: [(&[u8], &[u8], u8); 6] = [
+    let requests: [(&[u8], &[u8], u8); 8] = [
         (
             b"GET /nowhere",
             b"Content-Length: 2000000\r\nTransfer-Encoding: gzip\r\n",
@@ -403,6 +394,8 @@ fn the_first_cause_is_told(rt: HostRuntime) -> Result<(), Fail> {
         (b"GET /files/meters/a,csv", b"", 61),
         (b"GET /files/meters/a.csv", b"", 62),
         (b"POST /files/meters/a.csv", b"", 64),
+        (b"POST /files/meters/a.csv", b"Expect: 100-continue\r\n", 64),
+        (b"POST /files/meters/a.csv", b"Content-Length: 0\r\n", ASKED),
     ];
     for (start, lines, wanted) in requests {
         assert_eq!(rt; number(&rt, &sent(&rt, start, lines, b"")?), wanted);

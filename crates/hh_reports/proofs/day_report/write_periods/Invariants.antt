@@ -1,9 +1,9 @@
-use Rattle.std.proofs.Common.{◌≡◌, take}
-use Rattle.std.specs.Io.KnownBytes.{Appends}
+use Rattle.std.proofs.Common.{◌++◌, take}
 use Rattle.std.specs.List.{flat_map, range_with_len}
 use Rattle.hh_reports.specs.DayReport.{period_lines, rows_of_period}
+use Rattle.hh_reports.specs.Output.{IsPassed}
 use Rattle.hh_reports.proofs.day_report.write_periods.Given as goal
 
--- the lines of the periods so far went out
+-- the lines of the periods so far went out or are held back
 abbrev pub invariant-loop-count : goal.invariant-loop-count
-invariant-loop-count g l = Appends (g.S.Sink.taken l.fn.out) (g.S.Sink.taken l.out) (flat_map (λ period. period_lines period (rows_of_period period l.rows)) (take l.count (range_with_len 1 l.periods))) × (g.S.Sink.failures l.out ≡ g.S.Sink.failures l.fn.out)
+invariant-loop-count g l = IsPassed (g.S.Sink.taken l.fn.out) (g.S.Sink.taken l.out) l.page (g.S.Sink.failures l.fn.out) (g.S.Sink.failures l.out) (l.fn.page ++ flat_map (λ period. period_lines period (rows_of_period period l.rows)) (take l.count (range_with_len 1 l.periods)))

@@ -12,43 +12,37 @@ returns-in-Err-Refused-clause-done g c =
     let taken = g.O.Sink.taken in
     let failures = g.O.Sink.failures in
     let old = c.args.out.now in
-    let mid = c.report.new.out in
+    let mid = c.ask.new.out in
     let fault = c.in-Err-Refused.fault in
-    let key = c.args.line.now.key.now in
     OnOk-map c.tell_refused.result _ _
-    (λ told s stands. told_report (taken old) (taken mid) (taken c.tell_refused.new.out) (failures old) (failures mid) fault
-    (report_for (midnight_of c.args.office.now) s key (report_asked c.args.line.now.report))
-    (subst (λ r. ReportsAs (taken old) (taken mid) (failures old) (failures mid) {A = Unit {0}} (report_for (midnight_of c.args.office.now) s key r) (Err (Refused fault)))
-    c.asked_for.ensures
-    (subst (λ stop. ReportsAs (taken old) (taken mid) (failures old) (failures mid) {A = Unit {0}} (report_for (midnight_of c.args.office.now) s key c.asked_for.result) (Err stop))
-    c.in-Err-Refused.field-0-is (c.in-Err-Refused.ensures.reports s stands))) told) c.tell_refused.ensures.told
+    (λ told s stands.
+    let report = report_for (midnight_of c.args.office.now) s c.args.line.now.key.now (report_asked c.args.line.now.report) in
+    told_report (taken old) (taken mid) (taken c.tell_refused.new.out) (failures old) (failures mid) fault report
+    (subst (λ stop. ReportsAs (taken old) (taken mid) (failures old) (failures mid) {A = Unit {0}} report (Err stop))
+    c.in-Err-Refused.field-0-is (c.in-Err-Refused.ensures.reports s stands)) told) c.tell_refused.ensures.told
 
 pub returns-in-Err-Refused-clause-cut : goal.returns-in-Err-Refused-clause-cut
 returns-in-Err-Refused-clause-cut g c =
     let taken = g.O.Sink.taken in
     let failures = g.O.Sink.failures in
     let old = c.args.out.now in
-    let mid = c.report.new.out in
+    let mid = c.ask.new.out in
     let fault = c.in-Err-Refused.fault in
-    let key = c.args.line.now.key.now in
     OnErr-map c.tell_refused.result _ _
-    (λ told s stands. begun_report (taken old) (taken mid) (taken c.tell_refused.new.out) (failures old) (failures mid) fault
-    (report_for (midnight_of c.args.office.now) s key (report_asked c.args.line.now.report))
-    (subst (λ r. ReportsAs (taken old) (taken mid) (failures old) (failures mid) {A = Unit {0}} (report_for (midnight_of c.args.office.now) s key r) (Err (Refused fault)))
-    c.asked_for.ensures
-    (subst (λ stop. ReportsAs (taken old) (taken mid) (failures old) (failures mid) {A = Unit {0}} (report_for (midnight_of c.args.office.now) s key c.asked_for.result) (Err stop))
-    c.in-Err-Refused.field-0-is (c.in-Err-Refused.ensures.reports s stands))) told) c.tell_refused.ensures.cut
+    (λ told s stands.
+    let report = report_for (midnight_of c.args.office.now) s c.args.line.now.key.now (report_asked c.args.line.now.report) in
+    begun_report (taken old) (taken mid) (taken c.tell_refused.new.out) (failures old) (failures mid) fault report
+    (subst (λ stop. ReportsAs (taken old) (taken mid) (failures old) (failures mid) {A = Unit {0}} report (Err stop))
+    c.in-Err-Refused.field-0-is (c.in-Err-Refused.ensures.reports s stands)) told) c.tell_refused.ensures.cut
 
 pub returns-in-Err-Write-clause-cut : goal.returns-in-Err-Write-clause-cut
 returns-in-Err-Write-clause-cut g c =
     let taken = g.O.Sink.taken in
     let failures = g.O.Sink.failures in
     let old = c.args.out.now in
-    let mid = c.report.new.out in
-    let key = c.args.line.now.key.now in
-    λ s stands. cut_report (taken old) (taken mid) (taken mid) (failures old) (failures mid)
-    (report_for (midnight_of c.args.office.now) s key (report_asked c.args.line.now.report))
-    (subst (λ r. ReportsAs (taken old) (taken mid) (failures old) (failures mid) {A = Unit {0}} (report_for (midnight_of c.args.office.now) s key r) (Err Write))
-    c.asked_for.ensures
-    (subst (λ stop. ReportsAs (taken old) (taken mid) (failures old) (failures mid) {A = Unit {0}} (report_for (midnight_of c.args.office.now) s key c.asked_for.result) (Err stop))
-    c.in-Err-Write.field-0-is (c.in-Err-Write.ensures.reports s stands)))
+    let mid = c.ask.new.out in
+    λ s stands.
+    let report = report_for (midnight_of c.args.office.now) s c.args.line.now.key.now (report_asked c.args.line.now.report) in
+    cut_report (taken old) (taken mid) (taken mid) (failures old) (failures mid) report
+    (subst (λ stop. ReportsAs (taken old) (taken mid) (failures old) (failures mid) {A = Unit {0}} report (Err stop))
+    c.in-Err-Write.field-0-is (c.in-Err-Write.ensures.reports s stands))

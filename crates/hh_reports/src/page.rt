@@ -1,55 +1,78 @@
-//! Lines of reports while they are made.
+//! Pages: lines of reports that are made and not out yet.
 
 ghost use Rattle.std.specs.Prelude.{◌≡◌, ◌≤◌, ◌++◌, [], replicate, OnOk};
 ghost use Rattle.hh_names.specs.Accounts.{account_text};
 ghost use Rattle.hh_reports.specs.Fields.{energy_text, flush_left, pence_text, flush_right};
+ghost use Rattle.hh_reports.specs.Output.{Passes, Sends};
 
+use crate::fault::ReportFault;
+use hh_devices::{Sink, write_whole};
 use hh_names::Account;
 use hh_num::Ticks;
 use itoa::Buffer;
 use std::alloc::{AllocError, Global};
 use std::marker::Model;
 
-/// A line of a report while it is made, in memory that serves one line after the other. Contracts see
-/// its bytes.
+/// With so many bytes a page is full, and goes out.
+const PAGE_BYTES: usize = 16_384;
+
+/// The lines of a report that are not out yet, and the one that is being made, in memory that serves one
+/// page after the other. Contracts see the bytes.
 #[derive(Drop)]
-pub(crate) struct Line {
+pub(crate) struct Page {
     text: Vec<u8>,
     /// A field that is to stand in a width, while it is made.
     field: Vec<u8>,
 }
 
-impl Model for Line {
+impl Model for Page {
     ghost use Rattle.std.specs.Prelude.{ℕ, List};
 
     ghost Value = { List ℕ };
 
-    ghost view = { λ line. line.text.items };
+    ghost view = { λ page. page.text.items };
 }
 
-impl Line {
-    /// The empty line. Takes no memory.
-    pub(crate) fn new(alloc: Global) -> Line
+impl Page {
+    /// The empty page. Takes no memory.
+    pub(crate) fn new(alloc: Global) -> Page
         ensures { result ≡ [] }
     {
-        Line {
+        Page {
             text: Vec::new(alloc),
             field: Vec::new(alloc),
         }
     }
 
-    /// Empties the line, and keeps its memory.
-    pub(crate) fn clear(&mut self)
-        ensures { self.new ≡ [] }
+    /// Appends a text, and passes on a page that is full then.
+    pub(crate) fn put<S: Sink>(&mut self, text: &[u8], out: &mut S) -> Result<(), ReportFault>
+        ensures { Passes (S.taken out.old) (S.taken out.new) self.new
+            (S.failures out.old) (S.failures out.new) (self.old ++ text.now) result }
     {
-        self.text.clear();
+        self.push(text)?;
+        self.pass(out)
     }
 
-    /// The bytes of the line.
-    pub(crate) fn as_bytes(&self) -> &[u8]
-        ensures { result.now ≡ self.now }
+    /// Writes a page that is full, and empties it.
+    pub(crate) fn pass<S: Sink>(&mut self, out: &mut S) -> Result<(), ReportFault>
+        ensures { Passes (S.taken out.old) (S.taken out.new) self.new
+            (S.failures out.old) (S.failures out.new) self.old result }
     {
-        &self.text
+        if self.text.len() < PAGE_BYTES {
+            return Ok(());
+        }
+        self.finish(out)
+    }
+
+    /// Writes the page, full or not, and empties it.
+    pub(crate) fn finish<S: Sink>(&mut self, out: &mut S) -> Result<(), ReportFault>
+        ensures sends { Sends (S.taken out.old) (S.taken out.new)
+            (S.failures out.old) (S.failures out.new) self.old result }
+        ensures empty { OnOk result (self.new ≡ []) }
+    {
+        write_whole(out, &self.text)?;
+        self.text.clear();
+        Ok(())
     }
 
     /// Appends a text.
