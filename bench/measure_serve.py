@@ -3,18 +3,16 @@
 
 usage: measure_serve.py [PROGRAM] [--rounds 7] [--times 2000]
 PROGRAM is the built program, by default crates/hh_settle/out/hh_settle at the top of this repository.
-A script loads a party with 416 units and serves connections. One client asks for a balance so many times, a new
-connection each time and one after the other; then it sends a file of 19,968 readings and one megabyte, in each round
-under another name. peer_serve.py answers the same. The bodies of the replies are compared."""
+A script loads a party with 416 units and serves connections. A client, client_serve.rs, asks for a balance so many
+times, a new connection each time and one after the other; then it sends a file of 19,968 readings and one megabyte, in
+each round under another name. peer_serve.py answers the same. The bodies of the replies are compared. It needs `rustc`."""
 import pathlib
-import socket
 import statistics
 import subprocess
 import sys
 import tempfile
-import time
 
-from measuring import BENCH, print_table, read_words
+from measuring import BENCH, build_rust_peer, print_table, read_words
 
 KEY = "op-settle001"
 MOMENT = 1_719_961_200
@@ -34,17 +32,6 @@ def request(start, body=b""):
     lines = [f"{start} HTTP/1.1", "Host: localhost", f"x-office-key: {KEY}"]
     lines += [f"Content-Length: {len(body)}"] if body else []
     return "".join(f"{line}\r\n" for line in [*lines, ""]).encode() + body
-
-
-def ask(port, sent):
-    """The body of the reply to a request over a connection of its own."""
-    with socket.create_connection(("127.0.0.1", port)) as client:
-        client.sendall(sent)
-        answer = b"".join(iter(lambda: client.recv(65_536), b""))
-    head, _, body = answer.partition(b"\r\n\r\n")
-    if not head.startswith(b"HTTP/1.1 200 "):
-        sys.exit(f"refused: {answer.decode()}")
-    return body
 
 
 def port_of(server):
@@ -70,15 +57,13 @@ def script_of(folder, served):
     return str(path)
 
 
-def milliseconds_of(ports, sent, times):
-    """The body of the last reply and the milliseconds of all of these requests, for each server."""
+def milliseconds_of(client, ports, sent, times):
+    """The milliseconds of all of these requests, for each server. The bodies of their last replies are the same."""
     bodies, taken = [], []
     for port in ports:
-        begin = time.perf_counter()
-        for _ in range(times):
-            body = ask(port, sent)
-        taken.append((time.perf_counter() - begin) * 1000)
-        bodies.append(body)
+        done = subprocess.run([client, str(port), str(times), str(sent)], capture_output=True, text=True, check=True)
+        bodies.append(done.stdout)
+        taken.append(float(done.stderr))
     if len(set(bodies)) != 1:
         sys.exit(f"the replies differ: {bodies}")
     return taken
@@ -93,7 +78,7 @@ def main():
         peer = start([sys.executable, str(BENCH / "peer_serve.py"), "0"])
         try:
             ports = [port_of(ours), port_of(peer)]
-            measure(arguments, ports, (folder / "meters.csv").read_bytes())
+            measure(arguments, folder, ports)
             ours.wait(timeout=60)
         finally:
             for server in (ours, peer):
@@ -101,11 +86,15 @@ def main():
                 server.wait()
 
 
-def measure(arguments, ports, meters):
+def measure(arguments, folder, ports):
+    client = build_rust_peer("client_serve", folder)
+    meters, sent = (folder / "meters.csv").read_bytes(), folder / "request"
     balances, loads = [], []
     for number in range(arguments.rounds):
-        balances.append(milliseconds_of(ports, request("GET /balances/GENCO-P"), arguments.times))
-        loads.append(milliseconds_of(ports, request(f"POST /files/meters/{number}.csv", meters), 1))
+        sent.write_bytes(request("GET /balances/GENCO-P"))
+        balances.append(milliseconds_of(client, ports, sent, arguments.times))
+        sent.write_bytes(request(f"POST /files/meters/{number}.csv", meters))
+        loads.append(milliseconds_of(client, ports, sent, 1))
     for title, rounds, times in ((f"{arguments.times} balances", balances, arguments.times), (f"A file of {len(meters)} bytes", loads, 1)):
         taken = {"settle script": [row[0] for row in rounds], "Python peer": [row[1] for row in rounds]}
         rates = ", ".join(f"{name} {1000 * times / statistics.median(row):.0f} a second" for name, row in taken.items())
