@@ -13,6 +13,3 @@ mod sums;
 pub use data::{PeriodData, Subsidiary, UnitData};
 pub use result::{AccountRow, CalcFault, CreditRow, Figures, PeriodResult};
 pub use settle::settle_period;
-
-#[cfg(test)]
-mod tests;

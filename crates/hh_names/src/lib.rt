@@ -21,6 +21,3 @@ pub use word::{
     Reference, ReferenceAlphabet, UnitId, UnitIdAlphabet, Word,
 };
 pub use yes_no::read_yes_no;
-
-#[cfg(test)]
-mod tests;

@@ -13,6 +13,3 @@ pub use day_report::write_day_report;
 pub use exports::{write_balances, write_results};
 pub use fault::ReportFault;
 pub use run::ReportedRun;
-
-#[cfg(test)]
-mod tests;

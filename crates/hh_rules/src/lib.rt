@@ -22,6 +22,3 @@ pub use hh_rows::{
 pub use register::Register;
 pub use row_done::RowDone;
 pub use timing::Timing;
-
-#[cfg(test)]
-mod tests;

@@ -12,6 +12,3 @@ pub use files::read_file;
 pub use form::{Form, MOST_BYTES, MOST_ROWS, read_rows};
 pub use period_contracts::{PeriodContractRow, PeriodContracts, read_period_contracts};
 pub use period_meters::{PeriodMeterRow, PeriodMeters, read_period_meters};
-
-#[cfg(test)]
-mod tests;

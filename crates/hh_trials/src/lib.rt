@@ -1,10 +1,16 @@
-//! The store and the office tried from outside: tests of what no clause of theirs says, and of what no
-//! program calls. The office's answers are tested through `settle`.
+//! The store, the office and HTTP tried from outside: tests of what no clause of theirs says, and of what
+//! no program calls. The office's answers are tested through `settle`.
 //!
 //! They stand in a crate of their own, since the tests of a crate are proved with all of it once more.
 #![tactic(auto)]
 
 #[cfg(test)]
 mod office_tests;
+#[cfg(test)]
+mod reply_tests;
+#[cfg(test)]
+mod request_tests;
+#[cfg(test)]
+mod serve_tests;
 #[cfg(test)]
 mod store_tests;

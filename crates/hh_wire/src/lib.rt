@@ -23,10 +23,3 @@ pub use incoming::{Incoming, Refused, RequestRefusal, WireFault};
 pub use reply::{WriteFault, write_refused, write_reply};
 pub use request::{message_is_one, read_request};
 pub use serve::{ServeFault, Served, serve_one};
-
-#[cfg(test)]
-mod reply_tests;
-#[cfg(test)]
-mod serve_tests;
-#[cfg(test)]
-mod tests;

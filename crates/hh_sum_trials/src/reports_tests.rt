@@ -1,11 +1,11 @@
 //! What no clause says: reports that were worked out beside the office, and that they are written whole
 //! where memory and the sink allow it.
 
-use super::*;
 use hh_calc::AccountRow;
 use hh_devices::MemorySink;
 use hh_names::{Account, PartyId, PeriodNumber};
 use hh_num::{Pence, Ticks};
+use hh_reports::*;
 use hh_runs::RunKind;
 use hh_time::SettlementDate;
 use std::alloc::Global;

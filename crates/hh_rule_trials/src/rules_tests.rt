@@ -1,8 +1,8 @@
 //! What no clause says: that with ample memory rows are accepted, and that the words of the clauses
 //! come to the market's dates and numbers.
 
-use super::*;
 use hh_num::{Kwh, Percent, Price, Tlm};
+use hh_rules::*;
 use hh_time::{SettlementDate, london};
 use jiff::tz::TimeZone;
 use std::alloc::Global;

@@ -3,12 +3,12 @@
 
 ghost use Rattle.std.specs.Prelude.{◌<◌};
 
-use super::*;
 use hh_devices::{MemorySink, MemorySource};
 use hh_names::Account;
 use hh_office::{Action, Request};
 use hh_rows::FileKind;
 use hh_runs::RunKind;
+use hh_wire::*;
 use std::test::Fail;
 
 /// A party asks for the balance of its own account.

@@ -1,4 +1,3 @@
-use super::*;
 use hh_names::{
     AccessKey, Account, Contract, Counterparties, Fault, PartyId, PeriodNumber, Reading,
     Reallocation, Reference, Refusal, UnitId,
@@ -8,6 +7,7 @@ use hh_rows::{
     ContractKey, ContractRow, DateRange, FileKind, MeterRow, PartyRegistration, PartyRow, PriceRow,
     ReallocationKey, ReallocationRow, Row, SettlementPeriod, UnitPeriod, UnitRegistration, UnitRow,
 };
+use hh_texts::*;
 use hh_time::SettlementDate;
 use std::alloc::AllocError;
 use std::process::Abort;

@@ -1,6 +1,6 @@
 //! What no clause says: that a period is settled, and what the words of the clauses come to.
 
-use super::*;
+use hh_calc::*;
 use hh_names::{Account, Contract, Counterparties, Reading, Reallocation, UnitId};
 use hh_num::{Kwh, Percent, Price, Ticks, Tlm};
 use std::alloc::Global;

@@ -1,12 +1,12 @@
 //! What no clause says: that with ample memory connections are served, and the bytes that go out.
 
-use super::*;
 use hh_devices::{MemorySink, MemorySource};
 use hh_names::OperatorKey;
 use hh_office::Office;
 use hh_rows::{LeadMinutes, Settings};
 use hh_store::PlainTables;
 use hh_time::london;
+use hh_wire::*;
 use std::test::Fail;
 
 /// The operator asks for the balance of an account to which nothing was moved.

@@ -1,6 +1,6 @@
 //! What no clause says: that the words of the clauses come to the market's texts and numbers.
 
-use super::*;
+use hh_names::*;
 use std::alloc::AllocError;
 use std::process::Abort;
 use std::test::Fail;

@@ -1,6 +1,5 @@
 //! What no clause says: that with ample memory replies are written, and the bytes of worked replies.
 
-use super::*;
 use hh_devices::MemorySink;
 use hh_names::{Account, Fault, PeriodNumber, Refusal, UnitId};
 use hh_num::Pence;
@@ -8,6 +7,7 @@ use hh_office::{Loaded, Reply};
 use hh_runs::{RunKind, Summary};
 use hh_store::RunKey;
 use hh_time::SettlementDate;
+use hh_wire::*;
 use std::test::Fail;
 
 /// The reply to a party that asks for the balance of its own account.

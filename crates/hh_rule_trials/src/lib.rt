@@ -1,0 +1,11 @@
+//! Names, files and the rule of rows tried from outside: tests of what no clause of theirs says.
+//!
+//! They stand in a crate of their own, since the tests of a crate are proved with all of it once more.
+#![tactic(auto)]
+
+#[cfg(test)]
+mod files_tests;
+#[cfg(test)]
+mod names_tests;
+#[cfg(test)]
+mod rules_tests;

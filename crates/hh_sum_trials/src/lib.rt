@@ -1,0 +1,9 @@
+//! The settlement of a period and the reports tried from outside: tests of what no clause of theirs says.
+//!
+//! They stand in a crate of their own, since the tests of a crate are proved with all of it once more.
+#![tactic(auto)]
+
+#[cfg(test)]
+mod calc_tests;
+#[cfg(test)]
+mod reports_tests;
