@@ -1,13 +1,10 @@
 //! The program `settle`.
 #![tactic(auto)]
 
-mod program;
-mod words;
-
+use hh_command::run;
 use hh_devices::StreamSink;
 use hh_inputs::{FileInputs, RuntimeFiles};
 use hh_sockets::RuntimeLoopback;
-use program::run;
 use std::process::ExitCode;
 
 fn main(rt: HostRuntime) -> ExitCode {
@@ -17,3 +14,10 @@ fn main(rt: HostRuntime) -> ExitCode {
     let mut err = StreamSink::new(rt.stderr());
     ExitCode::from(run(&rt, &inputs, &loopback, &mut out, &mut err))
 }
+
+#[cfg(test)]
+mod period_tests;
+#[cfg(test)]
+mod script_tests;
+#[cfg(test)]
+mod words_tests;

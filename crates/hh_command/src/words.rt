@@ -4,8 +4,8 @@ ghost use Rattle.std.specs.Prelude.{◌≡◌, ◌≢◌, IfOk, IfErr, map, stri
 ghost use Rattle.clap.specs.Words.{app_of, rule_of, found_of, rows_of, first_of, kind_of, subcommand_rows_of};
 ghost use Rattle.clap.specs.declared.builder.command.Command.TheViews.{out-Command};
 ghost use Rattle.clap.specs.declared.error.kind.ErrorKind.TheVariants.{OutOfMemory};
-ghost use Rattle.hh_settle.specs.Grammar.{option, period_app, positional, required_option, script_app, settle_app};
-ghost use Rattle.hh_settle.specs.Lines.{line_of, line_value, given_line, given_period, given_script, minutes_given};
+ghost use Rattle.hh_command.specs.Grammar.{option, period_app, positional, required_option, script_app, settle_app};
+ghost use Rattle.hh_command.specs.Lines.{line_of, line_value, given_line, given_period, given_script, minutes_given};
 
 use clap::error::ErrorKind;
 use clap::{Arg, ArgAction, ArgMatches, Command as Grammar};
@@ -51,7 +51,7 @@ pub enum WordsFault {
 }
 
 impl From<AllocError> for WordsFault {
-    ghost use Rattle.hh_settle.specs.declared.words.WordsFault.TheVariants.{Memory};
+    ghost use Rattle.hh_command.specs.declared.words.WordsFault.TheVariants.{Memory};
 
     ghost from_gives = { λ _ fault. fault ≡ Memory };
 
@@ -228,6 +228,3 @@ fn value_of<'a>(given: &ArgMatches<'a>, name: &str) -> Option<&'a str>
 {
     given.get_str(name)
 }
-
-#[cfg(test)]
-pub(crate) mod tests;

@@ -9,16 +9,16 @@ use Rattle.hh_period.specs.declared.inputs.PeriodFault.{PeriodFault}
 use Rattle.hh_period.specs.declared.inputs.PeriodFault.TheVariants.{Refused, Write}
 use Rattle.hh_period.specs.declared.rejection.Rejection.{Rejection}
 use Rattle.hh_period.specs.Outcome.{period_outcome, rejections, Outcome, Writes, WritesFront}
-use Rattle.hh_settle.specs.declared.program.Stop.{Stop}
+use Rattle.hh_command.specs.declared.program.Stop.{Stop}
 use Rattle.clap.specs.Words.{Text}
 use Rattle.hh_rows.specs.declared.settings.Settings.{Settings}
 use Rattle.hh_session.specs.declared.script.ScriptStop.{ScriptStop}
 use Rattle.hh_session.specs.declared.script.ScriptStop.TheVariants as script
 use Rattle.hh_session.specs.Script.{StopsAt}
-use Rattle.hh_settle.specs.declared.program.Stop.TheVariants as stop
-use Rattle.hh_settle.specs.Lines.{Line, PeriodCommand, ScriptCommand, line_value}
-use Rattle.hh_settle.specs.Stops.{period_stop, script_stop, AreWrong, ComesTo, DeviceChange, Does, HasUnreadable, IsOffAndTold, StopsBy, StopsLine, TellsOff}
-use Rattle.hh_settle.proofs.FrontFacts.{period_outcome-front}
+use Rattle.hh_command.specs.declared.program.Stop.TheVariants as stop
+use Rattle.hh_command.specs.Lines.{Line, PeriodCommand, ScriptCommand, line_value}
+use Rattle.hh_command.specs.Stops.{period_stop, script_stop, AreWrong, ComesTo, DeviceChange, Does, HasUnreadable, IsOffAndTold, StopsBy, StopsLine, TellsOff}
+use Rattle.hh_command.proofs.FrontFacts.{period_outcome-front}
 
 ByRefusal-map : (r : Refusal) (P Q R : Type 0) → (Q → R) → ByRefusal r P Q → ByRefusal r P R
 ByRefusal-map refusal.Memory P Q R f p = p

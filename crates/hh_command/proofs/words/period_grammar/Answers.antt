@@ -6,7 +6,7 @@ use Rattle.clap.specs.Simple.{app_of_fields}
 use Rattle.clap.specs.declared.builder.arg.Arg.{Arg}
 use Rattle.clap.specs.declared.builder.command.Command.{Command}
 use Rattle.clap.specs.declared.builder.command.Command.TheViews.{out-Command}
-use Rattle.hh_settle.proofs.words.period_grammar.Goals as goal
+use Rattle.hh_command.proofs.words.period_grammar.Goals as goal
 
 -- a command with one more argument, that is of its own alone
 app_with : {old new : Command} {a : Arg} {app : App} {rule : Rule} → AddsArg old a new → a.global ≡ false → rule_of a ≡ rule → app_of old ≡ app

@@ -1,4 +1,7 @@
-use super::*;
+//! A line of words as a command.
+
+use hh_command::{Command, PeriodWords, read_words};
+use std::alloc::{AllocError, Global};
 use std::test::Fail;
 
 /// A line of words.

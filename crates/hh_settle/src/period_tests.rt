@@ -1,9 +1,13 @@
-use super::*;
-use crate::words::tests::line;
+//! Periods from the words of a call to what goes out, with ample memory.
+
+use crate::words_tests::line;
+use hh_command::command;
 use hh_devices::MemorySink;
 use hh_inputs::{MemoryFile, MemoryInputs};
-use hh_names::{Fault, PeriodNumber, UnitId};
+use hh_names::{Fault, PeriodNumber, Refusal, UnitId};
+use hh_period::Rejection;
 use hh_sockets::NoLoopback;
+use std::alloc::{AllocError, Global};
 use std::process::Abort;
 use std::test::Fail;
 

@@ -1,10 +1,11 @@
 //! Scripts from their lines to what goes out, with ample memory.
 
-use super::*;
-use crate::words::tests::line;
+use crate::words_tests::line;
+use hh_command::command;
 use hh_devices::MemorySink;
 use hh_inputs::{MemoryFile, MemoryInputs};
 use hh_sockets::NoLoopback;
+use std::alloc::Global;
 use std::fmt::Write;
 use std::process::Abort;
 use std::test::Fail;

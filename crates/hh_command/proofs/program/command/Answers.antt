@@ -1,8 +1,8 @@
 use Rattle.std.proofs.Common.{inr, map}
 use Rattle.std.specs.String.{string_bytes}
-use Rattle.hh_settle.specs.Lines.{line_of}
-use Rattle.hh_settle.proofs.StopFacts.{wrong_by_off}
-use Rattle.hh_settle.proofs.program.command.Goals as goal
+use Rattle.hh_command.specs.Lines.{line_of}
+use Rattle.hh_command.proofs.StopFacts.{wrong_by_off}
+use Rattle.hh_command.proofs.program.command.Goals as goal
 
 pub returns-in-Err-clause-stopped : goal.returns-in-Err-clause-stopped
 returns-in-Err-clause-stopped g c one =

@@ -5,8 +5,8 @@ use Rattle.clap.specs.declared.error.Error.{Error}
 use Rattle.clap.specs.declared.error.kind.ErrorKind.{ErrorKind}
 use Rattle.clap.specs.declared.error.kind.ErrorKind.TheVariants.{OutOfMemory}
 use Rattle.clap.specs.declared.parser.matches.ArgMatches.{ArgMatches}
-use Rattle.hh_settle.specs.Grammar.{settle_app}
-use Rattle.hh_settle.specs.Lines.{Line, faultless, given_line, line_value}
+use Rattle.hh_command.specs.Grammar.{settle_app}
+use Rattle.hh_command.specs.Lines.{Line, faultless, given_line, line_value}
 
 settle-simple : is_simple settle_app ≡ true
 settle-simple = refl

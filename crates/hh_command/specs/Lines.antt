@@ -6,9 +6,9 @@ use Rattle.clap.specs.Kinds.{Kinds}
 use Rattle.hh_names.specs.Words.{operator_key_value}
 use Rattle.hh_rows.specs.declared.settings.Settings.{Settings}
 use Rattle.hh_rows.specs.Minutes.{lead_minutes_value}
-use Rattle.hh_settle.specs.Grammar.{settle_app}
-use Rattle.hh_settle.specs.declared.words.Command.{Command}
-use Rattle.hh_settle.specs.declared.words.Command.TheVariants.{Period, Script}
+use Rattle.hh_command.specs.Grammar.{settle_app}
+use Rattle.hh_command.specs.declared.words.Command.{Command}
+use Rattle.hh_command.specs.declared.words.Command.TheVariants.{Period, Script}
 
 -- a command with its values
 pub data Line : Type 0 where

@@ -1,8 +1,8 @@
 use Rattle.std.proofs.Common.{Some, None}
 use Rattle.clap.specs.Words.{app_of}
-use Rattle.hh_settle.specs.Lines.{line_of}
-use Rattle.hh_settle.proofs.LineFacts.{line_value-parsed, line_value-refused}
-use Rattle.hh_settle.proofs.words.read_words.Goals as goal
+use Rattle.hh_command.specs.Lines.{line_of}
+use Rattle.hh_command.proofs.LineFacts.{line_value-parsed, line_value-refused}
+use Rattle.hh_command.proofs.words.read_words.Goals as goal
 
 pub returns-in-Some-clause-command : goal.returns-in-Some-clause-command
 returns-in-Some-clause-command c = line_value-parsed (app_of c.in_ok-settle.settle) _ c.in-Ok.matches (Some (line_of c.in-Some.command))

@@ -1,6 +1,6 @@
 use Rattle.std.proofs.Common.{Err, ap}
-use Rattle.hh_settle.proofs.StopFacts.{done_by_period, stopped_by_period}
-use Rattle.hh_settle.proofs.program.settle_files.Goals as goal
+use Rattle.hh_command.proofs.StopFacts.{done_by_period, stopped_by_period}
+use Rattle.hh_command.proofs.program.settle_files.Goals as goal
 
 pub returns-clause-done : goal.returns-clause-done
 returns-clause-done g c =

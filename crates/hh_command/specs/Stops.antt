@@ -15,9 +15,9 @@ use Rattle.hh_rows.specs.declared.settings.Settings.{Settings}
 use Rattle.hh_session.specs.declared.script.ScriptStop.{ScriptStop}
 use Rattle.hh_session.specs.declared.script.ScriptStop.TheVariants as script
 use Rattle.hh_session.specs.Script.{IsUnread, StopsAt, WritesScript}
-use Rattle.hh_settle.specs.declared.program.Stop.{Stop}
-use Rattle.hh_settle.specs.declared.program.Stop.TheVariants as stop
-use Rattle.hh_settle.specs.Lines.{Line, PeriodCommand, ScriptCommand, line_value}
+use Rattle.hh_command.specs.declared.program.Stop.{Stop}
+use Rattle.hh_command.specs.declared.program.Stop.TheVariants as stop
+use Rattle.hh_command.specs.Lines.{Line, PeriodCommand, ScriptCommand, line_value}
 
 -- why a command stops whose file gives no bytes
 abbrev pub input_stop : InputFault → Stop

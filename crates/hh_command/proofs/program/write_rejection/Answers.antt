@@ -1,7 +1,7 @@
 use Rattle.std.proofs.Common.{inr}
 use Rattle.std.specs.Fmt.{digits}
-use Rattle.hh_settle.proofs.ResultFacts.{OnOk-map}
-use Rattle.hh_settle.proofs.program.write_rejection.Goals as goal
+use Rattle.hh_command.proofs.ResultFacts.{OnOk-map}
+use Rattle.hh_command.proofs.program.write_rejection.Goals as goal
 
 pub returns-in-Err-clause-told : goal.returns-in-Err-clause-told
 unfolding digits

@@ -5,8 +5,8 @@ ghost use Rattle.std.specs.Io.KnownBytes.{Appends};
 ghost use Rattle.clap.specs.Words.{Text};
 ghost use Rattle.hh_devices.specs.Devices.{Failed};
 ghost use Rattle.hh_period.specs.Outcome.{memory_rejection};
-ghost use Rattle.hh_settle.specs.Lines.{line_of};
-ghost use Rattle.hh_settle.specs.Stops.{change, AreWrong, Does, DoesWords, HasStatusOne, IsOffAndTold, IsTold, Stops, StopsLine, Tells, TellsOff, stop_line};
+ghost use Rattle.hh_command.specs.Lines.{line_of};
+ghost use Rattle.hh_command.specs.Stops.{change, AreWrong, Does, DoesWords, HasStatusOne, IsOffAndTold, IsTold, Stops, StopsLine, Tells, TellsOff, stop_line};
 ghost use Rattle.hh_texts.specs.Rows.{most_bytes};
 
 use crate::words::{Command, PeriodWords, USAGE, WordsFault, read_words};
@@ -41,9 +41,12 @@ const MOST_READ: usize = MOST_BYTES + 1;
 
 /// Why a command stops with a line on the standard error.
 #[derive(Clone, Copy, Debug, PartialEq, Eq)]
-enum Stop {
+pub enum Stop {
+    /// What it was given is refused.
     Refused(Rejection),
+    /// A file can't be read.
     File,
+    /// The output failed.
     Output,
     /// A line of a script is off its form.
     Off { line: usize },
@@ -58,7 +61,7 @@ impl Stop {
 }
 
 impl From<InputFault> for Stop {
-    ghost use Rattle.hh_settle.specs.Stops.{input_stop};
+    ghost use Rattle.hh_command.specs.Stops.{input_stop};
 
     ghost from_gives = { λ fault stop. stop ≡ input_stop fault };
 
@@ -71,7 +74,7 @@ impl From<InputFault> for Stop {
 }
 
 impl From<PeriodFault> for Stop {
-    ghost use Rattle.hh_settle.specs.Stops.{period_stop};
+    ghost use Rattle.hh_command.specs.Stops.{period_stop};
 
     ghost from_gives = { λ fault stop. stop ≡ period_stop fault };
 
@@ -84,7 +87,7 @@ impl From<PeriodFault> for Stop {
 }
 
 impl From<ScriptStop> for Stop {
-    ghost use Rattle.hh_settle.specs.Stops.{script_stop};
+    ghost use Rattle.hh_command.specs.Stops.{script_stop};
 
     ghost from_gives = { λ why stop. stop ≡ script_stop why };
 
@@ -312,8 +315,3 @@ fn write_rejection<S: Sink>(
         Err(AllocError) => write_whole(sink, b"refused 90 Memory\n"),
     }
 }
-
-#[cfg(test)]
-mod script_tests;
-#[cfg(test)]
-mod tests;
