@@ -1,4 +1,5 @@
 """The gate `./check`, tried in a small repository of its own with stand-ins for `rt` and the tests."""
+import os
 import pathlib
 import shutil
 import subprocess
@@ -52,6 +53,11 @@ class Check(unittest.TestCase):
         for script in ("check", ".ci/run"):
             made = self.check("echo 216 passed, 0 failed", "echo 40 passed, 0 failed", script)
             self.assertEqual(made, (0, "256 passed, 0 failed", ["rt ci", "tests"]))
+
+    def test_it_tells_how_many_checks_may_run(self):
+        """One for each core at most."""
+        called = self.check('echo "$RT_JOBS" >>calls; echo 1 passed, 0 failed', "echo 1 passed, 0 failed")[2]
+        self.assertIn(int(called[1]), range(1, os.cpu_count() + 1))
 
     def test_a_failed_test_fails_it(self):
         made = self.check("echo 216 passed, 0 failed", "echo 38 passed, 2 failed; exit 1")

@@ -1,5 +1,5 @@
 """Files of the example market through `hh_bench load`: from text to what becomes of each row. All rows
-come at 2024-06-01T00:00:00Z, before every deadline; late rows are tested in hh_rules."""
+come at 2024-06-01T00:00:00Z, before every deadline; late rows are tested in test_desk.py."""
 import pathlib
 import subprocess
 import tempfile

@@ -19,6 +19,3 @@ pub use source::Source;
 pub use stream::{Reader, Writer};
 pub use stream_sink::StreamSink;
 pub use stream_source::StreamSource;
-
-#[cfg(test)]
-mod tests;

@@ -8,6 +8,3 @@ mod memory_inputs;
 pub use file_inputs::{FileInputs, Opener, RuntimeFiles, read_front};
 pub use inputs::{InputFault, Inputs};
 pub use memory_inputs::{MemoryFile, MemoryInputs};
-
-#[cfg(test)]
-mod tests;

@@ -11,6 +11,3 @@ pub use quantity::{
     Scaled, Ticks, Tlm, Volume,
 };
 pub use rounding::{nearest_is_one, round_div};
-
-#[cfg(test)]
-mod tests;

@@ -17,6 +17,3 @@ pub use rows::{
 };
 pub use settings::{LeadMinutes, Settings};
 pub use settlement_period::SettlementPeriod;
-
-#[cfg(test)]
-mod tests;

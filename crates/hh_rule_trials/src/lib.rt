@@ -1,4 +1,4 @@
-//! Names, files and the rule of rows tried from outside: tests of what no clause of theirs says.
+//! Dates, names, files and the rule of rows tried from outside: tests of what no clause of theirs says.
 //!
 //! They stand in a crate of their own, since the tests of a crate are proved with all of it once more.
 #![tactic(auto)]
@@ -8,4 +8,8 @@ mod files_tests;
 #[cfg(test)]
 mod names_tests;
 #[cfg(test)]
+mod rows_tests;
+#[cfg(test)]
 mod rules_tests;
+#[cfg(test)]
+mod time_tests;

@@ -175,14 +175,6 @@ fn after(alloc: Global, zone: &TimeZone<'_>, steps: &[(i64, Option<Row>, u8)]) -
     Some(register)
 }
 
-fn volume_of(register: &Register, reference: &[u8]) -> Option<i64> {
-    Some(
-        register
-            .contract(&contract_key(reference, b"2024-07-01", 1)?)?
-            .units(),
-    )
-}
-
 /// Whether each reader finds what the rows gave it.
 fn finds_all(register: &Register) -> Option<bool> {
     let day: &[u8] = b"2024-07-01";
@@ -226,33 +218,6 @@ fn day_of_an_odd_zone(rt: HostRuntime) -> Result<(), Fail> {
         (MOMENT, price_row(b"2024-03-31", 1, 0), 34),
     ];
     assert!(rt; after(rt.alloc(), &zone, &steps).is_some());
-    Ok(())
-}
-
-#[test]
-fn late_at_the_deadline(rt: HostRuntime) -> Result<(), Fail> {
-    let zone = london();
-    let steps = [
-        (
-            1_719_784_799,
-            contract_row(b"C1", b"GENCO-P", b"SUPCO-C", 98_000),
-            APPLIED,
-        ),
-        (
-            1_719_784_800,
-            contract_row(b"C1", b"GENCO-P", b"SUPCO-C", 97_000),
-            LATE,
-        ),
-        (
-            MOMENT,
-            contract_row(b"C1", b"GENCO-P", b"SUPCO-C", 96_000),
-            APPLIED,
-        ),
-    ];
-    let before = after(rt.alloc(), &zone, &steps[..2]);
-    assert_eq!(rt; before.and_then(|r| volume_of(&r, b"C1")), Some(98_000));
-    let last = after(rt.alloc(), &zone, &steps);
-    assert_eq!(rt; last.and_then(|r| volume_of(&r, b"C1")), Some(96_000));
     Ok(())
 }
 
@@ -300,41 +265,6 @@ fn a_part_holds_rows(rt: HostRuntime) -> Result<(), Fail> {
         panic!(&rt; "there is such a row");
     };
     assert_eq!(rt; register.hold_row(enough), Ok(()));
-    Ok(())
-}
-
-/// How many rows of a file are in time and late, and how many references they fix; or the fault's
-/// number and row.
-fn judged(alloc: Global, moment: i64, rows: &[Option<Row>]) -> Option<(usize, u32, usize)> {
-    let mut file = Vec::new(alloc);
-    for row in rows {
-        file.push((*row)?).ok()?;
-    }
-    if file.len() > 20_000 {
-        return None;
-    }
-    match part(alloc)?.judge_file(alloc, &london(), moment, &file) {
-        Ok(file) => Some((file.rows().len(), file.late(), file.references().len())),
-        Err(fault) => Some((usize::from(fault.refusal.number()), fault.row?, 0)),
-    }
-}
-
-#[test]
-fn judges_the_rows_of_a_file(rt: HostRuntime) -> Result<(), Fail> {
-    let rows = [
-        contract_row(b"C1", b"GENCO-P", b"SUPCO-C", 97_000),
-        contract_row(b"C9", b"GENCO-P", b"SUPCO-C", 1000),
-        contract_row(b"C9", b"GENCO-P", b"SUPCO-C", 2000),
-    ];
-    assert_eq!(rt; judged(rt.alloc(), MOMENT, &rows), Some((3, 0, 1)));
-    assert_eq!(rt; judged(rt.alloc(), 1_719_784_800, &rows), Some((0, 3, 1)));
-    let turned = [
-        contract_row(b"C9", b"GENCO-P", b"SUPCO-C", 1000),
-        contract_row(b"C1", b"GENCO-P", b"SUPCO-C", 97_000),
-        contract_row(b"C9", b"SUPCO-C", b"GENCO-P", 1000),
-    ];
-    assert_eq!(rt; judged(rt.alloc(), MOMENT, &turned), Some((36, 3, 0)));
-    assert_eq!(rt; judged(rt.alloc(), MOMENT, &[]), Some((0, 0, 0)));
     Ok(())
 }
 

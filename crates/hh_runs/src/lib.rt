@@ -16,6 +16,3 @@ pub use order::next_kind;
 pub use posting::Posting;
 pub use run_kind::RunKind;
 pub use summary::Summary;
-
-#[cfg(test)]
-mod tests;

@@ -16,6 +16,3 @@ pub use run::RunLine;
 pub use script::{ScriptFault, read_script};
 pub use script_line::ScriptLine;
 pub use serve::ServeLine;
-
-#[cfg(test)]
-mod tests;

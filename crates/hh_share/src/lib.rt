@@ -6,8 +6,3 @@ mod shares;
 
 pub use ranking::ranked;
 pub use shares::apportion;
-
-#[cfg(test)]
-mod counted;
-#[cfg(test)]
-mod tests;

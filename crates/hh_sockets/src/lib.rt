@@ -8,6 +8,3 @@ mod runtime;
 pub use loopback::{Connection, Listener, Loopback, SocketFailed};
 pub use none::{NoListener, NoLoopback};
 pub use runtime::{RuntimeListener, RuntimeLoopback};
-
-#[cfg(test)]
-mod tests;

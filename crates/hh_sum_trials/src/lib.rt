@@ -1,4 +1,5 @@
-//! The settlement of a period and the reports tried from outside: tests of what no clause of theirs says.
+//! Numbers, tables, shares, the settlement of a period, runs and reports tried from outside: tests of what no
+//! clause of theirs says.
 //!
 //! They stand in a crate of their own, since the tests of a crate are proved with all of it once more.
 #![tactic(auto)]
@@ -6,4 +7,14 @@
 #[cfg(test)]
 mod calc_tests;
 #[cfg(test)]
+mod counted;
+#[cfg(test)]
+mod num_tests;
+#[cfg(test)]
 mod reports_tests;
+#[cfg(test)]
+mod runs_tests;
+#[cfg(test)]
+mod share_tests;
+#[cfg(test)]
+mod tables_tests;

@@ -6,6 +6,3 @@ mod tree_table;
 
 pub use list_table::ListTable;
 pub use tree_table::{TreeTable, put_both};
-
-#[cfg(test)]
-mod tests;

@@ -12,6 +12,3 @@ pub use day::{Day, day_of, deadline, period_start};
 pub use fault::TimeFault;
 pub use text::{dates_read_back, read_date};
 pub use zone::{london, midnight};
-
-#[cfg(test)]
-mod tests;

@@ -470,53 +470,56 @@ fn refused_reply(
     )
 }
 
+/// Starts of requests, and behind each the status of the reply, a line of its head, the length of its body and the
+/// body.
+const REFUSED: [(&[u8], &[u8], &[u8], &[u8], &[u8]); 6] = [
+    (
+        b"DELETE /balances/SUPCO-C",
+        b"405 Method Not Allowed",
+        b"Allow: GET\r\n",
+        b"33",
+        b"{\"name\":\"BadMethod\",\"refused\":62}",
+    ),
+    (
+        b"HEAD /runs/2024-07-01",
+        b"405 Method Not Allowed",
+        b"Allow: GET\r\n",
+        b"33",
+        b"",
+    ),
+    (
+        b"GET /nowhere",
+        b"404 Not Found",
+        b"",
+        b"31",
+        b"{\"name\":\"NoRoute\",\"refused\":61}",
+    ),
+    (
+        b"POST /files/meters/a.csv",
+        b"411 Length Required",
+        b"",
+        b"38",
+        b"{\"name\":\"LengthRequired\",\"refused\":64}",
+    ),
+    (
+        b"GET nothing at all",
+        b"400 Bad Request",
+        b"",
+        b"34",
+        b"{\"name\":\"BadRequest\",\"refused\":65}",
+    ),
+    (
+        b"POST /files/meters/a.csv HTTP/1.1\r\nHost: a\r\nContent-Length: 1048577\r\n\r\n",
+        b"413 Content Too Large",
+        b"",
+        b"36",
+        b"{\"name\":\"BodyTooLarge\",\"refused\":66}",
+    ),
+];
+
 #[test]
 fn refusals_are_replied(rt: HostRuntime) -> Result<(), Fail> {
-    let starts: [(&[u8], &[u8], &[u8], &[u8], &[u8]); 6] = [
-        (
-            b"DELETE /balances/SUPCO-C",
-            b"405 Method Not Allowed",
-            b"Allow: GET\r\n",
-            b"33",
-            b"{\"name\":\"BadMethod\",\"refused\":62}",
-        ),
-        (
-            b"HEAD /runs/2024-07-01",
-            b"405 Method Not Allowed",
-            b"Allow: GET\r\n",
-            b"33",
-            b"",
-        ),
-        (
-            b"GET /nowhere",
-            b"404 Not Found",
-            b"",
-            b"31",
-            b"{\"name\":\"NoRoute\",\"refused\":61}",
-        ),
-        (
-            b"POST /files/meters/a.csv",
-            b"411 Length Required",
-            b"",
-            b"38",
-            b"{\"name\":\"LengthRequired\",\"refused\":64}",
-        ),
-        (
-            b"GET nothing at all",
-            b"400 Bad Request",
-            b"",
-            b"34",
-            b"{\"name\":\"BadRequest\",\"refused\":65}",
-        ),
-        (
-            b"POST /files/meters/a.csv HTTP/1.1\r\nHost: a\r\nContent-Length: 1048577\r\n\r\n",
-            b"413 Content Too Large",
-            b"",
-            b"36",
-            b"{\"name\":\"BodyTooLarge\",\"refused\":66}",
-        ),
-    ];
-    for (start, status, line, size, body) in starts {
+    for (start, status, line, size, body) in REFUSED {
         let refused = refusal(&rt, &sent(&rt, start, b"", b"")?)?;
         let wanted = refused_reply(&rt, status, line, size, body)?;
         let mut sink = MemorySink::with_room(rt.alloc(), 1_000)?;

@@ -1,7 +1,7 @@
 //! What no clause says: that a connection of the loopback is had, and what goes over it.
 
-use super::*;
 use hh_devices::{Sink, Source};
+use hh_sockets::*;
 use std::io;
 use std::io::Write;
 use std::net::{Ipv4Addr, TcpStream};

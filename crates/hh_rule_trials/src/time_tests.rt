@@ -1,6 +1,6 @@
 //! What no clause says: that the words of the clauses come to the calendar's dates and instants.
 
-use super::*;
+use hh_time::*;
 use jiff::civil::Date;
 use jiff::tz::TimeZone;
 use std::test::Fail;

@@ -1,7 +1,7 @@
 //! What no clause says: what the words of the clauses come to, and that with ample memory runs post.
 
-use super::*;
 use hh_names::{Account, Fault, Refusal};
+use hh_runs::*;
 use std::alloc::Global;
 use std::test::Fail;
 

@@ -1,6 +1,6 @@
 //! What no clause says: that each call succeeds, and what the words of the clauses come to.
 
-use super::*;
+use hh_num::*;
 use std::test::Fail;
 
 #[test]

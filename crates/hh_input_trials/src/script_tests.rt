@@ -1,8 +1,8 @@
 //! What no clause says: that with ample memory scripts are read, and the values of worked lines.
 
-use super::*;
 use hh_rows::FileKind;
 use hh_runs::RunKind;
+use hh_script::*;
 use std::test::Fail;
 
 const SCRIPT: &[u8] = b"load 1719784799 op-settle001 parties data/parties.csv

@@ -1,6 +1,6 @@
 //! What no clause says: that with ample memory rows are put into tables.
 
-use super::*;
+use hh_tables::*;
 use std::test::Fail;
 
 #[test]

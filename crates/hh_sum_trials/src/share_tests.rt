@@ -1,7 +1,7 @@
 //! What no clause says: that shares are given, and what the words of the clauses come to.
 
-use super::*;
 use crate::counted::counted;
+use hh_share::*;
 use std::alloc::{AllocError, Global};
 use std::test::Fail;
 

@@ -1,8 +1,8 @@
 //! What no clause says: that each call succeeds, and that a path of the system is the file that is
 //! opened.
 
-use super::*;
 use hh_devices::MemorySource;
+use hh_inputs::*;
 use std::alloc::Global;
 use std::io::ErrorKind;
 use std::test::Fail;

@@ -2,7 +2,7 @@
 
 ghost use Rattle.std.specs.Prelude.{◌≡◌, ◌≤◌, min, length, Ok, None, IfOk};
 
-use super::*;
+use hh_devices::*;
 use std::io::{self, Cursor, ErrorKind, Read, Write};
 use std::test::Fail;
 

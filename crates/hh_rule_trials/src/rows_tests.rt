@@ -1,7 +1,7 @@
 //! What no clause says: that the words of the clauses come to the market's texts and numbers.
 
-use super::*;
 use hh_names::{Account, OperatorKey, PeriodNumber, Reference, UnitId};
+use hh_rows::*;
 use hh_time::SettlementDate;
 use std::cmp::Ordering;
 use std::test::Fail;
