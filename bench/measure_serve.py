@@ -5,7 +5,10 @@ usage: measure_serve.py [PROGRAM] [--rounds 7] [--times 2000]
 PROGRAM is the built program, by default crates/hh_settle/out/hh_settle at the top of this repository.
 A script loads a party with 416 units and serves connections. A client, client_serve.rs, asks for a balance so many
 times, a new connection each time and one after the other; then it sends a file of 19,968 readings and one megabyte, in
-each round under another name. peer_serve.py answers the same. The bodies of the replies are compared. It needs `rustc`."""
+each round under another name. peer_serve.py answers the same. floor_serve.rs answers each balance by the same bytes, so
+that it is seen what a connection costs whoever serves it. The bodies of the replies are compared. Of each server the
+processor time of a balance is told, its own and the system's. It needs `rustc`."""
+import os
 import pathlib
 import statistics
 import subprocess
@@ -69,37 +72,56 @@ def milliseconds_of(client, ports, sent, times):
     return taken
 
 
+def processor_time_of(server):
+    """The processor time that a server has had so far, in seconds: its own, and the system's for it."""
+    words = pathlib.Path(f"/proc/{server.pid}/stat").read_text().rpartition(")")[2].split()
+    return [int(word) / os.sysconf("SC_CLK_TCK") for word in words[11:13]]
+
+
 def main():
     arguments = read_words(__doc__, "hh_settle", times=2000)
     with tempfile.TemporaryDirectory() as name:
         folder = pathlib.Path(name)
         served = arguments.rounds * (arguments.times + 1)
-        ours = start([arguments.program, "script", "--operator-key", KEY, script_of(folder, served)])
-        peer = start([sys.executable, str(BENCH / "peer_serve.py"), "0"])
+        floor = build_rust_peer("floor_serve", folder)
+        servers = {
+            "settle script": start([arguments.program, "script", "--operator-key", KEY, script_of(folder, served)]),
+            "Python peer": start([sys.executable, str(BENCH / "peer_serve.py"), "0"]),
+            "Constant reply": start([floor, "0"]),
+        }
         try:
-            ports = [port_of(ours), port_of(peer)]
-            measure(arguments, folder, ports)
-            ours.wait(timeout=60)
+            measure(arguments, folder, servers)
+            servers["settle script"].wait(timeout=60)
         finally:
-            for server in (ours, peer):
+            for server in servers.values():
                 server.kill()
                 server.wait()
 
 
-def measure(arguments, folder, ports):
-    client = build_rust_peer("client_serve", folder)
+def measure(arguments, folder, servers):
+    client, ports = build_rust_peer("client_serve", folder), [port_of(server) for server in servers.values()]
     meters, sent = (folder / "meters.csv").read_bytes(), folder / "request"
-    balances, loads = [], []
+    balances, loads, had = [], [], dict.fromkeys(servers, (0, 0))
     for number in range(arguments.rounds):
         sent.write_bytes(request("GET /balances/GENCO-P"))
+        began = {name: processor_time_of(server) for name, server in servers.items()}
         balances.append(milliseconds_of(client, ports, sent, arguments.times))
+        for name, server in servers.items():
+            had[name] = [sum(parts) for parts in zip(had[name], processor_time_of(server), (-time for time in began[name]))]
         sent.write_bytes(request(f"POST /files/meters/{number}.csv", meters))
-        loads.append(milliseconds_of(client, ports, sent, 1))
-    for title, rounds, times in ((f"{arguments.times} balances", balances, arguments.times), (f"A file of {len(meters)} bytes", loads, 1)):
-        taken = {"settle script": [row[0] for row in rounds], "Python peer": [row[1] for row in rounds]}
-        rates = ", ".join(f"{name} {1000 * times / statistics.median(row):.0f} a second" for name, row in taken.items())
-        print(f"\n{title}: {rates}")
-        print_table(taken, 1)
+        loads.append(milliseconds_of(client, ports[:2], sent, 1))
+    print_rates(f"{arguments.times} balances", arguments.times, servers, balances)
+    for name, (own, system) in had.items():
+        each = 1e6 / (arguments.rounds * arguments.times)
+        print(f"{name}: {own * each:.0f} us of processor for a balance, and {system * each:.0f} us of the system's")
+    print_rates(f"A file of {len(meters)} bytes", 1, [*servers][:2], loads)
+
+
+def print_rates(title, times, names, rounds):
+    taken = {name: [row[place] for row in rounds] for place, name in enumerate(names)}
+    rates = ", ".join(f"{name} {1000 * times / statistics.median(row):.0f} a second" for name, row in taken.items())
+    print(f"\n{title}: {rates}")
+    print_table(taken, 1)
 
 
 if __name__ == "__main__":
