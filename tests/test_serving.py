@@ -280,6 +280,124 @@ class Replies(Served):
         self.assertEqual(self.ask(request("HEAD", f"/runs/{DAY}", SUPCO)), whole[: -len(method)])
 
 
+class Refusals(Served):
+    """Which refusal is the reply, of all that there may be. No key is sent, so that what is asked of the office is
+    forbidden."""
+
+    ASKED = reply(403, refusal(60, "Forbidden"))
+    LENGTH = reply(411, refusal(64, "LengthRequired"))
+    HOST = b"Host: a\r\n"
+
+    def method(self, allowed):
+        return reply(405, refusal(62, "BadMethod"), f"Allow: {allowed}\r\n")
+
+    def compare(self, cases):
+        """Each of these requests has this reply."""
+        self.serve(len(cases))
+        for asked, wanted in cases:
+            with self.subTest(asked):
+                self.assertEqual(self.ask(asked, end=True), wanted)
+        self.assertEqual(self.rest(), [])
+
+    def sent(self, start, lines=b""):
+        return start + b" HTTP/1.1\r\n" + self.HOST + lines + b"\r\n"
+
+    def test_other_paths(self):
+        starts = (
+            b"GET /",
+            b"GET *",
+            b"GET /nowhere",
+            b"GET /runs",
+            b"GET /runs/",
+            b"GET //2024-07-01",
+            b"GET /runs//2024-07-01",
+            b"GET /runs/2024-07-01/",
+            b"GET /runs/2024-07-01?x",
+            b"GET /runs/%32024-07-01",
+            b"GET /runs/2024-02-30",
+            b"GET /Runs/2024-07-01",
+            b"GET runs/2024-07-01",
+            b"GET http://a/runs/2024-07-01",
+            b"GET /runs/2024-07-01/SF/x",
+            b"GET /accounts/GENCO/2024-07-01",
+            b"POST /runs/2024-07-01/XX",
+            b"POST /files/meter/a.csv",
+            b"DELETE /files/meters/a,csv",
+        )
+        self.compare([(self.sent(start), NO_ROUTE) for start in starts])
+
+    def test_other_methods(self):
+        """Each path is told with the one method that it has."""
+        starts = (
+            (b"DELETE /balances/SUPCO-C", "GET"),
+            (b"get /balances/SUPCO-C", "GET"),
+            (b"POST /accounts/GENCO-P/2024-07-01", "GET"),
+            (b"PUT /contracts/GENCO-P/2024-07-01", "GET"),
+            (b"POST /runs/2024-07-01", "GET"),
+            (b"GET /runs/2024-07-01/SF", "POST"),
+            (b"GETTING-ON-WITH-THINGS /files/meters/a.csv", "POST"),
+        )
+        self.compare([(self.sent(start), self.method(allowed)) for start, allowed in starts])
+
+    def test_a_head_alone(self):
+        """HEAD gets the head of the reply, once it is known that it is asked."""
+        cases = (
+            (b"HEAD /runs/2024-07-01", b"", self.method("GET"), True),
+            (b"HEAD /nowhere", b"", NO_ROUTE, True),
+            (b"HEAD /nowhere", b"Content-Length: 1048577\r\n", TOO_LARGE, True),
+            (b"HEAD /nowhere", b"Content-Length: 1\r\n", BAD, True),
+            (b"HEAD /nowhere", b"Host: b\r\n", BAD, True),
+            (b"head /nowhere", b"", NO_ROUTE, False),
+            (b"HEAD /nowhere", b"Host b\r\n", BAD, False),
+        )
+        head = lambda whole: whole.partition(b"\r\n\r\n")[0] + b"\r\n\r\n"
+        self.compare([(self.sent(start, lines), head(wanted) if alone else wanted) for start, lines, wanted, alone in cases])
+
+    def test_heads(self):
+        runs, host = b"GET /runs/2024-07-01 HTTP/1.1\r\n", self.HOST
+        self.compare(
+            [
+                (runs + b"\r\n", BAD),
+                (runs.replace(b"1.1", b"1.0") + b"\r\n", self.ASKED),
+                (b"\r\n\nGET /runs/2024-07-01 HTTP/1.1\nHOST:\n\n", self.ASKED),
+                (runs.replace(b"1.1", b"2.0") + host + b"\r\n", BAD),
+                (b"GET /runs/2024-07-01\r\n" + host + b"\r\n", BAD),
+                (runs.replace(b"GET", b"GET ") + host + b"\r\n", BAD),
+                (b"GET /runs/\xff HTTP/1.1\r\n" + host + b"\r\n", BAD),
+                (runs + b"Host : a\r\n\r\n", BAD),
+                (runs + host + b"host: a\r\n\r\n", BAD),
+                (runs.replace(b"1.1", b"1.0") + host + b"host: a\r\n\r\n", BAD),
+            ]
+        )
+
+    def test_headers(self):
+        lines = (
+            (b"x-office-key: b\r\nX-Office-Key: b\r\n", b"", BAD),
+            (b"Content-Length: 0\r\nContent-Length: 0\r\n", b"", BAD),
+            (b"Content-Length: +5\r\n", b"abcde", BAD),
+            (b"Content-Length: -0\r\n", b"", BAD),
+            (b"Content-Length:\r\n", b"", BAD),
+            (b"Content-Length: 0,0\r\n", b"", BAD),
+            (b"Transfer-Encoding: identity\r\n", b"", BAD),
+            (b"Content-Length: \t5 \r\n", b"abcde", NO_ROUTE),
+            (b"Content-Length: " + b"0" * 40 + b"6\r\n", b"abcde", BAD),
+        )
+        self.compare([(self.sent(b"GET /", text) + body, wanted) for text, body, wanted in lines])
+
+    def test_the_first_cause(self):
+        cases = (
+            (b"GET /nowhere", b"Content-Length: 2000000\r\nTransfer-Encoding: gzip\r\n", BAD),
+            (b"GET /nowhere", b"Content-Length: 2000000\r\n", TOO_LARGE),
+            (b"GET /nowhere", b"Content-Length: 1\r\n", BAD),
+            (b"GET /files/meters/a,csv", b"", NO_ROUTE),
+            (b"GET /files/meters/a.csv", b"", self.method("POST")),
+            (b"POST /files/meters/a.csv", b"", self.LENGTH),
+            (b"POST /files/meters/a.csv", b"Expect: 100-continue\r\n", self.LENGTH),
+            (b"POST /files/meters/a.csv", b"Content-Length: 0\r\n", self.ASKED),
+        )
+        self.compare([(self.sent(start, lines), wanted) for start, lines, wanted in cases])
+
+
 class Bytes(Served):
     """However a request is cut, and whatever is wrong with it."""
 

@@ -1,5 +1,5 @@
 //! What no clause says: that with ample memory requests are read, that no more is read than they need,
-//! and the values of worked requests.
+//! and the values of worked requests. Which refusal a request meets is tested through `settle`.
 
 ghost use Rattle.std.specs.Prelude.{◌<◌};
 
@@ -7,7 +7,6 @@ use hh_devices::{MemorySink, MemorySource};
 use hh_names::Account;
 use hh_office::{Action, Request};
 use hh_rows::FileKind;
-use hh_runs::RunKind;
 use hh_wire::*;
 use std::test::Fail;
 
@@ -18,9 +17,6 @@ const BALANCE: &[u8] =
 /// A file is sent, and more follows it.
 const LOAD: &[u8] =
     b"POST /files/meters/a.csv HTTP/1.1\r\nHost: localhost\r\nContent-Length: 5\r\n\r\na,b\r\nmore";
-
-/// The days from 1970-01-01 to 2024-07-01: 54 years with 13 leap days, and 182 days of a leap year.
-const FIRST_OF_JULY_2024: u16 = 54 * 365 + 13 + 182;
 
 /// What reading came to, where it is no refusal.
 const ASKED: u8 = 0;
@@ -46,11 +42,6 @@ fn outcome(rt: &impl AllocGlobal, bytes: &[u8], piece: usize) -> (u8, bool)
     told(&read_request(rt.alloc(), &mut MemorySource::new(bytes).in_pieces(piece)))
 }
 
-/// The number alone, of bytes that come whole.
-fn number(rt: &impl AllocGlobal, bytes: &[u8]) -> u8 {
-    outcome(rt, bytes, 9_000).0
-}
-
 /// The request that bytes make.
 fn request(rt: &impl AllocGlobal, bytes: &[u8], piece: usize) -> Result<Request, Fail>
     requires { 0 < piece }
@@ -60,15 +51,6 @@ fn request(rt: &impl AllocGlobal, bytes: &[u8], piece: usize) -> Result<Request,
         Ok(Incoming::Asked(request)) => Ok(request),
         _ => Err(Fail::new("no request")),
     }
-}
-
-/// What is asked by a request of this method and path, with a Host and the further lines of its head,
-/// and its body.
-fn action(rt: &impl AllocGlobal, start: &[u8], lines: &[u8], body: &[u8]) -> Result<Action, Fail> {
-    let bytes = sent(rt, start, lines, body)?;
-    let Request { key, action } = request(rt, &bytes, 70_000)?;
-    drop(key);
-    Ok(action)
 }
 
 /// Why bytes are refused.
@@ -194,255 +176,6 @@ fn a_file_is_sent(rt: HostRuntime) -> Result<(), Fail> {
         assert_eq!(rt; upload.kind, FileKind::Meters);
         assert_eq!(rt; upload.name.as_bytes(), b"a.csv".as_slice());
         assert_eq!(rt; upload.body.as_slice(), b"a,b\r\n".as_slice());
-    }
-    Ok(())
-}
-
-#[test]
-fn a_body_may_be_as_long_as_a_file(rt: HostRuntime) -> Result<(), Fail> {
-    let mut body = Vec::new(rt.alloc());
-    for _ in 0..1_048_576 {
-        body.push(b'x')?;
-    }
-    let lines = b"Content-Length: 1048576\r\n";
-    let Action::Load(upload) = action(&rt, b"POST /files/meters/a.csv", lines, &body)? else {
-        return Err(Fail::new("no load"));
-    };
-    assert!(rt; upload.body.as_slice() == body.as_slice());
-    let mut bytes = sent(&rt, b"POST /files/meters/a.csv", lines, &body)?;
-    assert_eq!(rt; number(&rt, &bytes), ASKED);
-    assert_eq!(rt; bytes.pop(), Some(b'x'));
-    assert_eq!(rt; number(&rt, &bytes), 65);
-    Ok(())
-}
-
-#[test]
-fn each_path_asks(rt: HostRuntime) -> Result<(), Fail> {
-    let Action::Run(run) = action(&rt, b"POST /runs/2024-07-01/R1", b"", b"")? else {
-        return Err(Fail::new("no run"));
-    };
-    assert_eq!(rt; run.date.number(), FIRST_OF_JULY_2024);
-    assert_eq!(rt; run.kind, RunKind::R1);
-    let Action::Account { account, date } = action(
-        &rt,
-        b"GET /accounts/GENCO-P/2024-07-01",
-        b"",
-        b"",
-    )?
-    else {
-        return Err(Fail::new("no account"));
-    };
-    assert_eq!(rt; Some(account), Account::read(b"GENCO-P"));
-    assert_eq!(rt; date.number(), FIRST_OF_JULY_2024);
-    let Action::Contracts { account, date } = action(
-        &rt,
-        b"GET /contracts/GENCO-P/2024-07-01",
-        b"",
-        b"",
-    )?
-    else {
-        return Err(Fail::new("no contracts"));
-    };
-    assert_eq!(rt; Some(account), Account::read(b"GENCO-P"));
-    assert_eq!(rt; date.number(), FIRST_OF_JULY_2024);
-    let Action::Runs { date } = action(&rt, b"GET /runs/2024-07-01", b"", b"")? else {
-        return Err(Fail::new("no runs"));
-    };
-    assert_eq!(rt; date.number(), FIRST_OF_JULY_2024);
-    Ok(())
-}
-
-#[test]
-fn other_paths_have_no_route(rt: HostRuntime) -> Result<(), Fail> {
-    let paths: [&[u8]; 19] = [
-        b"GET /",
-        b"GET *",
-        b"GET /nowhere",
-        b"GET /runs",
-        b"GET /runs/",
-        b"GET //2024-07-01",
-        b"GET /runs//2024-07-01",
-        b"GET /runs/2024-07-01/",
-        b"GET /runs/2024-07-01?x",
-        b"GET /runs/%32024-07-01",
-        b"GET /runs/2024-02-30",
-        b"GET /Runs/2024-07-01",
-        b"GET runs/2024-07-01",
-        b"GET http://a/runs/2024-07-01",
-        b"GET /runs/2024-07-01/SF/x",
-        b"GET /accounts/GENCO/2024-07-01",
-        b"POST /runs/2024-07-01/XX",
-        b"POST /files/meter/a.csv",
-        b"DELETE /files/meters/a,csv",
-    ];
-    for path in paths {
-        assert_eq!(rt; number(&rt, &sent(&rt, path, b"", b"")?), 61);
-    }
-    Ok(())
-}
-
-#[test]
-fn other_methods_are_told_the_right_one(rt: HostRuntime) -> Result<(), Fail> {
-    let starts: [(&[u8], &str); 7] = [
-        (b"DELETE /balances/SUPCO-C", "GET"),
-        (b"get /balances/SUPCO-C", "GET"),
-        (b"POST /accounts/GENCO-P/2024-07-01", "GET"),
-        (b"PUT /contracts/GENCO-P/2024-07-01", "GET"),
-        (b"POST /runs/2024-07-01", "GET"),
-        (b"GET /runs/2024-07-01/SF", "POST"),
-        (b"GETTING-ON-WITH-THINGS /files/meters/a.csv", "POST"),
-    ];
-    for (start, method) in starts {
-        let bytes = sent(&rt, start, b"", b"")?;
-        let Refused { cause, head_only } = refusal(&rt, &bytes)?;
-        let RequestRefusal::BadMethod { allow } = cause else {
-            return Err(Fail::new("refused for another cause"));
-        };
-        assert_eq!(rt; allow.as_str(), method);
-        assert!(rt; !head_only);
-    }
-    Ok(())
-}
-
-#[test]
-fn a_head_alone_is_asked_for(rt: HostRuntime) -> Result<(), Fail> {
-    let requests: [(&[u8], &[u8], u8, bool); 7] = [
-        (b"HEAD /runs/2024-07-01", b"", 62, true),
-        (b"HEAD /nowhere", b"", 61, true),
-        (b"HEAD /nowhere", b"Content-Length: 1048577\r\n", 66, true),
-        (b"HEAD /nowhere", b"Content-Length: 1\r\n", 65, true),
-        (b"HEAD /nowhere", b"Host: b\r\n", 65, true),
-        (b"head /nowhere", b"", 61, false),
-        (b"HEAD /nowhere", b"Host b\r\n", 65, false),
-    ];
-    for (start, lines, number, head_only) in requests {
-        let bytes = sent(&rt, start, lines, b"")?;
-        assert_eq!(rt; outcome(&rt, &bytes, 9_000), (number, head_only));
-    }
-    Ok(())
-}
-
-#[test]
-fn rules_of_heads(rt: HostRuntime) -> Result<(), Fail> {
-    let heads: [(&[u8], u8); 10] = [
-        (b"GET /runs/2024-07-01 HTTP/1.1\r\n\r\n", 65),
-        (b"GET /runs/2024-07-01 HTTP/1.0\r\n\r\n", ASKED),
-        (b"\r\n\nGET /runs/2024-07-01 HTTP/1.1\nHOST:\n\n", ASKED),
-        (b"GET /runs/2024-07-01 HTTP/2.0\r\nHost: a\r\n\r\n", 65),
-        (b"GET /runs/2024-07-01\r\nHost: a\r\n\r\n", 65),
-        (b"GET  /runs/2024-07-01 HTTP/1.1\r\nHost: a\r\n\r\n", 65),
-        (b"GET /runs/\xff HTTP/1.1\r\nHost: a\r\n\r\n", 65),
-        (b"GET /runs/2024-07-01 HTTP/1.1\r\nHost : a\r\n\r\n", 65),
-        (b"GET / HTTP/1.1\r\nHost: a\r\nhost: a\r\n\r\n", 65),
-        (b"GET / HTTP/1.0\r\nHost: a\r\nhost: a\r\n\r\n", 65),
-    ];
-    for (head, wanted) in heads {
-        assert_eq!(rt; number(&rt, head), wanted);
-    }
-    Ok(())
-}
-
-#[test]
-fn rules_of_headers(rt: HostRuntime) -> Result<(), Fail> {
-    let heads: [(&[u8], u8); 8] = [
-        (
-            b"GET / HTTP/1.1\r\nHost: a\r\nx-office-key: b\r\nX-Office-Key: b\r\n\r\n",
-            65,
-        ),
-        (
-            b"GET / HTTP/1.1\r\nHost: a\r\nContent-Length: 0\r\nContent-Length: 0\r\n\r\n",
-            65,
-        ),
-        (
-            b"GET / HTTP/1.1\r\nHost: a\r\nContent-Length: +5\r\n\r\nabcde",
-            65,
-        ),
-        (
-            b"GET / HTTP/1.1\r\nHost: a\r\nContent-Length: -0\r\n\r\n",
-            65,
-        ),
-        (b"GET / HTTP/1.1\r\nHost: a\r\nContent-Length:\r\n\r\n", 65),
-        (
-            b"GET / HTTP/1.1\r\nHost: a\r\nContent-Length: 0,0\r\n\r\n",
-            65,
-        ),
-        (
-            b"GET / HTTP/1.1\r\nHost: a\r\nTransfer-Encoding: identity\r\n\r\n",
-            65,
-        ),
-        (
-            b"GET / HTTP/1.1\r\nHost: a\r\nContent-Length: \t5 \r\n\r\nabcde",
-            61,
-        ),
-    ];
-    for (head, wanted) in heads {
-        assert_eq!(rt; number(&rt, head), wanted);
-    }
-    Ok(())
-}
-
-#[test]
-fn the_first_cause_is_told(rt: HostRuntime) -> Result<(), Fail> {
-    let requests: [(&[u8], &[u8], u8); 8] = [
-        (
-            b"GET /nowhere",
-            b"Content-Length: 2000000\r\nTransfer-Encoding: gzip\r\n",
-            65,
-        ),
-        (b"GET /nowhere", b"Content-Length: 2000000\r\n", 66),
-        (b"GET /nowhere", b"Content-Length: 1\r\n", 65),
-        (b"GET /files/meters/a,csv", b"", 61),
-        (b"GET /files/meters/a.csv", b"", 62),
-        (b"POST /files/meters/a.csv", b"", 64),
-        (b"POST /files/meters/a.csv", b"Expect: 100-continue\r\n", 64),
-        (b"POST /files/meters/a.csv", b"Content-Length: 0\r\n", ASKED),
-    ];
-    for (start, lines, wanted) in requests {
-        assert_eq!(rt; number(&rt, &sent(&rt, start, lines, b"")?), wanted);
-    }
-    Ok(())
-}
-
-#[test]
-fn lengths_of_many_digits(rt: HostRuntime) -> Result<(), Fail> {
-    let nines = [b'9'; 40];
-    let zeros = [b'0'; 40];
-    let lengths: [(&[u8], &[u8], u8); 4] = [
-        (&nines, b"", 66),
-        (&zeros, b"", ASKED),
-        (&zeros, b"5", ASKED),
-        (&zeros, b"6", 65),
-    ];
-    for (first, last, wanted) in lengths {
-        let lines = joined(&rt, &[b"Content-Length: ", first, last, b"\r\n"])?;
-        let bytes = sent(&rt, b"GET /runs/2024-07-01", &lines, b"abcde")?;
-        assert_eq!(rt; number(&rt, &bytes), wanted);
-    }
-    Ok(())
-}
-
-#[test]
-fn heads_of_the_greatest_sizes(rt: HostRuntime) -> Result<(), Fail> {
-    for (count, wanted) in [(31, ASKED), (32, 65)] {
-        let mut lines = Vec::new(rt.alloc());
-        for _ in 0..count {
-            lines.extend_from_slice(b"a: b\r\n")?;
-        }
-        let bytes = sent(&rt, b"GET /runs/2024-07-01", &lines, b"")?;
-        assert_eq!(rt; number(&rt, &bytes), wanted);
-    }
-    let around = sent(&rt, b"GET /runs/2024-07-01", b"a: \r\n", b"")?.len();
-    for (size, wanted) in [(8_192, ASKED), (8_193, 65)] {
-        let mut lines = joined(&rt, &[b"a: "])?;
-        for _ in around..size {
-            lines.push(b'b')?;
-        }
-        lines.extend_from_slice(b"\r\n")?;
-        let bytes = sent(&rt, b"GET /runs/2024-07-01", &lines, b"")?;
-        assert_eq!(rt; bytes.len(), size);
-        for piece in [1_000, 9_000] {
-            assert_eq!(rt; outcome(&rt, &bytes, piece).0, wanted);
-        }
     }
     Ok(())
 }
