@@ -71,7 +71,8 @@ class Served(Desk):
         before = [*self.market(), self.order("SF", END), self.dearer(), self.order("R1")] if before is None else before
         script = "".join(f"{line}\n" for line in [*before, f"serve {moment} 0 {count}", *lines])
         words = [SETTLE, "script", "--operator-key", OPERATOR, self.file("served.script", script)]
-        self.program = subprocess.Popen(words, stdout=subprocess.PIPE, stderr=subprocess.PIPE)
+        # Without a buffer, in which lines that were written early would be kept from `rest`.
+        self.program = subprocess.Popen(words, bufsize=0, stdout=subprocess.PIPE, stderr=subprocess.PIPE)
         for _ in before:
             self.program.stdout.readline()
         told = self.program.stdout.readline().decode()
