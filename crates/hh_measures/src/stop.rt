@@ -1,5 +1,7 @@
 //! Why the program ends before it is done.
 
+ghost use Rattle.std.specs.Prelude.{◌≤◌};
+
 use hh_rules::{Fault, Refusal};
 use std::alloc::{AllocError, AllocFailed};
 use std::io;
@@ -58,7 +60,9 @@ impl From<io::Error> for Stop {
 }
 
 /// Tells on standard error why the program ends, and gives its exit status.
-pub(crate) fn tell<R: Eprint>(rt: &R, stop: Stop) -> u8 {
+pub(crate) fn tell<R: Eprint>(rt: &R, stop: Stop) -> u8
+    ensures { result ≤ 2 }
+{
     let _told = match stop {
         Stop::Words => eprintln!(rt; "{USAGE}"),
         Stop::Refused(refusal) => {
