@@ -1,4 +1,5 @@
 pub mod Fixed
+pub mod Naturals
 pub mod Quantities
 pub mod Ranges
 pub mod Rounding

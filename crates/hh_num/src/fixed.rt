@@ -9,7 +9,7 @@ use std::alloc::AllocError;
 
 /// The number that `digits` write behind the digits of `front`, where it is below 2^64.
 #[tactic(auto, using(crate::proofs::FixedFacts::digits_behind_large))]
-fn digits_behind_front(front: u64, digits: &[u8]) -> Option<u64>
+pub(crate) fn digits_behind_front(front: u64, digits: &[u8]) -> Option<u64>
     ensures { result ≡ kept_if fits_u64 (digits_behind front digits.now) }
 {
     let mut number = front;

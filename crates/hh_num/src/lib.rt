@@ -2,10 +2,12 @@
 #![tactic(auto)]
 
 mod fixed;
+mod natural;
 mod quantity;
 mod rounding;
 
 pub use fixed::{read_fixed, reads_back, write_fixed};
+pub use natural::read_natural;
 pub use quantity::{
     Cash, Energy, EnergyPrice, Kwh, LossMultiplier, Pence, Percent, Percentage, Price, Quantity,
     Scaled, Ticks, Tlm, Volume,

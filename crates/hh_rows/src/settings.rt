@@ -4,7 +4,7 @@ ghost use Rattle.std.specs.Prelude.{◌≡◌, ◌≤◌, SomeIff};
 ghost use Rattle.hh_rows.specs.Minutes.{lead_minutes_value};
 
 use hh_names::OperatorKey;
-use hh_num::read_fixed;
+use hh_num::read_natural;
 use std::marker::Model;
 
 /// The whole minutes by which notifications close before the start of their Settlement Period, 0
@@ -38,12 +38,12 @@ impl LeadMinutes {
         }
     }
 
-    /// The minutes that a text says: 0 to 1,440, in the grammar of `read_fixed` without decimals.
+    /// The minutes that a text says: 0 to 1,440, in the grammar of `read_natural`.
     #[tactic(auto, unfolding(crate::specs::Minutes::lead_minutes_value))]
     pub fn read(text: &[u8]) -> Option<LeadMinutes>
         ensures { result ≡ lead_minutes_value text.now }
     {
-        let minutes = read_fixed(text, 0)?;
+        let minutes = read_natural(text)?;
         LeadMinutes::new(u16::try_from(minutes).ok()?)
     }
 

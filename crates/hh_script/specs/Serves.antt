@@ -1,16 +1,16 @@
 -- The lines that serve connections.
-use Rattle.std.specs.Prelude.{ℕ, ℤ, pos, List, [], ◌∷◌, Option, Some, None, option_map, unsigned_abs}
-use Rattle.hh_num.specs.Ranges.{fixed_between}
+use Rattle.std.specs.Prelude.{ℕ, ℤ, List, [], ◌∷◌, Option, Some, None}
+use Rattle.hh_num.specs.Naturals.{natural_up_to}
 use Rattle.hh_script.specs.declared.serve.ServeLine.{ServeLine}
 use Rattle.hh_script.specs.WordValues.{moment_value}
 
--- a port: 0 to 65,535
+-- a port, in digits alone: 0 to 65,535
 unfoldable pub port_value : List ℕ → Option ℕ
-port_value word = option_map unsigned_abs (fixed_between 0 (pos 0) (pos 65_535) word)
+port_value word = natural_up_to 65_535 word
 
--- a count of connections: 0 to 1,000,000
+-- a count of connections, in digits alone: 0 to 1,000,000
 unfoldable pub count_value : List ℕ → Option ℕ
-count_value word = option_map unsigned_abs (fixed_between 0 (pos 0) (pos 1_000_000) word)
+count_value word = natural_up_to 1_000_000 word
 
 -- the values of a line that serves, if all are there
 abbrev pub serve_from : Option ℤ → Option ℕ → Option ℕ → Option ServeLine

@@ -5,7 +5,7 @@ ghost use Rattle.hh_script.specs.Serves.{count_value, port_value, serve_from, se
 ghost use Rattle.hh_script.specs.WordValues.{moment_value, words_of};
 
 use crate::words::{only_word, split_word};
-use hh_num::read_fixed;
+use hh_num::{read_fixed, read_natural};
 
 /// The most connections that a line may serve (profile).
 const MOST_CONNECTIONS: u32 = 1_000_000;
@@ -44,20 +44,20 @@ impl ServeLine {
     }
 }
 
-/// The port that a word is: 0 to 65,535.
+/// The port that a word is, in digits alone: 0 to 65,535.
 #[tactic(auto, unfolding(crate::specs::Serves::port_value))]
 fn read_port(word: &[u8]) -> Option<u16>
     ensures { result ≡ port_value word.now }
 {
-    u16::try_from(read_fixed(word, 0)?).ok()
+    u16::try_from(read_natural(word)?).ok()
 }
 
-/// The count of connections that a word is: 0 to 1,000,000.
+/// The count of connections that a word is, in digits alone: 0 to 1,000,000.
 #[tactic(auto, unfolding(crate::specs::Serves::count_value))]
 fn read_count(word: &[u8]) -> Option<u32>
     ensures { result ≡ count_value word.now }
 {
-    let count = u32::try_from(read_fixed(word, 0)?).ok()?;
+    let count = u32::try_from(read_natural(word)?).ok()?;
     if count <= MOST_CONNECTIONS {
         Some(count)
     } else {
