@@ -47,6 +47,13 @@ stop_line stop.File = codes "fault file\n"
 stop_line stop.Output = codes "fault output\n"
 stop_line (stop.Off line) = codes "line " ++ decimal line ++ codes " is off its form\n"
 
+-- the exit status of a command that stops so: 1, or 2 for a line of a script that is off its form
+abbrev pub stop_status : Stop → ℕ
+stop_status (stop.Refused e) = 1
+stop_status stop.File = 1
+stop_status stop.Output = 1
+stop_status (stop.Off line) = 2
+
 -- what changes in a device by a command: the bytes that it tells, and its count of failures
 pub record DeviceChange : Type 0 where
   pub old : Option (List ℕ)
@@ -82,9 +89,9 @@ Tells device s = HasFailed device ⊎ Appends device.old device.new (stop_line s
 abbrev pub TellsOff : DeviceChange → ℕ → Type 0
 TellsOff device line = HasFailed device ⊎ Appends device.old device.new (stop_line (stop.Off line))
 
--- a stop has status 1: a line of a script that is off its form has 2
+-- a stop has status 1
 abbrev pub HasStatusOne : Stop → Type 0
-HasStatusOne s = (line : ℕ) → s ≢ stop.Off line
+HasStatusOne s = stop_status s ≡ 1
 
 -- a stop is a line of a script off its form, whose number is told
 abbrev pub IsOffAndTold : DeviceChange → Stop → Type 0
@@ -111,15 +118,25 @@ module _ (reads : List ℕ → Option (List ℕ) → Type 0) where
   abbrev pub HasUnreadable : Text → Text → Type 0
   HasUnreadable meter contracts = reads meter None ⊎ ((m : List ℕ) × reads meter (Some m) × reads contracts None)
 
+  -- a period is settled, and known bytes grow by its text
+  abbrev pub DoesPeriod : Text → Text → Text → Option (List ℕ) → Option (List ℕ) → Type 0
+  DoesPeriod meter contracts price old new = (text : List ℕ) × ComesTo meter contracts price (Ok text) × Appends old new text
+
+  -- it stops so, where the output had these bytes and has those, and failed if this holds
+  abbrev pub StopsPeriod : Option (List ℕ) → Option (List ℕ) → Type 0 → Text → Text → Text → Stop → Type 0
+  StopsPeriod old new failed meter contracts price = StopsBy old new failed (ComesTo meter contracts price) (HasUnreadable meter contracts)
+
+-- What a path may read as, and which ports may not be listened on.
+module _ (reads : List ℕ → Option (List ℕ) → Type 0) (refuses : ℕ → Type 0) where
   -- the line is done, and known bytes grow by its text
   abbrev pub Does : Line → Option (List ℕ) → Option (List ℕ) → Type 0
-  Does (PeriodCommand meter contracts price) old new = (text : List ℕ) × ComesTo meter contracts price (Ok text) × Appends old new text
-  Does (ScriptCommand settings file) old new = WritesScript reads file settings old new
+  Does (PeriodCommand meter contracts price) old new = DoesPeriod reads meter contracts price old new
+  Does (ScriptCommand settings file) old new = WritesScript reads file refuses settings old new
 
   -- a line stops so, where the output had these bytes and has those, and failed if this holds
   abbrev pub StopsLine : Option (List ℕ) → Option (List ℕ) → Type 0 → Line → Stop → Type 0
-  StopsLine old new failed (PeriodCommand meter contracts price) = StopsBy old new failed (ComesTo meter contracts price) (HasUnreadable meter contracts)
-  StopsLine old new failed (ScriptCommand settings file) = λ s. (why : ScriptStop) × (s ≡ script_stop why) × StopsAt reads file settings old new failed why
+  StopsLine old new failed (PeriodCommand meter contracts price) = StopsPeriod reads old new failed meter contracts price
+  StopsLine old new failed (ScriptCommand settings file) = λ s. (why : ScriptStop) × (s ≡ script_stop why) × StopsAt reads file refuses settings old new failed why
 
   -- words form a line, and it is done
   abbrev pub DoesWords : List Text → Option (List ℕ) → Option (List ℕ) → Type 0
@@ -134,6 +151,8 @@ module _ (reads : List ℕ → Option (List ℕ) → Type 0) where
   abbrev pub Stops : List Text → DeviceChange → DeviceChange → Type 0
   Stops words out err = (s : Stop) × HasStatusOne s × StopsWords words out s × Tells err s
 
+-- What a path may read as.
+module _ (reads : List ℕ → Option (List ℕ) → Type 0) where
   -- words form no line, or that of a script of which a line is off its form, whose number is told
   abbrev pub AreWrong : List Text → DeviceChange → Type 0
   AreWrong words err = (line_value words ≡ None) ⊎ ((settings : Settings) × (file : Text) × (line : ℕ)

@@ -6,7 +6,7 @@ ghost use Rattle.clap.specs.Words.{Text};
 ghost use Rattle.hh_devices.specs.Devices.{Failed};
 ghost use Rattle.hh_period.specs.Outcome.{memory_rejection};
 ghost use Rattle.hh_command.specs.Lines.{line_of};
-ghost use Rattle.hh_command.specs.Stops.{change, AreWrong, Does, DoesWords, HasStatusOne, IsOffAndTold, IsTold, Stops, StopsLine, Tells, TellsOff, stop_line};
+ghost use Rattle.hh_command.specs.Stops.{change, AreWrong, Does, DoesPeriod, DoesWords, HasStatusOne, IsOffAndTold, IsTold, Stops, StopsLine, StopsPeriod, Tells, stop_line, stop_status};
 ghost use Rattle.hh_texts.specs.Rows.{most_bytes};
 
 use crate::words::{Command, PeriodWords, USAGE, WordsFault, read_words};
@@ -57,6 +57,16 @@ impl Stop {
         ensures { result ≡ Stop.Refused memory_rejection }
     {
         Stop::Refused(Rejection::of(Refusal::Memory))
+    }
+
+    /// The exit status of a command that stops so.
+    fn status(&self) -> u8
+        ensures { result ≡ stop_status self.now }
+    {
+        match self {
+            Stop::Off { .. } => WRONG_WORDS,
+            Stop::Refused(_) | Stop::File | Stop::Output => REFUSED,
+        }
     }
 }
 
@@ -114,12 +124,14 @@ pub fn run<R: Env + AllocGlobal, I: Inputs, L: Loopback, O: Sink, E: Sink>(
 
     // Some words form a line, and it was done.
     ensures done { result ≡ 0 → (words : List Text)
-        × DoesWords (I.reads_as inputs.now) words (O.taken out.old) (O.taken out.new) }
+        × DoesWords (I.reads_as inputs.now) (L.may_refuse loopback.now) words
+        (O.taken out.old) (O.taken out.new) }
     ensures well { result ≡ 0 → O.failures out.new ≡ O.failures out.old }
     ensures silent { result ≡ 0 → err.new ≡ err.old }
 
     // Some words form a line that stops so, or memory ran out before they were read.
-    ensures stopped { result ≡ 1 → (words : List Text) × Stops (I.reads_as inputs.now) words
+    ensures stopped { result ≡ 1 → (words : List Text)
+        × Stops (I.reads_as inputs.now) (L.may_refuse loopback.now) words
         (change O.taken O.failures out.old out.new) (change E.taken E.failures err.old err.new) }
 
     // The words form no line, or are not text.
@@ -128,7 +140,7 @@ pub fn run<R: Env + AllocGlobal, I: Inputs, L: Loopback, O: Sink, E: Sink>(
 {
     match arguments(rt) {
         Ok(words) => command(rt.alloc(), inputs, loopback, &words, out, err),
-        Err(error) if error.kind() == ErrorKind::OutOfMemory => refused(
+        Err(error) if error.kind() == ErrorKind::OutOfMemory => stopped(
             rt.alloc(),
             err,
             Stop::no_memory(),
@@ -157,14 +169,15 @@ pub fn command<I: Inputs, L: Loopback, O: Sink, E: Sink>(
     ensures status { result ≤ 2 }
 
     // Done is what the words ask for, and nothing is said on `err` then.
-    ensures done { result ≡ 0 → DoesWords (I.reads_as inputs.now) (map string_bytes words.now)
-        (O.taken out.old) (O.taken out.new) }
+    ensures done { result ≡ 0 → DoesWords (I.reads_as inputs.now) (L.may_refuse loopback.now)
+        (map string_bytes words.now) (O.taken out.old) (O.taken out.new) }
     ensures well { result ≡ 0 → O.failures out.new ≡ O.failures out.old }
     ensures silent { result ≡ 0 → err.new ≡ err.old }
 
     // A stop is one that the words, the files and `out` have, and it is told, unless `err` failed.
-    ensures stopped { result ≡ 1 → Stops (I.reads_as inputs.now) (map string_bytes words.now)
-        (change O.taken O.failures out.old out.new) (change E.taken E.failures err.old err.new) }
+    ensures stopped { result ≡ 1 → Stops (I.reads_as inputs.now) (L.may_refuse loopback.now)
+        (map string_bytes words.now) (change O.taken O.failures out.old out.new)
+        (change E.taken E.failures err.old err.new) }
 
     // Words that form no line are told, and so is the number of a script's line that is off its form,
     // unless `err` failed.
@@ -179,7 +192,7 @@ pub fn command<I: Inputs, L: Loopback, O: Sink, E: Sink>(
             Err(stop) => stopped(alloc, err, stop),
         },
         Err(WordsFault::Wrong(text)) => wrong(err, text.as_str()),
-        Err(WordsFault::Memory) => refused(alloc, err, Stop::no_memory()),
+        Err(WordsFault::Memory) => stopped(alloc, err, Stop::no_memory()),
     }
 }
 
@@ -191,12 +204,12 @@ fn perform<I: Inputs, L: Loopback, O: Sink>(
     command: &Command<'_>,
     out: &mut O,
 ) -> Result<(), Stop>
-    ensures done { OnOk result (Does (I.reads_as inputs.now) (line_of command.now)
-        (O.taken out.old) (O.taken out.new)) }
+    ensures done { OnOk result (Does (I.reads_as inputs.now) (L.may_refuse loopback.now)
+        (line_of command.now) (O.taken out.old) (O.taken out.new)) }
     ensures well { OnOk result (O.failures out.new ≡ O.failures out.old) }
     ensures stopped { IfErr result (λ stop. StopsLine (I.reads_as inputs.now)
-        (O.taken out.old) (O.taken out.new) (Failed (O.failures out.old) (O.failures out.new))
-        (line_of command.now) stop) }
+        (L.may_refuse loopback.now) (O.taken out.old) (O.taken out.new)
+        (Failed (O.failures out.old) (O.failures out.new)) (line_of command.now) stop) }
     ensures untouched { IfErr result (λ stop. stop ≢ Stop.Output → out.new ≡ out.old) }
 {
     match command {
@@ -217,12 +230,12 @@ fn settle_files<I: Inputs, O: Sink>(
     out: &mut O,
 ) -> Result<(), Stop>
     requires { most_bytes < most }
-    ensures done { OnOk result (Does (I.reads_as inputs.now)
-        (line_of (Command.Period words.entry)) (O.taken out.old) (O.taken out.new)) }
+    ensures done { OnOk result (DoesPeriod (I.reads_as inputs.now) words.entry.meter.now
+        words.entry.contracts.now words.entry.price.now (O.taken out.old) (O.taken out.new)) }
     ensures well { OnOk result (O.failures out.new ≡ O.failures out.old) }
-    ensures stopped { IfErr result (λ stop. StopsLine (I.reads_as inputs.now)
+    ensures stopped { IfErr result (λ stop. StopsPeriod (I.reads_as inputs.now)
         (O.taken out.old) (O.taken out.new) (Failed (O.failures out.old) (O.failures out.new))
-        (line_of (Command.Period words.entry)) stop) }
+        words.entry.meter.now words.entry.contracts.now words.entry.price.now stop) }
     ensures untouched { IfErr result (λ stop. stop ≢ Stop.Output → out.new ≡ out.old) }
 {
     let meter = inputs.read(alloc, words.meter, most)?;
@@ -250,29 +263,16 @@ fn stopped<E: Sink>(alloc: Global, err: &mut E, stop: Stop) -> u8
     ensures two { result ≡ 2 → IsOffAndTold (change E.taken E.failures err.old err.new) stop }
     ensures told { result ≡ 2 → IsTold (change E.taken E.failures err.old err.new) }
 {
-    match stop {
-        Stop::Off { line } => off(err, line),
-        Stop::Refused(_) | Stop::File | Stop::Output => refused(alloc, err, stop),
-    }
-}
-
-/// Tells which line of a script is off its form, where the device for it does not fail.
-fn off<E: Sink>(err: &mut E, line: usize) -> u8
-    ensures status { result ≡ 2 }
-    ensures number { TellsOff (change E.taken E.failures err.old err.new) line }
-    ensures told { IsTold (change E.taken E.failures err.old err.new) }
-{
-    let _ = write_off(err, line);
-    WRONG_WORDS
+    let status = stop.status();
+    tell(alloc, err, stop);
+    status
 }
 
 /// Tells why a command stops, where the device for it does not fail.
-fn refused<E: Sink>(alloc: Global, err: &mut E, stop: Stop) -> u8
-    ensures status { result ≡ 1 }
-    ensures told { Tells (change E.taken E.failures err.old err.new) stop }
+fn tell<E: Sink>(alloc: Global, err: &mut E, stop: Stop)
+    ensures { Tells (change E.taken E.failures err.old err.new) stop }
 {
     let _ = write_stop(alloc, err, stop);
-    REFUSED
 }
 
 /// Writes why a command stops.

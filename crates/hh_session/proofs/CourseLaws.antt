@@ -105,11 +105,11 @@ pub run_gives_up : (midnight : Midnights) (run : RunStep) (s : State) → RunDoe
 run_gives_up midnight run s = inr (refl, refl)
 
 -- and so does each step
-gives_up : (reads : List ℕ → Option (List ℕ) → Type 0) (midnight : Midnights) (s : State) (step : Step) → StepDoes reads midnight s step (told_line no_memory) s
-gives_up reads midnight s (LoadFile load) = (no_memory, inr (refl, refl), refl)
-gives_up reads midnight s (MakeRun run) = (no_memory, inr (refl, refl), refl)
-gives_up reads midnight s (WriteReport asked) = (inr ([], report_begun (report_for midnight s asked.key (report_asked asked.report)), memory_fault, refl, refl, refl), refl)
-gives_up reads midnight s (Serve line) = inl (inr refl, refl)
+gives_up : (reads : List ℕ → Option (List ℕ) → Type 0) (refuses : ℕ → Type 0) (midnight : Midnights) (s : State) (step : Step) → StepDoes reads refuses midnight s step (told_line no_memory) s
+gives_up reads refuses midnight s (LoadFile load) = (no_memory, inr (refl, refl), refl)
+gives_up reads refuses midnight s (MakeRun run) = (no_memory, inr (refl, refl), refl)
+gives_up reads refuses midnight s (WriteReport asked) = (inr ([], report_begun (report_for midnight s asked.key (report_asked asked.report)), memory_fault, refl, refl, refl), refl)
+gives_up reads refuses midnight s (Serve line) = inl (inr refl, refl)
 
 -- What a line that is told in a line of its own does, by what it came to and what went out.
 module _ (old new : OfficeView) (before after : Option (List ℕ)) (told : Told) (does : State → Told → State → Type 0) (up : (s : State) → does s no_memory s)
@@ -129,13 +129,13 @@ module _ (old new : OfficeView) (before after : Option (List ℕ)) (told : Told)
       (told_line no_memory, s, (no_memory, up s, refl), went, (subst (λ o. Stands o s) (sym same) stands, ap (λ (o : OfficeView). o.zone) same))
 
 -- a line for which memory is refused before anything is done
-pub memory_done : (reads : List ℕ → Option (List ℕ) → Type 0) (old : OfficeView) (before after : Option (List ℕ)) (step : Step)
-    → Appends before after (told_line no_memory) → RunsStep reads old old before after step
-memory_done reads old before after step went s stands = (told_line no_memory, s, gives_up reads (midnight_of old) s step, went, (stands, refl))
+pub memory_done : (reads : List ℕ → Option (List ℕ) → Type 0) (refuses : ℕ → Type 0) (old : OfficeView) (before after : Option (List ℕ)) (step : Step)
+    → Appends before after (told_line no_memory) → RunsStep reads refuses old old before after step
+memory_done reads refuses old before after step went s stands = (told_line no_memory, s, gives_up reads refuses (midnight_of old) s step, went, (stands, refl))
 
-pub memory_cut : (reads : List ℕ → Option (List ℕ) → Type 0) (old : OfficeView) (before after : Option (List ℕ)) (step : Step)
-    → AppendsFront before after (told_line no_memory) → StopsStep reads old old before after step
-memory_cut reads old before after step went s stands = (told_line no_memory, s, gives_up reads (midnight_of old) s step, went, (stands, refl))
+pub memory_cut : (reads : List ℕ → Option (List ℕ) → Type 0) (refuses : ℕ → Type 0) (old : OfficeView) (before after : Option (List ℕ)) (step : Step)
+    → AppendsFront before after (told_line no_memory) → StopsStep reads refuses old old before after step
+memory_cut reads refuses old before after step went s stands = (told_line no_memory, s, gives_up reads refuses (midnight_of old) s step, went, (stands, refl))
 
 -- ---- lines one after the other
 
@@ -145,14 +145,14 @@ appends_more (Some xs) None after text line first second = absurd first
 appends_more (Some xs) (Some ys) None text line first second = absurd second
 appends_more (Some xs) (Some ys) (Some zs) text line first second = second ∙ ap (λ bytes. bytes ++ line) first ∙ append_assoc xs text line
 
-module _ (reads : List ℕ → Option (List ℕ) → Type 0) (midnight : Midnights) where
-  does_more : (s t u : State) (steps : List Step) (text : List ℕ) (step : Step) (line : List ℕ) → ScriptDoes reads midnight s steps text t → StepDoes reads midnight t step line u
-      → ScriptDoes reads midnight s (steps ++ step ∷ []) (text ++ line) u
+module _ (reads : List ℕ → Option (List ℕ) → Type 0) (refuses : ℕ → Type 0) (midnight : Midnights) where
+  does_more : (s t u : State) (steps : List Step) (text : List ℕ) (step : Step) (line : List ℕ) → ScriptDoes reads refuses midnight s steps text t → StepDoes reads refuses midnight t step line u
+      → ScriptDoes reads refuses midnight s (steps ++ step ∷ []) (text ++ line) u
   does_more s t u [] text step line (none, same) does = (
     line,
     u,
     [],
-    subst (λ v. StepDoes reads midnight v step line u) same does,
+    subst (λ v. StepDoes reads refuses midnight v step line u) same does,
     (refl, refl),
     ap (λ bytes. bytes ++ line) none ∙ sym (append-nil line),
   )
@@ -165,30 +165,30 @@ module _ (reads : List ℕ → Option (List ℕ) → Type 0) (midnight : Midnigh
     ap (λ bytes. bytes ++ line) is ∙ append_assoc line0 rest line,
   )
 
-module _ (reads : List ℕ → Option (List ℕ) → Type 0) (old now new : OfficeView) (before between after : Option (List ℕ)) (steps : List Step) (step : Step)
-    (ran : RunsScript reads old now before between steps) where
+module _ (reads : List ℕ → Option (List ℕ) → Type 0) (refuses : ℕ → Type 0) (old now new : OfficeView) (before between after : Option (List ℕ)) (steps : List Step) (step : Step)
+    (ran : RunsScript reads refuses old now before between steps) where
   -- one more line of a script
-  pub script_more : RunsStep reads now new between after step → RunsScript reads old new before after (steps ++ step ∷ [])
+  pub script_more : RunsStep reads refuses now new between after step → RunsScript reads refuses old new before after (steps ++ step ∷ [])
   script_more runs s stands =
       let (text, t, does, went, (now_stands, zone)) = ran s stands in
       let (line, u, done, line_went, (new_stands, new_zone)) = runs t now_stands in (
         text ++ line,
         u,
-        does_more reads (midnight_of old) s t u steps text step line does (subst (λ z. StepDoes reads (midnight_in (plain_zone z)) t step line u) zone done),
+        does_more reads refuses (midnight_of old) s t u steps text step line does (subst (λ z. StepDoes reads refuses (midnight_in (plain_zone z)) t step line u) zone done),
         appends_more before between after text line went line_went,
         (new_stands, new_zone ∙ zone),
       )
 
   -- a line that stops a script
-  pub script_stops : (all : List Step) (count : ℕ) → take count all ≡ steps ++ step ∷ [] → StopsStep reads now new between after step → StopsScript reads old new before after all
+  pub script_stops : (all : List Step) (count : ℕ) → take count all ≡ steps ++ step ∷ [] → StopsStep reads refuses now new between after step → StopsScript reads refuses old new before after all
   script_stops all count is stops s stands =
       let (text, t, does, went, (now_stands, zone)) = ran s stands in
       let (line, u, done, (front, rest, cut, line_went), (new_stands, new_zone)) = stops t now_stands in (
         count,
         text ++ line,
         u,
-        subst (λ xs. ScriptDoes reads (midnight_of old) s xs (text ++ line) u) (sym is)
-            (does_more reads (midnight_of old) s t u steps text step line does (subst (λ z. StepDoes reads (midnight_in (plain_zone z)) t step line u) zone done)),
+        subst (λ xs. ScriptDoes reads refuses (midnight_of old) s xs (text ++ line) u) (sym is)
+            (does_more reads refuses (midnight_of old) s t u steps text step line does (subst (λ z. StepDoes reads refuses (midnight_in (plain_zone z)) t step line u) zone done)),
         (
           text ++ front,
           rest,

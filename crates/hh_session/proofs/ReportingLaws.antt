@@ -65,12 +65,12 @@ module _ (before between after : Option (List ℕ)) (counted counts : ℕ) where
         (refusal_line memory_fault, inr ([], [], memory_fault, refl, refl, refl), subst (λ b. AppendsFront b after (refusal_line memory_fault)) none told)
 
 -- A line that asks for a report is a step of a script, which leaves the office.
-module _ (reads : List ℕ → Option (List ℕ) → Type 0) (old new : OfficeView) (same : new ≡ old) (before after : Option (List ℕ)) (step : ReportStep) where
+module _ (reads : List ℕ → Option (List ℕ) → Type 0) (refuses : ℕ → Type 0) (old new : OfficeView) (same : new ≡ old) (before after : Option (List ℕ)) (step : ReportStep) where
   stays : (s : State) → Stands old s → StandsNow old new s
   stays s stands = (subst (λ o. Stands o s) (sym same) stands, ap (λ (o : OfficeView). o.zone) same)
 
-  pub report_step : RunsReport old before after step → RunsStep reads old new before after (WriteReport step)
+  pub report_step : RunsReport old before after step → RunsStep reads refuses old new before after (WriteReport step)
   report_step runs s stands = let (text, does, went) = runs s stands in (text, s, (does, refl), went, stays s stands)
 
-  pub report_stop : BeginsReport old before after step → StopsStep reads old new before after (WriteReport step)
+  pub report_stop : BeginsReport old before after step → StopsStep reads refuses old new before after (WriteReport step)
   report_stop begins s stands = let (text, does, went) = begins s stands in (text, s, (does, refl), went, stays s stands)

@@ -38,17 +38,17 @@ module _ (most : ℕ) (all bytes : List ℕ) (front : bytes ≡ take (most + 1) 
           absurd (omega arith)
 
 -- A new office is run.
-module _ (reads : List ℕ → Option (List ℕ) → Type 0) (settings : Settings) (zone : TimeZone) (market : IsMarketZone zone)
+module _ (reads : List ℕ → Option (List ℕ) → Type 0) (refuses : ℕ → Type 0) (settings : Settings) (zone : TimeZone) (market : IsMarketZone zone)
     (content : Content) (stands : (midnight : Midnights) → content ≡ tables_of midnight (empty_state settings)) (new : OfficeView) (before after : Option (List ℕ)) (steps : List Step) where
   abbrev first : OfficeView
   first = record { zone = zone; content = content }
 
-  pub new_office_writes : RunsScript reads first new before after steps → NewOfficeWrites reads settings before after steps
+  pub new_office_writes : RunsScript reads refuses first new before after steps → NewOfficeWrites reads refuses settings before after steps
   new_office_writes runs =
       let (text, t, does, went, now) = runs (empty_state settings) (at_first settings, stands (midnight_of first)) in
       (text, (zone, market, (t, does)), went)
 
-  pub new_office_cuts : StopsScript reads first new before after steps → NewOfficeCuts reads settings before after steps
+  pub new_office_cuts : StopsScript reads refuses first new before after steps → NewOfficeCuts reads refuses settings before after steps
   new_office_cuts stops =
       let (count, text, t, does, went, now) = stops (empty_state settings) (at_first settings, stands (midnight_of first)) in
       (count, text, (zone, market, (t, does)), went)

@@ -49,17 +49,17 @@ serves_more old now new moment count served one s stands =
     )
 
 -- A line that serves was begun, and the office stays.
-module _ (office : OfficeView) (before after : Option (List ℕ)) (line : ServeLine) where
-  pub serving_cut : (port : ℕ) → IsPortFor line.port port → AppendsFront before after (listening_line port) → StopsServing office office before after line
+module _ (refuses : ℕ → Type 0) (office : OfficeView) (before after : Option (List ℕ)) (line : ServeLine) where
+  pub serving_cut : (port : ℕ) → IsPortFor line.port port → AppendsFront before after (listening_line port) → StopsServing refuses office office before after line
   serving_cut port is went s stands = (listening_line port, s, inr (port, is, refl, ([], omega arith, refl)), went, stands, refl)
 
-  pub no_socket_cut : AppendsFront before after no_socket_line → StopsServing office office before after line
-  no_socket_cut went s stands = (no_socket_line, s, inl (inl refl, refl), went, stands, refl)
+  pub no_socket_cut : refuses line.port → AppendsFront before after no_socket_line → StopsServing refuses office office before after line
+  no_socket_cut refused went s stands = (no_socket_line, s, inl (inl (refused, refl), refl), went, stands, refl)
 
 -- A line that serves is a step of a script.
-module _ (reads : List ℕ → Option (List ℕ) → Type 0) (old new : OfficeView) (before after : Option (List ℕ)) (line : ServeLine) where
-  pub served_step : RunsServing old new before after line → RunsStep reads old new before after (Serve line)
+module _ (reads : List ℕ → Option (List ℕ) → Type 0) (refuses : ℕ → Type 0) (old new : OfficeView) (before after : Option (List ℕ)) (line : ServeLine) where
+  pub served_step : RunsServing refuses old new before after line → RunsStep reads refuses old new before after (Serve line)
   served_step runs s stands = let (text, t, does, went, now, zone) = runs s stands in (text, t, does, went, (now, zone))
 
-  pub served_stop : StopsServing old new before after line → StopsStep reads old new before after (Serve line)
+  pub served_stop : StopsServing refuses old new before after line → StopsStep reads refuses old new before after (Serve line)
   served_stop stops s stands = let (text, t, does, went, now, zone) = stops s stands in (text, t, does, went, (now, zone))

@@ -73,12 +73,14 @@ module _ (reads : List ℕ → Option (List ℕ) → Type 0) (midnight : Midnigh
   LoadDoes s load Unreadable t = reads load.path None × (t ≡ s)
   LoadDoes s load (Replied given) t = IsAnswered s load (Replied given) t ⊎ (IsTrue (is_given_up given) × (t ≡ s))
 
+-- What a path may read as, and which ports may not be listened on.
+module _ (reads : List ℕ → Option (List ℕ) → Type 0) (refuses : ℕ → Type 0) (midnight : Midnights) where
   -- what a step writes in a state, and the state after it
   abbrev pub StepDoes : State → Step → List ℕ → State → Type 0
-  StepDoes s (LoadFile load) text t = IsLineOf (λ told. LoadDoes s load told t) text
+  StepDoes s (LoadFile load) text t = IsLineOf (λ told. LoadDoes reads midnight s load told t) text
   StepDoes s (MakeRun run) text t = IsLineOf (λ told. RunDoes midnight s run told t) text
   StepDoes s (WriteReport asked) text t = ReportDoes midnight s asked text × (t ≡ s)
-  StepDoes s (Serve line) text t = ServeDoes midnight s line text t
+  StepDoes s (Serve line) text t = ServeDoes refuses midnight s line text t
 
   -- what the steps of a script write, one after the other, and the state after them
   abbrev pub ScriptDoes : State → List Step → List ℕ → State → Type 0
@@ -104,23 +106,23 @@ abbrev pub LeavesRefused : OfficeView → OfficeView → Told → Type 0
 LeavesRefused old new told = (s : State) → Stands old s → IsRefusal told → new ≡ old
 
 -- An output had these bytes before and has those after.
-module _ (reads : List ℕ → Option (List ℕ) → Type 0) (old new : OfficeView) (before after : Option (List ℕ)) where
+module _ (reads : List ℕ → Option (List ℕ) → Type 0) (refuses : ℕ → Type 0) (old new : OfficeView) (before after : Option (List ℕ)) where
   -- a step was run from each state that the office stood for, and what it writes went out
   abbrev pub RunsStep : Step → Type 0
   RunsStep step = (s : State) → Stands old s
-      → (text : List ℕ) × (t : State) × StepDoes reads (midnight_of old) s step text t × Appends before after text × StandsNow old new t
+      → (text : List ℕ) × (t : State) × StepDoes reads refuses (midnight_of old) s step text t × Appends before after text × StandsNow old new t
 
   -- a step was run from each state that the office stood for, and a beginning of what it writes went out
   abbrev pub StopsStep : Step → Type 0
   StopsStep step = (s : State) → Stands old s
-      → (text : List ℕ) × (t : State) × StepDoes reads (midnight_of old) s step text t × AppendsFront before after text × StandsNow old new t
+      → (text : List ℕ) × (t : State) × StepDoes reads refuses (midnight_of old) s step text t × AppendsFront before after text × StandsNow old new t
 
   -- steps were run from each state that the office stood for, and what they write went out
   abbrev pub RunsScript : List Step → Type 0
   RunsScript steps = (s : State) → Stands old s
-      → (text : List ℕ) × (t : State) × ScriptDoes reads (midnight_of old) s steps text t × Appends before after text × StandsNow old new t
+      → (text : List ℕ) × (t : State) × ScriptDoes reads refuses (midnight_of old) s steps text t × Appends before after text × StandsNow old new t
 
   -- the first of the steps were run and no more, and a beginning of what they write went out
   abbrev pub StopsScript : List Step → Type 0
   StopsScript steps = (s : State) → Stands old s
-      → (count : ℕ) × (text : List ℕ) × (t : State) × ScriptDoes reads (midnight_of old) s (take count steps) text t × AppendsFront before after text × StandsNow old new t
+      → (count : ℕ) × (text : List ℕ) × (t : State) × ScriptDoes reads refuses (midnight_of old) s (take count steps) text t × AppendsFront before after text × StandsNow old new t

@@ -24,13 +24,14 @@ most_script_bytes = 16_777_216
 abbrev pub IsMarketZone : TimeZone → Type 0
 IsMarketZone zone = IsPosixZone (codes "GMT0BST,M3.5.0/1,M10.5.0") (plain_zone zone)
 
--- What a path may read as: the bytes of its file, or nothing where it cannot be read. An office has these settings.
-module _ (reads : List ℕ → Option (List ℕ) → Type 0) (settings : Settings) where
+-- What a path may read as: the bytes of its file, or nothing where it cannot be read; and which ports may not be listened on. An
+-- office has these settings.
+module _ (reads : List ℕ → Option (List ℕ) → Type 0) (refuses : ℕ → Type 0) (settings : Settings) where
   -- what steps write over a new office of the market's zone
   abbrev pub NewOfficeDoes : List Step → List ℕ → Type 0
   NewOfficeDoes steps text =
       (zone : TimeZone) × IsMarketZone zone
-      × ((t : State) × ScriptDoes reads (midnight_in (plain_zone zone)) (empty_state settings) steps text t)
+      × ((t : State) × ScriptDoes reads refuses (midnight_in (plain_zone zone)) (empty_state settings) steps text t)
 
   -- An output had these bytes before and has those after.
   module _ (old new : Option (List ℕ)) (steps : List Step) where
@@ -56,13 +57,13 @@ module _ (reads : List ℕ → Option (List ℕ) → Type 0) (path : List ℕ) w
       ((fault ≡ plain_fault FileTooLarge) × ((all : List ℕ) × reads path (Some all) × (most_script_bytes < length all)))
   IsUnread stop.Output = ⊥
 
-  -- An office has these settings, and an output had these bytes before and has those after.
-  module _ (settings : Settings) (old new : Option (List ℕ)) where
+  -- These ports may not be listened on, an office has these settings, and an output had these bytes before and has those after.
+  module _ (refuses : ℕ → Type 0) (settings : Settings) (old new : Option (List ℕ)) where
     -- the script was run, and what it writes went out
     abbrev pub WritesScript : Type 0
-    WritesScript = (steps : List Step) × IsScript steps × NewOfficeWrites reads settings old new steps
+    WritesScript = (steps : List Step) × IsScript steps × NewOfficeWrites reads refuses settings old new steps
 
     -- why the script is not run: it is not read, and nothing went out; or the output failed, if this holds, while it was run
     abbrev pub StopsAt : Type 0 → ScriptStop → Type 0
-    StopsAt failed stop.Output = failed × ((steps : List Step) × IsScript steps × NewOfficeCuts reads settings old new steps)
+    StopsAt failed stop.Output = failed × ((steps : List Step) × IsScript steps × NewOfficeCuts reads refuses settings old new steps)
     StopsAt failed why = (new ≡ old) × IsUnread why

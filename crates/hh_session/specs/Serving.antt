@@ -30,14 +30,14 @@ abbrev pub IsServed : Midnights → ℤ → ℕ → State → State → Type 0
 IsServed midnight moment count s t =
     (requests : List Request) × (length requests ≤ count) × (t ≡ state_after midnight s (all_at moment requests))
 
--- the port is not listened on, or memory is refused for the line that tells of it
-abbrev pub IsUnserved : List ℕ → Type 0
-IsUnserved text = (text ≡ no_socket_line) ⊎ (text ≡ refusal_line memory_fault)
+-- the port is not listened on, which may be if this holds, or memory is refused for the line that tells of it
+abbrev pub IsUnserved : Type 0 → List ℕ → Type 0
+IsUnserved refused text = (refused × (text ≡ no_socket_line)) ⊎ (text ≡ refusal_line memory_fault)
 
--- what a line that serves writes in a state, and the state after it
-abbrev pub ServeDoes : Midnights → State → ServeLine → List ℕ → State → Type 0
-ServeDoes midnight s line text t =
-    (IsUnserved text × (t ≡ s))
+-- what a line that serves writes in a state, and the state after it, where these ports may not be listened on
+abbrev pub ServeDoes : (ℕ → Type 0) → Midnights → State → ServeLine → List ℕ → State → Type 0
+ServeDoes refuses midnight s line text t =
+    (IsUnserved (refuses line.port) text × (t ≡ s))
     ⊎ ((port : ℕ) × IsPortFor line.port port × (text ≡ listening_line port) × IsServed midnight line.moment line.count s t)
 
 -- An office was the one before and is the other after connections that were served at a moment.
@@ -47,14 +47,14 @@ module _ (old new : OfficeView) (moment : ℤ) where
   ServesUpTo count = (s : State) → Stands old s
       → (t : State) × IsServed (midnight_of old) moment count s t × Stands new t × (new.zone ≡ old.zone)
 
--- An output had these bytes before and has those after.
-module _ (old new : OfficeView) (before after : Option (List ℕ)) (line : ServeLine) where
+-- An output had these bytes before and has those after, and these ports may not be listened on.
+module _ (refuses : ℕ → Type 0) (old new : OfficeView) (before after : Option (List ℕ)) (line : ServeLine) where
   -- a line that serves was run from each state that the office stood for, and what it writes went out
   abbrev pub RunsServing : Type 0
   RunsServing = (s : State) → Stands old s
-      → (text : List ℕ) × (t : State) × ServeDoes (midnight_of old) s line text t × Appends before after text × Stands new t × (new.zone ≡ old.zone)
+      → (text : List ℕ) × (t : State) × ServeDoes refuses (midnight_of old) s line text t × Appends before after text × Stands new t × (new.zone ≡ old.zone)
 
   -- the same, and a beginning of what it writes went out
   abbrev pub StopsServing : Type 0
   StopsServing = (s : State) → Stands old s
-      → (text : List ℕ) × (t : State) × ServeDoes (midnight_of old) s line text t × AppendsFront before after text × Stands new t × (new.zone ≡ old.zone)
+      → (text : List ℕ) × (t : State) × ServeDoes refuses (midnight_of old) s line text t × AppendsFront before after text × Stands new t × (new.zone ≡ old.zone)

@@ -43,11 +43,11 @@ pub fn run_lines<T: Tables, I: Inputs, L: Loopback, O: Sink>(
     out: &mut O,
 ) -> Result<(), DeviceFailed>
     requires { All (λ line. IsWellNamed (step_of line)) lines.now }
-    ensures done { OnOk result (RunsScript (I.reads_as inputs.now) office.old office.new
-        (O.taken out.old) (O.taken out.new) (map step_of lines.now)) }
+    ensures done { OnOk result (RunsScript (I.reads_as inputs.now) (L.may_refuse loopback.now)
+        office.old office.new (O.taken out.old) (O.taken out.new) (map step_of lines.now)) }
     ensures well { OnOk result (O.failures out.new ≡ O.failures out.old) }
-    ensures cut { OnErr result (StopsScript (I.reads_as inputs.now) office.old office.new
-        (O.taken out.old) (O.taken out.new) (map step_of lines.now)) }
+    ensures cut { OnErr result (StopsScript (I.reads_as inputs.now) (L.may_refuse loopback.now)
+        office.old office.new (O.taken out.old) (O.taken out.new) (map step_of lines.now)) }
     ensures failed { OnErr result (Failed (O.failures out.old) (O.failures out.new)) }
 {
     for line in lines.iter() {
@@ -66,11 +66,11 @@ fn run_line<T: Tables, I: Inputs, L: Loopback, O: Sink>(
     out: &mut O,
 ) -> Result<(), DeviceFailed>
     requires { IsWellNamed (step_of line.now) }
-    ensures done { OnOk result (RunsStep (I.reads_as inputs.now) office.old office.new
-        (O.taken out.old) (O.taken out.new) (step_of line.now)) }
+    ensures done { OnOk result (RunsStep (I.reads_as inputs.now) (L.may_refuse loopback.now)
+        office.old office.new (O.taken out.old) (O.taken out.new) (step_of line.now)) }
     ensures well { OnOk result (O.failures out.new ≡ O.failures out.old) }
-    ensures cut { OnErr result (StopsStep (I.reads_as inputs.now) office.old office.new
-        (O.taken out.old) (O.taken out.new) (step_of line.now)) }
+    ensures cut { OnErr result (StopsStep (I.reads_as inputs.now) (L.may_refuse loopback.now)
+        office.old office.new (O.taken out.old) (O.taken out.new) (step_of line.now)) }
     ensures failed { OnErr result (Failed (O.failures out.old) (O.failures out.new)) }
 {
     // Room for the line of what is done, taken before the office acts.

@@ -76,11 +76,12 @@ pub fn run_script<I: Inputs, L: Loopback, O: Sink>(
     path: &str,
     out: &mut O,
 ) -> Result<(), ScriptStop>
-    ensures done { OnOk result (WritesScript (I.reads_as inputs.now) path.now settings
-        (O.taken out.old) (O.taken out.new)) }
+    ensures done { OnOk result (WritesScript (I.reads_as inputs.now) path.now
+        (L.may_refuse loopback.now) settings (O.taken out.old) (O.taken out.new)) }
     ensures well { OnOk result (O.failures out.new ≡ O.failures out.old) }
-    ensures stopped { IfErr result (StopsAt (I.reads_as inputs.now) path.now settings
-        (O.taken out.old) (O.taken out.new) (Failed (O.failures out.old) (O.failures out.new))) }
+    ensures stopped { IfErr result (StopsAt (I.reads_as inputs.now) path.now
+        (L.may_refuse loopback.now) settings (O.taken out.old) (O.taken out.new)
+        (Failed (O.failures out.old) (O.failures out.new))) }
     ensures untouched { IfErr result (λ stop. stop ≢ ScriptStop.Output → out.new ≡ out.old) }
 {
     let bytes = read_whole(alloc, inputs, path)?;
@@ -115,11 +116,13 @@ fn run_new_office<I: Inputs, L: Loopback, O: Sink>(
     out: &mut O,
 ) -> Result<(), DeviceFailed>
     requires { All (λ line. IsWellNamed (step_of line)) lines.now }
-    ensures done { OnOk result (NewOfficeWrites (I.reads_as inputs.now) settings
-        (O.taken out.old) (O.taken out.new) (map step_of lines.now)) }
+    ensures done { OnOk result (NewOfficeWrites (I.reads_as inputs.now)
+        (L.may_refuse loopback.now) settings (O.taken out.old) (O.taken out.new)
+        (map step_of lines.now)) }
     ensures well { OnOk result (O.failures out.new ≡ O.failures out.old) }
-    ensures cut { OnErr result (NewOfficeCuts (I.reads_as inputs.now) settings
-        (O.taken out.old) (O.taken out.new) (map step_of lines.now)) }
+    ensures cut { OnErr result (NewOfficeCuts (I.reads_as inputs.now)
+        (L.may_refuse loopback.now) settings (O.taken out.old) (O.taken out.new)
+        (map step_of lines.now)) }
     ensures failed { OnErr result (Failed (O.failures out.old) (O.failures out.new)) }
 {
     let mut office = Office::new(alloc, PlainTables::new(alloc, settings), london());

@@ -27,10 +27,10 @@ pub(crate) fn serve_connections<T: Tables, L: Loopback, O: Sink>(
 ) -> Result<(), DeviceFailed>
     requires empty { room.items ≡ [] }
     requires ample { 217 ≤ vec_capacity room }
-    ensures done { OnOk result (RunsServing office.old office.new
+    ensures done { OnOk result (RunsServing (L.may_refuse loopback.now) office.old office.new
         (O.taken out.old) (O.taken out.new) line.now) }
     ensures well { OnOk result (O.failures out.new ≡ O.failures out.old) }
-    ensures cut { OnErr result (StopsServing office.old office.new
+    ensures cut { OnErr result (StopsServing (L.may_refuse loopback.now) office.old office.new
         (O.taken out.old) (O.taken out.new) line.now) }
     ensures failed { OnErr result (Failed (O.failures out.old) (O.failures out.new)) }
 {
@@ -44,7 +44,7 @@ pub(crate) fn serve_connections<T: Tables, L: Loopback, O: Sink>(
     }
 }
 
-/// Tells on which port connections are awaited. What went out is not held back.
+/// Tells on which port connections are awaited.
 fn tell_listening<O: Sink>(mut room: Vec<u8>, port: u16, out: &mut O) -> Result<(), DeviceFailed>
     requires empty { room.items ≡ [] }
     requires ample { 217 ≤ vec_capacity room }

@@ -10,6 +10,8 @@ use std::process::ExitCode;
 fn main(rt: HostRuntime) -> ExitCode {
     let inputs = FileInputs(RuntimeFiles(&rt));
     let loopback = RuntimeLoopback(&rt);
+    // Standard output has no buffer before it, and must have none: no sink is flushed, and the line
+    // `listening` has to be out before the first connection is awaited.
     let mut out = StreamSink::new(rt.stdout());
     let mut err = StreamSink::new(rt.stderr());
     ExitCode::from(run(&rt, &inputs, &loopback, &mut out, &mut err))

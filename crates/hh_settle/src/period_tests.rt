@@ -187,7 +187,6 @@ fn wrong_words_are_told(rt: HostRuntime) -> Result<(), Fail> {
     Ok(())
 }
 
-// No command so far brings a refusal that names a unit and a period.
 #[test]
 fn rejections_tell_their_text(rt: HostRuntime) -> Result<(), Fail> {
     let rejection = Rejection {

@@ -1,6 +1,6 @@
 //! What listens on ports of the loopback, and what comes of it.
 
-ghost use Rattle.std.specs.Prelude.{◌≡◌, ℕ, IfOk};
+ghost use Rattle.std.specs.Prelude.{◌≡◌, ℕ, IfOk, OnErr};
 ghost use Rattle.hh_sockets.specs.Ports.{IsPortFor};
 
 use hh_devices::{Sink, Source};
@@ -27,9 +27,13 @@ pub struct Connection<S, K> {
 pub trait Loopback {
     type Listener: Listener + Drop;
 
+    /// On which ports it may be that nothing is listened.
+    ghost may_refuse: { Self → ℕ → Type 0 };
+
     /// Listens on a port; for 0 the machine chooses a free one.
     fn listen(&self, port: u16) -> Result<Self::Listener, SocketFailed>
-        ensures { IfOk result (λ listener. IsPortFor port (Self.Listener.port_of listener)) };
+        ensures port { IfOk result (λ listener. IsPortFor port (Self.Listener.port_of listener)) }
+        ensures refused { OnErr result (may_refuse self.now port) };
 }
 
 /// What awaits connections on a port.

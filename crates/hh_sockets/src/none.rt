@@ -1,5 +1,7 @@
 //! No sockets.
 
+ghost use Rattle.std.specs.Prelude.{⊤};
+
 use crate::loopback::{Connection, Listener, Loopback, SocketFailed};
 use hh_devices::{MemorySink, MemorySource};
 
@@ -15,6 +17,8 @@ pub struct NoListener {
 
 impl Loopback for NoLoopback {
     type Listener = NoListener;
+
+    ghost may_refuse = { λ _ _. ⊤ };
 
     fn listen(&self, _port: u16) -> Result<NoListener, SocketFailed> {
         Err(SocketFailed)

@@ -1,6 +1,6 @@
 //! The sockets of the system.
 
-ghost use Rattle.std.specs.Prelude.{◌≡◌};
+ghost use Rattle.std.specs.Prelude.{◌≡◌, ⊤};
 
 use crate::loopback::{Connection, Listener, Loopback, SocketFailed};
 use hh_devices::{Source, StreamSink, StreamSource};
@@ -19,8 +19,8 @@ const MOST_READS_BEHIND: u32 = 4_096;
 /// How many bytes of a client that has its reply are read in one call.
 const PIECE: usize = 8_192;
 
-/// The loopback of the system. No clause of std ties a port to what is listened on, so none does here
-/// beside the port's number.
+/// The loopback of the system. No clause of std ties a port to what is listened on, or to whether it is,
+/// so none does here beside the port's number.
 #[derive(Clone, Copy)]
 pub struct RuntimeLoopback<'a, R>(pub &'a R);
 
@@ -33,6 +33,8 @@ pub struct RuntimeListener<L> {
 
 impl<R: Net> Loopback for RuntimeLoopback<'_, R> {
     type Listener = RuntimeListener<R::Listener>;
+
+    ghost may_refuse = { λ _ _. ⊤ };
 
     fn listen(&self, port: u16) -> Result<RuntimeListener<R::Listener>, SocketFailed> {
         let listener = TcpListener::bind(self.0, (Ipv4Addr::LOCALHOST, port))?;

@@ -18,7 +18,7 @@ returns-in_err-run_line-clause-cut g c =
     let i = c.loop-line.line-index in
     let out = g.O.Sink.taken in
     passed_failure _ c.from_residual.result
-    (script_stops (g.I.Inputs.reads_as c.args.inputs.now) c.args.office.now c.loop-line.office c.run_line.new.office (out c.args.out.now) (out c.loop-line.out) (out c.run_line.new.out)
+    (script_stops (g.I.Inputs.reads_as c.args.inputs.now) (g.L.Loopback.may_refuse c.args.loopback.now) c.args.office.now c.loop-line.office c.run_line.new.office (out c.args.out.now) (out c.loop-line.out) (out c.run_line.new.out)
     (map step_of (take i lines)) (step_of (slice_index_or lines i no_line)) c.loop-line.invariant.run
     (map step_of lines) (i + 1) (first_steps lines (i + 1) ∙ one_more_step lines i no_line (omega arith)) c.in_err-run_line.ensures.cut)
 
@@ -28,9 +28,10 @@ loop-line-preserved g c =
     let i = c.loop-line.line-index in
     let out = g.O.Sink.taken in
     let reads = g.I.Inputs.reads_as c.args.inputs.now in
+    let refuses = g.L.Loopback.may_refuse c.args.loopback.now in
     record {
-      run = subst (RunsScript reads c.args.office.now c.run_line.new.office (out c.args.out.now) (out c.run_line.new.out)) (sym (one_more_step lines i no_line (omega arith)))
-          (script_more reads c.args.office.now c.loop-line.office c.run_line.new.office (out c.args.out.now) (out c.loop-line.out) (out c.run_line.new.out)
+      run = subst (RunsScript reads refuses c.args.office.now c.run_line.new.office (out c.args.out.now) (out c.run_line.new.out)) (sym (one_more_step lines i no_line (omega arith)))
+          (script_more reads refuses c.args.office.now c.loop-line.office c.run_line.new.office (out c.args.out.now) (out c.loop-line.out) (out c.run_line.new.out)
           (map step_of (take i lines)) (step_of (slice_index_or lines i no_line)) c.loop-line.invariant.run c.in_ok-run_line.ensures.done);
       well = c.in_ok-run_line.ensures.well ∙ c.loop-line.invariant.well;
     }

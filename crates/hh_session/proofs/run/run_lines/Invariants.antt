@@ -6,6 +6,6 @@ use Rattle.hh_session.proofs.run.run_lines.Given as goal
 -- the lines so far were run
 abbrev pub invariant-loop-line : goal.invariant-loop-line
 invariant-loop-line g l = record {
-  run : RunsScript (g.I.Inputs.reads_as l.inputs) l.fn.office l.office (g.O.Sink.taken l.fn.out) (g.O.Sink.taken l.out) (map step_of (take l.line-index l.lines));
+  run : RunsScript (g.I.Inputs.reads_as l.inputs) (g.L.Loopback.may_refuse l.loopback) l.fn.office l.office (g.O.Sink.taken l.fn.out) (g.O.Sink.taken l.out) (map step_of (take l.line-index l.lines));
   well : g.O.Sink.failures l.out ≡ g.O.Sink.failures l.fn.out;
 }

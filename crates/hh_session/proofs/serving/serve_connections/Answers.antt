@@ -7,10 +7,10 @@ use Rattle.hh_sockets.specs.Ports.{IsPortFor}
 pub returns-in_err-tell_listening-in-Ok-clause-cut : goal.returns-in_err-tell_listening-in-Ok-clause-cut
 returns-in_err-tell_listening-in-Ok-clause-cut g c =
     passed_failure _ c.from_residual.result
-    (serving_cut c.args.office.now (g.O.Sink.taken c.args.out.now) (g.O.Sink.taken c.tell_listening.new.out) c.args.line.now c.port.result
-    (subst (λ port. IsPortFor c.args.line.now.port port) (sym c.port.ensures) c.in-Ok.ensures) c.in_err-tell_listening-in-Ok.ensures.cut)
+    (serving_cut (g.L.Loopback.may_refuse c.args.loopback.now) c.args.office.now (g.O.Sink.taken c.args.out.now) (g.O.Sink.taken c.tell_listening.new.out) c.args.line.now c.port.result
+    (subst (λ port. IsPortFor c.args.line.now.port port) (sym c.port.ensures) c.in-Ok.ensures.port) c.in_err-tell_listening-in-Ok.ensures.cut)
 
 pub returns-in-Err-clause-cut : goal.returns-in-Err-clause-cut
 returns-in-Err-clause-cut g c =
     OnErr-map c.write_whole.result _ _
-    (no_socket_cut c.args.office.now (g.O.Sink.taken c.args.out.now) (g.O.Sink.taken c.write_whole.new.sink) c.args.line.now) c.write_whole.ensures.front
+    (no_socket_cut (g.L.Loopback.may_refuse c.args.loopback.now) c.args.office.now (g.O.Sink.taken c.args.out.now) (g.O.Sink.taken c.write_whole.new.sink) c.args.line.now c.in-Err.ensures.refused) c.write_whole.ensures.front

@@ -1,0 +1,19 @@
+-- How a stop with status 2 is told.
+use Rattle.std.proofs.Common.{◌≡◌, inl, inr, refl, arith}
+use Rattle.hh_command.specs.declared.program.Stop.{Stop}
+use Rattle.hh_command.specs.declared.program.Stop.TheVariants as stop
+use Rattle.hh_command.specs.Stops.{DeviceChange, IsOffAndTold, IsTold, Tells, stop_line, stop_status}
+
+-- it is a line of a script off its form, whose number is told
+pub off_and_told : (device : DeviceChange) (s : Stop) → stop_status s ≡ 2 → Tells device s → IsOffAndTold device s
+off_and_told device (stop.Refused e) two told = absurd (omega arith)
+off_and_told device stop.File two told = absurd (omega arith)
+off_and_told device stop.Output two told = absurd (omega arith)
+off_and_told device (stop.Off line) two (inl failed) = (line, refl, inl failed)
+off_and_told device (stop.Off line) two (inr (inl went)) = (line, refl, inr went)
+off_and_told device (stop.Off line) two (inr (inr (none, went))) = absurd none
+
+-- so a text is told
+pub told_by_off : (device : DeviceChange) (s : Stop) → IsOffAndTold device s → IsTold device
+told_by_off device s (line, same, inl failed) = inl failed
+told_by_off device s (line, same, inr went) = inr (stop_line (stop.Off line), (λ e. cc e), went)
