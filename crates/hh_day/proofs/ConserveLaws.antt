@@ -5,12 +5,13 @@ use Rattle.std.specs.List.{AllByRecursion}
 use Rattle.hh_num.specs.Totals.{total}
 use Rattle.hh_store.specs.Content.{tables_of}
 use Rattle.hh_store.specs.Reads.{results_in}
-use Rattle.hh_store.specs.RunReads.{DayNetsFromResults, paid_in}
+use Rattle.hh_store.specs.RunReads.{DayNetsFromResults, HoldsResults, paid_in}
 use Rattle.hh_store.specs.Runs.{Run, latest_run, nets_of}
 use Rattle.hh_store.specs.Steps.{timetable_at}
 use Rattle.hh_store.specs.Sums.{CashSumsToZero, ContractsSumToZero, EachUnitCredited, PostingsTotal, RunPostingsSumToZero, latest_runs}
 use Rattle.hh_runs.specs.DayNets.{day_net_of}
 use Rattle.hh_day.specs.Headline.{ReachedConserve}
+use Rattle.hh_day.proofs.AccountLaws.{each_account_settled}
 
 -- amounts that are the same for each run come to the same over the latest runs of all dates
 same_over_latest : (f g : Run → ℤ) (runs : List Run) → AllByRecursion (λ r. f r ≡ g r) runs → total f (latest_runs runs) ≡ total g (latest_runs runs)
@@ -23,8 +24,9 @@ same_over_latest f g (r ∷ runs) same =
     ]
 
 -- the sums of the headline hold of the tables of each reached state
-pub reached_conserve : ContractsSumToZero → CashSumsToZero → EachUnitCredited → PostingsTotal → DayNetsFromResults → RunPostingsSumToZero → ReachedConserve
-reached_conserve contracts cash credited posted from_results balanced midnight s reached = record {
+pub reached_conserve : HoldsResults → ContractsSumToZero → CashSumsToZero → EachUnitCredited → PostingsTotal → DayNetsFromResults → RunPostingsSumToZero → ReachedConserve
+reached_conserve held contracts cash credited posted from_results balanced midnight s reached = record {
+  accounts = each_account_settled midnight s held reached;
   contracts = λ run period. contracts midnight s run period reached;
   cash = λ run period. cash midnight s run period reached;
   credits = credited midnight s reached;

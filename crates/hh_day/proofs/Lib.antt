@@ -1,3 +1,4 @@
+mod AccountLaws
 pub mod ConserveLaws
 mod DifferenceLaws
 pub mod EntryLaws

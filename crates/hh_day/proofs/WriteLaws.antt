@@ -13,17 +13,15 @@ use Rattle.hh_names.specs.declared.account.Account.{Account}
 use Rattle.hh_rows.specs.declared.settlement_period.SettlementPeriod.{SettlementPeriod}
 use Rattle.hh_rules.specs.History.{Registered, registered_in}
 use Rattle.hh_rules.specs.Lateness.{Timetable}
-use Rattle.hh_share.proofs.SumLaws.{length-shares}
 use Rattle.hh_calc.specs.declared.result.AccountRow.{AccountRow}
-use Rattle.hh_calc.specs.declared.result.Figures.{Figures}
-use Rattle.hh_calc.specs.Formulas.{all_figures, figures, of_account, period_sums, residual, residual_shares, weights}
+use Rattle.hh_calc.specs.Formulas.{of_account}
 use Rattle.hh_calc.specs.Terms.{PeriodTerms, Settled}
 use Rattle.hh_calc.proofs.SpreadLaws.{total-flat_map}
 use Rattle.hh_runs.specs.DayNets.{DayNets, day_net_of, differences}
 use Rattle.hh_store.specs.declared.run_keys.RunKey.{RunKey}
 use Rattle.hh_store.specs.Content.{credit_entries, posting_entries, result_entries, tables_of}
 use Rattle.hh_store.specs.DaySettlement.{day_net, from_one_to, period_net, periods_on, settled_at, settled_day}
-use Rattle.hh_store.specs.PeriodSettlement.{account_rows, accounts_on, settled, terms_at}
+use Rattle.hh_store.specs.PeriodSettlement.{accounts_on, settled, terms_at}
 use Rattle.hh_store.specs.Reads.{results_in}
 use Rattle.hh_store.specs.RunReads.{DayNetsFromResults, paid_in, rows_by_period}
 use Rattle.hh_store.specs.Runs.{Run, accounts_of, last_of, latest_run, nets_of, postings_after, runs_of_date, seen_by, settled_by}
@@ -31,6 +29,7 @@ use Rattle.hh_store.specs.States.{State}
 use Rattle.hh_store.specs.Steps.{CanRun, IsReached, new_run, new_summary, registered_at, timetable_at}
 use Rattle.hh_store.specs.Sums.{DayNetsAreSums}
 use Rattle.hh_day.specs.NewRuns.{WritesTheRun, account_count, day_in, former_rows, summary_of}
+use Rattle.hh_day.proofs.AccountLaws.{accounts_settled}
 use Rattle.hh_day.proofs.DifferenceLaws.{same_differences}
 
 -- what holds where there is none, and of each of a list, holds of the last
@@ -71,18 +70,9 @@ periods_counted tables date n =
     ∙ length-map (from_one_to n) (λ p. record { date = date; period = p })
     ∙ numbers_counted n
 
--- there are as many rows as figures, where there are as many shares
-rows_counted : (fs : List Figures) (shares : List ℤ) → length fs ≡ length shares → length (account_rows fs shares) ≡ length fs
-rows_counted [] shares same = refl
-rows_counted (f ∷ fs) [] same = absurd (omega arith)
-rows_counted (f ∷ fs) (x ∷ shares) same = ap suc (rows_counted fs shares (omega arith))
-
 -- a settled period has a row for each account
 accounts_counted : (p : PeriodTerms) → length (settled p).accounts ≡ length p.accounts
-accounts_counted p =
-    rows_counted (all_figures p) (residual_shares p)
-    (length-map p.accounts (figures p) ∙ sym (length-shares (residual p) (weights p) ∙ length-map p.accounts (λ a. (period_sums p a).weight)))
-    ∙ length-map p.accounts (figures p)
+accounts_counted p = sym (length-map (settled p).accounts (λ (r : AccountRow). r.account)) ∙ ap length (accounts_settled p)
 
 -- the accounts of a date are counted by the first of its periods, where it has one
 first_counts : (tables : Registered) (date : ℕ) (numbers : List ℕ) → 0 < length numbers

@@ -1,16 +1,17 @@
 -- What the tables of an office add up to, after whatever requests.
-use Rattle.std.specs.Prelude.{◌≡◌, ℕ, ℤ, ◌+ℤ◌, List, pos}
-use Rattle.std.specs.List.{AllByRecursion}
+use Rattle.std.specs.Prelude.{◌≡◌, ℕ, ℤ, ◌+ℤ◌, List, map, pos}
+use Rattle.std.specs.List.{AllByRecursion, flat_map}
 use Rattle.hh_num.specs.Totals.{total}
 use Rattle.hh_time.specs.Days.{Midnights}
 use Rattle.hh_names.specs.declared.account.Account.{Account}
 use Rattle.hh_rules.specs.History.{Registered}
+use Rattle.hh_calc.specs.declared.result.AccountRow.{AccountRow}
 use Rattle.hh_store.specs.declared.run_keys.RunKey.{RunKey}
 use Rattle.hh_store.specs.Content.{Content, tables_of}
 use Rattle.hh_store.specs.PeriodSettlement.{units_on}
 use Rattle.hh_store.specs.Reads.{results_in}
 use Rattle.hh_store.specs.RunReads.{paid_in}
-use Rattle.hh_store.specs.Runs.{Run, periods_of, seen_by}
+use Rattle.hh_store.specs.Runs.{Run, accounts_of, periods_of, seen_by}
 use Rattle.hh_store.specs.States.{State}
 use Rattle.hh_store.specs.Steps.{IsReached, timetable_at}
 use Rattle.hh_store.specs.Sums.{IsCreditedByReading, latest_runs, period_total, posted_by, posted_to}
@@ -18,6 +19,18 @@ use Rattle.hh_store.specs.Sums.{IsCreditedByReading, latest_runs, period_total, 
 -- what an account pays by its rows in the latest run of every date
 abbrev pub paid_in_latest : Content → List Run → Account → ℤ
 paid_in_latest content runs a = total (λ run. paid_in a (results_in content run.key)) (latest_runs runs)
+
+-- the account of a row, with the number of the row's Settlement Period
+abbrev pub account_in : ℕ × AccountRow → ℕ × Account
+account_in row = (row.0, row.1.account)
+
+-- the rows of a run, by Settlement Period, then by account: in each period of its date one for each account that was effective on
+-- the date when the run was ordered
+abbrev pub SettlesEachAccount : Midnights → State → Content → Run → Type 0
+SettlesEachAccount midnight s content run =
+    let accounts : List Account = accounts_of (timetable_at midnight s) s.history run in
+    map account_in (results_in content run.key)
+    ≡ flat_map (λ at. map (λ a. (at.period, a)) accounts) (periods_of midnight run)
 
 -- in each Settlement Period of a run's date, each unit that was registered for that date when the run was ordered is credited
 -- exactly its loss-adjusted metered volume, by the reading that counted then
@@ -27,10 +40,11 @@ CreditsExactly midnight s content run =
     AllByRecursion (λ at. AllByRecursion (λ unit. IsCreditedByReading saw content.credits run.key at unit.0) (units_on saw at.date))
     (periods_of midnight run)
 
--- What the tables of a state add up to. In each Settlement Period of each run contracts come to zero, and so do charges and shares
--- together; each unit's credited energy comes exactly to its loss-adjusted metered volume; each account's postings come to what it
+-- What the tables of a state add up to. Each run has a row for each account in each of its Settlement Periods; in each of them
+-- contracts come to zero, and so do charges and shares together; each unit's credited energy comes exactly to its loss-adjusted metered volume; each account's postings come to what it
 -- pays in the latest run of every date; and the postings of each run come to zero.
 pub record Conserves (midnight : Midnights) (s : State) (content : Content) : Type 0 where
+  pub accounts : AllByRecursion (SettlesEachAccount midnight s content) s.runs
   pub contracts : (run : RunKey) (period : ℕ) → period_total (λ r. r.contracts) period (results_in content run) ≡ pos 0
   pub cash : (run : RunKey) (period : ℕ) → period_total (λ r. r.charge +ℤ r.share) period (results_in content run) ≡ pos 0
   pub credits : AllByRecursion (CreditsExactly midnight s content) s.runs

@@ -6,7 +6,7 @@ ghost use Rattle.hh_day.specs.NewRuns.{SettledInOneWay, WritesTheRun};
 
 use hh_store::{
     cash_sums_to_zero, contracts_sum_to_zero, day_nets_are_sums, day_nets_from_results,
-    each_period_settled, each_unit_credited, postings_total, run_postings_balance,
+    each_period_settled, each_unit_credited, kept_results, postings_total, run_postings_balance,
 };
 
 /// That a period that is settled is settled in one way, where what it is settled from fits together
@@ -29,15 +29,16 @@ pub fn writes_the_run()
     day_nets_are_sums();
 }
 
-/// That the sums of the headline hold of the tables of each state that the machine reaches: in each
-/// Settlement Period of each run contracts come to zero, and so do charges and shares together; each unit's
-/// credited energy comes exactly to its loss-adjusted metered volume, by the reading that counted when the
-/// run was ordered; each account's postings come to what it pays in the latest run of every date; and the
-/// postings of each run come to zero (profile).
+/// That the sums of the headline hold of the tables of each state that the machine reaches: each run has a
+/// row for each account of its date in each Settlement Period; in each of these contracts come to zero, and
+/// so do charges and shares together; each unit's credited energy comes exactly to its loss-adjusted metered
+/// volume, by the reading that counted when the run was ordered; each account's postings come to what it
+/// pays in the latest run of every date; and the postings of each run come to zero (profile).
 pub fn reached_conserve()
     ensures { ReachedConserve }
 {
     // These do nothing, but each carries a law for the proof.
+    kept_results();
     contracts_sum_to_zero();
     cash_sums_to_zero();
     each_unit_credited();

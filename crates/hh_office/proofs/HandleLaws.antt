@@ -20,9 +20,9 @@ use Rattle.hh_office.specs.declared.request.Upload.{Upload}
 use Rattle.hh_office.specs.declared.reply.Reply.{Reply}
 use Rattle.hh_office.specs.Machine.{act, answer, key_of, load, load_beside, load_new, load_read_as, loaded, loaded_reply, may, next, step, Timed, state_after}
 use Rattle.hh_office.specs.Transitions.{Transition, refused, refused_for}
-use Rattle.hh_office.specs.Promises.{HandleStep, RefusalLeaves, Stands, StandsAfter, is_given_up, is_refused, ConservesAfter, ConservesAfterAll, RunAllStep, RunsAs, served}
+use Rattle.hh_office.specs.Promises.{HandleStep, RefusalLeaves, Stands, StandsAfter, is_given_up, is_refused, ConservesAfter, ConservesAfterAll, RunAllStep, RunsAs, StandsAfterAll, served}
 use Rattle.hh_office.specs.Views.{OfficeView, midnight_of}
-use Rattle.hh_office.proofs.OnceLaws.{next_reached, after_by}
+use Rattle.hh_office.proofs.OnceLaws.{all_reached, next_reached}
 use Rattle.hh_store.specs.declared.run_keys.RunKey.{RunKey}
 use Rattle.hh_runs.specs.declared.summary.Summary.{Summary}
 use Rattle.hh_office.specs.Runs.{run_beside}
@@ -120,13 +120,19 @@ conserves_after law old new moment request given steps s stands =
     let zone : new.zone ≡ old.zone = zone_by (is_given_up given) old new (given ≡ answer (midnight_of old) s moment request) (tables_of (midnight_of old) t) (steps s stands) in
     stands_conserves law new (midnight_of old) (cond (is_given_up given) s t) (ap (λ z. midnight_in (plain_zone z)) (sym zone)) (stands_after old new moment request given steps s stands)
 
+-- an office that runs as the machine stands for its state
+pub stands_after_all : (old new : OfficeView) (requests : List Timed) (given : List Reply) → RunAllStep old new requests given
+    → StandsAfterAll old new requests given
+stands_after_all old new requests given runs s stands =
+    let ran : RunsAs old new s requests given = runs s stands in
+    let done : List Timed = map (λ (r : Timed × Reply). r.0) (served requests given) in
+    subst (λ (o : OfficeView). Stands o (state_after (midnight_of old) s done)) (sym ran.tables) (all_reached (midnight_of old) s done stands.0, refl)
+
 -- an office that runs as the machine has tables that add up afterwards
 pub conserves_after_all : ReachedConserve → (old new : OfficeView) (requests : List Timed) (given : List Reply) → RunAllStep old new requests given
     → ConservesAfterAll old new requests given
 conserves_after_all law old new requests given runs s stands =
     let ran : RunsAs old new s requests given = runs s stands in
     let done : List Timed = map (λ (r : Timed × Reply). r.0) (served requests given) in
-    let reached : IsReached (midnight_of old) (state_after (midnight_of old) s done) =
-    after_by (midnight_of old) (IsReached (midnight_of old)) (λ u m q. next_reached (midnight_of old) u m q) s done stands.0 in
     subst (λ (o : OfficeView). Conserves (midnight_of old) (state_after (midnight_of old) s done) o.content) (sym ran.tables)
-    (law (midnight_of old) (state_after (midnight_of old) s done) reached)
+    (law (midnight_of old) (state_after (midnight_of old) s done) (all_reached (midnight_of old) s done stands.0))

@@ -1,6 +1,7 @@
 -- One more request after a list of requests.
-use Rattle.std.proofs.Common.{◌≡◌, List, [], ◌∷◌, ◌++◌, map, length, refl, sym, ap, subst, ◌∙◌, ◌+◌, true, false, cond, length-append}
+use Rattle.std.proofs.Common.{◌≡◌, ℕ, List, [], ◌∷◌, ◌++◌, map, length, take, refl, sym, ap, subst, ◌∙◌, ◌+◌, true, false, cond, length-append}
 use Rattle.std.specs.Prelude.{MatchBool, filter, not, zip}
+use Rattle.std.proofs.Math.Seq.{take-length}
 use Rattle.std.proofs.lemmas.List.{append-nil, map-append}
 use Rattle.std.proofs.lemmas.List.Elements.{filter-append}
 use Rattle.hh_time.specs.Days.{Midnights}
@@ -11,7 +12,7 @@ use Rattle.hh_office.specs.declared.reply.Reply.{Reply}
 use Rattle.hh_office.specs.Machine.{Timed, answer, next, replies_to, state_after, step}
 use Rattle.hh_office.specs.Promises.{MakesTransition, HandleStep, RunAllStep, RunsAs, is_given_up, served}
 use Rattle.hh_office.specs.Views.{OfficeView, midnight_of}
-use Rattle.hh_office.proofs.OnceLaws.{after_by, next_reached}
+use Rattle.hh_office.proofs.OnceLaws.{all_reached}
 
 -- one more on either side is one more pair
 zip_more : {X Y : Type 0} (xs : List X) (ys : List Y) (x : X) (y : Y) → length ys ≡ length xs → zip (xs ++ x ∷ []) (ys ++ y ∷ []) ≡ zip xs ys ++ (x, y) ∷ []
@@ -76,8 +77,7 @@ pub run_more : (old now new : OfficeView) (ts : List Timed) (rs : List Reply) (t
 run_more old now new ts rs t r before steps s stands =
     let ran : RunsAs old now s ts rs = before s stands in
     let done : List (Timed × Reply) = served ts rs in
-    let reached : IsReached (midnight_of old) (so_far old s done) =
-    after_by (midnight_of old) (IsReached (midnight_of old)) (λ u m q. next_reached (midnight_of old) u m q) s (map (λ x. x.0) done) stands.0 in
+    let reached : IsReached (midnight_of old) (so_far old s done) = all_reached (midnight_of old) s (map (λ x. x.0) done) stands.0 in
     let comes : MakesTransition (record old { content = tables_of (midnight_of old) (so_far old s done) }) new r (step (midnight_of old) (so_far old s done) t.0 t.1) =
     subst (λ o. HandleStep o new t.0 t.1 r) ran.tables steps (so_far old s done) (reached, refl) in
     let more : Served old s (served (ts ++ t ∷ []) (rs ++ r ∷ [])) new =
@@ -87,3 +87,8 @@ run_more old now new ts rs t r before steps s stands =
       replies = more.0;
       tables = more.1;
     }
+
+-- what ran up to the end has run
+pub run_to_the_end : (old new : OfficeView) (ts : List Timed) (rs : List Reply) (count : ℕ) → count ≡ length ts
+    → RunAllStep old new (take count ts) rs → RunAllStep old new ts rs
+run_to_the_end old new ts rs count end run = subst (λ done. RunAllStep old new done rs) (ap (λ n. take n ts) end ∙ take-length ts) run

@@ -106,6 +106,10 @@ pub next_reached : (midnight : Midnights) (s : State) (moment : ℤ) (request : 
 next_reached midnight s moment request reached =
     next_by midnight s (IsReached midnight) reached (λ load can. by_load s load reached can) (λ at key can. by_run s at key reached can) moment request
 
+-- the machine reaches the state after a list of requests
+pub all_reached : (midnight : Midnights) (s : State) (ts : List Timed) → IsReached midnight s → IsReached midnight (state_after midnight s ts)
+all_reached midnight s ts reached = after_by midnight (IsReached midnight) (λ u m q. next_reached midnight u m q) s ts reached
+
 -- the settings stay
 same_settings : (midnight : Midnights) (s : State) (moment : ℤ) (request : Request) (settings : Settings) → s.settings ≡ settings → (next midnight s moment request).settings ≡ settings
 same_settings midnight s moment request settings is = next_by midnight s (λ t. t.settings ≡ settings) is (λ load can. is) (λ at key can. is) moment request

@@ -94,6 +94,12 @@ pub record RunsAs (old new : OfficeView) (s : State) (requests : List Timed) (gi
 abbrev pub RunAllStep : OfficeView → OfficeView → List Timed → List Reply → Type 0
 RunAllStep old new requests replies = (s : State) → Stands old s → RunsAs old new s requests replies
 
+-- after a list of requests the office stands for the machine's state after those that were not given up
+abbrev pub StandsAfterAll : OfficeView → OfficeView → List Timed → List Reply → Type 0
+StandsAfterAll old new requests given =
+    (s : State) → Stands old s
+    → Stands new (state_after (midnight_of old) s (map (λ r. r.0) (served requests given)))
+
 -- after a list of requests the tables add up, in the machine's state after those that were not given up
 abbrev pub ConservesAfterAll : OfficeView → OfficeView → List Timed → List Reply → Type 0
 ConservesAfterAll old new requests given =

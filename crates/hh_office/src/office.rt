@@ -3,7 +3,7 @@
 ghost use Rattle.std.specs.Prelude.{◌≡◌, IfOk, OnErr};
 ghost use Rattle.hh_office.specs.Machine.{step};
 ghost use Rattle.hh_office.specs.PartyViews.{ForbidsOthers, ShowsByView};
-ghost use Rattle.hh_office.specs.Promises.{ConservesAfter, ConservesAfterAll, MakesInEachState, HandleStep, RefusalLeaves, RepeatsOnce, RunAllStep, StandsAfter};
+ghost use Rattle.hh_office.specs.Promises.{ConservesAfter, ConservesAfterAll, MakesInEachState, HandleStep, RefusalLeaves, RepeatsOnce, RunAllStep, StandsAfter, StandsAfterAll};
 
 use crate::reply::Reply;
 use crate::request::{Action, Request};
@@ -78,6 +78,8 @@ impl<'z, T: Tables> Office<'z, T> {
     pub fn run_all(&mut self, requests: &[(i64, Request)]) -> Result<Vec<Reply>, AllocError>
         ensures run { IfOk result (λ replies.
             RunAllStep self.old self.new requests.now replies.items) }
+        ensures stands { IfOk result (λ replies.
+            StandsAfterAll self.old self.new requests.now replies.items) }
         ensures sums { IfOk result (λ replies.
             ConservesAfterAll self.old self.new requests.now replies.items) }
         ensures none { OnErr result (self.new ≡ self.old) }

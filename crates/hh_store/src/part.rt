@@ -256,7 +256,9 @@ impl KeptRegister {
         ensures memory_alone { AreSound self.now → (tables_in part.old).reallocations ≡ []
             → IfErr result (λ fault. fault ≡ StoreFault.Memory) }
     {
-        for (key, reallocation) in self.reallocation_rows() {
+        let rows = self.reallocation_rows();
+        none_negative(rows);
+        for (key, reallocation) in rows {
             if named.contains(&key.unit_period) {
                 let row = ReallocationRow {
                     key: *key,
@@ -272,13 +274,11 @@ impl KeptRegister {
     pub(crate) fn reallocation_rows(&self) -> &[(ReallocationKey, Reallocation)]
         ensures rows { result.now ≡ self.now.reallocations }
         ensures rising { IsTable reallocation_key_cmp self.now.reallocations }
-        ensures positive { NoneNegative self.now.reallocations }
     {
         let rows = self.reallocations.rows();
         if let Some(first) = rows.first() {
             let _first = self.reallocations.get(&first.0);
         }
-        none_negative(rows);
         rows
     }
 }

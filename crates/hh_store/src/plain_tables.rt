@@ -37,8 +37,9 @@ use std::alloc::Global;
 use std::marker::Model;
 
 /// The tables of an office, kept as lists in memory. To read the settings, a party, a unit, a reference
-/// or a key never fails. The other calls fail only where memory is refused, and so does `register`, if
-/// what is registered and in force is sound.
+/// or a key never fails. The other calls answer no fault but `Memory`, and the reports `Write` besides,
+/// where their output fails; `register` answers none but `Memory` if what is registered and in force is
+/// sound.
 #[derive(Drop)]
 pub struct PlainTables {
     alloc: Global,

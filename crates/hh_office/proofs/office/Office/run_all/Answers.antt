@@ -1,9 +1,8 @@
 use Rattle.std.proofs.Common.{◌≡◌, ◌+◌, ◌∷◌, [], ◌++◌, length, take, subst, sym, ap, ◌∙◌, cond, arith, length-append}
-use Rattle.std.proofs.Math.Seq.{take-length}
 use Rattle.std.proofs.lemmas.List.{take_more}
 use Rattle.hh_office.specs.Promises.{RunAllStep}
-use Rattle.hh_office.proofs.HandleLaws.{conserves_after_all}
-use Rattle.hh_office.proofs.ListLaws.{run_more}
+use Rattle.hh_office.proofs.HandleLaws.{conserves_after_all, stands_after_all}
+use Rattle.hh_office.proofs.ListLaws.{run_more, run_to_the_end}
 use Rattle.hh_office.proofs.office.Office.run_all.Goals as goal
 
 pub loop-request-preserved : goal.loop-request-preserved
@@ -25,11 +24,18 @@ loop-request-preserved g c =
       room = omega arith;
     }
 
+pub returns-clause-stands : goal.returns-clause-stands
+returns-clause-stands g c =
+    let i = c.loop-request.request-index in
+    let end : i ≡ length c.args.requests.now = omega arith in
+    let run : RunAllStep c.args.self.now c.loop-request.self c.args.requests.now c.loop-request.replies.items =
+    run_to_the_end c.args.self.now c.loop-request.self c.args.requests.now c.loop-request.replies.items i end c.loop-request.invariant.run in
+    stands_after_all c.args.self.now c.loop-request.self c.args.requests.now c.loop-request.replies.items run
+
 pub returns-clause-sums : goal.returns-clause-sums
 returns-clause-sums g c =
-    let old = c.args.self.now in
-    let given = c.loop-request.replies.items in
-    let end : c.loop-request.request-index ≡ length c.args.requests.now = omega arith in
-    let all : take c.loop-request.request-index c.args.requests.now ≡ c.args.requests.now = ap (λ n. take n c.args.requests.now) end ∙ take-length c.args.requests.now in
-    conserves_after_all c.reached_conserve.ensures old c.loop-request.self c.args.requests.now given
-    (subst (λ ts. RunAllStep old c.loop-request.self ts given) all c.loop-request.invariant.run)
+    let i = c.loop-request.request-index in
+    let end : i ≡ length c.args.requests.now = omega arith in
+    let run : RunAllStep c.args.self.now c.loop-request.self c.args.requests.now c.loop-request.replies.items =
+    run_to_the_end c.args.self.now c.loop-request.self c.args.requests.now c.loop-request.replies.items i end c.loop-request.invariant.run in
+    conserves_after_all c.reached_conserve.ensures c.args.self.now c.loop-request.self c.args.requests.now c.loop-request.replies.items run
