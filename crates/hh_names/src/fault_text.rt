@@ -7,7 +7,7 @@ ghost use Rattle.hh_names.specs.FaultText.{fault_text, number_place, refusal_hea
 use crate::fault::Fault;
 use crate::word::UnitId;
 use std::error::Error;
-use std::{fmt, str};
+use std::fmt;
 
 /// The text is `refused <number> <name>`, and the places that the refusal has.
 impl fmt::Display for Fault {
@@ -62,11 +62,8 @@ fn write_number<W: fmt::Write>(
 fn write_unit<W: fmt::Write>(f: &mut fmt::Formatter<W>, unit: Option<UnitId>) -> fmt::Result
     ensures { DisplaysOnOk W.write_str_gives f.old result (Some (unit_place unit)) f.new }
 {
-    let Some(unit) = unit else {
-        return Ok(());
-    };
-    let Ok(unit) = str::from_utf8(unit.as_bytes()) else {
-        return Err(fmt::Error);
-    };
-    write!(f, " unit {unit}")
+    match unit {
+        Some(unit) => write!(f, " unit {}", unit.as_str()),
+        None => Ok(()),
+    }
 }

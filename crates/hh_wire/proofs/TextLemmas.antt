@@ -65,7 +65,7 @@ dashed_below : (a b c d : ℕ) → a < 100 → b < 100 → c < 100 → d < 100 �
 dashed_below a b c d ha hb hc hd =
     rw (tens_below a ha, ones_below a, tens_below b hb, ones_below b, tens_below c hc, ones_below c, tens_below d hd, ones_below d) refl
 
-size_below : (z : ℤ) → pos 2001 ≤ℤ z → z ≤ℤ pos 2099 → unsigned_abs z ≤ 2099
+pub size_below : (z : ℤ) → pos 2001 ≤ℤ z → z ≤ℤ pos 2099 → unsigned_abs z ≤ 2099
 size_below (pos n) low high = omega (arith, signed_arith)
 size_below (negsuc n) low high = absurd (omega (arith, signed_arith))
 

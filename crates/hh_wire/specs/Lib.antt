@@ -8,7 +8,9 @@ pub mod Headings
 pub mod Heads
 pub mod Lengths
 pub mod Message
+pub mod Paths
 pub mod ReplyText
+pub mod RouteRows
 pub mod Routes
 pub mod ServeFaults
 pub mod Serves

@@ -14,6 +14,7 @@ mod reply_text;
 mod reply_value;
 mod request;
 mod route;
+mod router;
 mod serve;
 mod status;
 mod stop;

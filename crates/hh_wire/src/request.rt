@@ -22,8 +22,8 @@ use std::alloc::Global;
 const MOST_BODY_BYTES: u64 = 1_048_576;
 
 /// Reads a request to the office from what a client sends, in pieces of any lengths (profile). It
-/// reads no further once the request is whole or refused. Memory is taken for the body and the key
-/// alone.
+/// reads no further once the request is whole or refused. Memory is taken for the body, the router
+/// and the key alone.
 ///
 /// # Errors
 ///
@@ -91,7 +91,7 @@ fn request_with(
     ensures { let heading = heading_in head.now in
         Asks heading (asked_with heading body.items) result }
 {
-    let Some(action) = action_at(head.target, Bytes::new(body)) else {
+    let Some(action) = action_at(alloc, head.target, Bytes::new(body))? else {
         return Err(RequestRefusal::NoRoute);
     };
     let allow = method_of(&action);

@@ -1,8 +1,10 @@
 //! What paths ask for.
 
-ghost use Rattle.std.specs.Prelude.{◌≡◌, ◌<◌, ◌==◌, [], ◌∷◌, length, position, IfNone, IfSome};
-ghost use Rattle.hh_wire.specs.Routes.{action_at, method_of, one_part, parts_of, two_parts};
+ghost use Rattle.std.specs.Prelude.{◌≡◌, ◌<◌, ◌==◌, [], ◌∷◌, length, position, IfNone, IfOk, IfSome};
+ghost use Rattle.hh_wire.specs.Paths.{action_of, one_part_of, two_parts_of};
+ghost use Rattle.hh_wire.specs.Routes.{action_at, method_of, parts_of};
 
+use crate::router::{Route, route_at};
 use hh_names::{Account, FileName};
 use hh_office::{Action, Bytes, Upload};
 use hh_rows::FileKind;
@@ -10,20 +12,32 @@ use hh_runs::RunKind;
 use hh_store::RunKey;
 use hh_time::SettlementDate;
 use http::Method;
+use std::alloc::{AllocError, Global};
 
 /// What a path asks for with a body (profile), or `None` where there is no such path, or a part of
 /// it does not read. Only a file that is sent has a use for the body.
-pub(crate) fn action_at(target: &[u8], body: Bytes) -> Option<Action>
-    ensures { result ≡ action_at (parts_of target.now) body }
+pub(crate) fn action_at(
+    alloc: Global,
+    target: &[u8],
+    body: Bytes,
+) -> Result<Option<Action>, AllocError>
+    ensures { IfOk result (λ action. action ≡ action_at (parts_of target.now) body) }
 {
-    let (root, path) = split_part(target)?;
-    if !root.is_empty() {
-        return None;
+    match route_at(alloc, target)? {
+        Some(route) => Ok(action_of(route, target, body)),
+        None => Ok(None),
     }
-    let (word, parts) = split_part(path)?;
+}
+
+/// What a path of a route asks for with a body, or `None` where a part of it does not read.
+fn action_of(route: Route, target: &[u8], body: Bytes) -> Option<Action>
+    ensures { result ≡ action_of route (parts_of target.now) body }
+{
+    let (_, path) = split_part(target)?;
+    let (_, parts) = split_part(path)?;
     match split_part(parts) {
-        Some((first, second)) => two_parts(word, first, only_part(second)?, body),
-        None => one_part(word, parts),
+        Some((first, second)) => two_parts(route, first, only_part(second)?, body),
+        None => one_part(route, parts),
     }
 }
 
@@ -40,50 +54,44 @@ pub(crate) fn method_of(action: &Action) -> Method
     }
 }
 
-/// What a word with one part behind it asks for.
-fn one_part(word: &[u8], part: &[u8]) -> Option<Action>
-    ensures { result ≡ one_part word.now part.now }
+/// What the one part of a path of a route asks for.
+fn one_part(route: Route, part: &[u8]) -> Option<Action>
+    ensures { result ≡ one_part_of route part.now }
 {
-    if word == b"balances".as_slice() {
-        Some(Action::Balance {
+    match route {
+        Route::Balances => Some(Action::Balance {
             account: Account::read(part)?,
-        })
-    } else if word == b"runs".as_slice() {
-        Some(Action::Runs {
+        }),
+        Route::RunsOfDate => Some(Action::Runs {
             date: SettlementDate::read(part)?,
-        })
-    } else {
-        None
+        }),
+        Route::Files | Route::Runs | Route::Accounts | Route::Contracts => None,
     }
 }
 
-/// What a word with two parts behind it asks for.
-fn two_parts(word: &[u8], first: &[u8], second: &[u8], body: Bytes) -> Option<Action>
-    ensures { result ≡ two_parts word.now first.now second.now body }
+/// What the two parts of a path of a route ask for.
+fn two_parts(route: Route, first: &[u8], second: &[u8], body: Bytes) -> Option<Action>
+    ensures { result ≡ two_parts_of route first.now second.now body }
 {
-    if word == b"files".as_slice() {
-        Some(Action::Load(Upload {
+    match route {
+        Route::Files => Some(Action::Load(Upload {
             kind: FileKind::read(first)?,
             name: FileName::read(second)?,
             body,
-        }))
-    } else if word == b"runs".as_slice() {
-        Some(Action::Run(RunKey {
+        })),
+        Route::Runs => Some(Action::Run(RunKey {
             date: SettlementDate::read(first)?,
             kind: RunKind::read(second)?,
-        }))
-    } else if word == b"accounts".as_slice() {
-        Some(Action::Account {
+        })),
+        Route::Accounts => Some(Action::Account {
             account: Account::read(first)?,
             date: SettlementDate::read(second)?,
-        })
-    } else if word == b"contracts".as_slice() {
-        Some(Action::Contracts {
+        }),
+        Route::Contracts => Some(Action::Contracts {
             account: Account::read(first)?,
             date: SettlementDate::read(second)?,
-        })
-    } else {
-        None
+        }),
+        Route::Balances | Route::RunsOfDate => None,
     }
 }
 
