@@ -213,7 +213,7 @@ fn refuses_runs_off_their_form(rt: HostRuntime) -> Result<(), Fail> {
 
 #[test]
 fn refuses_reports_and_serves_off_their_form(rt: HostRuntime) -> Result<(), Fail> {
-    let lines: [&[u8]; 22] = [
+    let lines: [&[u8]; 24] = [
         b"report op-settle001",
         b"report op-settle001 day",
         b"report op-settle001 day 2024-07-01",
@@ -231,8 +231,10 @@ fn refuses_reports_and_serves_off_their_form(rt: HostRuntime) -> Result<(), Fail
         b"serve 5 8080 1 1",
         b"serve 5 65536 1",
         b"serve 5 -1 1",
+        b"serve 5 -0 1",
         b"serve 5 80 1000001",
         b"serve 5 80 -1",
+        b"serve 5 80 -0",
         b"serve 5 +80 1",
         b"serve now 80 1",
         b"serve 5 80 1.0",

@@ -1,10 +1,8 @@
-//! Dates, names, files and the rule of rows tried from outside: tests of what no clause of theirs says.
+//! Dates, names, rows and the rule of rows tried from outside: tests of what no clause of theirs says.
 //!
 //! They stand in a crate of their own, since the tests of a crate are proved with all of it once more.
 #![tactic(auto)]
 
-#[cfg(test)]
-mod files_tests;
 #[cfg(test)]
 mod names_tests;
 #[cfg(test)]

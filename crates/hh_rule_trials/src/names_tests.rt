@@ -5,49 +5,6 @@ use hh_names::*;
 use std::test::Fail;
 
 #[test]
-fn words_have_the_order_of_their_bytes(rt: HostRuntime) -> Result<(), Fail> {
-    let texts: [&[u8]; 14] = [
-        b"-",
-        b"A",
-        b"ABCDEFG",
-        b"ABCDEFGH",
-        b"ABCDEFGH-",
-        b"ABCDEFGH0",
-        b"ABCDEFGHI",
-        b"ABCDEFGHIJKLMNOP",
-        b"ABCDEFGHIJKLMNOPQ",
-        b"ABCDEFGHIJKLMNOPQRST",
-        b"ABCDEFGHIJKLMNOPQRSU",
-        b"ABCDEFGI",
-        b"B0000000000000000000",
-        b"a",
-    ];
-    for (at, text) in texts.iter().enumerate() {
-        assert!(rt; Reference::read(*text).is_some(), "at {at}");
-        for (beside, other) in texts.iter().enumerate() {
-            let (word, other) = (Reference::read(*text), Reference::read(*other));
-            assert_eq!(rt; word.cmp(&other), at.cmp(&beside), "at {at} and {beside}");
-            assert_eq!(rt; word == other, at == beside, "at {at} and {beside}");
-        }
-    }
-    let parties: [&[u8]; 5] = [
-        b"PARTY00",
-        b"PARTY009",
-        b"PARTY0091",
-        b"PARTY00910",
-        b"PARTY0092",
-    ];
-    for (at, text) in parties.iter().enumerate() {
-        assert!(rt; PartyId::read(*text).is_some(), "at {at}");
-        for (beside, other) in parties.iter().enumerate() {
-            let order = PartyId::read(*text).cmp(&PartyId::read(*other));
-            assert_eq!(rt; order, at.cmp(&beside), "at {at} and {beside}");
-        }
-    }
-    Ok(())
-}
-
-#[test]
 fn accounts_have_an_order(rt: HostRuntime) -> Result<(), Fail> {
     let texts: [&[u8]; 6] = [b"0-C", b"A-P", b"A-C", b"A0-P", b"AA-C", b"B-P"];
     for (at, text) in texts.iter().enumerate() {

@@ -267,26 +267,3 @@ fn a_part_holds_rows(rt: HostRuntime) -> Result<(), Fail> {
     assert_eq!(rt; register.hold_row(enough), Ok(()));
     Ok(())
 }
-
-/// What the rows of a new reference tell, the first late and the second in time.
-fn told(alloc: Global) -> Option<(Result<RowDone, Fault>, Result<RowDone, Fault>)> {
-    let zone = london();
-    let mut register = fixture(alloc, &zone)?;
-    let first = contract_row(b"C9", b"GENCO-P", b"SUPCO-C", 1000)?;
-    let second = contract_row(b"C9", b"GENCO-P", b"SUPCO-C", 2000)?;
-    let late = register.apply_row(&zone, 1_719_784_800, first);
-    let in_time = register.apply_row(&zone, MOMENT, second);
-    Some((late, in_time))
-}
-
-#[test]
-fn the_first_row_of_a_reference_is_told(rt: HostRuntime) -> Result<(), Fail> {
-    let first = RowDone::Late {
-        fixes_reference: true,
-    };
-    let second = RowDone::Applied {
-        fixes_reference: false,
-    };
-    assert_eq!(rt; told(rt.alloc()), Some((Ok(first), Ok(second))));
-    Ok(())
-}

@@ -278,43 +278,6 @@ fn reallocated_energy(rt: HostRuntime) -> Result<(), Fail> {
     Ok(())
 }
 
-/// Settles a period of three units, which stand in another order than their ids.
-fn settle_unordered(alloc: Global) -> Answer {
-    let plain = 10_000_000;
-    let quarter = [("GENCO-P", 2_500_000, 0)];
-    let both = [("SUPCO-C", 5_000_000, 0), ("GENCO-P", 2_500_000, 0)];
-    let units = vec![in alloc;
-        unit(alloc, ("U-2", "SUPCO-C"), false, (2, plain, 0), &quarter)?,
-        unit(alloc, ("U-10", "GENCO-P"), false, (3, plain, 0), &[])?,
-        unit(alloc, ("U-1", "GENCO-C"), false, (4, plain, 0), &both)?,
-    ]
-    .ok()?;
-    let names = ["GENCO-P", "GENCO-C", "SUPCO-C"];
-    settle(alloc, &names, units, vec![in alloc].ok()?, 0)
-}
-
-#[test]
-fn credits_by_unit_and_account(rt: HostRuntime) -> Result<(), Fail> {
-    let answer = settle_unordered(rt.alloc());
-    let wanted = [
-        ("U-1", "GENCO-P", 10_000_000),
-        ("U-1", "GENCO-C", 10_000_000),
-        ("U-1", "SUPCO-C", 20_000_000),
-        ("U-10", "GENCO-P", 30_000_000),
-        ("U-2", "GENCO-P", 5_000_000),
-        ("U-2", "SUPCO-C", 15_000_000),
-    ];
-    for (place, (unit, account, credited)) in wanted.iter().enumerate() {
-        assert_eq!(rt;
-            credit_at(&answer, place),
-            credit(unit, account, *credited),
-            "at {place}"
-        );
-    }
-    assert_eq!(rt; credit_at(&answer, wanted.len()), None);
-    Ok(())
-}
-
 #[test]
 fn an_account_alone(rt: HostRuntime) -> Result<(), Fail> {
     // Half a penny, and a little less.

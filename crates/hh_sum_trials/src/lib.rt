@@ -1,4 +1,4 @@
-//! Numbers, tables, shares, the settlement of a period, runs and reports tried from outside: tests of what no
+//! Numbers, shares, the settlement of a period, runs and reports tried from outside: tests of what no
 //! clause of theirs says.
 //!
 //! They stand in a crate of their own, since the tests of a crate are proved with all of it once more.
@@ -16,5 +16,3 @@ mod reports_tests;
 mod runs_tests;
 #[cfg(test)]
 mod share_tests;
-#[cfg(test)]
-mod tables_tests;

@@ -4,26 +4,6 @@ use hh_num::*;
 use std::test::Fail;
 
 #[test]
-fn reads_decimal_texts(rt: HostRuntime) -> Result<(), Fail> {
-    let read: [(&[u8], u32, i64); 10] = [
-        (b"-0.001", 3, -1),
-        (b"12.5", 3, 12_500),
-        (b"007", 0, 7),
-        (b"-0", 5, 0),
-        (b"0.0000000000", 10, 0),
-        (b"99999.99999", 5, 9_999_999_999),
-        (b"9223372036854775807", 0, i64::MAX),
-        (b"-9223372036854775808", 0, i64::MIN),
-        (b"-922337203.6854775808", 10, i64::MIN),
-        (b"00000000000000000000000001", 3, 1_000),
-    ];
-    for (text, decimals, units) in read {
-        assert_eq!(rt; read_fixed(text, decimals), Some(units), "at {units}");
-    }
-    Ok(())
-}
-
-#[test]
 fn refuses_texts_off_the_grammar(rt: HostRuntime) -> Result<(), Fail> {
     let refused: [&[u8]; 16] = [
         b"",

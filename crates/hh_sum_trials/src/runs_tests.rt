@@ -26,21 +26,6 @@ fn kinds_of_run_have_codes(rt: HostRuntime) -> Result<(), Fail> {
 }
 
 #[test]
-fn kinds_of_run_have_an_order(rt: HostRuntime) -> Result<(), Fail> {
-    let pairs = [
-        (RunKind::SF, RunKind::R1),
-        (RunKind::R1, RunKind::R2),
-        (RunKind::R2, RunKind::R3),
-        (RunKind::R3, RunKind::RF),
-        (RunKind::RF, RunKind::DF),
-    ];
-    for (former, later) in pairs {
-        assert!(rt; former < later);
-    }
-    Ok(())
-}
-
-#[test]
 fn kinds_follow_in_order(rt: HostRuntime) -> Result<(), Fail> {
     let none: [RunKind; 0] = [];
     assert_eq!(rt; next_kind(&none, RunKind::SF), Ok(NextRun::New));
@@ -129,15 +114,5 @@ fn runs_post_what_differs(rt: HostRuntime) -> Result<(), Fail> {
     for (old, new, wanted) in cases {
         assert!(rt; posts(rt.alloc(), old, new, wanted));
     }
-    Ok(())
-}
-
-#[test]
-fn day_nets_have_a_greatest_size(rt: HostRuntime) -> Result<(), Fail> {
-    let greatest = 100_000_000_000_000;
-    assert!(rt; DayNet::new(greatest).is_some());
-    assert!(rt; DayNet::new(-greatest).is_some());
-    assert!(rt; DayNet::new(greatest + 1).is_none());
-    assert!(rt; DayNet::new(-greatest - 1).is_none());
     Ok(())
 }

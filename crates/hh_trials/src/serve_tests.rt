@@ -1,12 +1,16 @@
 //! What no clause says: that with ample memory connections are served, and the bytes that go out.
 
-use hh_devices::{MemorySink, MemorySource};
+use hh_devices::{MemorySink, MemorySource, Sink, Source};
 use hh_names::OperatorKey;
 use hh_office::Office;
 use hh_rows::{LeadMinutes, Settings};
+use hh_sockets::{Listener, Loopback, RuntimeLoopback};
 use hh_store::PlainTables;
 use hh_time::london;
 use hh_wire::*;
+use std::io;
+use std::io::Write;
+use std::net::{Ipv4Addr, TcpStream};
 use std::test::Fail;
 
 /// The operator asks for the balance of an account to which nothing was moved.
@@ -23,10 +27,10 @@ const NO_ROUTE: &[u8] =
     Connection: close\r\n\r\n{\"name\":\"NoRoute\",\"refused\":61}";
 
 /// Serves a connection over a new office.
-fn serve(
+fn serve<I: Source, O: Sink>(
     rt: &impl AllocGlobal,
-    source: &mut MemorySource<'_>,
-    sink: &mut MemorySink,
+    source: &mut I,
+    sink: &mut O,
 ) -> Result<Result<Served, ServeFault>, Fail> {
     let settings = Settings {
         lead_minutes: LeadMinutes::default(),
@@ -35,6 +39,17 @@ fn serve(
     let tables = PlainTables::new(rt.alloc(), settings);
     let mut office = Office::new(rt.alloc(), tables, london());
     Ok(serve_one(rt.alloc(), &mut office, 1_719_700_000, source, sink))
+}
+
+/// Serves the next connection of a listener, and takes leave of it.
+fn serve_next<L: Listener>(
+    rt: &impl AllocGlobal,
+    listener: &L,
+) -> Result<Result<Served, ServeFault>, Fail> {
+    let mut connection = listener.accept()?;
+    let served = serve(rt, &mut connection.source, &mut connection.sink)?;
+    listener.close(connection);
+    Ok(served)
 }
 
 #[test]
@@ -78,5 +93,17 @@ fn a_reply_is_cut_where_the_sink_fails(rt: HostRuntime) -> Result<(), Fail> {
         assert_eq!(rt; served, Err(ServeFault::Write));
         assert_eq!(rt; sink.taken(), &REPLY[..count]);
     }
+    Ok(())
+}
+
+// The client awaits its reply, and sends no end before it.
+#[test]
+fn a_client_of_the_loopback_reads_its_reply(rt: HostRuntime) -> Result<(), Fail> {
+    let listener = RuntimeLoopback(&rt).listen(0)?;
+    let mut client = TcpStream::connect(&rt, (Ipv4Addr::LOCALHOST, listener.port()))?;
+    client.write_all(BALANCE)?;
+    assert_eq!(&rt; serve_next(&rt, &listener)?, Ok(Served::Replied));
+    let reply = io::read_to_string(rt.alloc(), client)?;
+    assert_eq!(&rt; reply.as_bytes(), REPLY);
     Ok(())
 }
