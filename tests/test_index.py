@@ -1,5 +1,5 @@
 """The index of rules in docs/architecture.md: each definition, function, wrong body, test and heading
-that a row names is there."""
+that a row names is there. And each crate has its row in the pages that list them."""
 import functools
 import re
 import unittest
@@ -43,6 +43,16 @@ class Index(unittest.TestCase):
                 self.check_test(test)
                 self.check_page(page)
 
+    def test_each_crate_has_its_rows(self):
+        crates = re.findall(r"(?m)^(hh_\w+):", (HOME / "crates.txt").read_text(encoding="utf-8"))
+        self.assertEqual(sorted(crates), sorted(path.parent.name for path in HOME.glob("crates/*/src")))
+        layers = PAGE.read_text(encoding="utf-8").partition("\n## From ")[0]
+        table = (HOME / "README.md").read_text(encoding="utf-8").partition("\n| Crate | Proved |\n")[2]
+        for crate in crates:
+            with self.subTest(crate):
+                self.assertRegex(layers, rf"(?m)^\|[^|]*\| `{crate}` \|")
+                self.assertRegex(table, rf"(?m)^\| [^|]*`{crate}`[^|]* \|")
+
     def check_definition(self, cell):
         """A definition stands in the file that the cell names. The crate of the file."""
         place, *names = NAME.findall(cell)
@@ -59,7 +69,8 @@ class Index(unittest.TestCase):
 
     def check_wrong_body(self, cell):
         for name in NAME.findall(cell):
-            self.assertTrue(list(HOME.glob(f"crates/*/must-fail/{name}.edit")), f"no wrong body {name}")
+            found = [*HOME.glob(f"crates/*/must-fail/{name}.edit"), *HOME.glob(f"wrong-bodies/*/{name}.edit")]
+            self.assertTrue(found, f"no wrong body {name}")
 
     def check_test(self, cell):
         names = NAME.findall(cell)
