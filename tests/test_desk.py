@@ -1,13 +1,17 @@
 """What an analyst meets at the office's desk, through the built `settle script`: files are loaded, come
 late, twice or wrong, runs are made or refused, and each line is answered. Every script begins with empty
 tables."""
+import contextlib
 import csv
+import io
 import os
 import pathlib
+import runpy
 import shutil
 import subprocess
 import sys
 import unittest
+import unittest.mock
 
 from programs import HOME, SETTLE, as_nobody, settle
 from test_program import OfTheProgram
@@ -57,6 +61,22 @@ DEARER = f"run {DAY} R1 periods 48 accounts 4 residual 6060 postings 2"
 def text_of(kind, rows):
     """A file's bytes, a line a row."""
     return "".join(f"{line}\n" for line in [HEADERS[kind], *rows]).encode()
+
+
+def told_by_the_peer(folder, files):
+    """What `bench/peer_office.py` tells of SF of these files, and its results: another program's figures, by Python's
+    whole numbers."""
+    path = str(HOME / "bench" / "peer_office.py")
+    with contextlib.redirect_stdout(io.StringIO()):
+        with unittest.mock.patch("sys.argv", [path, "init", ":memory:"]):
+            peer = runpy.run_path(path)
+        for kind, name in files:
+            peer["load"](peer["connection"], kind, f"{folder}/{name}")
+    told = io.StringIO()
+    with contextlib.redirect_stdout(told):
+        peer["run"](peer["connection"], DAY, "SF")
+        peer["report"](peer["connection"], DAY, "SF")
+    return told.getvalue().splitlines()
 
 
 def realloc(account, percent):
@@ -172,16 +192,29 @@ class Loads(Desk):
         self.assertGreater(len(reply) * 5000, 65_536)
         self.assertEqual(self.run_script(line * 5000, cwd=self.room), (0, reply * 5000, b""))
 
-
     def test_a_day_at_the_markets_size(self):
-        """400 parties, 2,000 units, and all that they are told of in a day: each row is applied."""
+        """400 parties, 2,000 units, and all that they are told of in a day: each row is applied, SF and its results are
+        the peer's, and what each account is posted is its net by them."""
         folder = self.room / "day"
         subprocess.run([sys.executable, str(HOME / "bench" / "gen_day.py"), str(folder)], check=True)
         files = [line.split() for line in (folder / "order").read_text().splitlines()]
         lines = [f"load {EARLY} {OPERATOR} {kind} {folder}/{name}" for kind, name in files]
         rows = [len((folder / name).read_bytes().splitlines()) - 1 for _, name in files]
         self.assertGreater(sum(rows), 100_000)
-        self.assertEqual(self.replies(*lines), [f"applied={count} late=0" for count in rows])
+        reports = [f"report {OPERATOR} {words}" for words in (f"csv {DAY} SF", "balances")]
+        found = self.replies(*lines, self.order("SF"), *reports)
+        self.assertEqual(found[: len(rows)], [f"applied={count} late=0" for count in rows])
+        told = told_by_the_peer(folder, files)
+        settled, moved = found[len(rows) :][: len(told)], found[len(rows) + len(told) :]
+        self.assertRegex(settled[0], rf"\Arun {DAY} SF periods 48 accounts 800 residual -?[0-9]+ postings [0-9]+\Z")
+        self.assertEqual(len(told), 2 + 48 * 800)
+        for line, wanted in zip(settled, told):
+            self.assertEqual(line, wanted)
+        nets = {}
+        for row in csv.DictReader(told[1:]):
+            nets[row["account"]] = nets.get(row["account"], 0) + int(row["charge"]) + int(row["share"])
+        self.assertEqual(moved, ["account,moved_pence", *(f"{account},{net}" for account, net in nets.items())])
+        self.assertEqual((len(nets), sum(nets.values())), (800, 0))
 
 
 class Keys(Desk):
@@ -310,8 +343,9 @@ class Runs(Desk):
         self.assertEqual(self.after_market(*lines), wanted)
 
     def test_a_reading_is_missing(self):
-        """The first period with such a unit is told, and of its units the first by their bytes."""
+        """The first period with such a unit is told, and of its units the first by their bytes; an id may have 16."""
         date = "2024-07-02"
+        long = "ABCDEFGH_-123456"
         prices = [f"{date},{period},0" for period in range(1, 49)]
         readings = [f"G1,{date},{period},0,1,0" for period in range(1, 49)]
         lines = [
@@ -319,12 +353,17 @@ class Runs(Desk):
             self.order("SF", date=date),
             self.load("meters", readings),
             self.order("SF", date=date),
+            self.load("units", f"{long},GENCO,P,no,{date},", "long.csv"),
+            self.order("SF", date=date),
         ]
+        self.assertEqual(len(long), 16)
         wanted = [
             "applied=48 late=0",
             "refused 54 MissingMeter unit G1 period 1",
             "applied=48 late=0",
             "refused 54 MissingMeter unit S1 period 1",
+            APPLIED,
+            f"refused 54 MissingMeter unit {long} period 1",
         ]
         self.assertEqual(self.after_market(*lines), wanted)
 
@@ -871,16 +910,14 @@ class WrongWords(Desk):
 
     def test_lead_minutes(self):
         script = self.load(*MARKET[0]) + "\n"
-        for minutes in ("1441", "-1", "+5", "60.0", "", "x", "18446744073709551617"):
-            with self.subTest(minutes):
-                self.is_wrong(self.run_script(script, "--lead-minutes", minutes))
+        for minutes in ("1441", "-1", "-0", "+5", "60.0", "", "x", "18446744073709551617"):
+            for options in (["--lead-minutes", minutes], [f"--lead-minutes={minutes}"]):
+                with self.subTest(options):
+                    self.is_wrong(self.run_script(script, *options))
 
     def test_no_lead_minutes(self):
-        script = self.load(*MARKET[0]) + "\n"
-        for minutes in ("0", "-0"):
-            with self.subTest(minutes):
-                made = self.run_script(script, f"--lead-minutes={minutes}")
-                self.assertEqual(made, (0, b"applied=2 late=0\n", b""))
+        made = self.run_script(self.load(*MARKET[0]) + "\n", "--lead-minutes=0")
+        self.assertEqual(made, (0, b"applied=2 late=0\n", b""))
 
     def test_words(self):
         script = self.file("script", self.load(*MARKET[0]) + "\n")

@@ -1,11 +1,14 @@
 """Files of the example market through `hh_bench load`: from text to what becomes of each row. All rows
-come at 2024-06-01T00:00:00Z, before every deadline; late rows are tested in test_desk.py."""
+come at 2024-06-01T00:00:00Z, before the market's deadlines; more of late rows is in test_desk.py. And what
+`hh_bench read` and `hh_bench settle` print."""
+import datetime
 import pathlib
 import subprocess
 import tempfile
 import unittest
 
 from programs import BENCH, need
+from test_desk import HEADERS
 
 METERS = "unit,date,period,metered_mwh,tlm,balancing_mwh\n"
 CONTRACTS = "reference,seller,buyer,date,period,mwh\n"
@@ -35,13 +38,79 @@ LOADED = [
 ]
 
 
-class Market(unittest.TestCase):
+def bench(*words):
+    """The status of `hh_bench` with these words, and the lines on standard output and on standard error."""
+    done = subprocess.run([BENCH, *words], capture_output=True, text=True)
+    return done.returncode, done.stdout.splitlines(), done.stderr.splitlines()
+
+
+def mixed(total, number):
+    """A checksum with one number more, in 64 bits: times a prime, and the number's size with its sign as the last bit."""
+    return ((total * 1_099_511_628_211 + abs(number)) * 2 + (number < 0)) % 2**64
+
+
+def text(field):
+    return list(field.encode())
+
+
+def date(field):
+    """Days since 1970-01-01; none stands for 2099-12-31."""
+    return [(datetime.date.fromisoformat(field or "2099-12-31") - datetime.date(1970, 1, 1)).days]
+
+
+def account(field):
+    """The party's bytes, and whether the side is Consumption."""
+    party, _, side = field.partition("-")
+    return [*text(party), side == "C"]
+
+
+def decimal(places):
+    """A number of so many decimals, in units of the last."""
+
+    def numbers(field):
+        size, _, fraction = field.lstrip("-").partition(".")
+        number = int(size + fraction.ljust(places, "0"))
+        return [-number if field.startswith("-") else number]
+
+    return numbers
+
+
+# What each field of a row adds to the checksum, in the order of the columns. In a file of reallocations the account's
+# column, the second, comes behind the period's.
+FIELDS = {
+    "parties": [text, date, date, text],
+    "units": [text, text, lambda side: [side == "C"], lambda mark: [mark == "yes"], date, date],
+    "meters": [text, date, decimal(0), decimal(3), decimal(7), decimal(3)],
+    "prices": [date, decimal(0), decimal(5)],
+    "contracts": [text, account, account, date, decimal(0), decimal(3)],
+    "reallocations": [text, date, decimal(0), account, decimal(5), decimal(3)],
+}
+
+
+def checksum(kind, rows):
+    """The checksum of rows, given as lines of a file: that of the numbers of all their fields, one after the other."""
+    total = 0
+    for row in rows:
+        cells = row.split(",")
+        if kind == "reallocations":
+            cells.insert(3, cells.pop(1))
+        for field, cell in zip(FIELDS[kind], cells, strict=True):
+            for number in field(cell):
+                total = mixed(total, number)
+    return total
+
+
+class OfTheBench(unittest.TestCase):
+    """A test with a folder of its own for files."""
+
     def setUp(self):
         need(BENCH)
         folder = tempfile.TemporaryDirectory()
         self.addCleanup(folder.cleanup)
         self.room = pathlib.Path(folder.name)
 
+
+class Market(OfTheBench):
     def load(self, *files):
         """What becomes of the market's files and these: the lines, and what is told on standard error
         beside the times."""
@@ -57,6 +126,12 @@ class Market(unittest.TestCase):
 
     def test_the_market_is_loaded(self):
         self.assertEqual(self.load(), ([], []))
+
+    def test_a_row_comes_late(self):
+        """2024-06-01 began at 23:00Z, an hour before the rows come. So at a lead of an hour the deadline of period 5 is
+        the very second at which they come, and that of period 6 half an hour behind it."""
+        rows = "".join(f"C1,GENCO-P,SUPCO-C,2024-06-01,{period},1\n" for period in (5, 6))
+        self.assertEqual(self.load(("contracts", CONTRACTS + rows)), (["contracts applied 1 late 1 refused 0"], []))
 
     def test_periods_of_clock_change_days(self):
         for date, period, becomes in [
@@ -97,6 +172,73 @@ class Market(unittest.TestCase):
         self.assertEqual(self.load(("contracts", CONTRACTS + most)), (["contracts applied 1 late 0 refused 0"], []))
         above = "C6,GENCO-P,SUPCO-C,2024-07-01,1,10000.001\n"
         self.assertEqual(self.load(("contracts", CONTRACTS + above)), ([], ["refused 14 BadField"]))
+
+
+class Measured(OfTheBench):
+    """What is told of a file that is read again and again, and of a period that is settled so."""
+
+    ROWS = {
+        "parties": ["GENCO,2024-01-01,,genco0001", "SUPCO,2001-01-01,2024-12-31,Supco00001"],
+        "units": ["T_GEN-1,GENCO,P,no,2024-01-01,", "S1,SUPCO,C,yes,2024-01-01,2024-12-31"],
+        "meters": ["G1,2024-07-01,1,100.000,0.9950000,-0.001", "S1,2024-07-01,48,-98,1.005,0"],
+        "prices": ["2024-07-01,1,50.00000", "2024-10-27,50,-99999.99999"],
+        "contracts": ["C1,GENCO-P,SUPCO-C,2024-07-01,1,99.000", "c-2_X,SUPCO-C,GENCO-P,2024-07-01,02,-0.5"],
+        "reallocations": ["G1,SUPCO-C,2024-07-01,1,60,-0.25", "S1,GENCO-P,2024-07-01,48,0.00001,10000"],
+    }
+
+    def path(self, kind, rows):
+        path = self.room / f"{kind}.csv"
+        path.write_text("".join(f"{line}\n" for line in [HEADERS[kind], *rows]), encoding="utf-8")
+        return str(path)
+
+    def is_timed(self, told, times):
+        """A line of nanoseconds for each time, and nothing else."""
+        self.assertEqual(len(told), times)
+        for line in told:
+            self.assertRegex(line, r"\A[0-9]+\Z")
+
+    def test_files_are_read(self):
+        for kind, rows in self.ROWS.items():
+            with self.subTest(kind):
+                status, written, told = bench("read", kind, self.path(kind, rows), "2")
+                self.assertEqual((status, written), (0, [f"{len(rows)} {checksum(kind, rows)}"]))
+                self.is_timed(told, 2)
+
+    def test_a_file_that_is_refused(self):
+        status, written, told = bench("read", "prices", self.path("prices", ["2024-07-01,1,x"]), "2")
+        self.assertEqual((status, written), (0, ["refused 14 BadField"]))
+        self.is_timed(told, 2)
+
+    def test_a_file_that_is_not_there(self):
+        self.assertEqual(bench("read", "prices", str(self.room / "none"), "2"), (1, [], ["fault input"]))
+
+    def test_a_period_is_settled(self):
+        """It is the same each time."""
+        status, written, told = bench("settle", "2")
+        self.assertEqual((status, len(written)), (0, 1))
+        self.assertRegex(written[0], r"\A[1-9][0-9]*\Z")
+        self.is_timed(told, 2)
+        self.assertEqual(bench("settle", "1")[1], written)
+
+    def test_wrong_words(self):
+        path = self.path("meters", [])
+        for words in (
+            (),
+            ("settle",),
+            ("settle", "x"),
+            ("settle", "-1"),
+            ("settle", "1", "1"),
+            ("load",),
+            ("load", "meters"),
+            ("load", "meter", path),
+            ("read", "meters", "x"),
+            ("read", "meters", path),
+            ("read", "meters", path, "x"),
+            ("measure", "1"),
+        ):
+            with self.subTest(words):
+                status, written, told = bench(*words)
+                self.assertEqual((status, written, len(told)), (2, [], 1))
 
 
 if __name__ == "__main__":

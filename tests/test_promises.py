@@ -1,4 +1,5 @@
-"""docs/promises.md: each clause that a row names stands in the contract of a function that it names."""
+"""docs/promises.md: each clause that a row names stands in the contract of a function that it names, and each function
+of a row under both heads is there."""
 import functools
 import re
 import unittest
@@ -53,14 +54,32 @@ class Promises(unittest.TestCase):
 
     def check_row(self, contracts, row):
         """Asks for the row's functions and clauses, and answers how many clauses there are."""
-        functions = [name.split("::")[-1] for name in NAME.findall(row.get("Function", "")) if "::" in name or name in contracts]
-        for name in functions:
-            self.assertIn(name, contracts)
+        functions = self.functions_of(contracts, row)
         clauses = [name for name in NAME.findall(row.get("Clause", "")) if name.islower()]
         known = set().union(*(contracts[name] for name in functions or contracts))
         for clause in clauses:
             self.assertIn(clause, known)
         return len(clauses)
+
+    def functions_of(self, contracts, row):
+        """The names of the row's functions. Under both heads each name is one, but for those of types; elsewhere a name
+        without a path may be a definition's, and a section of one function alone names none."""
+        is_clear = "Function" in row and "Clause" in row
+        found = []
+        for name in NAME.findall(row.get("Function", "")):
+            last = name.split("::")[-1]
+            if "::" in name or last in contracts or (is_clear and last.islower()):
+                self.assertIn(last, contracts)
+                found.append(last)
+        self.assertTrue(found or not is_clear, "no function is named")
+        return found
+
+    def test_misspelt_functions_and_clauses(self):
+        contracts = {"read": {"value"}, "other": {"same"}}
+        self.assertEqual(self.check_row(contracts, {"Function": "`Word::read`", "Clause": "`value`"}), 1)
+        for function, clause in (("`raed`", "`value`"), ("`Word::raed`", "`value`"), ("`read`", "`same`"), ("`Word`", "`value`")):
+            with self.subTest(function), self.assertRaises(AssertionError):
+                self.check_row(contracts, {"Function": function, "Clause": clause})
 
 
 if __name__ == "__main__":

@@ -23,6 +23,12 @@ middle: low side
 hh_settle: low middle clap
 """
 PROVED = ["low", "side", "middle", "hh_settle"]
+# The forms of the commands, as docs/formats.md has them.
+USAGE = (
+    "period METER CONTRACTS PRICE",
+    "period METER CONTRACTS -- -PRICE",
+    "script --operator-key KEY [--lead-minutes N] FILE",
+)
 PATIENCE = 30
 INTERRUPTS = signal.SIGINT, signal.SIGTERM, signal.SIGHUP
 
@@ -316,8 +322,9 @@ class Help(OfTheScript):
             for has_rt in (True, False):
                 status, written, told = self.call(*words, has_rt=has_rt)
                 self.assertEqual((status, written), (2, b""))
-                self.assertIn("usage: settle period METER CONTRACTS PRICE", told)
-                self.assertIn("minutes", told)
+                for form in USAGE:
+                    self.assertIn(f" settle {form}\n", told)
+                self.assertIn("some minutes", told.replace("\n", " "))
         self.assertEqual(self.calls(), [])
 
     def test_it_says_its_own_statuses(self):

@@ -8,7 +8,7 @@ import time
 import unittest
 
 from programs import SETTLE
-from test_desk import APPLIED, DAY, EARLY, END, IDLE, NEXT_END, OPERATOR, SETTLED, Desk, text_of
+from test_desk import APPLIED, DAY, EARLY, END, IDLE, MARKET, NEXT_END, OPERATOR, SETTLED, Desk, text_of
 
 GENCO = "genco0001"
 SUPCO = "supco0001"
@@ -66,11 +66,11 @@ class Served(Desk):
         if self.program is not None:
             self.program.communicate()
 
-    def serve(self, count, *lines, moment=NEXT_END, before=None):
+    def serve(self, count, *lines, moment=NEXT_END, before=None, operator=OPERATOR):
         """Begins a script that serves so many connections and then runs these lines, and reads where it listens."""
         before = [*self.market(), self.order("SF", END), self.dearer(), self.order("R1")] if before is None else before
         script = "".join(f"{line}\n" for line in [*before, f"serve {moment} 0 {count}", *lines])
-        words = [SETTLE, "script", "--operator-key", OPERATOR, self.file("served.script", script)]
+        words = [SETTLE, "script", "--operator-key", operator, self.file("served.script", script)]
         # Without a buffer, in which lines that were written early would be kept from `rest`.
         self.program = subprocess.Popen(words, bufsize=0, stdout=subprocess.PIPE, stderr=subprocess.PIPE)
         for _ in before:
@@ -193,6 +193,18 @@ class Replies(Served):
         self.assertEqual(self.ask(request("GET", f"/runs/{DAY}", "newco0001")), forbidden)
         self.assertEqual(self.ask(request("GET", f"/runs/{DAY}", OPERATOR)), reply(200, RUNS))
 
+    def test_the_longest_keys(self):
+        """64 bytes open an account, whether a party's or the operator's; a byte more or less opens none."""
+        longest, operator = "k" * 64, "op-" + "K" * 61
+        before = [self.load("parties", f"GENCO,2024-01-01,,{longest}", key=operator)]
+        opened, closed = reply(200, '{"account":"GENCO-P","moved_pence":0}'), reply(403, refusal(60, "Forbidden"))
+        self.serve(6, before=before, operator=operator)
+        for key, more in ((longest, "k"), (operator, "K")):
+            self.assertEqual(len(key), 64)
+            for shown, wanted in ((key, opened), (key + more, closed), (key[:-1], closed)):
+                self.assertEqual(self.ask(request("GET", "/balances/GENCO-P", shown)), wanted, shown)
+        self.assertEqual(self.rest(), [])
+
     def test_a_party_that_has_joined(self):
         """Its own account by the run after it joined; 63 by the one before."""
         readings = [f"N1,{DAY},1,10.000,1.0000000,0"] + [f"N1,{DAY},{period},0,1,0" for period in IDLE]
@@ -227,6 +239,41 @@ class Replies(Served):
         none = reply(404, refusal(63, "NoRun"))
         self.assertEqual(self.ask(request("GET", "/accounts/GENCO-P/2024-07-02", GENCO)), none)
         self.assertEqual(self.ask(request("GET", "/accounts/NOBODY-P/2024-07-01", OPERATOR)), none)
+
+    def test_large_nets(self):
+        """GENCO-P sells SUPCO-C 100,000 MWh in each period by ten contracts, and nobody meters any. At 99,999.99999
+        pounds that costs 9,999,999,999 pounds, which is 999,999,999,900 pence, in each of 48 periods; R1 turns the sign
+        of the price, so that it posts twice the net."""
+        charge, net = 999_999_999_900, 47_999_999_995_200
+        self.assertEqual((100_000 * 9_999_999_999 * 100, 48 * charge), (charge * 100_000, net))
+        numbers = range(1, 49)
+        sold = [f"L{number},GENCO-P,SUPCO-C,{DAY},{period},10000" for number in range(10) for period in numbers]
+        turned = self.load("prices", [f"{DAY},{period},-99999.99999" for period in numbers], "low.csv")
+        before = [
+            self.load(*MARKET[0], "parties.csv"),
+            self.load("contracts", sold),
+            self.load("prices", [f"{DAY},{period},99999.99999" for period in numbers]),
+            self.order("SF"),
+        ]
+        day, balances = f"report {OPERATOR} day {DAY} SF", f"report {OPERATOR} balances"
+        self.serve(3, day, balances, turned, self.order("R1"), balances, before=before)
+        for account, key, sign, mwh in (("GENCO-P", GENCO, 1, "100000.0000000000"), ("SUPCO-C", SUPCO, -1, "-100000.0000000000")):
+            body = json.loads(self.ask(request("GET", f"/accounts/{account}/{DAY}", key)).partition(b"\r\n\r\n")[2])
+            self.assertEqual((body["kind"], body["net_pence"], len(body["periods"])), ("SF", sign * net, 48))
+            for row in body["periods"]:
+                self.assertEqual((row["contracts"], row["charge_pence"], row["share_pence"]), (mwh, sign * charge, 0))
+        moved = '{"account":"SUPCO-C","moved_pence":-47999999995200}'
+        self.assertEqual(self.ask(request("GET", "/balances/SUPCO-C", SUPCO)), reply(200, moved))
+        printed = self.rest()
+        energies = "0.0000000000", "0.0000000000", "100000.0000000000", "-100000.0000000000"
+        first = f"{1:3} {'GENCO-P':12} {' '.join(f'{energy:>20}' for energy in energies)} {charge:14} {0:14}"
+        self.assertEqual(printed[2], first)
+        nets = {"GENCO-P": net, "GENCO-C": 0, "SUPCO-P": 0, "SUPCO-C": -net}
+        wanted = [f"NET {account:12} {moved:16}" for account, moved in nets.items()]
+        wanted += ["END", "account,moved_pence", *(f"{account},{moved}" for account, moved in nets.items())]
+        wanted += ["applied=48 late=0", f"run {DAY} R1 periods 48 accounts 4 residual 0 postings 2"]
+        wanted += ["account,moved_pence", *(f"{account},{-moved}" for account, moved in nets.items())]
+        self.assertEqual(printed[2 + 48 * 5 :], wanted)
 
     def test_files_are_loaded(self):
         """What clients send and what the script's lines load comes into one office."""
@@ -508,6 +555,36 @@ class Clients(Served):
                     break
         self.assertEqual(self.rest(), [])
 
+    def test_one_that_stalls(self):
+        """It sends half a head and then nothing. After ten seconds it is given up without a reply, and the next is
+        answered."""
+        self.serve(2)
+        with self.connect() as stalled:
+            stalled.sendall(b"GET /balances/SUPCO-C HTTP/1.1\r\nHost: lo")
+            began = time.monotonic()
+            self.assertEqual(self.ask(request("GET", "/balances/SUPCO-C", SUPCO)), reply(200, MOVED))
+            waited = time.monotonic() - began
+            self.assertTrue(9 < waited < 15, waited)
+            self.assertEqual(self.read(stalled), b"")
+        self.assertEqual(self.rest(), [])
+
+    def test_closing_is_quick(self):
+        """A client that closes when it has its reply lets the next be answered at once: no silence is awaited."""
+        self.serve(20)
+        began = time.monotonic()
+        for _ in range(20):
+            self.assertEqual(self.ask(request("GET", f"/runs/{DAY}", GENCO)), reply(200, RUNS))
+        self.assertLess(time.monotonic() - began, 5)
+
+    def test_three_hundred(self):
+        """One line serves them all, and not one more."""
+        self.serve(300)
+        for number in range(300):
+            self.assertEqual(self.ask(request("GET", f"/runs/{DAY}", GENCO)), reply(200, RUNS), number)
+        self.assertEqual(self.rest(), [])
+        with self.assertRaises(ConnectionRefusedError):
+            self.connect()
+
     def test_several_that_wait(self):
         """They are answered one after the other."""
         self.serve(8)
@@ -534,6 +611,14 @@ class Ports(Served):
         """A line that serves no connection listens and goes on."""
         self.serve(0, self.order("SF"))
         self.assertEqual(self.rest(), [SETTLED])
+
+    def test_one_address_alone(self):
+        """The office listens on 127.0.0.1, and not on each address that leads to this machine."""
+        self.serve(1)
+        with self.assertRaises(ConnectionRefusedError):
+            socket.create_connection(("127.0.0.2", self.port), timeout=10)
+        self.assertEqual(self.ask(request("GET", f"/runs/{DAY}", GENCO)), reply(200, RUNS))
+        self.assertEqual(self.rest(), [])
 
     def test_a_port_that_is_taken(self):
         """The script goes on without it."""
@@ -562,8 +647,10 @@ class Ports(Served):
         self.assertEqual(self.ask(request("POST", "/files/contracts/late.csv", OPERATOR, late)), reply(200, body))
 
     def test_lines_off_their_form(self):
-        for line in ("serve 5 65536 1", "serve 5 80", "serve 5 -1 1", "serve 5 80 1000001"):
-            self.is_wrong(self.run_script(f"{line}\n"), 1)
+        lines = "serve 5 65536 1", "serve 5 80", "serve 5 -1 1", "serve 5 80 1000001", "serve 5 -0 0", "serve 5 80 -0", "serve 5 80.0 0"
+        for line in lines:
+            with self.subTest(line):
+                self.is_wrong(self.run_script(f"{line}\n"), 1)
 
 
 if __name__ == "__main__":
