@@ -873,6 +873,7 @@ class OffTheirForm(Desk):
             f"run {END} {OPERATOR} 2100-01-01 SF",
             f"run {END}.0 {OPERATOR} {DAY} SF",
             f"run +{END} {OPERATOR} {DAY} SF",
+            f"run one {OPERATOR} {DAY} SF",
             f"run {2**63} {OPERATOR} {DAY} SF",
             f"run {END} op-short {DAY} SF",
             f"run {END} genco01 {DAY} SF",

@@ -122,8 +122,24 @@ class Reports(Desk):
 
     def test_lines_off_their_form(self):
         """Nothing of the script is run."""
-        for line in (f"report {OPERATOR} day", f"report {OPERATOR} balances {DAY} SF", f"report {OPERATOR} html {DAY} SF"):
-            self.is_wrong(self.run_script(f"{balances()}\n{line}\n"), 2)
+        for line in (
+            f"report {OPERATOR}",
+            f"report {OPERATOR} day",
+            f"report {OPERATOR} day {DAY}",
+            f"report {OPERATOR} day SF {DAY}",
+            f"report {OPERATOR} day {DAY} SF ",
+            f"report {OPERATOR} day 2024-02-30 SF",
+            f"report {OPERATOR} csv {DAY} sf",
+            f"report {OPERATOR} CSV {DAY} SF",
+            f"report {OPERATOR} html {DAY} SF",
+            f"report {OPERATOR} balances {DAY} SF",
+            f"report {OPERATOR} balance",
+            "report op-short balances",
+            "report balances",
+            f"report {END} {OPERATOR} balances",
+        ):
+            with self.subTest(line):
+                self.is_wrong(self.run_script(f"{balances()}\n{line}\n"), 2)
 
     def test_an_output_that_takes_a_part(self):
         """The first bytes of the report go out and no others; the script stops, and the fault is told."""

@@ -647,10 +647,12 @@ class Ports(Served):
         self.assertEqual(self.ask(request("POST", "/files/contracts/late.csv", OPERATOR, late)), reply(200, body))
 
     def test_lines_off_their_form(self):
-        lines = "serve 5 65536 1", "serve 5 80", "serve 5 -1 1", "serve 5 80 1000001", "serve 5 -0 0", "serve 5 80 -0", "serve 5 80.0 0"
-        for line in lines:
-            with self.subTest(line):
-                self.is_wrong(self.run_script(f"{line}\n"), 1)
+        ports = "65536 1", "80", "-1 1", "-0 0", "+80 1", "80.0 0", "80 1 1"
+        counts = "80 1000001", "80 -1", "80 -0", "80 1.0"
+        for words in (*ports, *counts):
+            with self.subTest(words):
+                self.is_wrong(self.run_script(f"serve 5 {words}\n"), 1)
+        self.is_wrong(self.run_script("serve now 80 1\n"), 1)
 
 
 if __name__ == "__main__":

@@ -1,4 +1,4 @@
-"""Each wrong body that the gate doesn't try still turns the body of one function, and none stands twice."""
+"""Each wrong body that the gate doesn't try still turns the body of a function, and none stands twice."""
 import importlib.machinery
 import importlib.util
 import unittest
@@ -17,7 +17,7 @@ def script():
 
 
 class WrongBodies(unittest.TestCase):
-    def test_each_turns_one_function(self):
+    def test_each_turns_a_function(self):
         turned = script().turned
         edits = sorted(FOLDER.glob("*/*.edit"))
         self.assertTrue(edits)

@@ -6,58 +6,50 @@ use hh_devices::*;
 use std::io::{self, Cursor, ErrorKind, Read, Write};
 use std::test::Fail;
 
+/// What comes of a text that is written whole to a sink, how many bytes it has taken by then, and how often it failed.
+fn whole_write(sink: &mut MemorySink, text: &[u8]) -> (Result<(), DeviceFailed>, usize, u64) {
+    let done = write_whole(sink, text);
+    (done, sink.taken().len(), sink.failures())
+}
+
 #[test]
-fn memory_sink_takes_up_to_its_room(rt: HostRuntime) -> Result<(), Fail> {
+fn memory_sinks_take_up_to_their_room(rt: HostRuntime) -> Result<(), Fail> {
     let mut sink = MemorySink::with_room(rt.alloc(), 10)?;
-    assert_eq!(rt; write_whole(&mut sink, b"abcdef"), Ok(()));
-    assert_eq!(rt; sink.failures(), 0);
-    assert_eq!(rt; write_whole(&mut sink, b"ghijklm"), Err(DeviceFailed));
+    assert_eq!(rt; whole_write(&mut sink, b"abcdef"), (Ok(()), 6, 0));
+    let full = (Err(DeviceFailed), 10, 1);
+    assert_eq!(rt; whole_write(&mut sink, b"ghijklm"), full);
     assert_eq!(rt; sink.taken(), b"abcdefghij".as_slice());
-    assert_eq!(rt; sink.failures(), 1);
-    assert_eq!(rt; sink.write(b"k"), Ok(0));
-    assert_eq!(rt; sink.failures(), 2);
-    assert_eq!(rt; write_whole(&mut sink, b""), Ok(()));
-    assert_eq!(rt; sink.failures(), 2);
     Ok(())
 }
 
 #[test]
-fn memory_sink_fails_once_in_mid_stream(rt: HostRuntime) -> Result<(), Fail> {
-    let mut sink = MemorySink::with_room(rt.alloc(), 100)?
-        .in_pieces(2)
-        .failing_after(3);
-    assert_eq!(rt; sink.write(b"abcdef"), Ok(2));
-    assert_eq!(rt; sink.write(b"cdef"), Ok(1));
-    assert_eq!(rt; sink.write(b"def"), Err(DeviceFailed));
-    assert_eq!(rt; sink.failures(), 1);
-    assert_eq!(rt; sink.write(b"def"), Ok(2));
-    assert_eq!(rt; sink.taken(), b"abcde".as_slice());
+fn memory_sinks_fail_once_in_mid_stream(rt: HostRuntime) -> Result<(), Fail> {
     for count in 0..6 {
         let mut sink = MemorySink::with_room(rt.alloc(), 100)?
             .in_pieces(4)
             .failing_after(count);
-        assert_eq!(rt; write_whole(&mut sink, b"abcdef"), Err(DeviceFailed));
-        assert_eq!(rt; sink.taken().len(), count);
-        assert_eq!(rt; write_whole(&mut sink, b"XY"), Ok(()));
-        assert_eq!(rt; sink.taken().len(), count + 2);
-        assert_eq!(rt; sink.failures(), 1);
+        let failed = (Err(DeviceFailed), count, 1);
+        assert_eq!(rt; whole_write(&mut sink, b"abcdef"), failed);
+        assert_eq!(rt; whole_write(&mut sink, b"XY"), (Ok(()), count + 2, 1));
     }
     Ok(())
 }
 
 #[test]
-fn memory_source_gives_pieces_and_fails_once(rt: HostRuntime) -> Result<(), Fail> {
+fn memory_sources_give_pieces_and_fail_once(rt: HostRuntime) -> Result<(), Fail> {
     let mut source = MemorySource::new(b"abcdef").in_pieces(4).failing_after(5);
     let mut buffer = [0u8; 8];
-    assert_eq!(rt; source.read(&mut []), Ok(0));
-    assert_eq!(rt; source.read(&mut buffer), Ok(4));
-    assert_eq!(rt; &buffer[..4], b"abcd".as_slice());
-    assert_eq!(rt; source.read(&mut buffer), Ok(1));
-    assert_eq!(rt; &buffer[..1], b"e".as_slice());
-    assert_eq!(rt; source.read(&mut buffer), Err(DeviceFailed));
-    assert_eq!(rt; source.read(&mut buffer), Ok(1));
-    assert_eq!(rt; &buffer[..1], b"f".as_slice());
-    assert_eq!(rt; source.read(&mut buffer), Ok(0));
+    let reads = [
+        (Ok(4), b'a'),
+        (Ok(1), b'e'),
+        (Err(DeviceFailed), b'e'),
+        (Ok(1), b'f'),
+        (Ok(0), b'f'),
+    ];
+    for (wanted, first) in reads {
+        assert_eq!(rt; source.read(&mut buffer), wanted);
+        assert_eq!(rt; buffer[0], first);
+    }
     assert_eq!(rt; source.failures(), 1);
     Ok(())
 }

@@ -1,4 +1,5 @@
-//! Devices, files, ports and the lines of scripts tried from outside: tests of what no clause of theirs says.
+//! Devices, files and ports tried from outside: tests of what no clause of theirs says. Lines of scripts are tested
+//! through `settle`.
 //!
 //! They stand in a crate of their own, since the tests of a crate are proved with all of it once more.
 #![tactic(auto)]
@@ -7,7 +8,5 @@
 mod devices_tests;
 #[cfg(test)]
 mod inputs_tests;
-#[cfg(test)]
-mod script_tests;
 #[cfg(test)]
 mod sockets_tests;

@@ -59,15 +59,5 @@ fn refusals_have_numbers_and_names(rt: HostRuntime) -> Result<(), Fail> {
         assert_eq!(rt; refusal.number(), number);
         assert_eq!(rt; refusal.name(), name);
     }
-    let fault = Fault::at_row(Refusal::SameAccount, 7);
-    assert_eq!(rt;
-        (fault.refusal, fault.row, fault.column),
-        (Refusal::SameAccount, Some(7), None)
-    );
-    let fault = Fault::at_field(3, 2);
-    assert_eq!(rt;
-        (fault.refusal, fault.row, fault.column),
-        (Refusal::BadField, Some(3), Some(2))
-    );
     Ok(())
 }

@@ -145,74 +145,76 @@ fn outcome(
     }
 }
 
-/// Two parties, a unit of each, and a contract between them.
-fn fixture(alloc: Global, zone: &TimeZone<'_>) -> Option<Register> {
-    let mut register = Register::new(alloc, LeadMinutes::default());
-    let rows = [
-        party_row(b"GENCO", b"2024-01-01"),
-        party_row(b"SUPCO", b"2024-01-01"),
-        unit_row(b"G1", b"GENCO-P", b"2024-01-01"),
-        unit_row(b"S1", b"SUPCO-C", b"2024-01-01"),
-        contract_row(b"C1", b"GENCO-P", b"SUPCO-C", 99_000),
-    ];
-    for row in rows {
-        if outcome(&mut register, zone, MOMENT, row) != Some(APPLIED) {
-            return None;
-        }
-    }
-    Some(register)
-}
-
-/// The register after the fixture and some rows, with the moments at which they come, if each becomes
-/// what stands beside it.
-fn after(alloc: Global, zone: &TimeZone<'_>, steps: &[(i64, Option<Row>, u8)]) -> Option<Register> {
-    let mut register = fixture(alloc, zone)?;
+/// Whether rows, with the moments at which they come, become what stands beside them.
+fn all_become(
+    register: &mut Register,
+    zone: &TimeZone<'_>,
+    steps: &[(i64, Option<Row>, u8)],
+) -> bool {
     for (moment, row, becomes) in steps {
-        if outcome(&mut register, zone, *moment, *row) != Some(*becomes) {
-            return None;
+        if outcome(register, zone, *moment, *row) != Some(*becomes) {
+            return false;
         }
     }
-    Some(register)
+    true
 }
 
-/// Whether each reader finds what the rows gave it.
-fn finds_all(register: &Register) -> Option<bool> {
+/// The register after some rows, if each becomes what stands beside it. Before them come two parties, a unit of each,
+/// and a contract between them.
+fn after(alloc: Global, zone: &TimeZone<'_>, steps: &[(i64, Option<Row>, u8)]) -> Option<Register> {
+    let market = [
+        (MOMENT, party_row(b"GENCO", b"2024-01-01"), APPLIED),
+        (MOMENT, party_row(b"SUPCO", b"2024-01-01"), APPLIED),
+        (MOMENT, unit_row(b"G1", b"GENCO-P", b"2024-01-01"), APPLIED),
+        (MOMENT, unit_row(b"S1", b"SUPCO-C", b"2024-01-01"), APPLIED),
+        (
+            MOMENT,
+            contract_row(b"C1", b"GENCO-P", b"SUPCO-C", 99_000),
+            APPLIED,
+        ),
+    ];
+    let mut register = Register::new(alloc, LeadMinutes::default());
+    if all_become(&mut register, zone, &market) && all_become(&mut register, zone, steps) {
+        Some(register)
+    } else {
+        None
+    }
+}
+
+/// Whether each reader finds what the rows gave it, and how many parties and units there are.
+fn finds_all(register: &Register) -> Option<(bool, u32, u32)> {
     let day: &[u8] = b"2024-07-01";
-    Some(
-        register.party(&PartyId::read(b"GENCO")?).is_some()
-            && register.party(&PartyId::read(b"NEWCO")?).is_none()
-            && register.unit(&UnitId::read(b"S1")?).is_some()
-            && register.reference(&Reference::read(b"C1")?).is_some()
-            && register.reading(&unit_period(b"G1", day, 1)?).is_some()
-            && register.price(&settlement_period(day, 1)?).is_some()
-            && register
-                .reallocation(&reallocation_key(b"SUPCO-P")?)
-                .is_some(),
-    )
+    let finds = register.party(&PartyId::read(b"GENCO")?).is_some()
+        && register.party(&PartyId::read(b"NEWCO")?).is_none()
+        && register.unit(&UnitId::read(b"S1")?).is_some()
+        && register.reference(&Reference::read(b"C1")?).is_some()
+        && register.reading(&unit_period(b"G1", day, 1)?).is_some()
+        && register.price(&settlement_period(day, 1)?).is_some()
+        && register
+            .reallocation(&reallocation_key(b"SUPCO-P")?)
+            .is_some();
+    Some((finds, register.party_count(), register.unit_count()))
 }
 
-#[test]
-fn holds_what_it_was_given(rt: HostRuntime) -> Result<(), Fail> {
+/// What is found after a reading, a price and a reallocation.
+fn found_after_rows(alloc: Global) -> Option<(bool, u32, u32)> {
     let steps = [
         (MOMENT, meter_row(b"G1", b"2024-07-01", 1), APPLIED),
         (MOMENT, price_row(b"2024-07-01", 1, 5_000_000), APPLIED),
         (MOMENT, reallocation_row(b"SUPCO-P", 1), APPLIED),
     ];
-    let Some(register) = after(rt.alloc(), &london(), &steps) else {
-        panic!(&rt; "each row becomes what stands beside it");
-    };
-    assert_eq!(rt; register.lead_minutes().minutes(), 60);
-    assert_eq!(rt; register.party_count(), 2);
-    assert_eq!(rt; register.unit_count(), 2);
-    assert_eq!(rt; finds_all(&register), Some(true));
+    finds_all(&after(alloc, &london(), &steps)?)
+}
+
+#[test]
+fn holds_what_it_was_given(rt: HostRuntime) -> Result<(), Fail> {
+    assert_eq!(rt; found_after_rows(rt.alloc()), Some((true, 2, 2)));
     Ok(())
 }
 
 #[test]
 fn day_of_an_odd_zone(rt: HostRuntime) -> Result<(), Fail> {
-    let Ok(zone) = TimeZone::posix("AAA0BBB-2,M3.5.0/1,M10.5.0/3") else {
-        panic!(&rt; "the zone is read");
-    };
+    let zone = TimeZone::posix("AAA0BBB-2,M3.5.0/1,M10.5.0/3")?;
     let steps = [
         (MOMENT, meter_row(b"G1", b"2024-03-31", 1), 34),
         (MOMENT, price_row(b"2024-03-31", 1, 0), 34),
@@ -221,7 +223,33 @@ fn day_of_an_odd_zone(rt: HostRuntime) -> Result<(), Fail> {
     Ok(())
 }
 
-/// The register of a part that serves for the rows of files in the market of the fixture.
+/// Whether each of these rows is held.
+fn holds(register: &mut Register, rows: &[Option<Row>]) -> bool {
+    rows.iter().all(|row| match row {
+        Some(row) => register.hold_row(*row).is_ok(),
+        None => false,
+    })
+}
+
+/// Whether a contract's reference and counterparties are held.
+fn holds_reference(register: &mut Register) -> Option<bool> {
+    let counterparties = Counterparties {
+        seller: Account::read(b"GENCO-P")?,
+        buyer: Account::read(b"SUPCO-C")?,
+    };
+    let held = register.hold_reference(Reference::read(b"C1")?, counterparties);
+    Some(held.is_ok())
+}
+
+/// What a row that is held comes to: 0, or the number of its refusal.
+fn held(register: &mut Register, row: Option<Row>) -> Option<u8> {
+    match register.hold_row(row?) {
+        Ok(()) => Some(0),
+        Err(fault) => Some(fault.refusal.number()),
+    }
+}
+
+/// The register of a part that serves for the rows of files in a market of two parties.
 fn part(alloc: Global) -> Option<Register> {
     let mut register = Register::part(alloc, LeadMinutes::default(), 2, 2);
     let rows = [
@@ -233,37 +261,24 @@ fn part(alloc: Global) -> Option<Register> {
         price_row(b"2024-07-01", 1, 5_000_000),
         reallocation_row(b"SUPCO-P", 6_000_000),
     ];
-    for row in rows {
-        register.hold_row(row?).ok()?;
+    if holds(&mut register, &rows) && holds_reference(&mut register) == Some(true) {
+        Some(register)
+    } else {
+        None
     }
-    let counterparties = Counterparties {
-        seller: Account::read(b"GENCO-P")?,
-        buyer: Account::read(b"SUPCO-C")?,
-    };
-    register
-        .hold_reference(Reference::read(b"C1")?, counterparties)
-        .ok()?;
-    Some(register)
+}
+
+/// What is found in a part, and what becomes of 40.00001 and of 40 percent beside 60.
+fn found_in(register: &mut Register) -> Option<((bool, u32, u32), u8, u8)> {
+    let found = finds_all(register)?;
+    let too_much = held(register, reallocation_row(b"SUPCO-C", 4_000_001))?;
+    let enough = held(register, reallocation_row(b"SUPCO-C", 4_000_000))?;
+    Some((found, too_much, enough))
 }
 
 #[test]
 fn a_part_holds_rows(rt: HostRuntime) -> Result<(), Fail> {
-    let Some(mut register) = part(rt.alloc()) else {
-        panic!(&rt; "each row is held");
-    };
-    assert_eq!(rt; finds_all(&register), Some(true));
-    assert_eq!(rt; register.party_count(), 2);
-    assert_eq!(rt; register.unit_count(), 2);
-    let Some(too_much) = reallocation_row(b"SUPCO-C", 4_000_001) else {
-        panic!(&rt; "there is such a row");
-    };
-    assert_eq!(rt;
-        register.hold_row(too_much),
-        Err(Fault::of(Refusal::OverHundred))
-    );
-    let Some(enough) = reallocation_row(b"SUPCO-C", 4_000_000) else {
-        panic!(&rt; "there is such a row");
-    };
-    assert_eq!(rt; register.hold_row(enough), Ok(()));
+    let mut part = part(rt.alloc()).ok_or("part")?;
+    assert_eq!(rt; found_in(&mut part), Some(((true, 2, 2), 38, 0)));
     Ok(())
 }

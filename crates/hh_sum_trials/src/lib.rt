@@ -1,11 +1,9 @@
-//! Numbers, shares, the settlement of a period, runs and reports tried from outside: tests of what no
-//! clause of theirs says.
+//! Numbers, shares, runs and reports tried from outside: tests of what no clause of theirs says. A settled period is
+//! tested through `settle`.
 //!
 //! They stand in a crate of their own, since the tests of a crate are proved with all of it once more.
 #![tactic(auto)]
 
-#[cfg(test)]
-mod calc_tests;
 #[cfg(test)]
 mod counted;
 #[cfg(test)]

@@ -73,22 +73,27 @@ fn rounds_halves_away_from_zero(rt: HostRuntime) -> Result<(), Fail> {
 
 #[test]
 fn quantities_keep_their_ranges(rt: HostRuntime) -> Result<(), Fail> {
-    assert_eq!(rt; Kwh::read(b"10000").map(Kwh::units), Some(10_000_000));
-    assert_eq!(rt; Kwh::read(b"-10000.001").map(Kwh::units), None);
-    assert_eq!(rt;
-        Price::read(b"-99999.99999").map(Price::units),
-        Some(-9_999_999_999)
-    );
-    assert_eq!(rt; Price::new(10_000_000_000).map(Price::units), None);
-    assert_eq!(rt; Tlm::read(b"0.9912345").map(Tlm::units), Some(9_912_345));
-    assert_eq!(rt; Tlm::read(b"-0.0000001").map(Tlm::units), None);
-    assert_eq!(rt;
-        Percent::read(b"100.00000").map(Percent::units),
-        Some(10_000_000)
-    );
-    assert_eq!(rt; Percent::read(b"0.00001").map(Percent::units), Some(1));
-    assert_eq!(rt; Percent::read(b"100.00001").map(Percent::units), None);
-    assert_eq!(rt; Percent::read(b"-0.00001").map(Percent::units), None);
+    let read = [
+        (Kwh::read(b"10000").map(Kwh::units), Some(10_000_000)),
+        (Kwh::read(b"-10000.001").map(Kwh::units), None),
+        (
+            Price::read(b"-99999.99999").map(Price::units),
+            Some(-9_999_999_999),
+        ),
+        (Price::new(10_000_000_000).map(Price::units), None),
+        (Tlm::read(b"0.9912345").map(Tlm::units), Some(9_912_345)),
+        (Tlm::read(b"-0.0000001").map(Tlm::units), None),
+        (
+            Percent::read(b"100.00000").map(Percent::units),
+            Some(10_000_000),
+        ),
+        (Percent::read(b"0.00001").map(Percent::units), Some(1)),
+        (Percent::read(b"100.00001").map(Percent::units), None),
+        (Percent::read(b"-0.00001").map(Percent::units), None),
+    ];
+    for (units, wanted) in read {
+        assert_eq!(rt; units, wanted);
+    }
     assert_eq!(rt; Pence::of(-250).units(), -250);
     assert!(rt; Ticks::of(1) < Ticks::of(2));
     let mut text = Vec::new(rt.alloc());

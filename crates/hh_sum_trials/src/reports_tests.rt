@@ -1,5 +1,5 @@
-//! What no clause says: reports that were worked out beside the office, and that they are written whole
-//! where memory and the sink allow it.
+//! What no clause says: that reports are written whole where memory and the sink allow it, whatever pieces the sink
+//! takes. Their texts are tested through `settle`.
 
 use hh_calc::AccountRow;
 use hh_devices::MemorySink;
@@ -16,22 +16,6 @@ type Rows = Vec<(PeriodNumber, AccountRow)>;
 
 /// An account's name, its energies in ticks and its cash in pence, in the order of the columns.
 type Figures<'a> = (&'a str, [i64; 4], [i64; 2]);
-
-/// The heads of the columns of a day report.
-const WORKED_HEADS: &str =
-    "PER ACCOUNT                  CREDITED            BALANCING            CONTRACTS            IMBALANCE         CHARGE          SHARE\n";
-
-/// The lines of the first period of the worked day report.
-const FIRST_PERIOD: &str =
-    "  1 GENCO-P             99.5000000000         0.0000000000        99.0000000000         0.5000000000          -2500           2538\n  1 GENCO-C              0.0000000000         0.0000000000         0.0000000000         0.0000000000              0              0\n  1 SUPCO-P              0.0000000000         0.0000000000         0.0000000000         0.0000000000              0              0\n  1 SUPCO-C            -98.4900000000         0.0000000000       -99.0000000000         0.5100000000          -2550           2512\n  1 RESIDUAL               5050\n";
-
-/// The end of the lines of accounts in the other periods.
-const AT_REST: &str =
-    "        0.0000000000         0.0000000000         0.0000000000         0.0000000000              0              0\n";
-
-/// The day nets of the worked day report, and its end.
-const NETS: &str =
-    "NET GENCO-P                    38\nNET GENCO-C                     0\nNET SUPCO-P                     0\nNET SUPCO-C                   -38\nEND\n";
 
 /// The row of an account in a period.
 fn row_of(period: u8, figures: &Figures<'_>) -> Option<(PeriodNumber, AccountRow)> {
@@ -80,196 +64,134 @@ fn worked_rows(alloc: Global) -> Option<Rows> {
     Some(rows)
 }
 
-/// A run of a date.
-fn run_on(date: &str, kind: RunKind, periods: u8) -> Option<ReportedRun> {
+/// The run of the worked rows.
+fn worked_run() -> Option<ReportedRun> {
     Some(ReportedRun {
-        date: SettlementDate::read(date.as_bytes())?,
-        kind,
-        periods,
+        date: SettlementDate::read(b"2024-07-01")?,
+        kind: RunKind::SF,
+        periods: 48,
     })
 }
 
-/// The run of the worked rows.
-fn worked_run() -> Option<ReportedRun> {
-    run_on("2024-07-01", RunKind::SF, 48)
+/// A report of a run.
+#[derive(Clone, Copy)]
+enum Report {
+    Day,
+    Results,
 }
 
-/// The day report of the worked rows.
-fn worked_report(alloc: Global) -> Result<String, Fail> {
-    let mut text = String::from_str(alloc, "DAY REPORT 2024-07-01 SF\n")?;
-    text.push_str(WORKED_HEADS)?;
-    text.push_str(FIRST_PERIOD)?;
-    for period in 2..49 {
-        for name in ["GENCO-P", "GENCO-C", "SUPCO-P", "SUPCO-C"] {
-            let front = format!(in alloc; "{period:>3} {name:<12} ")?;
-            text.push_str(&front)?;
-            text.push_str(AT_REST)?;
-        }
-        let residual = format!(in alloc; "{period:>3} RESIDUAL                  0\n")?;
-        text.push_str(&residual)?;
-    }
-    text.push_str(NETS)?;
-    Ok(text)
+/// What comes of it that a report of the worked rows is written.
+fn written(
+    alloc: Global,
+    report: Report,
+    rows: &[(PeriodNumber, AccountRow)],
+    sink: &mut MemorySink,
+) -> Option<Result<(), ReportFault>> {
+    let run = worked_run()?;
+    Some(match report {
+        Report::Day => write_day_report(alloc, &run, rows, sink),
+        Report::Results => write_results(alloc, &run, rows, sink),
+    })
+}
+
+/// Whether a sink has taken this text, and never failed.
+fn holds_whole(sink: &MemorySink, text: &[u8]) -> bool {
+    sink.taken() == text && sink.failures() == 0
+}
+
+/// Whether a sink has taken so many bytes of this text, and no others.
+fn holds_front(sink: &MemorySink, text: &[u8], count: usize) -> bool {
+    sink.taken().len() == count && text.starts_with(sink.taken())
+}
+
+/// Whether a sink that takes a byte a call takes this text of a report.
+fn is_whole_by_bytes(
+    alloc: Global,
+    report: Report,
+    rows: &[(PeriodNumber, AccountRow)],
+    text: &[u8],
+) -> Option<bool> {
+    let mut sink = MemorySink::with_room(alloc, 30_000).ok()?.in_pieces(1);
+    let done = written(alloc, report, rows, &mut sink) == Some(Ok(()));
+    Some(done && holds_whole(&sink, text))
+}
+
+/// Whether a sink that fails after so many bytes takes just these of this text of a report, and the failure is told.
+fn is_cut_after(
+    alloc: Global,
+    report: Report,
+    rows: &[(PeriodNumber, AccountRow)],
+    text: &[u8],
+    count: usize,
+) -> Option<bool> {
+    let mut sink = MemorySink::with_room(alloc, 30_000)
+        .ok()?
+        .failing_after(count);
+    let told = written(alloc, report, rows, &mut sink) == Some(Err(ReportFault::Write));
+    Some(told && sink.failures() == 1 && holds_front(&sink, text, count))
+}
+
+/// Whether a report of this size goes into a sink that has just room for it, into one that takes it in pieces, and
+/// into those that fail up to where they do.
+fn is_taken(alloc: Global, report: Report, size: usize, counts: &[usize]) -> Option<bool> {
+    let rows = worked_rows(alloc)?;
+    let mut sink = MemorySink::with_room(alloc, size).ok()?;
+    let done = written(alloc, report, &rows, &mut sink) == Some(Ok(()));
+    let text = sink.taken();
+    let cut = counts.iter().all(|count| is_cut_after(alloc, report, &rows, text, *count)
+        == Some(true));
+    let whole = is_whole_by_bytes(alloc, report, &rows, text) == Some(true);
+    Some(done && text.len() == size && whole && cut)
 }
 
 #[test]
 fn a_day_is_reported(rt: HostRuntime) -> Result<(), Fail> {
-    let rows = worked_rows(rt.alloc()).ok_or("rows")?;
-    let run = worked_run().ok_or("run")?;
-    let text = worked_report(rt.alloc())?;
-    assert_eq!(rt; text.len(), 26_984);
+    let counts = [0, 1, 25, 156, 26_983];
     assert_eq!(rt;
-        text.as_bytes()
-            .iter()
-            .filter(|byte| **byte == b'\n')
-            .count(),
-        247
+        is_taken(rt.alloc(), Report::Day, 26_984, &counts),
+        Some(true)
     );
-    let mut sink = MemorySink::with_room(rt.alloc(), 26_984)?;
-    assert_eq!(rt;
-        write_day_report(rt.alloc(), &run, &rows, &mut sink),
-        Ok(())
-    );
-    assert!(rt; sink.taken() == text.as_bytes());
-    assert_eq!(rt; sink.failures(), 0);
-    let mut slow = MemorySink::with_room(rt.alloc(), 30_000)?.in_pieces(1);
-    assert_eq!(rt;
-        write_day_report(rt.alloc(), &run, &rows, &mut slow),
-        Ok(())
-    );
-    assert!(rt; slow.taken() == text.as_bytes());
     Ok(())
-}
-
-#[test]
-fn a_cut_report_is_a_failure(rt: HostRuntime) -> Result<(), Fail> {
-    let rows = worked_rows(rt.alloc()).ok_or("rows")?;
-    let run = worked_run().ok_or("run")?;
-    let text = worked_report(rt.alloc())?;
-    for count in [0, 1, 25, 156, 26_983] {
-        let mut sink = MemorySink::with_room(rt.alloc(), 30_000)?.failing_after(count);
-        let cut = write_day_report(rt.alloc(), &run, &rows, &mut sink);
-        assert_eq!(rt; cut, Err(ReportFault::Write), "{count}");
-        assert_eq!(rt; sink.taken().len(), count);
-        assert!(rt; text.as_bytes().starts_with(sink.taken()), "{count}");
-        assert_eq!(rt; sink.failures(), 1);
-    }
-    let mut narrow = MemorySink::with_room(rt.alloc(), 26_983)?;
-    let cut = write_day_report(rt.alloc(), &run, &rows, &mut narrow);
-    assert_eq!(rt; cut, Err(ReportFault::Write));
-    assert_eq!(rt; narrow.taken().len(), 26_983);
-    Ok(())
-}
-
-#[test]
-fn reports_of_odd_days(rt: HostRuntime) -> Result<(), Fail> {
-    let mut rows = Vec::new(rt.alloc());
-    let energies = [-1, 20_000_000_000, -30_000_000_000, 100_000_000_000_000_000];
-    let figures = [("A-P", energies, [-1_000_000_000_000, 1_000_000_000_000])];
-    push_rows(&mut rows, 1, &figures).ok_or("rows")?;
-    let run = run_on("2024-10-27", RunKind::R1, 2).ok_or("run")?;
-    let text = format!(in rt.alloc();
-        "DAY REPORT 2024-10-27 R1\n{WORKED_HEADS}  1 A-P                 -0.0000000001         2.0000000000        -3.0000000000  10000000.0000000000 -1000000000000  1000000000000\n  1 RESIDUAL      1000000000000\n  2 RESIDUAL                  0\nNET A-P                         0\nEND\n"
-    )?;
-    let mut sink = MemorySink::with_room(rt.alloc(), 1000)?;
-    assert_eq!(rt;
-        write_day_report(rt.alloc(), &run, &rows, &mut sink),
-        Ok(())
-    );
-    assert_eq!(rt; sink.taken(), text.as_bytes());
-
-    let none: [(PeriodNumber, AccountRow); 0] = [];
-    let run = run_on("2024-03-31", RunKind::DF, 3).ok_or("run")?;
-    let text = format!(in rt.alloc();
-        "DAY REPORT 2024-03-31 DF\n{WORKED_HEADS}  1 RESIDUAL                  0\n  2 RESIDUAL                  0\n  3 RESIDUAL                  0\nEND\n"
-    )?;
-    let mut sink = MemorySink::with_room(rt.alloc(), 1000)?;
-    assert_eq!(rt;
-        write_day_report(rt.alloc(), &run, &none, &mut sink),
-        Ok(())
-    );
-    assert_eq!(rt; sink.taken(), text.as_bytes());
-    Ok(())
-}
-
-/// The results of the worked rows.
-fn worked_results(alloc: Global) -> Result<String, Fail> {
-    let mut text = String::from_str(
-        alloc,
-        "date,kind,account,period,credited,balancing,contracts,imbalance,charge,share\n2024-07-01,SF,GENCO-P,1,99.5000000000,0.0000000000,99.0000000000,0.5000000000,-2500,2538\n2024-07-01,SF,GENCO-C,1,0.0000000000,0.0000000000,0.0000000000,0.0000000000,0,0\n2024-07-01,SF,SUPCO-P,1,0.0000000000,0.0000000000,0.0000000000,0.0000000000,0,0\n2024-07-01,SF,SUPCO-C,1,-98.4900000000,0.0000000000,-99.0000000000,0.5100000000,-2550,2512\n",
-    )?;
-    for period in 2..49 {
-        for name in ["GENCO-P", "GENCO-C", "SUPCO-P", "SUPCO-C"] {
-            let line = format!(in alloc;
-                "2024-07-01,SF,{name},{period},0.0000000000,0.0000000000,0.0000000000,0.0000000000,0,0\n"
-            )?;
-            text.push_str(&line)?;
-        }
-    }
-    Ok(text)
 }
 
 #[test]
 fn results_are_exported(rt: HostRuntime) -> Result<(), Fail> {
-    let rows = worked_rows(rt.alloc()).ok_or("rows")?;
-    let run = worked_run().ok_or("run")?;
-    let text = worked_results(rt.alloc())?;
-    assert_eq!(rt; text.len(), 15_613);
+    let counts = [0, 76, 77, 78, 15_612];
     assert_eq!(rt;
-        text.as_bytes()
-            .iter()
-            .filter(|byte| **byte == b'\n')
-            .count(),
-        193
+        is_taken(rt.alloc(), Report::Results, 15_613, &counts),
+        Some(true)
     );
-    let mut sink = MemorySink::with_room(rt.alloc(), 20_000)?.in_pieces(7);
-    assert_eq!(rt; write_results(rt.alloc(), &run, &rows, &mut sink), Ok(()));
-    assert!(rt; sink.taken() == text.as_bytes());
-    for count in [0, 76, 77, 78, 15_612] {
-        let mut sink = MemorySink::with_room(rt.alloc(), 20_000)?.failing_after(count);
-        let cut = write_results(rt.alloc(), &run, &rows, &mut sink);
-        assert_eq!(rt; cut, Err(ReportFault::Write), "{count}");
-        assert_eq!(rt; sink.taken().len(), count);
-        assert!(rt; text.as_bytes().starts_with(sink.taken()), "{count}");
-    }
     Ok(())
 }
 
-/// Appends a posting to an account.
-fn push_posting(postings: &mut Vec<(Account, Pence)>, name: &str, pence: i64) -> Option<()> {
-    let account = Account::read(name.as_bytes())?;
-    postings.push((account, Pence::new(pence)?)).ok()
+/// The balances of two parties.
+const BALANCES: &str = "account,moved_pence\nGENCO-P,38\nGENCO-C,0\nSUPCO-P,0\nSUPCO-C,-38\n";
+
+/// A posting to an account.
+fn posting(name: &str, pence: i64) -> Option<(Account, Pence)> {
+    Some((Account::read(name.as_bytes())?, Pence::new(pence)?))
+}
+
+/// What comes of it that these balances are written, where GENCO's account was posted 30 and 8 pence.
+fn balances_written(alloc: Global, sink: &mut MemorySink) -> Option<Result<(), ReportFault>> {
+    let parties = [PartyId::read(b"GENCO")?, PartyId::read(b"SUPCO")?];
+    let postings = [
+        posting("GENCO-P", 30)?,
+        posting("SUPCO-C", -38)?,
+        posting("GENCO-P", 8)?,
+        posting("NEWCO-P", 7)?,
+    ];
+    Some(write_balances(alloc, &parties, &postings, sink))
 }
 
 #[test]
 fn balances_are_exported(rt: HostRuntime) -> Result<(), Fail> {
-    let generator = PartyId::read(b"GENCO").ok_or("party")?;
-    let supplier = PartyId::read(b"SUPCO").ok_or("party")?;
-    let parties = [generator, supplier];
-    let mut postings = Vec::new(rt.alloc());
-    push_posting(&mut postings, "GENCO-P", 38).ok_or("posting")?;
-    push_posting(&mut postings, "SUPCO-C", -38).ok_or("posting")?;
-    let first = "account,moved_pence\nGENCO-P,38\nGENCO-C,0\nSUPCO-P,0\nSUPCO-C,-38\n";
-    let mut sink = MemorySink::with_room(rt.alloc(), 63)?;
-    assert_eq!(rt;
-        write_balances(rt.alloc(), &parties, &postings, &mut sink),
-        Ok(())
-    );
-    assert_eq!(rt; sink.taken(), first.as_bytes());
-
-    push_posting(&mut postings, "SUPCO-C", -7).ok_or("posting")?;
-    push_posting(&mut postings, "NEWCO-P", 7).ok_or("posting")?;
-    let second = "account,moved_pence\nGENCO-P,38\nGENCO-C,0\nSUPCO-P,0\nSUPCO-C,-45\n";
-    let mut sink = MemorySink::with_room(rt.alloc(), 100)?.in_pieces(1);
-    assert_eq!(rt;
-        write_balances(rt.alloc(), &parties, &postings, &mut sink),
-        Ok(())
-    );
-    assert_eq!(rt; sink.taken(), second.as_bytes());
-
+    let mut sink = MemorySink::with_room(rt.alloc(), 63)?.in_pieces(1);
+    assert_eq!(rt; balances_written(rt.alloc(), &mut sink), Some(Ok(())));
+    assert!(rt; holds_whole(&sink, BALANCES.as_bytes()));
     let mut cut = MemorySink::with_room(rt.alloc(), 62)?;
-    let answer = write_balances(rt.alloc(), &parties, &postings, &mut cut);
-    assert_eq!(rt; answer, Err(ReportFault::Write));
-    assert!(rt; second.as_bytes().starts_with(cut.taken()));
+    let told = balances_written(rt.alloc(), &mut cut);
+    assert_eq!(rt; told, Some(Err(ReportFault::Write)));
+    assert!(rt; holds_front(&cut, BALANCES.as_bytes(), 62));
     Ok(())
 }

@@ -27,22 +27,20 @@ fn kinds_of_run_have_codes(rt: HostRuntime) -> Result<(), Fail> {
 
 #[test]
 fn kinds_follow_in_order(rt: HostRuntime) -> Result<(), Fail> {
-    let none: [RunKind; 0] = [];
-    assert_eq!(rt; next_kind(&none, RunKind::SF), Ok(NextRun::New));
-    assert_eq!(rt;
-        next_kind(&none, RunKind::R1),
-        Err(Fault::of(Refusal::NoInitialRun))
-    );
     let first = [RunKind::SF];
-    assert_eq!(rt; next_kind(&first, RunKind::SF), Ok(NextRun::Kept));
-    assert_eq!(rt; next_kind(&first, RunKind::DF), Ok(NextRun::New));
     let late = [RunKind::SF, RunKind::RF];
-    assert_eq!(rt;
-        next_kind(&late, RunKind::R2),
-        Err(Fault::of(Refusal::RunOrder))
-    );
-    assert_eq!(rt; next_kind(&late, RunKind::RF), Ok(NextRun::Kept));
-    assert_eq!(rt; next_kind(&late, RunKind::DF), Ok(NextRun::New));
+    let cases: [(&[RunKind], RunKind, Result<NextRun, Fault>); 7] = [
+        (&[], RunKind::SF, Ok(NextRun::New)),
+        (&[], RunKind::R1, Err(Fault::of(Refusal::NoInitialRun))),
+        (&first, RunKind::SF, Ok(NextRun::Kept)),
+        (&first, RunKind::DF, Ok(NextRun::New)),
+        (&late, RunKind::R2, Err(Fault::of(Refusal::RunOrder))),
+        (&late, RunKind::RF, Ok(NextRun::Kept)),
+        (&late, RunKind::DF, Ok(NextRun::New)),
+    ];
+    for (made, ordered, wanted) in cases {
+        assert_eq!(rt; next_kind(made, ordered), wanted);
+    }
     Ok(())
 }
 

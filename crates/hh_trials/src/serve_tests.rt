@@ -21,11 +21,6 @@ const BALANCE: &[u8] =
 const REPLY: &[u8] = b"HTTP/1.1 200 OK\r\nContent-Type: application/json\r\nContent-Length: 37\r\n\
     Connection: close\r\n\r\n{\"account\":\"SUPCO-C\",\"moved_pence\":0}";
 
-/// The reply to a request for what is not there.
-const NO_ROUTE: &[u8] =
-    b"HTTP/1.1 404 Not Found\r\nContent-Type: application/json\r\nContent-Length: 31\r\n\
-    Connection: close\r\n\r\n{\"name\":\"NoRoute\",\"refused\":61}";
-
 /// Serves a connection over a new office.
 fn serve<I: Source, O: Sink>(
     rt: &impl AllocGlobal,
@@ -50,19 +45,6 @@ fn serve_next<L: Listener>(
     let served = serve(rt, &mut connection.source, &mut connection.sink)?;
     listener.close(connection);
     Ok(served)
-}
-
-#[test]
-fn requests_are_served(rt: HostRuntime) -> Result<(), Fail> {
-    let nowhere = b"GET /nowhere HTTP/1.1\r\nHost: localhost\r\n\r\n";
-    let exchanges: [(&[u8], &[u8]); 2] = [(BALANCE, REPLY), (nowhere, NO_ROUTE)];
-    for (request, reply) in exchanges {
-        let mut sink = MemorySink::with_room(rt.alloc(), 1_000)?;
-        let served = serve(&rt, &mut MemorySource::new(request), &mut sink)?;
-        assert_eq!(rt; served, Ok(Served::Replied));
-        assert_eq!(rt; sink.taken(), reply);
-    }
-    Ok(())
 }
 
 #[test]
