@@ -1,5 +1,5 @@
-//! Devices, files and ports tried from outside: tests of what no clause of theirs says. Lines of scripts are tested
-//! through `settle`.
+//! Devices, files, ports, dates, names, rows and the rule of rows tried from outside: tests of what no clause of theirs
+//! says. Lines of scripts are tested through `settle`.
 //!
 //! They stand in a crate of their own, since the tests of a crate are proved with all of it once more.
 #![tactic(auto)]
@@ -9,4 +9,12 @@ mod devices_tests;
 #[cfg(test)]
 mod inputs_tests;
 #[cfg(test)]
+mod names_tests;
+#[cfg(test)]
+mod rows_tests;
+#[cfg(test)]
+mod rules_tests;
+#[cfg(test)]
 mod sockets_tests;
+#[cfg(test)]
+mod time_tests;
