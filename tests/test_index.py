@@ -63,8 +63,10 @@ class Index(unittest.TestCase):
         return crate
 
     def check_code(self, crate, cell):
-        text = text_of(f"crates/{crate}/src/**", ".rt")
-        for name in NAME.findall(cell):
+        """The functions stand in the definition's crate, or in the one that the cell begins with."""
+        elsewhere, names = re.fullmatch(r"(?:`(hh_\w+)`: )?(.*)", cell).groups()
+        text = text_of(f"crates/{elsewhere or crate}/src/**", ".rt")
+        for name in NAME.findall(names):
             self.assertTrue(re.search(rf"\bfn {re.escape(name.split('::')[-1])}\b", text), name)
 
     def check_wrong_body(self, cell):

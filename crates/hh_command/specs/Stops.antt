@@ -3,21 +3,21 @@ use Rattle.std.specs.Prelude.{◌≡◌, ◌≢◌, ◌⊎◌, ℕ, List, [], �
 use Rattle.std.specs.Io.KnownBytes.{Appends}
 use Rattle.clap.specs.Words.{Text}
 use Rattle.hh_devices.specs.Devices.{AppendsFront, Failed}
+use Rattle.hh_names.specs.Faults.{ByRefusal}
+use Rattle.hh_rows.specs.declared.settings.Settings.{Settings}
 use Rattle.hh_inputs.specs.declared.inputs.InputFault.{InputFault}
 use Rattle.hh_inputs.specs.declared.inputs.InputFault.TheVariants.{Unreadable, Memory}
-use Rattle.hh_names.specs.Faults.{ByRefusal}
+use Rattle.hh_session.specs.declared.script.ScriptStop.{ScriptStop}
+use Rattle.hh_session.specs.declared.script.ScriptStop.TheVariants as script
+use Rattle.hh_session.specs.Script.{IsUnread, StopsAt, WritesScript}
 use Rattle.hh_period.specs.declared.inputs.PeriodFault.{PeriodFault}
 use Rattle.hh_period.specs.declared.inputs.PeriodFault.TheVariants as period
 use Rattle.hh_period.specs.declared.rejection.Rejection.{Rejection}
 use Rattle.hh_period.specs.Outcome.{memory_rejection, period_outcome, Outcome}
 use Rattle.hh_period.specs.RejectionText.{rejection_text}
-use Rattle.hh_rows.specs.declared.settings.Settings.{Settings}
-use Rattle.hh_session.specs.declared.script.ScriptStop.{ScriptStop}
-use Rattle.hh_session.specs.declared.script.ScriptStop.TheVariants as script
-use Rattle.hh_session.specs.Script.{IsUnread, StopsAt, WritesScript}
+use Rattle.hh_words.specs.Lines.{Line, PeriodCommand, ScriptCommand, line_value}
 use Rattle.hh_command.specs.declared.program.Stop.{Stop}
 use Rattle.hh_command.specs.declared.program.Stop.TheVariants as stop
-use Rattle.hh_command.specs.Lines.{Line, PeriodCommand, ScriptCommand, line_value}
 
 -- why a command stops whose file gives no bytes
 abbrev pub input_stop : InputFault → Stop

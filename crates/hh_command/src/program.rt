@@ -4,12 +4,11 @@ ghost use Rattle.std.specs.Prelude.{◌≡◌, ◌≢◌, ◌≤◌, ◌<◌, If
 ghost use Rattle.std.specs.Io.KnownBytes.{Appends};
 ghost use Rattle.clap.specs.Words.{Text};
 ghost use Rattle.hh_devices.specs.Devices.{Failed};
-ghost use Rattle.hh_period.specs.Outcome.{memory_rejection};
-ghost use Rattle.hh_command.specs.Lines.{line_of};
-ghost use Rattle.hh_command.specs.Stops.{change, AreWrong, Does, DoesPeriod, DoesWords, HasStatusOne, IsOffAndTold, IsTold, Stops, StopsLine, StopsPeriod, Tells, stop_line, stop_status};
 ghost use Rattle.hh_texts.specs.Rows.{most_bytes};
+ghost use Rattle.hh_period.specs.Outcome.{memory_rejection};
+ghost use Rattle.hh_words.specs.Lines.{line_of};
+ghost use Rattle.hh_command.specs.Stops.{change, AreWrong, Does, DoesPeriod, DoesWords, HasStatusOne, IsOffAndTold, IsTold, Stops, StopsLine, StopsPeriod, Tells, stop_line, stop_status};
 
-use crate::words::{Command, PeriodWords, USAGE, WordsFault, read_words};
 use hh_devices::{DeviceFailed, Sink, write_whole};
 use hh_inputs::{InputFault, Inputs};
 use hh_names::Refusal;
@@ -17,6 +16,7 @@ use hh_period::{PeriodFault, Rejection, period};
 use hh_session::{ScriptStop, run_script};
 use hh_sockets::Loopback;
 use hh_texts::MOST_BYTES;
+use hh_words::{Command, PeriodWords, USAGE, WordsFault, read_words};
 use itoa::Buffer;
 use std::alloc::{AllocError, Global};
 use std::io::ErrorKind;

@@ -12,14 +12,14 @@ use Rattle.hh_calc.specs.declared.result.AccountRow.{AccountRow}
 use Rattle.hh_calc.specs.declared.result.Figures.{Figures}
 use Rattle.hh_calc.specs.Formulas.{all_figures, figures, period_sums, residual, residual_shares, weights}
 use Rattle.hh_calc.specs.Terms.{PeriodTerms}
-use Rattle.hh_store.specs.Content.{tables_of}
-use Rattle.hh_store.specs.DaySettlement.{settled_day}
-use Rattle.hh_store.specs.PeriodSettlement.{account_rows, accounts_on, settled, terms_at}
-use Rattle.hh_store.specs.Reads.{results_in}
-use Rattle.hh_store.specs.RunReads.{HoldsResults, rows_by_period}
-use Rattle.hh_store.specs.Runs.{Run, seen_by, settled_by}
-use Rattle.hh_store.specs.States.{State}
-use Rattle.hh_store.specs.Steps.{IsReached, timetable_at}
+use Rattle.hh_states.specs.Content.{tables_of}
+use Rattle.hh_states.specs.DaySettlement.{settled_day}
+use Rattle.hh_states.specs.PeriodSettlement.{account_rows, accounts_on, settled, terms_at}
+use Rattle.hh_states.specs.Reads.{results_in}
+use Rattle.hh_states.specs.RunReads.{HoldsResults, rows_by_period}
+use Rattle.hh_states.specs.Runs.{Run, seen_by, settled_by}
+use Rattle.hh_states.specs.States.{State}
+use Rattle.hh_states.specs.Steps.{IsReached, timetable_at}
 use Rattle.hh_day.specs.Headline.{SettlesEachAccount, account_in}
 
 -- rows are those of their figures' accounts, where there are as many shares

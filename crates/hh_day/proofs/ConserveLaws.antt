@@ -3,13 +3,13 @@ use Rattle.std.proofs.Common.{◌≡◌, List, [], ◌∷◌, refl, sym, ◌∙�
 use Rattle.std.specs.Prelude.{ℤ, ◌+ℤ◌, is_some, Some}
 use Rattle.std.specs.List.{AllByRecursion}
 use Rattle.hh_num.specs.Totals.{total}
-use Rattle.hh_store.specs.Content.{tables_of}
-use Rattle.hh_store.specs.Reads.{results_in}
-use Rattle.hh_store.specs.RunReads.{DayNetsFromResults, HoldsResults, paid_in}
-use Rattle.hh_store.specs.Runs.{Run, latest_run, nets_of}
-use Rattle.hh_store.specs.Steps.{timetable_at}
-use Rattle.hh_store.specs.Sums.{CashSumsToZero, ContractsSumToZero, EachUnitCredited, PostingsTotal, RunPostingsSumToZero, latest_runs}
 use Rattle.hh_runs.specs.DayNets.{day_net_of}
+use Rattle.hh_states.specs.Content.{tables_of}
+use Rattle.hh_states.specs.Reads.{results_in}
+use Rattle.hh_states.specs.RunReads.{DayNetsFromResults, HoldsResults, paid_in}
+use Rattle.hh_states.specs.Runs.{Run, latest_run, nets_of}
+use Rattle.hh_states.specs.Steps.{timetable_at}
+use Rattle.hh_states.specs.Sums.{CashSumsToZero, ContractsSumToZero, EachUnitCredited, PostingsTotal, RunPostingsSumToZero, latest_runs}
 use Rattle.hh_day.specs.Headline.{ReachedConserve}
 use Rattle.hh_day.proofs.AccountLaws.{each_account_settled}
 

@@ -8,10 +8,10 @@ use Rattle.hh_rows.specs.declared.settlement_period.SettlementPeriod.{Settlement
 use Rattle.hh_calc.specs.declared.result.AccountRow.{AccountRow}
 use Rattle.hh_calc.specs.declared.result.CreditRow.{CreditRow}
 use Rattle.hh_calc.specs.Terms.{Settled}
-use Rattle.hh_store.specs.declared.run_keys.CreditKey.{CreditKey}
-use Rattle.hh_store.specs.declared.run_keys.ResultKey.{ResultKey}
-use Rattle.hh_store.specs.declared.run_keys.RunKey.{RunKey}
-use Rattle.hh_store.specs.Content.{credit_entries, credit_key, result_entries, result_key}
+use Rattle.hh_runs.specs.declared.run_key.RunKey.{RunKey}
+use Rattle.hh_states.specs.declared.run_keys.CreditKey.{CreditKey}
+use Rattle.hh_states.specs.declared.run_keys.ResultKey.{ResultKey}
+use Rattle.hh_states.specs.Content.{credit_entries, credit_key, result_entries, result_key}
 
 -- what one more place of a list gives stands behind what the places before it give
 flat_map_next : {X Y : Type 0} (f : X → List Y) (xs : List X) (i : ℕ) (x : X) → i < length xs → x ≡ get_or xs i x → flat_map f (take (i + 1) xs) ≡ flat_map f (take i xs) ++ f x

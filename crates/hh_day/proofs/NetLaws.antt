@@ -17,10 +17,10 @@ use Rattle.hh_rows.specs.declared.settlement_period.SettlementPeriod.{Settlement
 use Rattle.hh_calc.specs.declared.result.AccountRow.{AccountRow}
 use Rattle.hh_calc.specs.Terms.{Settled}
 use Rattle.hh_runs.specs.DayNets.{DayNets, day_net_of}
-use Rattle.hh_store.specs.declared.run_keys.RunKey.{RunKey}
-use Rattle.hh_store.specs.declared.run_keys.ResultKey.{ResultKey}
-use Rattle.hh_store.specs.Content.{result_entries, result_key}
-use Rattle.hh_store.specs.RunReads.{paid_in, rows_by_period}
+use Rattle.hh_runs.specs.declared.run_key.RunKey.{RunKey}
+use Rattle.hh_states.specs.declared.run_keys.ResultKey.{ResultKey}
+use Rattle.hh_states.specs.Content.{result_entries, result_key}
+use Rattle.hh_states.specs.RunReads.{paid_in, rows_by_period}
 use Rattle.hh_day.specs.RunParts.{AddsRow, AreNetsOf, moved_by_row}
 
 -- a net put where what it was and what the row moves come to adds the row

@@ -20,9 +20,9 @@ use Rattle.hh_calc.specs.declared.result.CreditRow.{CreditRow}
 use Rattle.hh_calc.specs.Formulas.{credits_of}
 use Rattle.hh_calc.specs.Settled.{IsSettled, credit_cmp, figures_of, shares_shown}
 use Rattle.hh_calc.specs.Terms.{PeriodTerms}
-use Rattle.hh_store.specs.PeriodSettlement.{UnitAccount, account_rows, keyed_credits, settled, unit_account_cmp}
-use Rattle.hh_store.specs.Sums.{SettlesEachPeriod}
-use Rattle.hh_store.proofs.KeyLaws.{unit_account_total}
+use Rattle.hh_states.specs.PeriodSettlement.{UnitAccount, account_rows, keyed_credits, settled, unit_account_cmp}
+use Rattle.hh_states.specs.Sums.{SettlesEachPeriod}
+use Rattle.hh_states.proofs.KeyLaws.{unit_account_total}
 use Rattle.hh_day.specs.NewRuns.{SettledInOneWay}
 
 -- rows are made of the figures and the shares that they show

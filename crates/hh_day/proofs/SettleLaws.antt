@@ -9,9 +9,9 @@ use Rattle.hh_rules.specs.History.{Registered}
 use Rattle.hh_calc.specs.Limits.{is_within_limits, kept_where}
 use Rattle.hh_calc.specs.Settled.{IsSettled}
 use Rattle.hh_calc.specs.Terms.{PeriodTerms, Settled}
-use Rattle.hh_store.specs.DaySettlement.{settled_at, settled_day, too_large}
-use Rattle.hh_store.specs.PeriodSettlement.{settled, terms_at}
-use Rattle.hh_store.specs.Readiness.{AreTermsConsistent}
+use Rattle.hh_states.specs.DaySettlement.{settled_at, settled_day, too_large}
+use Rattle.hh_states.specs.PeriodSettlement.{settled, terms_at}
+use Rattle.hh_states.specs.Readiness.{AreTermsConsistent}
 use Rattle.hh_day.specs.NewRuns.{SettledInOneWay}
 use Rattle.hh_day.specs.PeriodSteps.{SettlesPeriod}
 

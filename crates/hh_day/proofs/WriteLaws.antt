@@ -18,16 +18,16 @@ use Rattle.hh_calc.specs.Formulas.{of_account}
 use Rattle.hh_calc.specs.Terms.{PeriodTerms, Settled}
 use Rattle.hh_calc.proofs.SpreadLaws.{total-flat_map}
 use Rattle.hh_runs.specs.DayNets.{DayNets, day_net_of, differences}
-use Rattle.hh_store.specs.declared.run_keys.RunKey.{RunKey}
-use Rattle.hh_store.specs.Content.{credit_entries, posting_entries, result_entries, tables_of}
-use Rattle.hh_store.specs.DaySettlement.{day_net, from_one_to, period_net, periods_on, settled_at, settled_day}
-use Rattle.hh_store.specs.PeriodSettlement.{accounts_on, settled, terms_at}
-use Rattle.hh_store.specs.Reads.{results_in}
-use Rattle.hh_store.specs.RunReads.{DayNetsFromResults, paid_in, rows_by_period}
-use Rattle.hh_store.specs.Runs.{Run, accounts_of, last_of, latest_run, nets_of, postings_after, runs_of_date, seen_by, settled_by}
-use Rattle.hh_store.specs.States.{State}
-use Rattle.hh_store.specs.Steps.{CanRun, IsReached, new_run, new_summary, registered_at, timetable_at}
-use Rattle.hh_store.specs.Sums.{DayNetsAreSums}
+use Rattle.hh_runs.specs.declared.run_key.RunKey.{RunKey}
+use Rattle.hh_states.specs.Content.{credit_entries, posting_entries, result_entries, tables_of}
+use Rattle.hh_states.specs.DaySettlement.{day_net, from_one_to, period_net, periods_on, settled_at, settled_day}
+use Rattle.hh_states.specs.PeriodSettlement.{accounts_on, settled, terms_at}
+use Rattle.hh_states.specs.Reads.{results_in}
+use Rattle.hh_states.specs.RunReads.{DayNetsFromResults, paid_in, rows_by_period}
+use Rattle.hh_states.specs.Runs.{Run, accounts_of, last_of, latest_run, nets_of, postings_after, runs_of_date, seen_by, settled_by}
+use Rattle.hh_states.specs.States.{State}
+use Rattle.hh_states.specs.Steps.{CanRun, IsReached, new_run, new_summary, registered_at, timetable_at}
+use Rattle.hh_states.specs.Sums.{DayNetsAreSums}
 use Rattle.hh_day.specs.NewRuns.{WritesTheRun, account_count, day_in, former_rows, summary_of}
 use Rattle.hh_day.proofs.AccountLaws.{accounts_settled}
 use Rattle.hh_day.proofs.DifferenceLaws.{same_differences}

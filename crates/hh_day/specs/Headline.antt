@@ -6,15 +6,15 @@ use Rattle.hh_time.specs.Days.{Midnights}
 use Rattle.hh_names.specs.declared.account.Account.{Account}
 use Rattle.hh_rules.specs.History.{Registered}
 use Rattle.hh_calc.specs.declared.result.AccountRow.{AccountRow}
-use Rattle.hh_store.specs.declared.run_keys.RunKey.{RunKey}
-use Rattle.hh_store.specs.Content.{Content, tables_of}
-use Rattle.hh_store.specs.PeriodSettlement.{units_on}
-use Rattle.hh_store.specs.Reads.{results_in}
-use Rattle.hh_store.specs.RunReads.{paid_in}
-use Rattle.hh_store.specs.Runs.{Run, accounts_of, periods_of, seen_by}
-use Rattle.hh_store.specs.States.{State}
-use Rattle.hh_store.specs.Steps.{IsReached, timetable_at}
-use Rattle.hh_store.specs.Sums.{IsCreditedByReading, latest_runs, period_total, posted_by, posted_to}
+use Rattle.hh_runs.specs.declared.run_key.RunKey.{RunKey}
+use Rattle.hh_states.specs.Content.{Content, tables_of}
+use Rattle.hh_states.specs.PeriodSettlement.{units_on}
+use Rattle.hh_states.specs.Reads.{results_in}
+use Rattle.hh_states.specs.RunReads.{paid_in}
+use Rattle.hh_states.specs.Runs.{Run, accounts_of, periods_of, seen_by}
+use Rattle.hh_states.specs.States.{State}
+use Rattle.hh_states.specs.Steps.{IsReached, timetable_at}
+use Rattle.hh_states.specs.Sums.{IsCreditedByReading, latest_runs, period_total, posted_by, posted_to}
 
 -- what an account pays by its rows in the latest run of every date
 abbrev pub paid_in_latest : Content → List Run → Account → ℤ

@@ -10,17 +10,17 @@ use Rattle.hh_calc.specs.Settled.{IsSettled}
 use Rattle.hh_calc.specs.Terms.{PeriodTerms, Settled}
 use Rattle.hh_runs.specs.declared.summary.Summary.{Summary}
 use Rattle.hh_runs.specs.DayNets.{DayNets, day_net_of, differences}
-use Rattle.hh_store.specs.declared.run_keys.RunKey.{RunKey}
-use Rattle.hh_store.specs.Changes.{RunWrites, run_writes}
-use Rattle.hh_store.specs.Content.{credit_entries, posting_entries, result_entries, tables_of}
-use Rattle.hh_store.specs.DaySettlement.{periods_on, settled_day, too_large}
-use Rattle.hh_store.specs.PeriodSettlement.{settled, terms_at}
-use Rattle.hh_store.specs.Readiness.{AreTermsConsistent}
-use Rattle.hh_store.specs.Reads.{results_in}
-use Rattle.hh_store.specs.RunReads.{paid_in, rows_by_period}
-use Rattle.hh_store.specs.Runs.{latest_run}
-use Rattle.hh_store.specs.States.{State}
-use Rattle.hh_store.specs.Steps.{CanRun, IsReached, registered_at}
+use Rattle.hh_runs.specs.declared.run_key.RunKey.{RunKey}
+use Rattle.hh_states.specs.Changes.{RunWrites, run_writes}
+use Rattle.hh_states.specs.Content.{credit_entries, posting_entries, result_entries, tables_of}
+use Rattle.hh_states.specs.DaySettlement.{periods_on, settled_day, too_large}
+use Rattle.hh_states.specs.PeriodSettlement.{settled, terms_at}
+use Rattle.hh_states.specs.Readiness.{AreTermsConsistent}
+use Rattle.hh_states.specs.Reads.{results_in}
+use Rattle.hh_states.specs.RunReads.{paid_in, rows_by_period}
+use Rattle.hh_states.specs.Runs.{latest_run}
+use Rattle.hh_states.specs.States.{State}
+use Rattle.hh_states.specs.Steps.{CanRun, IsReached, registered_at}
 use Rattle.hh_day.specs.declared.settle.SettledDay.{SettledDay}
 use Rattle.hh_day.specs.declared.settle.SettledDay.TheVariants.{Settled as all_settled, TooLarge}
 

@@ -3,8 +3,8 @@ use Rattle.std.specs.Prelude.{◌≡◌, Option}
 use Rattle.hh_rows.specs.declared.settlement_period.SettlementPeriod.{SettlementPeriod}
 use Rattle.hh_calc.specs.Limits.{is_within_limits, kept_where}
 use Rattle.hh_calc.specs.Terms.{PeriodTerms, Settled}
-use Rattle.hh_store.specs.PeriodSettlement.{settled}
-use Rattle.hh_store.specs.Readiness.{AreTermsConsistent}
+use Rattle.hh_states.specs.PeriodSettlement.{settled}
+use Rattle.hh_states.specs.Readiness.{AreTermsConsistent}
 
 -- a Settlement Period is settled from these terms, where they fit together; there is no settlement exactly where it would pass a
 -- limit

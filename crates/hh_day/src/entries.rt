@@ -2,7 +2,7 @@
 
 ghost use Rattle.std.specs.Prelude.{◌≡◌, ◌++◌, map, IfOk, OnOk};
 ghost use Rattle.hh_runs.specs.Postings.{entry_of};
-ghost use Rattle.hh_store.specs.Content.{credit_entries, credit_key, posting_entries, result_entries, result_key};
+ghost use Rattle.hh_states.specs.Content.{credit_entries, credit_key, posting_entries, result_entries, result_key};
 ghost use Rattle.hh_day.specs.NewRuns.{account_count};
 ghost use Rattle.hh_day.specs.RunParts.{credit_count};
 
@@ -10,8 +10,8 @@ use crate::settle::SettledPeriod;
 use hh_calc::{AccountRow, CreditRow};
 use hh_num::{Pence, Ticks};
 use hh_rows::SettlementPeriod;
-use hh_runs::Posting;
-use hh_store::{CreditKey, PostingKey, ResultKey, RunKey};
+use hh_runs::{Posting, RunKey};
+use hh_states::{CreditKey, PostingKey, ResultKey};
 use std::alloc::{AllocError, Global};
 
 /// The rows of the accounts of a run under their keys, period by period.

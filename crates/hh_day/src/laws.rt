@@ -4,7 +4,7 @@
 ghost use Rattle.hh_day.specs.Headline.{ReachedConserve};
 ghost use Rattle.hh_day.specs.NewRuns.{SettledInOneWay, WritesTheRun};
 
-use hh_store::{
+use hh_state_laws::{
     cash_sums_to_zero, contracts_sum_to_zero, day_nets_are_sums, day_nets_from_results,
     each_period_settled, each_unit_credited, kept_results, postings_total, run_postings_balance,
 };

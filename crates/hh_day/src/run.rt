@@ -11,8 +11,8 @@ use crate::settle::SettledPeriod;
 use hh_calc::AccountRow;
 use hh_names::PeriodNumber;
 use hh_num::Pence;
-use hh_runs::{Posting, Summary, differences};
-use hh_store::{RunChange, RunKey, StoreFault};
+use hh_runs::{Posting, RunKey, Summary, differences};
+use hh_store::{RunChange, StoreFault};
 use std::alloc::Global;
 
 /// What is written for a run of a date whose Settlement Periods are settled so, where the run of the date

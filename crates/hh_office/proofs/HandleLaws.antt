@@ -8,25 +8,25 @@ use Rattle.hh_names.specs.declared.fault.Fault.{Fault}
 use Rattle.hh_names.specs.declared.fault.Refusal.TheVariants.{FileTooLarge, Forbidden}
 use Rattle.hh_rows.specs.declared.rows.Row.{Row}
 use Rattle.hh_rules.specs.FileRows.{coming_at, first_fault}
+use Rattle.hh_runs.specs.declared.run_key.RunKey.{RunKey}
+use Rattle.hh_runs.specs.declared.summary.Summary.{Summary}
+use Rattle.hh_requests.specs.declared.request.Action.{Action}
+use Rattle.hh_requests.specs.declared.request.Action.TheVariants as ask
+use Rattle.hh_requests.specs.declared.request.Request.{Request}
+use Rattle.hh_requests.specs.declared.request.Upload.{Upload}
+use Rattle.hh_requests.specs.declared.reply.Reply.{Reply}
+use Rattle.hh_requests.specs.declared.reply.Reply.TheVariants as reply
 use Rattle.hh_texts.specs.Files.{file_rows}
 use Rattle.hh_texts.specs.Rows.{most_bytes}
-use Rattle.hh_store.specs.Content.{tables_of, Content}
-use Rattle.hh_store.specs.States.{AcceptedFile, State, file_key_cmp}
-use Rattle.hh_store.specs.Steps.{IsReached, Load, after_load, kept_file, timetable_at, after_run, kept_summary, new_summary, run_fault}
-use Rattle.hh_office.specs.declared.request.Action.{Action}
-use Rattle.hh_office.specs.declared.request.Action.TheVariants as ask
-use Rattle.hh_office.specs.declared.request.Request.{Request}
-use Rattle.hh_office.specs.declared.request.Upload.{Upload}
-use Rattle.hh_office.specs.declared.reply.Reply.{Reply}
+use Rattle.hh_states.specs.Content.{tables_of, Content}
+use Rattle.hh_states.specs.States.{AcceptedFile, State, file_key_cmp}
+use Rattle.hh_states.specs.Steps.{IsReached, Load, after_load, kept_file, timetable_at, after_run, kept_summary, new_summary, run_fault}
 use Rattle.hh_office.specs.Machine.{act, answer, key_of, load, load_beside, load_new, load_read_as, loaded, loaded_reply, may, next, step, Timed, state_after}
 use Rattle.hh_office.specs.Transitions.{Transition, refused, refused_for}
 use Rattle.hh_office.specs.Promises.{HandleStep, RefusalLeaves, Stands, StandsAfter, is_given_up, is_refused, ConservesAfter, ConservesAfterAll, RunAllStep, RunsAs, StandsAfterAll, served}
 use Rattle.hh_office.specs.Views.{OfficeView, midnight_of}
-use Rattle.hh_office.proofs.OnceLaws.{all_reached, next_reached}
-use Rattle.hh_store.specs.declared.run_keys.RunKey.{RunKey}
-use Rattle.hh_runs.specs.declared.summary.Summary.{Summary}
 use Rattle.hh_office.specs.Runs.{run_beside}
-use Rattle.hh_office.specs.declared.reply.Reply.TheVariants as reply
+use Rattle.hh_office.proofs.OnceLaws.{all_reached, next_reached}
 use Rattle.jiff.specs.Words.{plain_zone}
 use Rattle.hh_time.specs.Zone.{midnight_in}
 use Rattle.hh_day.specs.Headline.{Conserves, ReachedConserve}

@@ -5,10 +5,10 @@ use Rattle.std.proofs.Math.Seq.{take-length}
 use Rattle.std.proofs.lemmas.List.{append-nil, map-append}
 use Rattle.std.proofs.lemmas.List.Elements.{filter-append}
 use Rattle.hh_time.specs.Days.{Midnights}
-use Rattle.hh_store.specs.Content.{tables_of}
-use Rattle.hh_store.specs.States.{State}
-use Rattle.hh_store.specs.Steps.{IsReached}
-use Rattle.hh_office.specs.declared.reply.Reply.{Reply}
+use Rattle.hh_requests.specs.declared.reply.Reply.{Reply}
+use Rattle.hh_states.specs.Content.{tables_of}
+use Rattle.hh_states.specs.States.{State}
+use Rattle.hh_states.specs.Steps.{IsReached}
 use Rattle.hh_office.specs.Machine.{Timed, answer, next, replies_to, state_after, step}
 use Rattle.hh_office.specs.Promises.{MakesTransition, HandleStep, RunAllStep, RunsAs, is_given_up, served}
 use Rattle.hh_office.specs.Views.{OfficeView, midnight_of}

@@ -15,29 +15,29 @@ use Rattle.hh_names.specs.Faults.{plain_fault}
 use Rattle.hh_rows.specs.declared.rows.Row.{Row}
 use Rattle.hh_rows.specs.declared.settings.Settings.{Settings}
 use Rattle.hh_rules.specs.FileRows.{coming_at, first_fault}
+use Rattle.hh_runs.specs.declared.run_key.RunKey.{RunKey}
+use Rattle.hh_runs.specs.declared.summary.Summary.{Summary}
+use Rattle.hh_requests.specs.declared.request.Action.{Action}
+use Rattle.hh_requests.specs.declared.request.Action.TheVariants as ask
+use Rattle.hh_requests.specs.declared.request.Request.{Request}
+use Rattle.hh_requests.specs.declared.request.Upload.{Upload}
+use Rattle.hh_requests.specs.declared.reply.Reply.{Reply}
+use Rattle.hh_requests.specs.declared.reply.Reply.TheVariants as reply
 use Rattle.hh_texts.specs.Files.{file_rows}
 use Rattle.hh_texts.specs.Rows.{most_bytes}
-use Rattle.hh_store.specs.Content.{tables_of, Content}
-use Rattle.hh_store.specs.declared.file_key.FileKey.{FileKey}
-use Rattle.hh_store.specs.States.{AcceptedFile, State, file_key_cmp}
-use Rattle.hh_store.specs.Steps.{CanLoad, IsReached, Load, after_load, by_load, kept_file, timetable_at, CanRun, after_run, by_run, kept_summary, new_summary, run_fault}
-use Rattle.hh_store.proofs.KeyLaws.{file_key_total, exact_run_keys, run_key_total}
-use Rattle.hh_office.specs.declared.request.Action.{Action}
-use Rattle.hh_office.specs.declared.request.Action.TheVariants as ask
-use Rattle.hh_office.specs.declared.request.Request.{Request}
-use Rattle.hh_office.specs.declared.request.Upload.{Upload}
-use Rattle.hh_office.specs.declared.reply.Reply.{Reply}
-use Rattle.hh_office.specs.declared.reply.Reply.TheVariants as reply
+use Rattle.hh_states.specs.Content.{tables_of, Content}
+use Rattle.hh_states.specs.declared.file_key.FileKey.{FileKey}
+use Rattle.hh_states.specs.States.{AcceptedFile, State, file_key_cmp}
+use Rattle.hh_states.specs.Steps.{CanLoad, IsReached, Load, after_load, by_load, kept_file, timetable_at, CanRun, after_run, by_run, kept_summary, new_summary, run_fault}
+use Rattle.hh_states.specs.RunReads.{HoldsSummaries}
+use Rattle.hh_states.specs.Changes.{LoadEffect, RunEffect}
+use Rattle.hh_states.specs.Runs.{run_key_cmp}
+use Rattle.hh_states.proofs.KeyLaws.{file_key_total, exact_run_keys, run_key_total}
 use Rattle.hh_office.specs.Machine.{Timed, act, is_operator, key_of, load, load_beside, load_new, load_read_as, loaded, loaded_reply, may, next, repeat_reply, state_after, step, answer}
 use Rattle.hh_office.specs.Transitions.{Transition, refused, refused_for, unchanged}
 use Rattle.hh_office.specs.Promises.{MakesTransition, HandleStep, RepeatsOnce, is_given_up, is_refused, Stands}
 use Rattle.hh_office.specs.Views.{OfficeView, midnight_of}
-use Rattle.hh_store.specs.declared.run_keys.RunKey.{RunKey}
-use Rattle.hh_runs.specs.declared.summary.Summary.{Summary}
 use Rattle.hh_office.specs.Runs.{made_or_refused, run, run_beside}
-use Rattle.hh_store.specs.RunReads.{HoldsSummaries}
-use Rattle.hh_store.specs.Changes.{LoadEffect, RunEffect}
-use Rattle.hh_store.specs.Runs.{run_key_cmp}
 use Rattle.std.proofs.lemmas.Option.{none-some}
 use Rattle.std.specs.FinMap.Entries.{find-put}
 

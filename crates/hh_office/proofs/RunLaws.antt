@@ -9,13 +9,13 @@ use Rattle.hh_names.specs.Faults.{plain_fault, first_met}
 use Rattle.hh_rows.specs.declared.settlement_period.SettlementPeriod.{SettlementPeriod}
 use Rattle.hh_rules.specs.History.{Registered}
 use Rattle.hh_calc.specs.Terms.{PeriodTerms, Settled}
-use Rattle.hh_store.specs.Changes.{IsRunFrom, RunEffect, RunWrites, effect_of_run, run_writes}
-use Rattle.hh_store.specs.Content.{Content, tables_of}
-use Rattle.hh_store.specs.DaySettlement.{missing_meter, missing_price, periods_on, settled_day, too_large}
-use Rattle.hh_store.specs.PeriodSettlement.{terms_at}
-use Rattle.hh_store.specs.Readiness.{AreTermsConsistent, PeriodsReady}
-use Rattle.hh_store.specs.States.{State}
-use Rattle.hh_store.specs.Steps.{after_run, first_there, missing_meter_fault, period_fault, registered_at, CanRun, kept_summary, kinds_on, new_summary, run_fault}
+use Rattle.hh_states.specs.Changes.{IsRunFrom, RunEffect, RunWrites, effect_of_run, run_writes}
+use Rattle.hh_states.specs.Content.{Content, tables_of}
+use Rattle.hh_states.specs.DaySettlement.{missing_meter, missing_price, periods_on, settled_day, too_large}
+use Rattle.hh_states.specs.PeriodSettlement.{terms_at}
+use Rattle.hh_states.specs.Readiness.{AreTermsConsistent, PeriodsReady}
+use Rattle.hh_states.specs.States.{State}
+use Rattle.hh_states.specs.Steps.{after_run, first_there, missing_meter_fault, period_fault, registered_at, CanRun, kept_summary, kinds_on, new_summary, run_fault}
 use Rattle.hh_day.specs.NewRuns.{day_in, IsSettledDay, SettlesDay, IsWrittenFor, WritesTheRun, former_rows}
 use Rattle.hh_office.specs.Promises.{Stands, UnlessFailed, gives_up, MakesTransition, reply_of}
 use Rattle.hh_office.specs.Settling.{Lacks, WritesRun, lack_fault, settle_fault, AreTermsOf, IsOverDay, TellsOrder, order_fault, IsNext, IsRunMade, RefusesIn, SettlesIn, rows_before}
@@ -41,14 +41,14 @@ use Rattle.hh_runs.specs.declared.next_run.NextRun.TheVariants.{Kept, New}
 use Rattle.hh_runs.specs.declared.summary.Summary.{Summary}
 use Rattle.std.proofs.lemmas.Bool.{eqb-true}
 use Rattle.hh_tables.specs.Tables.{Table}
-use Rattle.hh_store.specs.declared.run_keys.RunKey.{RunKey}
-use Rattle.hh_store.specs.Reads.{results_in, runs_in, summary_on}
-use Rattle.hh_store.specs.RunReads.{HoldsRuns, HoldsSummaries}
-use Rattle.hh_store.specs.Runs.{Run, latest_run, run_key_cmp}
+use Rattle.hh_runs.specs.declared.run_key.RunKey.{RunKey}
+use Rattle.hh_requests.specs.declared.reply.Reply.{Reply}
+use Rattle.hh_requests.specs.declared.reply.Reply.TheVariants as reply
+use Rattle.hh_states.specs.Reads.{results_in, runs_in, summary_on}
+use Rattle.hh_states.specs.RunReads.{HoldsRuns, HoldsSummaries}
+use Rattle.hh_states.specs.Runs.{Run, latest_run, run_key_cmp}
 use Rattle.hh_store.specs.StoreFaults.{store_fault}
 use Rattle.hh_store.specs.declared.store_fault.StoreFault.{StoreFault}
-use Rattle.hh_office.specs.declared.reply.Reply.{Reply}
-use Rattle.hh_office.specs.declared.reply.Reply.TheVariants as reply
 use Rattle.hh_store.specs.declared.store_fault.StoreFault.TheVariants as store
 use Rattle.hh_office.specs.Reads.{latest_key}
 use Rattle.hh_office.specs.Runs.{made_or_refused, run, run_beside}

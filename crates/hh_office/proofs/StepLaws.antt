@@ -4,6 +4,7 @@ use Rattle.std.specs.Prelude.{ℤ, MatchBool, OnOk, length, nat_lt}
 use Rattle.std.specs.Result.{IsErr, IsErrAnd}
 use Rattle.std.specs.FinMap.{find}
 use Rattle.hh_tables.proofs.TableLaws.{false_is_not_true}
+use Rattle.hh_time.specs.Days.{Midnights}
 use Rattle.hh_names.specs.declared.fault.Fault.{Fault}
 use Rattle.hh_names.specs.declared.fault.Refusal.{Refusal}
 use Rattle.hh_names.specs.declared.fault.Refusal.TheVariants as refusal
@@ -12,18 +13,17 @@ use Rattle.hh_names.specs.Faults.{faults, memory_fault, ByRefusal, Gives}
 use Rattle.hh_rows.specs.declared.rows.Row.{Row}
 use Rattle.hh_rules.specs.FileRows.{FileRowsView, JudgesFile, coming_at, file_outcome, first_fault, judged_file, register_of}
 use Rattle.hh_rules.specs.RegisterView.{RegisterView, ServesFor, timetable_in, timetable_of}
+use Rattle.hh_requests.specs.declared.reply.Reply.{Reply}
+use Rattle.hh_requests.specs.declared.reply.Reply.TheVariants as reply
+use Rattle.hh_requests.specs.declared.request.Request.{Request}
+use Rattle.hh_requests.specs.declared.request.Upload.{Upload}
 use Rattle.hh_texts.specs.Files.{file_rows}
 use Rattle.hh_texts.specs.Rows.{most_bytes}
-use Rattle.hh_time.specs.Days.{Midnights}
-use Rattle.hh_store.specs.Changes.{IsLoadFrom, LoadEffect, LoadWrites, effect_of_load}
-use Rattle.hh_store.specs.Content.{tables_of}
-use Rattle.hh_store.specs.Reads.{HoldsFiles, file_in, whole_register}
-use Rattle.hh_store.specs.States.{AcceptedFile, State, file_key_cmp}
-use Rattle.hh_store.specs.Steps.{after_load, timetable_at}
-use Rattle.hh_office.specs.declared.reply.Reply.{Reply}
-use Rattle.hh_office.specs.declared.reply.Reply.TheVariants as reply
-use Rattle.hh_office.specs.declared.request.Request.{Request}
-use Rattle.hh_office.specs.declared.request.Upload.{Upload}
+use Rattle.hh_states.specs.Changes.{IsLoadFrom, LoadEffect, LoadWrites, effect_of_load}
+use Rattle.hh_states.specs.Content.{tables_of}
+use Rattle.hh_states.specs.Reads.{HoldsFiles, file_in, whole_register}
+use Rattle.hh_states.specs.States.{AcceptedFile, State, file_key_cmp}
+use Rattle.hh_states.specs.Steps.{after_load, timetable_at}
 use Rattle.hh_office.specs.Loads.{Accepts, Answers, WritesLoad, accepted, judged_upload, writes_of}
 use Rattle.hh_office.specs.Machine.{act, key_of, load_new, may, step, load, load_beside, load_read_as, loaded_reply}
 use Rattle.hh_office.specs.Transitions.{Transition, refused, refused_for, unchanged}

@@ -16,18 +16,18 @@ use Rattle.hh_names.specs.Accounts.{bytes_cmp}
 use Rattle.hh_names.specs.Faults.{plain_fault}
 use Rattle.hh_rows.specs.declared.rows.PartyRegistration.{PartyRegistration}
 use Rattle.hh_runs.specs.declared.run_kind.RunKind.{RunKind}
-use Rattle.hh_store.specs.declared.run_keys.RunKey.{RunKey}
-use Rattle.hh_store.specs.Content.{tables_of}
-use Rattle.hh_store.specs.Reads.{results_in}
-use Rattle.hh_store.specs.RunReads.{HoldsPostings, HoldsResults}
-use Rattle.hh_store.specs.Runs.{Run, last_of, latest_run, runs_of_date}
-use Rattle.hh_store.specs.States.{State}
-use Rattle.hh_store.specs.Steps.{IsReached, kinds_on, registered_at}
-use Rattle.hh_office.specs.declared.reply.Reply.{Reply}
-use Rattle.hh_office.specs.declared.reply.Reply.TheVariants as reply
-use Rattle.hh_office.specs.declared.request.Action.{Action}
-use Rattle.hh_office.specs.declared.request.Action.TheVariants as ask
-use Rattle.hh_office.specs.declared.request.Request.{Request}
+use Rattle.hh_runs.specs.declared.run_key.RunKey.{RunKey}
+use Rattle.hh_requests.specs.declared.reply.Reply.{Reply}
+use Rattle.hh_requests.specs.declared.reply.Reply.TheVariants as reply
+use Rattle.hh_requests.specs.declared.request.Action.{Action}
+use Rattle.hh_requests.specs.declared.request.Action.TheVariants as ask
+use Rattle.hh_requests.specs.declared.request.Request.{Request}
+use Rattle.hh_states.specs.Content.{tables_of}
+use Rattle.hh_states.specs.Reads.{results_in}
+use Rattle.hh_states.specs.RunReads.{HoldsPostings, HoldsResults}
+use Rattle.hh_states.specs.Runs.{Run, last_of, latest_run, runs_of_date}
+use Rattle.hh_states.specs.States.{State}
+use Rattle.hh_states.specs.Steps.{IsReached, kinds_on, registered_at}
 use Rattle.hh_office.specs.Enquiries.{account_reply, balance_reply, reply_by_rows, reply_by_run, rows_in_run, rows_of_account}
 use Rattle.hh_office.specs.Machine.{act, answer, is_holder, is_key_of, is_operator, is_party_key, may}
 use Rattle.hh_office.specs.PartyViews.{ForbidsOthers, LooksAlike, ShowsByView, is_foreign, is_own, key_in}

@@ -7,15 +7,15 @@ use Rattle.hh_names.specs.declared.fault.Refusal.TheVariants.{NoRun}
 use Rattle.hh_names.specs.Accounts.{is_same_account}
 use Rattle.hh_names.specs.Faults.{plain_fault}
 use Rattle.hh_calc.specs.declared.result.AccountRow.{AccountRow}
-use Rattle.hh_store.specs.declared.run_keys.RunKey.{RunKey}
-use Rattle.hh_store.specs.Reads.{contracts_of}
-use Rattle.hh_store.specs.RunReads.{rows_by_period}
-use Rattle.hh_store.specs.Runs.{Run, latest_run, settled_by}
-use Rattle.hh_store.specs.States.{State}
-use Rattle.hh_store.specs.Steps.{kinds_on, registered_at, timetable_at}
-use Rattle.hh_store.specs.Sums.{moved_by_runs}
-use Rattle.hh_office.specs.declared.reply.Reply.{Reply}
-use Rattle.hh_office.specs.declared.reply.Reply.TheVariants as reply
+use Rattle.hh_runs.specs.declared.run_key.RunKey.{RunKey}
+use Rattle.hh_requests.specs.declared.reply.Reply.{Reply}
+use Rattle.hh_requests.specs.declared.reply.Reply.TheVariants as reply
+use Rattle.hh_states.specs.Reads.{contracts_of}
+use Rattle.hh_states.specs.RunReads.{rows_by_period}
+use Rattle.hh_states.specs.Runs.{Run, latest_run, settled_by}
+use Rattle.hh_states.specs.States.{State}
+use Rattle.hh_states.specs.Steps.{kinds_on, registered_at, timetable_at}
+use Rattle.hh_states.specs.Sums.{moved_by_runs}
 
 -- what rows of an account come to: the sum of their charges and shares
 abbrev pub net_of_rows : List (ℕ × AccountRow) → ℤ

@@ -3,13 +3,13 @@ use Rattle.std.specs.Prelude.{◌≡◌, ℤ, length, Result, Ok, Err}
 use Rattle.hh_time.specs.Days.{Midnights}
 use Rattle.hh_names.specs.declared.fault.Fault.{Fault}
 use Rattle.hh_rules.specs.FileRows.{FileRowsView, coming_at, judged_file}
+use Rattle.hh_requests.specs.declared.reply.Reply.{Reply}
+use Rattle.hh_requests.specs.declared.request.Upload.{Upload}
 use Rattle.hh_texts.specs.Files.{file_rows}
-use Rattle.hh_store.specs.Changes.{LoadWrites, load_writes}
-use Rattle.hh_store.specs.Content.{tables_of}
-use Rattle.hh_store.specs.States.{State}
-use Rattle.hh_store.specs.Steps.{CanLoad, Load, after_load, timetable_at}
-use Rattle.hh_office.specs.declared.reply.Reply.{Reply}
-use Rattle.hh_office.specs.declared.request.Upload.{Upload}
+use Rattle.hh_states.specs.Changes.{LoadWrites, load_writes}
+use Rattle.hh_states.specs.Content.{tables_of}
+use Rattle.hh_states.specs.States.{State}
+use Rattle.hh_states.specs.Steps.{CanLoad, Load, after_load, timetable_at}
 use Rattle.hh_office.specs.Machine.{key_of, loaded_reply}
 use Rattle.hh_office.specs.Transitions.{Transition}
 use Rattle.hh_office.specs.Promises.{MakesTransition, Stands, UnlessFailed}

@@ -10,18 +10,18 @@ use Rattle.hh_names.specs.Faults.{plain_fault}
 use Rattle.hh_rows.specs.declared.rows.PartyRegistration.{PartyRegistration}
 use Rattle.hh_rows.specs.declared.rows.Row.{Row}
 use Rattle.hh_rules.specs.FileRows.{coming_at, first_fault}
+use Rattle.hh_requests.specs.declared.request.Action.{Action}
+use Rattle.hh_requests.specs.declared.request.Action.TheVariants as ask
+use Rattle.hh_requests.specs.declared.request.Request.{Request}
+use Rattle.hh_requests.specs.declared.request.Upload.{Upload}
+use Rattle.hh_requests.specs.declared.reply.Reply.{Reply}
+use Rattle.hh_requests.specs.declared.reply.Reply.TheVariants as reply
 use Rattle.hh_texts.specs.Files.{file_rows}
 use Rattle.hh_texts.specs.Rows.{most_bytes}
-use Rattle.hh_store.specs.declared.file_key.FileKey.{FileKey}
-use Rattle.hh_store.specs.Reads.{is_key_known_in}
-use Rattle.hh_store.specs.States.{AcceptedFile, State, file_key_cmp}
-use Rattle.hh_store.specs.Steps.{Load, after_load, kept_file, registered_at, timetable_at}
-use Rattle.hh_office.specs.declared.request.Action.{Action}
-use Rattle.hh_office.specs.declared.request.Action.TheVariants as ask
-use Rattle.hh_office.specs.declared.request.Request.{Request}
-use Rattle.hh_office.specs.declared.request.Upload.{Upload}
-use Rattle.hh_office.specs.declared.reply.Reply.{Reply}
-use Rattle.hh_office.specs.declared.reply.Reply.TheVariants as reply
+use Rattle.hh_states.specs.declared.file_key.FileKey.{FileKey}
+use Rattle.hh_states.specs.Reads.{is_key_known_in}
+use Rattle.hh_states.specs.States.{AcceptedFile, State, file_key_cmp}
+use Rattle.hh_states.specs.Steps.{Load, after_load, kept_file, registered_at, timetable_at}
 use Rattle.hh_office.specs.Enquiries.{account_reply, balance_reply, contracts_reply, runs_reply}
 use Rattle.hh_office.specs.Runs.{run}
 use Rattle.hh_office.specs.Transitions.{Transition, refused, refused_for, unchanged}

@@ -7,16 +7,16 @@ use Rattle.hh_names.specs.declared.account.Account.{Account}
 use Rattle.hh_names.specs.declared.fault.Refusal.TheVariants.{Forbidden}
 use Rattle.hh_names.specs.Accounts.{bytes_cmp}
 use Rattle.hh_names.specs.Faults.{plain_fault}
-use Rattle.hh_store.specs.declared.run_keys.RunKey.{RunKey}
-use Rattle.hh_store.specs.Content.{tables_of}
-use Rattle.hh_store.specs.Reads.{contracts_of, postings_in, results_in}
-use Rattle.hh_store.specs.States.{State}
-use Rattle.hh_store.specs.Steps.{IsReached, kinds_on, registered_at}
-use Rattle.hh_office.specs.declared.reply.Reply.{Reply}
-use Rattle.hh_office.specs.declared.reply.Reply.TheVariants as reply
-use Rattle.hh_office.specs.declared.request.Action.{Action}
-use Rattle.hh_office.specs.declared.request.Action.TheVariants as ask
-use Rattle.hh_office.specs.declared.request.Request.{Request}
+use Rattle.hh_runs.specs.declared.run_key.RunKey.{RunKey}
+use Rattle.hh_requests.specs.declared.reply.Reply.{Reply}
+use Rattle.hh_requests.specs.declared.reply.Reply.TheVariants as reply
+use Rattle.hh_requests.specs.declared.request.Action.{Action}
+use Rattle.hh_requests.specs.declared.request.Action.TheVariants as ask
+use Rattle.hh_requests.specs.declared.request.Request.{Request}
+use Rattle.hh_states.specs.Content.{tables_of}
+use Rattle.hh_states.specs.Reads.{contracts_of, postings_in, results_in}
+use Rattle.hh_states.specs.States.{State}
+use Rattle.hh_states.specs.Steps.{IsReached, kinds_on, registered_at}
 use Rattle.hh_office.specs.Enquiries.{rows_of_account}
 use Rattle.hh_office.specs.Machine.{answer, is_holder, is_operator}
 use Rattle.hh_office.specs.Promises.{Stands, is_given_up}

@@ -4,16 +4,16 @@ use Rattle.hh_time.specs.Days.{Midnights}
 use Rattle.hh_names.specs.declared.fault.Fault.{Fault}
 use Rattle.hh_names.specs.declared.fault.Refusal.{Refusal}
 use Rattle.hh_names.specs.declared.fault.Refusal.TheVariants.{Memory, Store}
-use Rattle.hh_store.specs.Changes.{StandsFor}
-use Rattle.hh_store.specs.Content.{tables_of}
-use Rattle.hh_store.specs.States.{State}
-use Rattle.hh_store.specs.Steps.{IsReached}
+use Rattle.hh_requests.specs.declared.request.Action.{Action}
+use Rattle.hh_requests.specs.declared.request.Action.TheVariants as ask
+use Rattle.hh_requests.specs.declared.request.Request.{Request}
+use Rattle.hh_requests.specs.declared.reply.Reply.{Reply}
+use Rattle.hh_requests.specs.declared.reply.Reply.TheVariants as reply
+use Rattle.hh_states.specs.Changes.{StandsFor}
+use Rattle.hh_states.specs.Content.{tables_of}
+use Rattle.hh_states.specs.States.{State}
+use Rattle.hh_states.specs.Steps.{IsReached}
 use Rattle.hh_day.specs.Headline.{Conserves}
-use Rattle.hh_office.specs.declared.request.Action.{Action}
-use Rattle.hh_office.specs.declared.request.Action.TheVariants as ask
-use Rattle.hh_office.specs.declared.request.Request.{Request}
-use Rattle.hh_office.specs.declared.reply.Reply.{Reply}
-use Rattle.hh_office.specs.declared.reply.Reply.TheVariants as reply
 use Rattle.hh_office.specs.Machine.{Timed, answer, next, replies_to, state_after, step}
 use Rattle.hh_office.specs.Transitions.{Transition, unchanged}
 use Rattle.hh_office.specs.Views.{OfficeView, midnight_of}

@@ -1,16 +1,16 @@
 -- Reports: what is written of a state, for whom, and why not.
 use Rattle.std.specs.Prelude.{◌≡◌, ℕ, List, Option, Some, None, Result, Ok, Err, IsTrue, if◌then◌else◌}
 use Rattle.std.specs.Io.KnownBytes.{Appends}
-use Rattle.hh_time.specs.Days.{Midnights}
 use Rattle.hh_devices.specs.Devices.{AppendsFront, Failed}
+use Rattle.hh_time.specs.Days.{Midnights}
 use Rattle.hh_names.specs.declared.fault.Refusal.{Refusal}
 use Rattle.hh_names.specs.declared.fault.Refusal.TheVariants as refusal
 use Rattle.hh_names.specs.declared.fault.Refusal.TheVariants.{Forbidden, NoRun}
 use Rattle.hh_names.specs.Faults.{plain_fault}
+use Rattle.hh_states.specs.States.{State}
 use Rattle.hh_store.specs.declared.output_fault.OutputFault.{OutputFault}
 use Rattle.hh_store.specs.declared.output_fault.OutputFault.TheVariants as output
-use Rattle.hh_store.specs.Reports.{balances_of, day_report_of, export_of}
-use Rattle.hh_store.specs.States.{State}
+use Rattle.hh_office.specs.ReportTexts.{balances_of, day_report_of, export_of}
 use Rattle.hh_office.specs.declared.report.Report.{Report}
 use Rattle.hh_office.specs.declared.report.Report.TheVariants.{Balances, Day, Results}
 use Rattle.hh_office.specs.declared.report.ReportStop.{ReportStop}

@@ -2,10 +2,10 @@
 use Rattle.std.specs.Prelude.{ℤ, Option, Some, None}
 use Rattle.hh_time.specs.Days.{Midnights}
 use Rattle.hh_runs.specs.declared.summary.Summary.{Summary}
-use Rattle.hh_store.specs.declared.run_keys.RunKey.{RunKey}
-use Rattle.hh_store.specs.States.{State}
-use Rattle.hh_store.specs.Steps.{after_run, kept_summary, new_summary, run_fault}
-use Rattle.hh_office.specs.declared.reply.Reply.TheVariants as reply
+use Rattle.hh_runs.specs.declared.run_key.RunKey.{RunKey}
+use Rattle.hh_requests.specs.declared.reply.Reply.TheVariants as reply
+use Rattle.hh_states.specs.States.{State}
+use Rattle.hh_states.specs.Steps.{after_run, kept_summary, new_summary, run_fault}
 use Rattle.hh_office.specs.Transitions.{Transition, refused, unchanged}
 
 module _ (midnight : Midnights) (s : State) where

@@ -15,17 +15,17 @@ use Rattle.hh_runs.specs.declared.run_kind.RunKind.{RunKind}
 use Rattle.hh_runs.specs.declared.summary.Summary.{Summary}
 use Rattle.hh_runs.specs.NextRun.{order_refusals}
 use Rattle.hh_runs.specs.RunKinds.{run_kind_cmp}
-use Rattle.hh_store.specs.declared.run_keys.RunKey.{RunKey}
-use Rattle.hh_store.specs.Changes.{RunWrites, run_writes}
-use Rattle.hh_store.specs.Content.{Content, tables_of}
-use Rattle.hh_store.specs.DaySettlement.{missing_meter, missing_price, periods_on, too_large}
-use Rattle.hh_store.specs.PeriodSettlement.{terms_at}
-use Rattle.hh_store.specs.Reads.{results_in, runs_in}
-use Rattle.hh_store.specs.States.{State}
-use Rattle.hh_store.specs.Steps.{CanRun, after_run, first_there, missing_meter_fault, period_fault, registered_at}
+use Rattle.hh_runs.specs.declared.run_key.RunKey.{RunKey}
+use Rattle.hh_requests.specs.declared.reply.Reply.{Reply}
+use Rattle.hh_requests.specs.declared.reply.Reply.TheVariants as reply
+use Rattle.hh_states.specs.Changes.{RunWrites, run_writes}
+use Rattle.hh_states.specs.Content.{Content, tables_of}
+use Rattle.hh_states.specs.DaySettlement.{missing_meter, missing_price, periods_on, too_large}
+use Rattle.hh_states.specs.PeriodSettlement.{terms_at}
+use Rattle.hh_states.specs.Reads.{results_in, runs_in}
+use Rattle.hh_states.specs.States.{State}
+use Rattle.hh_states.specs.Steps.{CanRun, after_run, first_there, missing_meter_fault, period_fault, registered_at}
 use Rattle.hh_day.specs.NewRuns.{IsWrittenFor, day_in}
-use Rattle.hh_office.specs.declared.reply.Reply.{Reply}
-use Rattle.hh_office.specs.declared.reply.Reply.TheVariants as reply
 use Rattle.hh_office.specs.Promises.{Stands, UnlessFailed}
 use Rattle.hh_office.specs.Views.{OfficeView, midnight_of}
 

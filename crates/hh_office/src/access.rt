@@ -5,8 +5,8 @@ ghost use Rattle.hh_office.specs.Machine.{is_holder, is_operator, is_party_key, 
 ghost use Rattle.hh_office.specs.Promises.{TellsTruly};
 
 use crate::office::Office;
-use crate::request::{Action, Request};
 use hh_names::Account;
+use hh_requests::{Action, Request};
 use hh_store::{StoreFault, Tables};
 
 impl<'z, T: Tables> Office<'z, T> {

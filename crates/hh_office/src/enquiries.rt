@@ -2,18 +2,19 @@
 
 ghost use Rattle.std.specs.Prelude.{◌≡◌, map, IfOk, IfSome, Some};
 ghost use Rattle.hh_num.specs.Totals.{total};
+ghost use Rattle.hh_states.specs.Reads.{results_in, runs_in};
 ghost use Rattle.hh_office.specs.Enquiries.{account_reply, balance_reply, contracts_reply, net_of_rows, reply_by_rows, rows_of_account, runs_reply};
 ghost use Rattle.hh_office.specs.Promises.{RepliesAs, TellsInEachState};
 ghost use Rattle.hh_office.specs.Reads.{latest_key};
-ghost use Rattle.hh_store.specs.Reads.{results_in, runs_in};
 
 use crate::office::Office;
-use crate::reply::{AccountReply, ContractsReply, Reply, RunsReply};
 use hh_calc::AccountRow;
 use hh_names::{Account, Fault, PeriodNumber, Refusal};
 use hh_num::Pence;
-use hh_runs::{DayNet, RunKind, Summary};
-use hh_store::{RunKey, StoreFault, Tables, kept_kinds_of_dates, kept_postings, kept_results};
+use hh_requests::{AccountReply, ContractsReply, Reply, RunsReply};
+use hh_runs::{DayNet, RunKey, RunKind, Summary};
+use hh_state_laws::{kept_kinds_of_dates, kept_postings, kept_results};
+use hh_store::{StoreFault, Tables};
 use hh_time::SettlementDate;
 use std::alloc::{AllocError, Global};
 

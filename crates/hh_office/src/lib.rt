@@ -5,13 +5,11 @@ mod access;
 mod enquiries;
 mod loads;
 mod office;
-mod reply;
 mod report;
+mod report_texts;
 mod reports;
-mod request;
 mod runs;
 
 pub use office::Office;
-pub use reply::{AccountReply, ContractsReply, Loaded, Reply, RunsReply};
 pub use report::{Report, ReportStop};
-pub use request::{Action, Bytes, Request, Upload};
+pub use report_texts::kept_reports;

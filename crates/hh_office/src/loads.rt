@@ -2,19 +2,19 @@
 
 ghost use Rattle.std.specs.Prelude.{◌≡◌, ◌≤◌, length, None, IfOk, OnErr, OnOk};
 ghost use Rattle.hh_rules.specs.RegisterView.{ServesFor};
-ghost use Rattle.hh_store.specs.Reads.{file_in, whole_register};
 ghost use Rattle.hh_texts.specs.Rows.{most_rows};
+ghost use Rattle.hh_states.specs.Reads.{file_in, whole_register};
 ghost use Rattle.hh_office.specs.Loads.{Accepts, Judges, WritesLoad, writes_of};
 ghost use Rattle.hh_office.specs.Machine.{load, load_new, loaded_reply, repeat_reply};
 ghost use Rattle.hh_office.specs.Promises.{MakesInEachState, reply_of};
 
 use crate::office::Office;
-use crate::reply::{Loaded, Reply};
-use crate::request::Upload;
 use hh_names::{Fault, Refusal};
+use hh_requests::{Loaded, Reply, Upload};
 use hh_rows::Row;
 use hh_rules::{FileRows, Register};
-use hh_store::{KeptFile, LoadChange, StoreFault, Tables, kept_files, load_effect};
+use hh_state_laws::{kept_files, load_effect};
+use hh_store::{KeptFile, LoadChange, StoreFault, Tables};
 use hh_texts::{MOST_BYTES, read_file};
 use std::alloc::{AllocError, Global};
 

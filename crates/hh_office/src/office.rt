@@ -5,11 +5,11 @@ ghost use Rattle.hh_office.specs.Machine.{step};
 ghost use Rattle.hh_office.specs.PartyViews.{ForbidsOthers, ShowsByView};
 ghost use Rattle.hh_office.specs.Promises.{ConservesAfter, ConservesAfterAll, MakesInEachState, HandleStep, RefusalLeaves, RepeatsOnce, RunAllStep, StandsAfter, StandsAfterAll};
 
-use crate::reply::Reply;
-use crate::request::{Action, Request};
 use hh_day::reached_conserve;
 use hh_names::{Fault, Refusal};
-use hh_store::{Tables, kept_postings, kept_results, kept_summaries, load_effect, run_effect};
+use hh_requests::{Action, Reply, Request};
+use hh_state_laws::{kept_postings, kept_results, kept_summaries, load_effect, run_effect};
+use hh_store::Tables;
 use jiff::tz::TimeZone;
 use std::alloc::{AllocError, Global};
 use std::marker::Model;

@@ -5,7 +5,8 @@ ghost use Rattle.hh_names.specs.Faults.{plain_fault};
 ghost use Rattle.hh_office.specs.declared.report.ReportStop.TheVariants.{Refused};
 
 use hh_names::{Fault, Refusal};
-use hh_store::{OutputFault, RunKey, StoreFault};
+use hh_runs::RunKey;
+use hh_store::{OutputFault, StoreFault};
 
 /// Which report is asked for (profile).
 #[derive(Clone, Copy, Debug, PartialEq, Eq)]

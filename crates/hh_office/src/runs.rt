@@ -2,14 +2,14 @@
 
 ghost use Rattle.std.specs.Prelude.{◌≡◌, find, option_map, IfErr, IfOk, OnErr, OnOk};
 ghost use Rattle.std.specs.Ordering.{eq_by_cmp};
-ghost use Rattle.hh_runs.specs.RunKinds.{run_kind_cmp};
-ghost use Rattle.hh_store.specs.DaySettlement.{periods_on};
-ghost use Rattle.hh_store.specs.Reads.{runs_in};
-ghost use Rattle.hh_store.specs.Steps.{missing_meter_fault, period_fault};
 ghost use Rattle.hh_time.specs.Days.{is_over, period_count};
 ghost use Rattle.hh_time.specs.Zone.{midnight_in};
+ghost use Rattle.hh_runs.specs.RunKinds.{run_kind_cmp};
+ghost use Rattle.hh_requests.specs.declared.reply.Reply.TheVariants.{Ran};
+ghost use Rattle.hh_states.specs.DaySettlement.{periods_on};
+ghost use Rattle.hh_states.specs.Reads.{runs_in};
+ghost use Rattle.hh_states.specs.Steps.{missing_meter_fault, period_fault};
 ghost use Rattle.hh_office.specs.Promises.{MakesInEachState};
-ghost use Rattle.hh_office.specs.declared.reply.Reply.TheVariants.{Ran};
 ghost use Rattle.hh_office.specs.Reads.{latest_key};
 ghost use Rattle.hh_office.specs.Runs.{run};
 ghost use Rattle.hh_office.specs.Settling.{AreTermsOf, IsEarly, IsNext, IsOverDay, Lacks, IsRunMade, RefusesIn, SettlesIn, TellsOrder, WritesRun, rows_before};
@@ -18,16 +18,14 @@ ghost use Rattle.jiff.specs.Words.{plain_zone};
 
 use crate::enquiries::{kinds_of, latest_of};
 use crate::office::Office;
-use crate::reply::Reply;
 use hh_calc::{AccountRow, PeriodData};
 use hh_day::{SettledDay, SettledPeriod, run_change, settle_day, writes_the_run};
 use hh_names::{Fault, PeriodNumber, Refusal};
+use hh_requests::Reply;
 use hh_rows::{SettlementPeriod, UnitPeriod};
-use hh_runs::{NextRun, RunKind, Summary, next_kind};
-use hh_store::{
-    DayData, RunChange, RunKey, StoreFault, Tables, kept_kinds_of_dates, kept_summaries,
-    periods_ready, run_effect,
-};
+use hh_runs::{NextRun, RunKey, RunKind, Summary, next_kind};
+use hh_state_laws::{kept_kinds_of_dates, kept_summaries, periods_ready, run_effect};
+use hh_store::{DayData, RunChange, StoreFault, Tables};
 use hh_time::{Day, SettlementDate};
 use jiff::tz::TimeZone;
 use std::alloc::Global;

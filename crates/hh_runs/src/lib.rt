@@ -6,6 +6,7 @@ mod day_net;
 mod next_run;
 mod order;
 mod posting;
+mod run_key;
 mod run_kind;
 mod summary;
 
@@ -14,5 +15,6 @@ pub use day_net::{DayCash, DayNet, DayNetTable};
 pub use next_run::NextRun;
 pub use order::next_kind;
 pub use posting::Posting;
+pub use run_key::RunKey;
 pub use run_kind::RunKind;
 pub use summary::Summary;

@@ -11,19 +11,19 @@ use Rattle.hh_time.specs.Days.{Midnights}
 use Rattle.hh_time.specs.Zone.{midnight_in}
 use Rattle.hh_names.specs.declared.fault.Refusal.TheVariants.{FileTooLarge, Forbidden}
 use Rattle.hh_names.specs.Faults.{memory_fault}
-use Rattle.hh_script.specs.declared.script_line.ScriptLine.{ScriptLine}
-use Rattle.hh_script.specs.Steps.{LoadFile, LoadStep, MakeRun, RunStep, Serve, Step, WriteReport, step_of}
+use Rattle.hh_requests.specs.declared.request.Request.{Request}
+use Rattle.hh_requests.specs.declared.request.Upload.{Upload}
+use Rattle.hh_requests.specs.declared.reply.Reply.{Reply}
 use Rattle.hh_texts.specs.Rows.{most_bytes}
-use Rattle.hh_store.specs.Content.{tables_of}
-use Rattle.hh_store.specs.States.{State, file_key_cmp}
-use Rattle.hh_office.specs.declared.request.Request.{Request}
-use Rattle.hh_office.specs.declared.request.Upload.{Upload}
-use Rattle.hh_office.specs.declared.reply.Reply.{Reply}
+use Rattle.hh_states.specs.Content.{tables_of}
+use Rattle.hh_states.specs.States.{State, file_key_cmp}
 use Rattle.hh_office.specs.Machine.{key_of, load_beside, may, step}
 use Rattle.hh_office.specs.Transitions.{Transition, refused_for}
 use Rattle.hh_office.specs.Promises.{HandleStep, Stands, StandsAfter, is_given_up}
 use Rattle.hh_office.specs.Reports.{report_for}
 use Rattle.hh_office.specs.Views.{OfficeView, midnight_of}
+use Rattle.hh_script.specs.declared.script_line.ScriptLine.{ScriptLine}
+use Rattle.hh_script.specs.Steps.{LoadFile, LoadStep, MakeRun, RunStep, Serve, Step, WriteReport, step_of}
 use Rattle.hh_session.specs.declared.told.Told.{Told}
 use Rattle.hh_session.specs.declared.told.Told.TheVariants.{Replied}
 use Rattle.hh_session.specs.Course.{BeginsLine, IsLineOf, LeavesRefused, LoadDoes, MakesRun, RunDoes, RunsLoad, RunsScript, RunsStep, ScriptDoes, StandsNow, StepDoes, StopsScript, StopsStep, TellsLine, no_memory, request_for, request_of}

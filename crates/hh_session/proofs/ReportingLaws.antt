@@ -7,15 +7,15 @@ use Rattle.hh_devices.specs.Devices.{AppendsFront}
 use Rattle.hh_names.specs.declared.fault.Fault.{Fault}
 use Rattle.hh_names.specs.declared.fault.Refusal.{Refusal}
 use Rattle.hh_names.specs.Faults.{memory_fault, plain_fault}
-use Rattle.hh_office.specs.declared.reply.Reply.TheVariants as reply
+use Rattle.hh_requests.specs.declared.reply.Reply.TheVariants as reply
+use Rattle.hh_states.specs.States.{State}
 use Rattle.hh_office.specs.declared.report.ReportStop.TheVariants.{Refused, Write}
 use Rattle.hh_office.specs.Promises.{Stands, gives_up}
 use Rattle.hh_office.specs.Reports.{ReportsAs}
-use Rattle.hh_session.specs.declared.told.Told.TheVariants.{Replied}
+use Rattle.hh_office.specs.Views.{OfficeView}
 use Rattle.hh_script.specs.Reports.{ReportStep}
 use Rattle.hh_script.specs.Steps.{WriteReport}
-use Rattle.hh_store.specs.States.{State}
-use Rattle.hh_office.specs.Views.{OfficeView}
+use Rattle.hh_session.specs.declared.told.Told.TheVariants.{Replied}
 use Rattle.hh_session.specs.Course.{BeginsLine, RunsStep, StandsNow, StopsStep, TellsLine}
 use Rattle.hh_session.specs.Lines.{refusal_line}
 use Rattle.hh_session.specs.Reporting.{BeginsReport, IsGivenUp, RunsReport, report_written}

@@ -5,11 +5,11 @@ use Rattle.std.proofs.lemmas.List.{length-take-le, take_all}
 use Rattle.jiff.specs.declared.tz.timezone.TimeZone.{TimeZone}
 use Rattle.hh_time.specs.Days.{Midnights}
 use Rattle.hh_rows.specs.declared.settings.Settings.{Settings}
-use Rattle.hh_script.specs.Steps.{Step}
-use Rattle.hh_store.specs.Content.{Content, tables_of}
-use Rattle.hh_store.specs.States.{empty_state}
-use Rattle.hh_store.specs.Steps.{at_first}
+use Rattle.hh_states.specs.Content.{Content, tables_of}
+use Rattle.hh_states.specs.States.{empty_state}
+use Rattle.hh_states.specs.Steps.{at_first}
 use Rattle.hh_office.specs.Views.{OfficeView, midnight_of}
+use Rattle.hh_script.specs.Steps.{Step}
 use Rattle.hh_session.specs.Course.{RunsScript, StopsScript}
 use Rattle.hh_session.specs.Script.{IsMarketZone, NewOfficeCuts, NewOfficeWrites}
 

@@ -4,15 +4,15 @@ use Rattle.std.specs.Io.KnownBytes.{Appends}
 use Rattle.hh_devices.specs.Devices.{AppendsFront}
 use Rattle.hh_time.specs.Days.{Midnights}
 use Rattle.hh_names.specs.Faults.{memory_fault}
-use Rattle.hh_script.specs.Steps.{LoadFile, LoadStep, MakeRun, RunStep, Serve, Step, WriteReport}
-use Rattle.hh_store.specs.States.{State}
-use Rattle.hh_office.specs.declared.request.Action.TheVariants as ask
-use Rattle.hh_office.specs.declared.request.Request.{Request}
+use Rattle.hh_requests.specs.declared.request.Action.TheVariants as ask
+use Rattle.hh_requests.specs.declared.request.Request.{Request}
+use Rattle.hh_requests.specs.declared.reply.Reply.TheVariants as reply
+use Rattle.hh_states.specs.States.{State}
 use Rattle.hh_office.specs.Machine.{step}
 use Rattle.hh_office.specs.Transitions.{Transition}
-use Rattle.hh_office.specs.declared.reply.Reply.TheVariants as reply
 use Rattle.hh_office.specs.Promises.{Stands, is_given_up, is_refused}
 use Rattle.hh_office.specs.Views.{OfficeView, midnight_of}
+use Rattle.hh_script.specs.Steps.{LoadFile, LoadStep, MakeRun, RunStep, Serve, Step, WriteReport}
 use Rattle.hh_session.specs.declared.told.Told.{Told}
 use Rattle.hh_session.specs.declared.told.Told.TheVariants.{Replied, Unreadable}
 use Rattle.hh_session.specs.Lines.{told_line}

@@ -6,10 +6,10 @@ use Rattle.hh_names.specs.declared.fault.Fault.{Fault}
 use Rattle.hh_names.specs.FaultText.{fault_text}
 use Rattle.hh_runs.specs.RunKinds.{run_kind_code}
 use Rattle.hh_runs.specs.declared.summary.Summary.{Summary}
-use Rattle.hh_store.specs.declared.run_keys.RunKey.{RunKey}
-use Rattle.hh_office.specs.declared.reply.Loaded.{Loaded}
-use Rattle.hh_office.specs.declared.reply.Reply.{Reply}
-use Rattle.hh_office.specs.declared.reply.Reply.TheVariants as reply
+use Rattle.hh_runs.specs.declared.run_key.RunKey.{RunKey}
+use Rattle.hh_requests.specs.declared.reply.Loaded.{Loaded}
+use Rattle.hh_requests.specs.declared.reply.Reply.{Reply}
+use Rattle.hh_requests.specs.declared.reply.Reply.TheVariants as reply
 use Rattle.hh_session.specs.declared.told.Told.{Told}
 use Rattle.hh_session.specs.declared.told.Told.TheVariants as told
 

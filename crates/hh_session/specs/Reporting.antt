@@ -6,15 +6,15 @@ use Rattle.hh_time.specs.Days.{Midnights}
 use Rattle.hh_names.specs.declared.fault.Fault.{Fault}
 use Rattle.hh_names.specs.declared.fault.Refusal.{Refusal}
 use Rattle.hh_names.specs.Faults.{plain_fault}
-use Rattle.hh_script.specs.declared.report.AskedReport.{AskedReport}
-use Rattle.hh_script.specs.declared.report.AskedReport.TheVariants as asked
-use Rattle.hh_script.specs.Reports.{ReportStep}
-use Rattle.hh_store.specs.States.{State}
+use Rattle.hh_states.specs.States.{State}
 use Rattle.hh_office.specs.declared.report.Report.{Report}
 use Rattle.hh_office.specs.declared.report.Report.TheVariants.{Balances, Day, Results}
 use Rattle.hh_office.specs.Promises.{Stands, gives_up}
 use Rattle.hh_office.specs.Reports.{report_for}
 use Rattle.hh_office.specs.Views.{OfficeView, midnight_of}
+use Rattle.hh_script.specs.declared.report.AskedReport.{AskedReport}
+use Rattle.hh_script.specs.declared.report.AskedReport.TheVariants as asked
+use Rattle.hh_script.specs.Reports.{ReportStep}
 use Rattle.hh_session.specs.Lines.{refusal_line}
 
 -- the report that the words of a line ask for

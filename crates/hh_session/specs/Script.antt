@@ -9,9 +9,9 @@ use Rattle.hh_time.specs.Zone.{midnight_in}
 use Rattle.hh_names.specs.declared.fault.Refusal.TheVariants.{FileTooLarge}
 use Rattle.hh_names.specs.Faults.{memory_fault, plain_fault, ByRefusal}
 use Rattle.hh_rows.specs.declared.settings.Settings.{Settings}
+use Rattle.hh_states.specs.States.{State, empty_state}
 use Rattle.hh_script.specs.Script.{first_off, script_value}
 use Rattle.hh_script.specs.Steps.{Step}
-use Rattle.hh_store.specs.States.{State, empty_state}
 use Rattle.hh_session.specs.declared.script.ScriptStop.{ScriptStop}
 use Rattle.hh_session.specs.declared.script.ScriptStop.TheVariants as stop
 use Rattle.hh_session.specs.Course.{ScriptDoes}

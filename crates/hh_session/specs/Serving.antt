@@ -4,13 +4,13 @@ use Rattle.std.specs.Io.KnownBytes.{Appends}
 use Rattle.hh_devices.specs.Devices.{AppendsFront}
 use Rattle.hh_time.specs.Days.{Midnights}
 use Rattle.hh_names.specs.Faults.{memory_fault}
-use Rattle.hh_script.specs.declared.serve.ServeLine.{ServeLine}
-use Rattle.hh_store.specs.States.{State}
-use Rattle.hh_office.specs.declared.request.Request.{Request}
+use Rattle.hh_requests.specs.declared.request.Request.{Request}
+use Rattle.hh_states.specs.States.{State}
 use Rattle.hh_office.specs.Machine.{Timed, state_after}
 use Rattle.hh_office.specs.Promises.{Stands}
 use Rattle.hh_office.specs.Views.{OfficeView, midnight_of}
 use Rattle.hh_sockets.specs.Ports.{IsPortFor}
+use Rattle.hh_script.specs.declared.serve.ServeLine.{ServeLine}
 use Rattle.hh_session.specs.Lines.{refusal_line}
 
 -- the line that tells where connections are awaited

@@ -8,9 +8,8 @@ ghost use Rattle.hh_session.specs.Lines.{loaded_line, run_line, run_name, summar
 ghost use Rattle.hh_session.specs.Serving.{listening_line};
 
 use hh_num::Pence;
-use hh_office::Loaded;
-use hh_runs::{RunKind, Summary};
-use hh_store::RunKey;
+use hh_requests::Loaded;
+use hh_runs::{RunKey, RunKind, Summary};
 use hh_time::SettlementDate;
 use itoa::Buffer;
 

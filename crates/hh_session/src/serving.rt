@@ -3,16 +3,16 @@
 ghost use Rattle.std.specs.Prelude.{◌≡◌, ◌≤◌, [], vec_capacity, OnErr, OnOk};
 ghost use Rattle.std.specs.Io.KnownBytes.{Appends};
 ghost use Rattle.hh_devices.specs.Devices.{AppendsFront, Failed};
-ghost use Rattle.hh_wire.specs.Serves.{StandsAfterOne};
+ghost use Rattle.hh_serve.specs.Serves.{StandsAfterOne};
 ghost use Rattle.hh_session.specs.Serving.{RunsServing, ServesUpTo, StopsServing, listening_line};
 
 use crate::lines::push_listening;
 use hh_devices::{DeviceFailed, Sink, write_whole};
 use hh_office::Office;
 use hh_script::ServeLine;
+use hh_serve::serve_one;
 use hh_sockets::{Listener, Loopback, SocketFailed};
 use hh_store::Tables;
-use hh_wire::serve_one;
 use std::alloc::Global;
 
 /// Listens on a port of the loopback, tells which, and then serves so many connections, one after the

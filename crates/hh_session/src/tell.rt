@@ -3,7 +3,7 @@
 ghost use Rattle.std.specs.Prelude.{◌≡◌, ◌≤◌, [], vec_capacity, OnErr, OnOk};
 ghost use Rattle.std.specs.Io.KnownBytes.{Appends};
 ghost use Rattle.hh_devices.specs.Devices.{AppendsFront, Failed};
-ghost use Rattle.hh_office.specs.declared.reply.Reply.TheVariants.{Refused};
+ghost use Rattle.hh_requests.specs.declared.reply.Reply.TheVariants.{Refused};
 ghost use Rattle.hh_session.specs.Course.{BeginsLine, TellsLine, no_memory};
 ghost use Rattle.hh_session.specs.Lines.{told_line};
 ghost use Rattle.hh_session.specs.declared.told.Told.TheVariants.{Replied};
@@ -12,7 +12,7 @@ use crate::lines::{push_loaded, push_run};
 use crate::told::Told;
 use hh_devices::{DeviceFailed, Sink, write_whole};
 use hh_names::Fault;
-use hh_office::Reply;
+use hh_requests::Reply;
 use std::alloc::{AllocError, Global};
 
 /// Tells what a line came to. An accepted file and a run that is made are told in the room that was

@@ -1,7 +1,7 @@
 //! What the lines of a script come to.
 
 use hh_names::{Fault, Refusal};
-use hh_office::Reply;
+use hh_requests::Reply;
 
 /// What a line of a script came to, which is told in a line of its own (profile).
 #[derive(Debug, Drop)]

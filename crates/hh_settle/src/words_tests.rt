@@ -1,6 +1,6 @@
 //! A line of words as a command.
 
-use hh_command::{Command, PeriodWords, read_words};
+use hh_words::{Command, PeriodWords, read_words};
 use std::alloc::{AllocError, Global};
 use std::test::Fail;
 

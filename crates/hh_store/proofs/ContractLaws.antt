@@ -16,10 +16,10 @@ use Rattle.hh_rows.specs.declared.keys.ContractKey.{ContractKey}
 use Rattle.hh_rows.specs.declared.rows.ContractRow.{ContractRow}
 use Rattle.hh_rows.specs.declared.settlement_period.SettlementPeriod.{SettlementPeriod}
 use Rattle.hh_rules.specs.History.{Registered}
-use Rattle.hh_store.specs.DaySettlement.{from_one_to}
+use Rattle.hh_states.specs.DaySettlement.{from_one_to}
+use Rattle.hh_states.specs.PeriodSettlement.{row_in_force, rows_in_force}
+use Rattle.hh_states.specs.Reads.{contracts_of, names_account}
 use Rattle.hh_store.specs.KeptContracts.{contract_on, is_in_period, names, row_that_names}
-use Rattle.hh_store.specs.PeriodSettlement.{row_in_force, rows_in_force}
-use Rattle.hh_store.specs.Reads.{contracts_of, names_account}
 
 both_equal : (o p : Ordering) → is_eq (ordering_then o p) ≡ (is_eq o && is_eq p)
 both_equal Less p = refl

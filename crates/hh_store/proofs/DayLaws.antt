@@ -15,10 +15,10 @@ use Rattle.hh_rows.specs.declared.keys.ContractKey.{ContractKey}
 use Rattle.hh_rows.specs.declared.rows.ContractRow.{ContractRow}
 use Rattle.hh_rows.specs.declared.settlement_period.SettlementPeriod.{SettlementPeriod}
 use Rattle.hh_rules.specs.History.{Registered}
+use Rattle.hh_states.specs.DaySettlement.{from_one_to, periods_on}
+use Rattle.hh_states.specs.PeriodSettlement.{row_in_force, rows_in_force}
 use Rattle.hh_store.specs.DayReads.{row_on}
-use Rattle.hh_store.specs.DaySettlement.{from_one_to, periods_on}
 use Rattle.hh_store.specs.KeptContracts.{is_in_period}
-use Rattle.hh_store.specs.PeriodSettlement.{row_in_force, rows_in_force}
 use Rattle.hh_store.proofs.ContractLaws.{same_period}
 
 -- a search over a list that goes on

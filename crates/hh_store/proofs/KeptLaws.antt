@@ -8,8 +8,8 @@ use Rattle.hh_rows.specs.declared.rows.Row.{Row}
 use Rattle.hh_rows.specs.declared.rows.Row.TheVariants as row
 use Rattle.hh_rules.specs.Entries.{contract_entry, meter_entry, party_entry, price_entry, reallocation_entry, unit_entry}
 use Rattle.hh_rules.specs.History.{Registered}
+use Rattle.hh_states.specs.Changes.{LoadWrites, put_row, put_rows, registered_with}
 use Rattle.hh_store.specs.declared.kept_register.ChangedTables.{ChangedTables}
-use Rattle.hh_store.specs.Changes.{LoadWrites, put_row, put_rows, registered_with}
 use Rattle.hh_store.specs.KeptTables.{with_changed}
 
 -- the tables with the entries of rows put into each

@@ -13,7 +13,7 @@ use Rattle.std.proofs.lemmas.List.{append-nil}
 use Rattle.std.proofs.lemmas.List.Elements.{All-more, All-weaker, filter_more}
 use Rattle.hh_tables.specs.Tables.{IsTable, Table, put_all}
 use Rattle.hh_tables.proofs.MergeLaws.{from_true, put_all-append, put_all_is_table}
-use Rattle.hh_tables.proofs.RowLaws.{both, first, less, second}
+use Rattle.hh_tables.proofs.RowLaws.{both, first, less, second, sorted-filter}
 use Rattle.hh_names.specs.declared.values.Reallocation.{Reallocation}
 use Rattle.hh_rows.specs.Keys.{reallocation_key_cmp, unit_period_cmp}
 use Rattle.hh_rows.specs.declared.keys.ReallocationKey.{ReallocationKey}
@@ -26,21 +26,6 @@ use Rattle.hh_rules.specs.History.{Registered}
 use Rattle.hh_rules.specs.RegisterView.{AgreesOn, RegisterView, ServesFor, holding, reallocations_at, tables_in}
 use Rattle.hh_store.specs.Parts.{AgreesOnNames, Grows, IsNamedIn, IsPartOf, is_named_in, whole_of, with_reallocations}
 use Rattle.hh_store.proofs.PartLaws.{names_grown}
-
-module _ {K V : Type 0} (R : K → K → Ordering) (test : K × V → Bool) where
-  below-filter : (k : K) (es : Table K V) → T (below_all R k es) → T (below_all R k (filter test es))
-  below-filter k [] h = tt
-  below-filter k (e ∷ es) h = elim (test e) as (λ b. T (below_all R k (cond b (e ∷ filter test es) (filter test es)))) [
-    | true ↦ both _ _ (first _ _ h) (below-filter k es (second _ _ h))
-    | false ↦ below-filter k es (second _ _ h)
-  ]
-
-  pub sorted-filter : (es : Table K V) → T (is_sorted R es) → T (is_sorted R (filter test es))
-  sorted-filter [] h = tt
-  sorted-filter (e ∷ es) h = elim (test e) as (λ b. T (is_sorted R (cond b (e ∷ filter test es) (filter test es)))) [
-    | true ↦ both _ _ (below-filter e.0 es (first _ _ h)) (sorted-filter es (second _ _ h))
-    | false ↦ sorted-filter es (second _ _ h)
-  ]
 
 module _ {K V : Type 0} (R : K → K → Ordering) where
   below-take : (k : K) (es : Table K V) (i : ℕ) → T (below_all R k es) → T (below_all R k (take i es))

@@ -3,8 +3,8 @@ use Rattle.std.proofs.Common.{◌≡◌, ℕ, List, map, Option, Result, Ok, Err
 use Rattle.std.specs.Prelude.{ℤ, IsErrAnd, filter_map}
 use Rattle.hh_num.specs.Totals.{total}
 use Rattle.hh_num.proofs.TotalLaws.{total-map}
-use Rattle.hh_tables.specs.Tables.{Table}
 use Rattle.hh_devices.specs.Devices.{AppendsFront}
+use Rattle.hh_tables.specs.Tables.{Table}
 use Rattle.hh_names.specs.declared.account.Account.{Account}
 use Rattle.hh_rows.specs.declared.rows.PartyRegistration.{PartyRegistration}
 use Rattle.hh_calc.specs.Formulas.{of_account}
@@ -13,12 +13,12 @@ use Rattle.hh_reports.specs.Nets.{Amounts, sum_for}
 use Rattle.hh_reports.specs.Output.{CountsFault}
 use Rattle.hh_reports.specs.declared.fault.ReportFault.{ReportFault}
 use Rattle.hh_reports.specs.declared.fault.ReportFault.TheVariants as report
+use Rattle.hh_states.specs.declared.run_keys.PostingKey.{PostingKey}
+use Rattle.hh_states.specs.Reads.{posting_to}
+use Rattle.hh_states.proofs.ReadLaws.{postings_read}
 use Rattle.hh_store.specs.declared.output_fault.OutputFault.{OutputFault}
-use Rattle.hh_store.specs.declared.run_keys.PostingKey.{PostingKey}
 use Rattle.hh_store.specs.Outputs.{CountsOutput, Outputs}
-use Rattle.hh_store.specs.Reads.{posting_to}
 use Rattle.hh_store.specs.StoreFaults.{output_fault}
-use Rattle.hh_store.proofs.ResultLaws.{postings_read}
 
 counted_alike : (fault : ReportFault) (f g : ℕ) → CountsFault fault f g → CountsOutput (output_fault fault) f g
 counted_alike report.Memory f g counts = counts

@@ -25,8 +25,8 @@ use Rattle.hh_rows.proofs.KeyLaws.{unit_period_total}
 use Rattle.hh_rules.specs.History.{Registered}
 use Rattle.hh_rules.specs.Percents.{is_of_other, percent_of_others}
 use Rattle.hh_rules.specs.RegisterView.{RegisterView, held_row, tables_in}
+use Rattle.hh_states.specs.Soundness.{AreSound, NoneNegative}
 use Rattle.hh_store.specs.Parts.{is_named_in, with_reallocations}
-use Rattle.hh_store.specs.Soundness.{AreSound, NoneNegative}
 use Rattle.hh_store.proofs.NamedLaws.{put_so_far}
 
 module _ (key : ReallocationKey) where

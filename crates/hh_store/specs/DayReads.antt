@@ -4,11 +4,11 @@ use Rattle.hh_rows.specs.declared.keys.ContractKey.{ContractKey}
 use Rattle.hh_rows.specs.declared.rows.ContractRow.{ContractRow}
 use Rattle.hh_rows.specs.declared.settlement_period.SettlementPeriod.{SettlementPeriod}
 use Rattle.hh_rules.specs.History.{Registered}
+use Rattle.hh_states.specs.DaySettlement.{missing_meter, missing_price}
+use Rattle.hh_states.specs.PeriodSettlement.{accounts_on, row_in_force, terms_at, units_on}
 use Rattle.hh_store.specs.declared.day_data.DayData.{DayData}
 use Rattle.hh_store.specs.declared.day_data.DayData.TheVariants.{MissingMeter, MissingPrice, Periods}
 use Rattle.hh_store.specs.declared.kept_day.DayRoll.{DayRoll}
-use Rattle.hh_store.specs.DaySettlement.{missing_meter, missing_price}
-use Rattle.hh_store.specs.PeriodSettlement.{accounts_on, row_in_force, terms_at, units_on}
 
 -- What these Settlement Periods are settled from: the first that lacks a price, else the first reading that a unit lacks, else
 -- the terms of each.

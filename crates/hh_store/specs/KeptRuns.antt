@@ -4,13 +4,13 @@ use Rattle.std.specs.FinMap.{put}
 use Rattle.hh_tables.specs.Tables.{Table, put_all}
 use Rattle.hh_calc.specs.declared.result.AccountRow.{AccountRow}
 use Rattle.hh_runs.specs.declared.summary.Summary.{Summary}
-use Rattle.hh_store.specs.declared.run_keys.CreditKey.{CreditKey}
-use Rattle.hh_store.specs.declared.run_keys.PostingKey.{PostingKey}
-use Rattle.hh_store.specs.declared.run_keys.ResultKey.{ResultKey}
-use Rattle.hh_store.specs.declared.run_keys.RunKey.{RunKey}
-use Rattle.hh_store.specs.Changes.{RunWrites}
-use Rattle.hh_store.specs.Content.{credit_key_cmp, posting_key_cmp, result_key_cmp}
-use Rattle.hh_store.specs.Runs.{run_key_cmp}
+use Rattle.hh_runs.specs.declared.run_key.RunKey.{RunKey}
+use Rattle.hh_states.specs.declared.run_keys.CreditKey.{CreditKey}
+use Rattle.hh_states.specs.declared.run_keys.PostingKey.{PostingKey}
+use Rattle.hh_states.specs.declared.run_keys.ResultKey.{ResultKey}
+use Rattle.hh_states.specs.Changes.{RunWrites}
+use Rattle.hh_states.specs.Content.{credit_key_cmp, posting_key_cmp, result_key_cmp}
+use Rattle.hh_states.specs.Runs.{run_key_cmp}
 
 -- the runs with their summaries, the rows of their accounts, their credits and their postings
 pub record RunTables : Type 0 where

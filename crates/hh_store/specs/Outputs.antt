@@ -6,15 +6,15 @@ use Rattle.hh_num.specs.Totals.{total}
 use Rattle.hh_devices.specs.Devices.{AppendsFront, Failed}
 use Rattle.hh_names.specs.declared.account.Account.{Account}
 use Rattle.hh_runs.specs.declared.summary.Summary.{Summary}
+use Rattle.hh_runs.specs.declared.run_key.RunKey.{RunKey}
 use Rattle.hh_reports.specs.declared.run.ReportedRun.{ReportedRun}
 use Rattle.hh_reports.specs.DayReport.{day_report_text}
 use Rattle.hh_reports.specs.Exports.{balances_text, results_text}
+use Rattle.hh_states.specs.Content.{Content}
+use Rattle.hh_states.specs.Reads.{postings_in, results_in}
+use Rattle.hh_states.specs.Runs.{run_key_cmp}
 use Rattle.hh_store.specs.declared.output_fault.OutputFault.{OutputFault}
 use Rattle.hh_store.specs.declared.output_fault.OutputFault.TheVariants.{Memory, Store, Write}
-use Rattle.hh_store.specs.declared.run_keys.RunKey.{RunKey}
-use Rattle.hh_store.specs.Content.{Content}
-use Rattle.hh_store.specs.Reads.{postings_in, results_in}
-use Rattle.hh_store.specs.Runs.{run_key_cmp}
 
 -- a run with this summary, as its reports show it
 abbrev pub reported_as : RunKey → Summary → ReportedRun

@@ -2,9 +2,9 @@
 
 ghost use Rattle.std.specs.Prelude.{◌≡◌, ◌++◌, filter, filter_map, IfOk, OnOk};
 ghost use Rattle.std.specs.List.{flat_map};
-ghost use Rattle.hh_store.specs.DaySettlement.{from_one_to};
+ghost use Rattle.hh_states.specs.DaySettlement.{from_one_to};
+ghost use Rattle.hh_states.specs.Reads.{contracts_of};
 ghost use Rattle.hh_store.specs.KeptContracts.{contract_on, is_in_period, names};
-ghost use Rattle.hh_store.specs.Reads.{contracts_of};
 
 use crate::kept_register::KeptRegister;
 use hh_names::{Account, Contract, Counterparties};

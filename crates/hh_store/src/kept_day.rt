@@ -2,10 +2,10 @@
 
 ghost use Rattle.std.specs.Prelude.{◌≡◌, All, find, filter, filter_map, map, pos, unwrap_or, IfOk, is_none};
 ghost use Rattle.hh_rules.specs.RegisterView.{reallocations_at};
+ghost use Rattle.hh_states.specs.DaySettlement.{missing_meter, missing_price, periods_on, unit_periods_at};
+ghost use Rattle.hh_states.specs.PeriodSettlement.{accounts_on, price_of, reading_of, subsidiaries_of, terms_at, unit_at, units_on};
 ghost use Rattle.hh_store.specs.DayReads.{IsDayData, IsRollOf, row_on};
-ghost use Rattle.hh_store.specs.DaySettlement.{missing_meter, missing_price, periods_on, unit_periods_at};
 ghost use Rattle.hh_store.specs.KeptContracts.{is_in_period};
-ghost use Rattle.hh_store.specs.PeriodSettlement.{accounts_on, price_of, reading_of, subsidiaries_of, terms_at, unit_at, units_on};
 
 use crate::day_data::DayData;
 use crate::day_places::{DayPlaces, UnitPlaces};

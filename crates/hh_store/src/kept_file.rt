@@ -14,7 +14,7 @@ pub struct KeptFile {
 }
 
 impl Model for KeptFile {
-    ghost use Rattle.hh_store.specs.States.{AcceptedFile};
+    ghost use Rattle.hh_states.specs.States.{AcceptedFile};
 
     ghost Value = { AcceptedFile };
 

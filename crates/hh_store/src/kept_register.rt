@@ -4,10 +4,10 @@ ghost use Rattle.std.specs.Prelude.{◌≡◌, filter_map, length, map, unwrap_o
 ghost use Rattle.std.specs.FinMap.{find};
 ghost use Rattle.hh_tables.specs.Tables.{put_all};
 ghost use Rattle.hh_names.specs.Accounts.{bytes_cmp};
-ghost use Rattle.hh_store.specs.Changes.{registered_with};
-ghost use Rattle.hh_store.specs.Content.{nothing_registered};
+ghost use Rattle.hh_states.specs.Changes.{registered_with};
+ghost use Rattle.hh_states.specs.Content.{nothing_registered};
+ghost use Rattle.hh_states.specs.Reads.{is_key_known_in};
 ghost use Rattle.hh_store.specs.KeptTables.{with_changed};
-ghost use Rattle.hh_store.specs.Reads.{is_key_known_in};
 
 use crate::entries::{contracts_of, meters_of, parties_of, prices_of, reallocations_of, units_of};
 use crate::load_change::LoadChange;

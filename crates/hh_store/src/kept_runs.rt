@@ -3,19 +3,19 @@
 ghost use Rattle.std.specs.Prelude.{◌≡◌, filter_map, map, option_map, IfOk, OnErr, OnOk};
 ghost use Rattle.std.specs.FinMap.{find, put};
 ghost use Rattle.hh_tables.specs.Tables.{put_all};
-ghost use Rattle.hh_store.specs.Content.{credit_key_cmp, posting_key_cmp, result_key_cmp};
+ghost use Rattle.hh_states.specs.Content.{credit_key_cmp, posting_key_cmp, result_key_cmp};
+ghost use Rattle.hh_states.specs.Reads.{posting_to, result_in, summary_on};
+ghost use Rattle.hh_states.specs.Runs.{run_key_cmp};
 ghost use Rattle.hh_store.specs.KeptRuns.{kept_with, no_runs};
 ghost use Rattle.hh_store.specs.Outputs.{reported_as};
-ghost use Rattle.hh_store.specs.Reads.{posting_to, result_in, summary_on};
-ghost use Rattle.hh_store.specs.Runs.{run_key_cmp};
 
 use crate::run_change::{RunChange, RunRows};
-use crate::run_keys::{CreditKey, PostingKey, ResultKey, RunKey};
 use hh_calc::AccountRow;
 use hh_names::{Account, PeriodNumber};
 use hh_num::{Pence, Ticks};
 use hh_reports::ReportedRun;
-use hh_runs::{RunKind, Summary};
+use hh_runs::{RunKey, RunKind, Summary};
+use hh_states::{CreditKey, PostingKey, ResultKey};
 use hh_tables::ListTable;
 use hh_time::SettlementDate;
 use std::alloc::{AllocError, Global};

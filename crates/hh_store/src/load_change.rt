@@ -2,10 +2,10 @@
 
 ghost use Rattle.std.specs.Prelude.{◌≡◌};
 
-use crate::file_key::FileKey;
 use crate::kept_file::KeptFile;
 use hh_names::{Counterparties, FileName, Reference};
 use hh_rows::{FileKind, Row};
+use hh_states::FileKey;
 use std::marker::Model;
 
 /// What is written into the tables for an accepted file (profile): the file with the counts of its
@@ -20,7 +20,7 @@ pub struct LoadChange {
 }
 
 impl Model for LoadChange {
-    ghost use Rattle.hh_store.specs.Changes.{LoadWrites};
+    ghost use Rattle.hh_states.specs.Changes.{LoadWrites};
 
     ghost Value = { LoadWrites };
 

@@ -5,8 +5,8 @@ ghost use Rattle.std.specs.FinMap.{find};
 ghost use Rattle.hh_tables.specs.Tables.{IsTable, put_all};
 ghost use Rattle.hh_rows.specs.Keys.{contract_key_cmp, reallocation_key_cmp, settlement_period_cmp, unit_period_cmp};
 ghost use Rattle.hh_rules.specs.RegisterView.{held_row, holding, tables_in, AgreesOnParty, AgreesOnReference, AgreesOnUnit, ServesFor};
+ghost use Rattle.hh_states.specs.Soundness.{AreSound, NoneNegative};
 ghost use Rattle.hh_store.specs.Parts.{is_after, is_named_in, whole_of, with_reallocations, AgreesOnNames, AreUntil, Grows, IsNamedIn, IsPartOf};
-ghost use Rattle.hh_store.specs.Soundness.{AreSound, NoneNegative};
 
 use crate::kept_register::KeptRegister;
 use crate::store_fault::StoreFault;

@@ -3,24 +3,22 @@
 ghost use Rattle.std.specs.Prelude.{◌≡◌, ◌≢◌, IfErr, IfOk, IfSome, IsOk, OnErr, OnOk};
 ghost use Rattle.hh_time.specs.Days.{Midnights};
 ghost use Rattle.hh_rules.specs.RegisterView.{ServesFor};
-ghost use Rattle.hh_store.specs.Changes.{IsLoadFrom, IsRunFrom, effect_of_load, effect_of_run};
-ghost use Rattle.hh_store.specs.Content.{empty_content, tables_of};
+ghost use Rattle.hh_states.specs.Changes.{IsLoadFrom, IsRunFrom, effect_of_load, effect_of_run};
+ghost use Rattle.hh_states.specs.Content.{empty_content, tables_of};
+ghost use Rattle.hh_states.specs.DaySettlement.{periods_on};
+ghost use Rattle.hh_states.specs.Reads.{contracts_in, file_in, is_key_known, party_in, postings_in, reference_in, results_in, runs_in, unit_in, whole_register};
+ghost use Rattle.hh_states.specs.Soundness.{AreSound};
+ghost use Rattle.hh_states.specs.States.{empty_state};
 ghost use Rattle.hh_store.specs.DayReads.{IsDayData};
-ghost use Rattle.hh_store.specs.DaySettlement.{periods_on};
 ghost use Rattle.hh_store.specs.Outputs.{Outputs, balances_in, day_report_in, export_in};
-ghost use Rattle.hh_store.specs.Reads.{contracts_in, file_in, is_key_known, party_in, postings_in, reference_in, results_in, runs_in, unit_in, whole_register};
-ghost use Rattle.hh_store.specs.Soundness.{AreSound};
-ghost use Rattle.hh_store.specs.States.{empty_state};
 
 use crate::day_data::DayData;
-use crate::file_key::FileKey;
 use crate::kept_file::KeptFile;
 use crate::kept_register::KeptRegister;
 use crate::kept_runs::KeptRuns;
 use crate::load_change::LoadChange;
 use crate::output_fault::OutputFault;
 use crate::run_change::RunChange;
-use crate::run_keys::RunKey;
 use crate::store_fault::StoreFault;
 use crate::tables::Tables;
 use hh_calc::AccountRow;
@@ -30,7 +28,8 @@ use hh_num::Pence;
 use hh_reports::{write_balances, write_day_report, write_results};
 use hh_rows::{ContractRow, FileKind, PartyRegistration, Row, Settings, UnitRegistration};
 use hh_rules::Register;
-use hh_runs::{RunKind, Summary};
+use hh_runs::{RunKey, RunKind, Summary};
+use hh_states::FileKey;
 use hh_tables::ListTable;
 use hh_time::{Day, SettlementDate};
 use std::alloc::Global;
@@ -50,7 +49,7 @@ pub struct PlainTables {
 }
 
 impl Model for PlainTables {
-    ghost use Rattle.hh_store.specs.Content.{Content};
+    ghost use Rattle.hh_states.specs.Content.{Content};
 
     ghost Value = { Content };
 

@@ -2,10 +2,10 @@
 
 ghost use Rattle.std.specs.Prelude.{◌≡◌};
 
-use crate::run_keys::{CreditKey, PostingKey, ResultKey, RunKey};
 use hh_calc::AccountRow;
 use hh_num::{Pence, Ticks};
-use hh_runs::Summary;
+use hh_runs::{RunKey, Summary};
+use hh_states::{CreditKey, PostingKey, ResultKey};
 use std::marker::Model;
 
 /// What is written into the tables for a new run (profile): its summary, the rows of its accounts, its
@@ -20,7 +20,7 @@ pub struct RunChange {
 }
 
 impl Model for RunChange {
-    ghost use Rattle.hh_store.specs.Changes.{RunWrites};
+    ghost use Rattle.hh_states.specs.Changes.{RunWrites};
 
     ghost Value = { RunWrites };
 

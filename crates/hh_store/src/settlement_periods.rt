@@ -1,7 +1,7 @@
 //! The Settlement Periods of a day.
 
 ghost use Rattle.std.specs.Prelude.{◌≡◌, IfOk};
-ghost use Rattle.hh_store.specs.DaySettlement.{periods_on};
+ghost use Rattle.hh_states.specs.DaySettlement.{periods_on};
 
 use hh_names::PeriodNumber;
 use hh_rows::SettlementPeriod;

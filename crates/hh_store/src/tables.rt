@@ -3,19 +3,18 @@
 ghost use Rattle.std.specs.Prelude.{◌≡◌, IfOk, IfSome, OnOk, OnErr};
 ghost use Rattle.hh_time.specs.Days.{Midnights};
 ghost use Rattle.hh_rules.specs.RegisterView.{ServesFor};
-ghost use Rattle.hh_store.specs.Changes.{IsLoadFrom, IsRunFrom, effect_of_load, effect_of_run};
-ghost use Rattle.hh_store.specs.Content.{Content};
+ghost use Rattle.hh_states.specs.Changes.{IsLoadFrom, IsRunFrom, effect_of_load, effect_of_run};
+ghost use Rattle.hh_states.specs.Content.{Content};
+ghost use Rattle.hh_states.specs.DaySettlement.{periods_on};
+ghost use Rattle.hh_states.specs.Reads.{contracts_in, file_in, is_key_known, party_in, postings_in, reference_in, results_in, runs_in, unit_in, whole_register};
 ghost use Rattle.hh_store.specs.DayReads.{IsDayData};
-ghost use Rattle.hh_store.specs.DaySettlement.{periods_on};
 ghost use Rattle.hh_store.specs.Outputs.{Outputs, balances_in, day_report_in, export_in};
-ghost use Rattle.hh_store.specs.Reads.{contracts_in, file_in, is_key_known, party_in, postings_in, reference_in, results_in, runs_in, unit_in, whole_register};
 
 use crate::day_data::DayData;
 use crate::kept_file::KeptFile;
 use crate::load_change::LoadChange;
 use crate::output_fault::OutputFault;
 use crate::run_change::RunChange;
-use crate::run_keys::RunKey;
 use crate::store_fault::StoreFault;
 use hh_calc::AccountRow;
 use hh_devices::Sink;
@@ -23,7 +22,7 @@ use hh_names::{Account, Counterparties, FileName, PartyId, PeriodNumber, Referen
 use hh_num::Pence;
 use hh_rows::{ContractRow, FileKind, PartyRegistration, Row, Settings, UnitRegistration};
 use hh_rules::Register;
-use hh_runs::{RunKind, Summary};
+use hh_runs::{RunKey, RunKind, Summary};
 use hh_time::{Day, SettlementDate};
 
 /// The tables of an office. A call that reads leaves them as they are, and so does one that fails.

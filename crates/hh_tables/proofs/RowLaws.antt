@@ -42,6 +42,23 @@ some_is_not_none x e = cc
 same_some : {A : Type 0} (x y : A) → Some x ≡ Some y → x ≡ y
 same_some x y e = cc
 
+module _ {K V : Type 0} (R : K → K → Ordering) (test : K × V → Bool) where
+  -- the rows that pass a test are above what all rows are above
+  below-filter : (k : K) (es : List (K × V)) → T (below_all R k es) → T (below_all R k (filter test es))
+  below-filter k [] h = tt
+  below-filter k (e ∷ es) h = elim (test e) as (λ b. T (below_all R k (cond b (e ∷ filter test es) (filter test es)))) [
+    | true ↦ both _ _ (first _ _ h) (below-filter k es (second _ _ h))
+    | false ↦ below-filter k es (second _ _ h)
+  ]
+
+  -- the rows of a table that pass a test still rise
+  pub sorted-filter : (es : List (K × V)) → T (is_sorted R es) → T (is_sorted R (filter test es))
+  sorted-filter [] h = tt
+  sorted-filter (e ∷ es) h = elim (test e) as (λ b. T (is_sorted R (cond b (e ∷ filter test es) (filter test es)))) [
+    | true ↦ both _ _ (below-filter e.0 es (first _ _ h)) (sorted-filter es (second _ _ h))
+    | false ↦ sorted-filter es (second _ _ h)
+  ]
+
 module _ {K V : Type 0} (R : K → K → Ordering) where
   -- the first row of a key
   abbrev row_at : K → List (K × V) → Option (K × V)

@@ -1,7 +1,8 @@
 //! What no clause says: that `run_all`, which no program calls, answers requests where memory is ample.
 
 use hh_names::{Account, OperatorKey, Refusal};
-use hh_office::{Action, Bytes, Office, Reply, Request};
+use hh_office::Office;
+use hh_requests::{Action, Bytes, Reply, Request};
 use hh_rows::{LeadMinutes, Settings};
 use hh_store::PlainTables;
 use hh_time::{SettlementDate, london};

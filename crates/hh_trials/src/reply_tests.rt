@@ -4,8 +4,8 @@
 use hh_devices::MemorySink;
 use hh_names::{Account, Fault, Refusal};
 use hh_num::Pence;
-use hh_office::Reply;
-use hh_wire::*;
+use hh_replies::*;
+use hh_requests::Reply;
 use std::test::Fail;
 
 /// The reply to a party that asks for the balance of its own account.

@@ -2,6 +2,7 @@
 //! refusals. What requests ask for, and which refusal each meets, is tested through `settle`.
 
 use hh_devices::{MemorySink, MemorySource};
+use hh_replies::*;
 use hh_wire::*;
 use std::test::Fail;
 

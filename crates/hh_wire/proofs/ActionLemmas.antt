@@ -5,13 +5,13 @@ use Rattle.std.proofs.lemmas.Option.{none-some, same_Some}
 use Rattle.std.proofs.lemmas.Slice.Eq.{bytes_eq-Decides}
 use Rattle.std.specs.List.{join_with_byte}
 use Rattle.std.specs.Prelude.{bytes_eq, codes}
+use Rattle.hh_time.specs.DateText.{date_value}
 use Rattle.hh_names.specs.Accounts.{account_value}
 use Rattle.hh_names.specs.Words.{is_file_name_byte, word_value}
-use Rattle.hh_office.specs.declared.request.Action.{Action}
-use Rattle.hh_office.specs.declared.request.Action.TheVariants as ask
 use Rattle.hh_rows.specs.Kinds.{kind_value}
 use Rattle.hh_runs.specs.RunKinds.{run_kind_value}
-use Rattle.hh_time.specs.DateText.{date_value}
+use Rattle.hh_requests.specs.declared.request.Action.{Action}
+use Rattle.hh_requests.specs.declared.request.Action.TheVariants as ask
 use Rattle.hh_wire.specs.Paths.{BeginsWith, IsPathOf, action_of, has_two, name_of, word_of}
 use Rattle.hh_wire.specs.Routes.{action_at, of_both, one_part, parts_of, two_parts}
 use Rattle.hh_wire.specs.declared.router.Route.{Route}

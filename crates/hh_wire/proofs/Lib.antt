@@ -1,16 +1,10 @@
 pub mod ActionLemmas
 pub mod BodyLemmas
-pub mod FieldLemmas
 pub mod FoundFacts
-pub mod FrontLemmas
-pub mod LengthLemmas
 pub mod MessageLemmas
 pub mod OneMessage
 pub mod PartLemmas
 pub mod ReaderLemmas
-pub mod ReplyLemmas
 pub mod RouteLemmas
 pub mod SeekFacts
-pub mod ServeLemmas
 pub mod TermLemmas
-pub mod TextLemmas

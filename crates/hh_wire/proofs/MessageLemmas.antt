@@ -6,15 +6,15 @@ use Rattle.httparse.specs.Grammar.{Field, ReadsRequest, RequestHead}
 use Rattle.httparse.specs.Spans.{AreFieldsAt, IsRequestAt, header_bytes, name_and_value}
 use Rattle.httparse.specs.declared.spans.HeaderSpan.{HeaderSpan}
 use Rattle.httparse.specs.declared.spans.RequestSpans.{RequestSpans}
-use Rattle.hh_office.specs.declared.request.Request.{Request}
+use Rattle.hh_requests.specs.declared.request.Request.{Request}
+use Rattle.hh_heads.specs.Found.{FindsHead}
+use Rattle.hh_heads.specs.Fronts.{IsFront}
+use Rattle.hh_heads.specs.Headings.{Heading, asks_head, heading_of}
+use Rattle.hh_replies.specs.declared.refusal.RequestRefusal.{RequestRefusal}
+use Rattle.hh_replies.specs.declared.refusal.RequestRefusal.TheVariants as refusal
 use Rattle.hh_wire.specs.Behind.{ReadsBehind, fault_behind}
-use Rattle.hh_wire.specs.Found.{FindsHead}
-use Rattle.hh_wire.specs.Fronts.{IsFront}
-use Rattle.hh_wire.specs.Headings.{Heading, asks_head, heading_of}
 use Rattle.hh_wire.specs.Message.{ByCause, Message, IsMessage, Reads, asked_by}
 use Rattle.hh_wire.specs.declared.incoming.Incoming.TheVariants.{Asked}
-use Rattle.hh_wire.specs.declared.incoming.RequestRefusal.{RequestRefusal}
-use Rattle.hh_wire.specs.declared.incoming.RequestRefusal.TheVariants as refusal
 use Rattle.hh_wire.specs.declared.stop.Stop.{Stop}
 use Rattle.hh_wire.specs.declared.stop.Stop.TheVariants.{Read, Refused}
 

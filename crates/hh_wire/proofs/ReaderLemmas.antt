@@ -9,6 +9,9 @@ use Rattle.std.specs.Prelude.{◌==◌, bytes_eq, codes, nat_le, nat_lt, slice_i
 use Rattle.jiff_core.proofs.CalendarLemmas.{days_in_month_bounds}
 use Rattle.jiff.proofs.SpanFacts.{signed_arith}
 use Rattle.jiff.specs.Types.{Date}
+use Rattle.hh_time.specs.DateText.{dashed, date_value, text_of}
+use Rattle.hh_time.specs.Zone.{IsAccepted}
+use Rattle.hh_time.proofs.DateTextLaws.{text_of_value}
 use Rattle.hh_names.specs.Accounts.{account_from, account_value, side_value}
 use Rattle.hh_names.specs.Words.{is_capital_or_digit, is_file_name_byte, is_word, party_value, word_value}
 use Rattle.hh_names.specs.declared.account.Account.{Account}
@@ -20,11 +23,8 @@ use Rattle.hh_rows.specs.declared.file_kind.FileKind.TheVariants as kind
 use Rattle.hh_runs.specs.RunKinds.{all_run_kinds, run_kind_code, run_kind_value}
 use Rattle.hh_runs.specs.declared.run_kind.RunKind.{RunKind}
 use Rattle.hh_runs.specs.declared.run_kind.RunKind.TheVariants as run
-use Rattle.hh_time.proofs.DateTextLaws.{text_of_value}
-use Rattle.hh_time.specs.DateText.{dashed, date_value, text_of}
-use Rattle.hh_time.specs.Zone.{IsAccepted}
+use Rattle.hh_replies.proofs.TextLemmas.{size_below}
 use Rattle.hh_wire.specs.Paths.{is_part, is_part_byte}
-use Rattle.hh_wire.proofs.TextLemmas.{size_below}
 
 -- ---- kinds
 named : {K : Type 0} (name : K → List ℕ) (all : List K) (word : List ℕ) (k : K) → find (λ x. bytes_eq word (name x)) all ≡ Some k → word ≡ name k

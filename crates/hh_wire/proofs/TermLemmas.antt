@@ -3,16 +3,16 @@ use Rattle.std.proofs.Common.{◌≡◌, ◌∙◌, ℕ, ◌≤◌, List, ◌++�
 use Rattle.std.specs.Prelude.{nat_lt, unwrap_or}
 use Rattle.std.specs.Result.{IsErrAnd}
 use Rattle.std.proofs.lemmas.Bool.Decides.{nat_tests}
-use Rattle.hh_office.specs.declared.request.Request.{Request}
+use Rattle.hh_requests.specs.declared.request.Request.{Request}
+use Rattle.hh_heads.specs.Heads.{HoldsTerms}
+use Rattle.hh_heads.specs.Headings.{Heading, length_given, length_of}
+use Rattle.hh_heads.specs.Lengths.{saturated}
+use Rattle.hh_heads.specs.declared.terms.Terms.{Terms}
+use Rattle.hh_replies.specs.declared.refusal.RequestRefusal.{RequestRefusal}
 use Rattle.hh_wire.specs.Behind.{Asks, ReadsBehind}
-use Rattle.hh_wire.specs.Heads.{HoldsTerms}
-use Rattle.hh_wire.specs.Headings.{Heading, length_given, length_of}
-use Rattle.hh_wire.specs.Lengths.{saturated}
 use Rattle.hh_wire.specs.Message.{Message, asked_by, asked_with}
-use Rattle.hh_wire.specs.declared.incoming.RequestRefusal.{RequestRefusal}
 use Rattle.hh_wire.specs.declared.stop.Stop.{Stop}
 use Rattle.hh_wire.specs.declared.stop.Stop.TheVariants.{Refused}
-use Rattle.hh_wire.specs.declared.terms.Terms.{Terms}
 
 unwrap_saturated : (o : Option ℕ) → unwrap_or (option_map saturated o) 0 ≡ saturated (unwrap_or o 0)
 unwrap_saturated None = let zero : 0 ≡ saturated 0 = omega arith in zero

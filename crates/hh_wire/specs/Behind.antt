@@ -1,13 +1,13 @@
 -- What reading on behind a head comes to.
 use Rattle.std.specs.Prelude.{◌≡◌, Result, Ok, Err}
-use Rattle.hh_office.specs.declared.request.Request.{Request}
+use Rattle.hh_requests.specs.declared.request.Request.{Request}
+use Rattle.hh_heads.specs.Headings.{Heading, asks_head}
+use Rattle.hh_replies.specs.declared.refusal.RequestRefusal.{RequestRefusal}
 use Rattle.hh_wire.specs.declared.incoming.Incoming.TheVariants.{Asked}
-use Rattle.hh_wire.specs.declared.incoming.RequestRefusal.{RequestRefusal}
 use Rattle.hh_wire.specs.declared.incoming.WireFault.{WireFault}
 use Rattle.hh_wire.specs.declared.incoming.WireFault.TheVariants as fault
 use Rattle.hh_wire.specs.declared.stop.Stop.{Stop}
 use Rattle.hh_wire.specs.declared.stop.Stop.TheVariants.{Read, Refused}
-use Rattle.hh_wire.specs.Headings.{Heading, asks_head}
 use Rattle.hh_wire.specs.Message.{ByCause, Message, refusal_message}
 
 -- it is what the head asks; memory may be refused in its place

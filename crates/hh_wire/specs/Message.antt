@@ -2,15 +2,15 @@
 use Rattle.std.specs.Prelude.{◌≡◌, ◌≢◌, ◌⊎◌, ℕ, nat_lt, List, [], length, take, Bool, false, not, ◌&&◌, is_none, if◌then◌else◌, Some, None, Result, Ok, Err, bytes_eq}
 use Rattle.httparse.specs.Grammar.{RequestHead}
 use Rattle.hh_devices.specs.Devices.{Failed}
+use Rattle.hh_heads.specs.Fronts.{HasNoFront, IsFront}
+use Rattle.hh_heads.specs.Headings.{Heading, asks_head, heading_of, is_bad, key_shown, length_given, length_of}
+use Rattle.hh_replies.specs.declared.refusal.Refused.{Refused}
+use Rattle.hh_replies.specs.declared.refusal.RequestRefusal.{RequestRefusal}
+use Rattle.hh_replies.specs.declared.refusal.RequestRefusal.TheVariants as refusal
 use Rattle.hh_wire.specs.declared.incoming.Incoming.{Incoming}
 use Rattle.hh_wire.specs.declared.incoming.Incoming.TheVariants.{Closed, Asked}
-use Rattle.hh_wire.specs.declared.incoming.Refused.{Refused}
-use Rattle.hh_wire.specs.declared.incoming.RequestRefusal.{RequestRefusal}
-use Rattle.hh_wire.specs.declared.incoming.RequestRefusal.TheVariants as refusal
 use Rattle.hh_wire.specs.declared.incoming.WireFault.{WireFault}
 use Rattle.hh_wire.specs.declared.incoming.WireFault.TheVariants as fault
-use Rattle.hh_wire.specs.Fronts.{HasNoFront, IsFront}
-use Rattle.hh_wire.specs.Headings.{Heading, asks_head, heading_of, is_bad, key_shown, length_given, length_of}
 use Rattle.hh_wire.specs.Routes.{action_at, is_load, method_of, parts_of}
 
 -- the most bytes of a body

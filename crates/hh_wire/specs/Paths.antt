@@ -1,7 +1,7 @@
 -- Which paths a route has, and what their parts ask for.
 use Rattle.std.specs.Prelude.{◌≡◌, ℕ, ◌==◌, nat_lt, List, [], ◌∷◌, ◌++◌, length, Bool, true, false, not, ◌&&◌, Option, None, codes, if◌then◌else◌}
 use Rattle.std.specs.List.{list_all}
-use Rattle.hh_office.specs.declared.request.Action.{Action}
+use Rattle.hh_requests.specs.declared.request.Action.{Action}
 use Rattle.hh_wire.specs.declared.router.Route.{Route}
 use Rattle.hh_wire.specs.declared.router.Route.TheVariants as route
 use Rattle.hh_wire.specs.Routes.{one_part, two_parts}

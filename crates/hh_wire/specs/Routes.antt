@@ -6,8 +6,8 @@ use Rattle.hh_names.specs.Accounts.{account_value}
 use Rattle.hh_names.specs.Words.{is_file_name_byte, word_value}
 use Rattle.hh_rows.specs.Kinds.{kind_value}
 use Rattle.hh_runs.specs.RunKinds.{run_kind_value}
-use Rattle.hh_office.specs.declared.request.Action.{Action}
-use Rattle.hh_office.specs.declared.request.Action.TheVariants as ask
+use Rattle.hh_requests.specs.declared.request.Action.{Action}
+use Rattle.hh_requests.specs.declared.request.Action.TheVariants as ask
 
 -- the parts of a path, between its slashes
 abbrev pub parts_of : List ℕ → List (List ℕ)

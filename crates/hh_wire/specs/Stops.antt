@@ -2,7 +2,7 @@
 use Rattle.std.specs.Prelude.{◌≡◌, ℕ, ◌<◌, ◌≤◌, Bool, true, false, List, ◌++◌, length, take, Result, Ok, Err}
 use Rattle.std.specs.declared.vec.Vec.{Vec}
 use Rattle.hh_devices.specs.Devices.{Failed}
-use Rattle.hh_wire.specs.declared.incoming.RequestRefusal.TheVariants as refusal
+use Rattle.hh_replies.specs.declared.refusal.RequestRefusal.TheVariants as refusal
 use Rattle.hh_wire.specs.declared.stop.Stop.{Stop}
 use Rattle.hh_wire.specs.declared.stop.Stop.TheVariants.{Read, Refused}
 

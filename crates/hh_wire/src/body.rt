@@ -4,10 +4,10 @@ ghost use Rattle.std.specs.Prelude.{◌≡◌, ◌≤◌, ◌++◌, length, IfOk
 ghost use Rattle.hh_devices.specs.Devices.{CountsErr};
 ghost use Rattle.hh_wire.specs.Stops.{CountsStop, Fills, ReadsBody};
 
-use crate::incoming::RequestRefusal;
-use crate::piece::fill;
 use crate::stop::Stop;
 use hh_devices::{DeviceFailed, Source};
+use hh_heads::fill;
+use hh_replies::RequestRefusal;
 use std::alloc::Global;
 
 /// Reads a body of that length, whose first bytes came with its head. What follows the body is

@@ -1,20 +1,19 @@
 //! Requests, read from connections.
 
 ghost use Rattle.std.specs.Prelude.{◌≡◌, ℕ, List, ◌++◌, IfSome};
+ghost use Rattle.hh_heads.specs.Heads.{HoldsTerms, heading_in};
 ghost use Rattle.hh_wire.specs.Behind.{Asks, ReadsBehind};
-ghost use Rattle.hh_wire.specs.Heads.{HoldsTerms, heading_in};
 ghost use Rattle.hh_wire.specs.Message.{CountsRead, IsMessage, Message, Reads, asked_by, asked_with};
 ghost use Rattle.hh_wire.specs.Stops.{CountsStop};
 
 use crate::body::read_body;
-use crate::front::{Front, MOST_HEAD_BYTES, MOST_HEADERS, read_front};
-use crate::head::WholeHead;
-use crate::incoming::{Incoming, Refused, RequestRefusal, WireFault};
+use crate::incoming::{Incoming, WireFault};
 use crate::route::{action_at, method_of};
 use crate::stop::Stop;
-use crate::terms::Terms;
 use hh_devices::Source;
-use hh_office::{Action, Bytes, Request};
+use hh_heads::{Front, MOST_HEAD_BYTES, MOST_HEADERS, Terms, WholeHead, read_front};
+use hh_replies::{Refused, RequestRefusal};
+use hh_requests::{Action, Bytes, Request};
 use httparse::spans::EMPTY_HEADER_SPAN;
 use std::alloc::Global;
 

@@ -6,10 +6,9 @@ ghost use Rattle.hh_wire.specs.Routes.{action_at, method_of, parts_of};
 
 use crate::router::{Route, route_at};
 use hh_names::{Account, FileName};
-use hh_office::{Action, Bytes, Upload};
+use hh_requests::{Action, Bytes, Upload};
 use hh_rows::FileKind;
-use hh_runs::RunKind;
-use hh_store::RunKey;
+use hh_runs::{RunKey, RunKind};
 use hh_time::SettlementDate;
 use http::Method;
 use std::alloc::{AllocError, Global};

@@ -2,9 +2,10 @@
 
 ghost use Rattle.std.specs.Prelude.{◌≡◌};
 
-use crate::head::{BrokenRule, WholeHead};
-use crate::incoming::{Refused, RequestRefusal, WireFault};
+use crate::incoming::WireFault;
 use hh_devices::DeviceFailed;
+use hh_heads::{BrokenRule, WholeHead};
+use hh_replies::{Refused, RequestRefusal};
 use std::alloc::AllocError;
 
 /// Why reading ends before a request is whole.
@@ -27,7 +28,7 @@ impl From<DeviceFailed> for Stop {
 }
 
 impl From<AllocError> for Stop {
-    ghost use Rattle.hh_wire.specs.declared.incoming.RequestRefusal.TheVariants.{Memory};
+    ghost use Rattle.hh_replies.specs.declared.refusal.RequestRefusal.TheVariants.{Memory};
     ghost use Rattle.hh_wire.specs.declared.stop.Stop.TheVariants.{Refused};
 
     ghost from_gives = { λ _ stop. stop ≡ Refused Memory };
@@ -48,7 +49,7 @@ impl From<RequestRefusal> for Stop {
 }
 
 impl From<BrokenRule> for Stop {
-    ghost use Rattle.hh_wire.specs.declared.incoming.RequestRefusal.TheVariants.{BadRequest};
+    ghost use Rattle.hh_replies.specs.declared.refusal.RequestRefusal.TheVariants.{BadRequest};
     ghost use Rattle.hh_wire.specs.declared.stop.Stop.TheVariants.{Refused};
 
     ghost from_gives = { λ _ stop. stop ≡ Refused BadRequest };
@@ -60,7 +61,7 @@ impl From<BrokenRule> for Stop {
 
 impl Stop {
     ghost use Rattle.hh_wire.specs.Behind.{fault_behind};
-    ghost use Rattle.hh_wire.specs.Heads.{heading_in};
+    ghost use Rattle.hh_heads.specs.Heads.{heading_in};
 
     /// The fault of a request whose head was read.
     pub fn behind(self, head: &WholeHead<'_>) -> WireFault

@@ -1,6 +1,6 @@
 use Rattle.std.proofs.Common.{inr, map}
 use Rattle.std.specs.String.{string_bytes}
-use Rattle.hh_command.specs.Lines.{line_of}
+use Rattle.hh_words.specs.Lines.{line_of}
 use Rattle.hh_command.proofs.StopFacts.{wrong_by_off}
 use Rattle.hh_command.proofs.program.command.Goals as goal
 

@@ -1,5 +1,5 @@
 use Rattle.std.proofs.Common.{◌≡◌, take}
-use Rattle.hh_store.specs.Content.{credit_entries}
+use Rattle.hh_states.specs.Content.{credit_entries}
 use Rattle.hh_day.proofs.entries.credit_entries.Given as goal
 
 -- the credits of the Settlement Periods so far

@@ -1,6 +1,6 @@
 use Rattle.std.proofs.Common.{◌≡◌, map, take}
 use Rattle.hh_runs.specs.Postings.{entry_of}
-use Rattle.hh_store.specs.Content.{posting_entries}
+use Rattle.hh_states.specs.Content.{posting_entries}
 use Rattle.hh_day.proofs.entries.posting_entries.Given as goal
 
 -- the entries of the postings so far

@@ -1,5 +1,5 @@
 use Rattle.std.proofs.Common.{◌≡◌, ◌++◌, map, take}
-use Rattle.hh_store.specs.Content.{credit_key}
+use Rattle.hh_states.specs.Content.{credit_key}
 use Rattle.hh_day.proofs.entries.push_credits.Given as goal
 
 -- the credits so far stand behind those that were there

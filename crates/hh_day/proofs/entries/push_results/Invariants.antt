@@ -1,5 +1,5 @@
 use Rattle.std.proofs.Common.{◌≡◌, ◌++◌, map, take}
-use Rattle.hh_store.specs.Content.{result_key}
+use Rattle.hh_states.specs.Content.{result_key}
 use Rattle.hh_day.proofs.entries.push_results.Given as goal
 
 -- the rows so far stand behind those that were there

@@ -1,5 +1,5 @@
 use Rattle.std.proofs.Common.{◌≡◌, take}
-use Rattle.hh_store.specs.Content.{result_entries}
+use Rattle.hh_states.specs.Content.{result_entries}
 use Rattle.hh_day.proofs.entries.result_entries.Given as goal
 
 -- the rows of the Settlement Periods so far

@@ -1,5 +1,5 @@
 use Rattle.std.proofs.Common.{take}
-use Rattle.hh_store.specs.Soundness.{NoneNegative}
+use Rattle.hh_states.specs.Soundness.{NoneNegative}
 use Rattle.hh_store.proofs.part.none_negative.Given as goal
 
 -- so far none is

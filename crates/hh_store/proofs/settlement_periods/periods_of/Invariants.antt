@@ -1,5 +1,5 @@
 use Rattle.std.proofs.Common.{◌≡◌}
-use Rattle.hh_store.specs.DaySettlement.{periods_on}
+use Rattle.hh_states.specs.DaySettlement.{periods_on}
 use Rattle.hh_store.proofs.settlement_periods.periods_of.Given as goal
 
 -- the Settlement Periods so far

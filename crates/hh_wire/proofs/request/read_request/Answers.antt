@@ -1,9 +1,9 @@
 use Rattle.std.proofs.Common.{◌≡◌, length, subst, sym, Err, IfSome, arith}
-use Rattle.hh_wire.specs.Found.{FindsFront}
-use Rattle.hh_wire.specs.Heads.{heading_in}
+use Rattle.hh_heads.specs.Found.{FindsFront}
+use Rattle.hh_heads.specs.Heads.{heading_in}
 use Rattle.hh_wire.specs.Message.{Reads}
-use Rattle.hh_wire.proofs.MessageLemmas.{request_read, stop_read}
 use Rattle.hh_wire.specs.declared.incoming.WireFault.{WireFault}
+use Rattle.hh_wire.proofs.MessageLemmas.{request_read, stop_read}
 use Rattle.hh_wire.proofs.request.read_request.Goals as goal
 
 pub returns-in-Ok-clause-message : goal.returns-in-Ok-clause-message

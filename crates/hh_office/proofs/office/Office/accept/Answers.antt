@@ -1,5 +1,5 @@
 use Rattle.std.proofs.Common.{ap, subst, ◌∙◌}
-use Rattle.hh_store.specs.Changes.{LoadWrites}
+use Rattle.hh_states.specs.Changes.{LoadWrites}
 use Rattle.hh_office.specs.Loads.{WritesLoad, writes_of}
 use Rattle.hh_office.specs.Machine.{loaded_reply}
 use Rattle.hh_office.proofs.StepLaws.{accepts}

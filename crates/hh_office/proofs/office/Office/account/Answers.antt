@@ -1,13 +1,13 @@
 use Rattle.std.proofs.Common.{subst, sym, ap, ◌∙◌}
 use Rattle.hh_names.specs.declared.fault.Refusal.TheVariants.{NoRun}
 use Rattle.hh_names.specs.Faults.{plain_fault}
-use Rattle.hh_store.specs.Reads.{runs_in}
+use Rattle.hh_requests.specs.declared.reply.Reply.TheVariants as reply
+use Rattle.hh_states.specs.Reads.{runs_in}
 use Rattle.hh_office.specs.Enquiries.{account_reply}
 use Rattle.hh_office.specs.Promises.{MakesTransition, TellsInEachState}
 use Rattle.hh_office.specs.Reads.{latest_key}
 use Rattle.hh_office.specs.Transitions.{unchanged}
 use Rattle.hh_office.specs.Views.{OfficeView, midnight_of}
-use Rattle.hh_office.specs.declared.reply.Reply.TheVariants as reply
 use Rattle.hh_office.proofs.EnquiryLaws.{account_none}
 use Rattle.hh_office.proofs.StepLaws.{comes_same}
 use Rattle.hh_office.proofs.office.Office.account.Goals as goal

@@ -1,5 +1,5 @@
 use Rattle.std.proofs.Common.{subst, Ok, Err, w64, to_z, of_z}
-use Rattle.hh_office.specs.declared.reply.Reply.TheVariants as reply
+use Rattle.hh_requests.specs.declared.reply.Reply.TheVariants as reply
 use Rattle.std.proofs.lemmas.Int.{to_z-of_z}
 use Rattle.hh_office.specs.Machine.{step}
 use Rattle.hh_office.specs.Promises.{MakesInEachState}

@@ -1,10 +1,10 @@
 use Rattle.std.proofs.Common.{subst, ◌∙◌, w64}
 use Rattle.std.proofs.lemmas.Int.{to_z-of_z}
+use Rattle.hh_requests.specs.declared.reply.Reply.TheVariants as reply
 use Rattle.hh_office.specs.Promises.{MakesTransition}
 use Rattle.hh_office.specs.Runs.{run}
 use Rattle.hh_office.specs.Settling.{IsRunMade, RefusesIn, SettlesIn}
 use Rattle.hh_office.specs.Views.{midnight_of}
-use Rattle.hh_office.specs.declared.reply.Reply.TheVariants as reply
 use Rattle.hh_office.proofs.RunLaws.{comes_given_up, run_made, run_unsettled}
 use Rattle.hh_office.proofs.StepLaws.{comes_same, passed_reply}
 use Rattle.hh_office.proofs.office.Office.new_run.Goals as goal

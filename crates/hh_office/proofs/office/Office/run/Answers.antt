@@ -1,12 +1,12 @@
 use Rattle.std.proofs.Common.{ap, subst, sym, ◌∙◌, w64, to_z, of_z, Err, Ok}
 use Rattle.std.proofs.lemmas.Int.{to_z-of_z}
-use Rattle.hh_store.specs.Reads.{runs_in}
+use Rattle.hh_requests.specs.declared.reply.Reply.TheVariants as reply
+use Rattle.hh_states.specs.Reads.{runs_in}
 use Rattle.hh_office.specs.Promises.{MakesTransition, MakesInEachState, reply_of}
 use Rattle.hh_office.specs.Reads.{latest_key}
 use Rattle.hh_office.specs.Runs.{run}
 use Rattle.hh_office.specs.Settling.{IsNext, TellsOrder}
 use Rattle.hh_office.specs.Views.{OfficeView, midnight_of}
-use Rattle.hh_office.specs.declared.reply.Reply.TheVariants as reply
 use Rattle.hh_office.proofs.RunLaws.{run_kept, run_out_of_order}
 use Rattle.hh_office.proofs.StepLaws.{comes_same, passed_reply}
 use Rattle.hh_office.proofs.office.Office.run.Goals as goal

@@ -1,6 +1,6 @@
 use Rattle.std.proofs.Common.{ap, subst, w64, to_z, of_z}
 use Rattle.std.proofs.lemmas.Int.{to_z-of_z}
-use Rattle.hh_store.specs.DaySettlement.{periods_on}
+use Rattle.hh_states.specs.DaySettlement.{periods_on}
 use Rattle.hh_day.specs.NewRuns.{SettlesDay}
 use Rattle.hh_office.specs.Settling.{IsOverDay, RefusesIn}
 use Rattle.hh_office.specs.Views.{midnight_of}

@@ -4,8 +4,8 @@ use Rattle.hh_tables.specs.Tables.{put_all}
 use Rattle.hh_names.specs.Accounts.{bytes_cmp}
 use Rattle.hh_rows.specs.Keys.{contract_key_cmp, reallocation_key_cmp, settlement_period_cmp, unit_period_cmp}
 use Rattle.hh_rules.specs.Entries.{contract_entry, meter_entry, party_entry, price_entry, reallocation_entry, unit_entry}
+use Rattle.hh_states.specs.Changes.{registered_with}
 use Rattle.hh_store.specs.declared.kept_register.ChangedTables.{ChangedTables}
-use Rattle.hh_store.specs.Changes.{registered_with}
 use Rattle.hh_store.specs.KeptTables.{with_changed}
 use Rattle.hh_store.proofs.KeptLaws.{changed_with}
 use Rattle.hh_store.proofs.kept_register.KeptRegister.changed_by.Goals as goal

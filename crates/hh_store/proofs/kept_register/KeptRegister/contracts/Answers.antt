@@ -2,9 +2,9 @@ use Rattle.std.proofs.Common.{◌≡◌, ◌∙◌, ap}
 use Rattle.std.specs.Prelude.{filter}
 use Rattle.std.specs.List.{flat_map}
 use Rattle.std.proofs.lemmas.Result.{IfOk-weaker}
-use Rattle.hh_store.specs.DaySettlement.{from_one_to}
+use Rattle.hh_states.specs.DaySettlement.{from_one_to}
+use Rattle.hh_states.specs.Reads.{contracts_of}
 use Rattle.hh_store.specs.KeptContracts.{is_in_period}
-use Rattle.hh_store.specs.Reads.{contracts_of}
 use Rattle.hh_store.proofs.ContractLaws.{contracts_by_period}
 use Rattle.hh_store.proofs.kept_register.KeptRegister.contracts.Goals as goal
 

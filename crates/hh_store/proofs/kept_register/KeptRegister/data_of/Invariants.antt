@@ -1,5 +1,5 @@
 use Rattle.std.proofs.Common.{◌≡◌, map, take}
-use Rattle.hh_store.specs.PeriodSettlement.{terms_at}
+use Rattle.hh_states.specs.PeriodSettlement.{terms_at}
 use Rattle.hh_store.proofs.kept_register.KeptRegister.data_of.Given as goal
 
 -- the terms of the Settlement Periods so far

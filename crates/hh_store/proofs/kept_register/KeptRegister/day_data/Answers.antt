@@ -1,6 +1,6 @@
 use Rattle.std.proofs.Common.{◌≡◌}
+use Rattle.hh_states.specs.PeriodSettlement.{units_on}
 use Rattle.hh_store.specs.DayReads.{IsRollOf}
-use Rattle.hh_store.specs.PeriodSettlement.{units_on}
 use Rattle.hh_store.proofs.DayLaws.{all_on_date}
 use Rattle.hh_store.proofs.kept_register.KeptRegister.day_data.Goals as goal
 

@@ -2,8 +2,8 @@ use Rattle.std.proofs.Common.{◌≡◌, ◌∙◌, arith, rules, subst, sym}
 use Rattle.std.specs.Prelude.{IsOk}
 use Rattle.hh_rows.specs.declared.rows.Row.TheVariants as row
 use Rattle.hh_rules.specs.RegisterView.{held_row}
+use Rattle.hh_states.specs.Soundness.{NoneNegative}
 use Rattle.hh_store.specs.declared.store_fault.StoreFault.TheVariants.{Memory}
-use Rattle.hh_store.specs.Soundness.{NoneNegative}
 use Rattle.hh_store.proofs.NamedLaws.{holds_more, skips_more}
 use Rattle.hh_store.proofs.SoundLaws.{takes_more}
 use Rattle.hh_store.proofs.kept_register.KeptRegister.hold_reallocations.Goals as goal

@@ -1,7 +1,7 @@
 use Rattle.std.proofs.Common.{sym, ◌∙◌}
 use Rattle.std.specs.Prelude.{is_none}
-use Rattle.hh_store.specs.DaySettlement.{unit_periods_at}
-use Rattle.hh_store.specs.PeriodSettlement.{reading_of}
+use Rattle.hh_states.specs.DaySettlement.{unit_periods_at}
+use Rattle.hh_states.specs.PeriodSettlement.{reading_of}
 use Rattle.hh_store.proofs.DayLaws.{not_yet_in, now_found_in}
 use Rattle.hh_store.proofs.kept_register.KeptRegister.missing_meter.Goals as goal
 

@@ -1,5 +1,5 @@
 use Rattle.std.proofs.Common.{◌≡◌, take, None}
-use Rattle.hh_store.specs.DaySettlement.{missing_meter}
+use Rattle.hh_states.specs.DaySettlement.{missing_meter}
 use Rattle.hh_store.proofs.kept_register.KeptRegister.missing_meter.Given as goal
 
 -- in the Settlement Periods so far each unit has a reading

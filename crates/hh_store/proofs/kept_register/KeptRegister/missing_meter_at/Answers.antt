@@ -5,7 +5,7 @@ use Rattle.hh_rows.specs.declared.keys.UnitPeriod.{UnitPeriod}
 use Rattle.hh_rows.specs.declared.rows.UnitRegistration.{UnitRegistration}
 use Rattle.hh_rows.specs.declared.settlement_period.SettlementPeriod.{SettlementPeriod}
 use Rattle.hh_rules.specs.History.{Registered}
-use Rattle.hh_store.specs.PeriodSettlement.{reading_of}
+use Rattle.hh_states.specs.PeriodSettlement.{reading_of}
 use Rattle.hh_store.proofs.DayLaws.{find-map, not_yet, now_found}
 use Rattle.hh_store.proofs.kept_register.KeptRegister.missing_meter_at.Goals as goal
 

@@ -1,6 +1,6 @@
 use Rattle.std.proofs.Common.{◌≡◌, take, None}
 use Rattle.std.specs.Prelude.{find, is_none}
-use Rattle.hh_store.specs.PeriodSettlement.{reading_of}
+use Rattle.hh_states.specs.PeriodSettlement.{reading_of}
 use Rattle.hh_store.proofs.kept_register.KeptRegister.missing_meter_at.Given as goal
 
 -- the units so far have a reading

@@ -1,6 +1,6 @@
 use Rattle.std.proofs.Common.{sym, ◌∙◌}
 use Rattle.std.specs.Prelude.{is_none}
-use Rattle.hh_store.specs.PeriodSettlement.{price_of}
+use Rattle.hh_states.specs.PeriodSettlement.{price_of}
 use Rattle.hh_store.proofs.DayLaws.{not_yet, now_found}
 use Rattle.hh_store.proofs.kept_register.KeptRegister.missing_price.Goals as goal
 

@@ -1,5 +1,5 @@
 use Rattle.std.proofs.Common.{◌≡◌, take, None}
-use Rattle.hh_store.specs.DaySettlement.{missing_price}
+use Rattle.hh_states.specs.DaySettlement.{missing_price}
 use Rattle.hh_store.proofs.kept_register.KeptRegister.missing_price.Given as goal
 
 -- the Settlement Periods so far have a price

@@ -1,8 +1,8 @@
 use Rattle.std.proofs.Common.{map, ap, ◌∙◌}
 use Rattle.std.specs.Prelude.{filter, filter_map}
 use Rattle.hh_calc.specs.Terms.{period_terms}
+use Rattle.hh_states.specs.PeriodSettlement.{unit_at}
 use Rattle.hh_store.specs.KeptContracts.{is_in_period}
-use Rattle.hh_store.specs.PeriodSettlement.{unit_at}
 use Rattle.hh_store.proofs.DayLaws.{rows_at}
 use Rattle.hh_store.proofs.kept_register.KeptRegister.period_data.Goals as goal
 

@@ -1,6 +1,6 @@
 use Rattle.std.proofs.Common.{◌≡◌, take}
 use Rattle.std.specs.Prelude.{filter_map}
-use Rattle.hh_store.specs.PeriodSettlement.{unit_at}
+use Rattle.hh_states.specs.PeriodSettlement.{unit_at}
 use Rattle.hh_store.proofs.kept_register.KeptRegister.units_at.Given as goal
 
 -- what the units so far are settled from

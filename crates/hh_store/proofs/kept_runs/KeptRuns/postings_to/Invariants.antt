@@ -1,5 +1,5 @@
 use Rattle.std.proofs.Common.{◌≡◌, filter_map, take}
-use Rattle.hh_store.specs.Reads.{posting_to}
+use Rattle.hh_states.specs.Reads.{posting_to}
 use Rattle.hh_store.proofs.kept_runs.KeptRuns.postings_to.Given as goal
 
 -- what was found among the rows so far

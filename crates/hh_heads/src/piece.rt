@@ -1,0 +1,30 @@
+//! Bytes that come in pieces.
+
+ghost use Rattle.std.specs.Prelude.{◌≡◌, ℕ, ◌+◌, ◌<◌, ◌≤◌, List, length, take, Option, IfOk};
+ghost use Rattle.std.specs.Io.KnownBytes.{Consumes, IsAtEnd};
+ghost use Rattle.hh_devices.specs.Devices.{CountsErr};
+
+use hh_devices::{DeviceFailed, Source};
+
+/// One read into the room of a buffer that is filled so far (profile). Answers how many bytes came, none
+/// only at the end of the source.
+///
+/// # Errors
+///
+/// The call of the source failed.
+pub fn fill<S: Source>(
+    source: &mut S,
+    buffer: &mut [u8],
+    filled: usize,
+) -> Result<usize, DeviceFailed>
+    requires { filled < length buffer.old }
+    ensures within { IfOk result (λ n. filled + n ≤ length buffer.old) }
+    ensures kept { length buffer.new ≡ length buffer.old }
+    ensures read { IfOk result (λ n. (before : Option (List ℕ)) →
+        Consumes before (S.remaining source.old) (take filled buffer.old)
+        → Consumes before (S.remaining source.new) (take (filled + n) buffer.new)) }
+    ensures end { IfOk result (λ n. n ≡ 0 → IsAtEnd (S.remaining source.old)) }
+    ensures failed { CountsErr result (S.failures source.old) (S.failures source.new) }
+{
+    source.read(&mut buffer[filled..])
+}

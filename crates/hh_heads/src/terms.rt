@@ -1,0 +1,56 @@
+//! What a head says of its request, where it keeps the rules.
+
+ghost use Rattle.std.specs.Prelude.{◌≡◌, true, IfOk, OnErr};
+ghost use Rattle.hh_heads.specs.Headings.{is_bad};
+ghost use Rattle.hh_heads.specs.Heads.{HoldsTerms, heading_in, length_in};
+
+use crate::head::{BrokenRule, WholeHead};
+use crate::length::read_length;
+
+/// What a head says of its request (profile).
+#[derive(Clone, Copy)]
+pub struct Terms<'b> {
+    /// The key that is shown, empty where there is none.
+    pub key: &'b [u8],
+    /// The length of the body in bytes, where it is given; any larger one is the greatest `u64`.
+    pub length: Option<u64>,
+}
+
+impl<'b> Terms<'b> {
+    /// The key and the length of the body, if the head keeps the rules: HTTP/1.1 has a Host, which
+    /// stands once, as the key and the length may, the length is a number, and the body is not
+    /// coded.
+    ///
+    /// # Errors
+    ///
+    /// The head breaks one of these rules: refusal 65.
+    pub fn of(head: &WholeHead<'b>) -> Result<Terms<'b>, BrokenRule>
+        ensures kept { IfOk result (HoldsTerms (heading_in head.now)) }
+        ensures broken { OnErr result (is_bad (heading_in head.now) ≡ true) }
+    {
+        let host = head.only("host")?;
+        let key = head.only("x-office-key")?;
+        let length = head.only("content-length")?;
+        let coding = head.only("transfer-encoding")?;
+        if coding.is_some() || (head.minor == 1 && host.is_none()) {
+            return Err(BrokenRule);
+        }
+        Ok(Terms {
+            key: key.unwrap_or(&[]),
+            length: length_of(length)?,
+        })
+    }
+}
+
+/// The length that a text gives, where there is one.
+fn length_of(text: Option<&[u8]>) -> Result<Option<u64>, BrokenRule>
+    ensures { result ≡ length_in text.entry }
+{
+    match text {
+        Some(text) => match read_length(text) {
+            Some(length) => Ok(Some(length)),
+            None => Err(BrokenRule),
+        },
+        None => Ok(None),
+    }
+}

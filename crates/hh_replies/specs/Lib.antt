@@ -1,0 +1,5 @@
+pub mod Bodies
+pub mod Causes
+pub mod ReplyText
+pub mod Statuses
+pub mod Writes

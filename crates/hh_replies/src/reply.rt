@@ -1,0 +1,108 @@
+//! Replies, written to connections.
+
+ghost use Rattle.std.specs.Prelude.{◌≡◌, ◌≢◌, Err, IsTrue};
+ghost use Rattle.hh_names.specs.Faults.{memory_fault};
+ghost use Rattle.hh_replies.specs.Writes.{WritesReply};
+ghost use Rattle.hh_replies.specs.ReplyText.{refused_text, reply_text};
+
+use crate::refusal::{Refused, RequestRefusal};
+use crate::reply_text::{memory_text, refused_text, reply_with};
+use hh_devices::{DeviceFailed, Sink, write_whole};
+use hh_names::{Fault, Refusal};
+use hh_requests::Reply;
+use std::alloc::{AllocError, Global};
+
+/// Why a reply was not written.
+#[derive(Clone, Copy, Debug, PartialEq, Eq)]
+pub enum WriteFault {
+    /// A call of the sink failed or took nothing, and a beginning of the reply went out.
+    Write,
+    /// Memory was refused, and nothing went out.
+    Memory,
+}
+
+impl From<AllocError> for WriteFault {
+    ghost use Rattle.hh_replies.specs.declared.reply.WriteFault.TheVariants.{Memory};
+
+    ghost from_gives = { λ _ fault. fault ≡ Memory };
+
+    fn from(_error: AllocError) -> WriteFault {
+        WriteFault::Memory
+    }
+}
+
+/// Writes a reply of the office (profile): its head alone where that is asked for. The reply that
+/// tells of refused memory takes none.
+///
+/// # Errors
+///
+/// `Write` where the sink failed or took nothing in this call, and then a beginning of the reply went
+/// out. `Memory` where the reply cannot be built, and then nothing went out.
+pub fn write_reply<S: Sink>(
+    alloc: Global,
+    reply: &Reply,
+    head_only: bool,
+    sink: &mut S,
+) -> Result<(), WriteFault>
+    ensures reply { WritesReply (S.taken sink.old) (S.taken sink.new) (S.failures sink.old)
+        (S.failures sink.new) (reply_text reply.now head_only) result }
+    ensures no_memory { reply.now ≡ Reply.Refused memory_fault → result ≢ Err WriteFault.Memory }
+{
+    if tells_no_memory(reply) {
+        return send(sink, memory_text(head_only));
+    }
+    let text = reply_with(alloc, "", reply, head_only)?;
+    send(sink, text.as_bytes())
+}
+
+/// Whether a reply tells of refused memory.
+fn tells_no_memory(reply: &Reply) -> bool
+    ensures yes { IsTrue result → reply.now ≡ Reply.Refused memory_fault }
+    ensures no { reply.now ≡ Reply.Refused memory_fault → IsTrue result }
+{
+    matches!(
+        reply,
+        Reply::Refused(Fault {
+            refusal: Refusal::Memory,
+            row: None,
+            column: None,
+            unit: None,
+            period: None,
+        })
+    )
+}
+
+/// Writes the reply to a request that is refused before the office is asked (profile): its head alone
+/// where the head of a reply was asked for. The reply to refused memory takes none.
+///
+/// # Errors
+///
+/// `Write` where the sink failed or took nothing in this call, and then a beginning of the reply went
+/// out. `Memory` where the reply cannot be built, and then nothing went out.
+pub fn write_refused<S: Sink>(
+    alloc: Global,
+    refused: &Refused,
+    sink: &mut S,
+) -> Result<(), WriteFault>
+    ensures reply { WritesReply (S.taken sink.old) (S.taken sink.new) (S.failures sink.old)
+        (S.failures sink.new) (refused_text refused.now) result }
+    ensures no_memory { refused.now.cause ≡ RequestRefusal.Memory → result ≢ Err WriteFault.Memory }
+{
+    if let RequestRefusal::Memory = refused.cause {
+        return send(sink, memory_text(refused.head_only));
+    }
+    let text = refused_text(alloc, refused)?;
+    send(sink, text.as_bytes())
+}
+
+/// Writes a reply that is built.
+fn send<S: Sink>(sink: &mut S, text: &[u8]) -> Result<(), WriteFault>
+    ensures reply { WritesReply (S.taken sink.old) (S.taken sink.new) (S.failures sink.old)
+        (S.failures sink.new) text.now result }
+    ensures no_memory { result ≢ Err WriteFault.Memory }
+{
+    match write_whole(sink, text) {
+        Ok(()) => Ok(()),
+        Err(DeviceFailed) => Err(WriteFault::Write),
+    }
+}

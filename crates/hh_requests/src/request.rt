@@ -1,0 +1,81 @@
+//! What is asked of an office.
+
+ghost use Rattle.std.specs.Prelude.{◌≡◌};
+
+use hh_names::{Account, FileName};
+use hh_rows::FileKind;
+use hh_runs::RunKey;
+use hh_time::SettlementDate;
+use std::marker::Model;
+
+/// Bytes as they came: a file's, or a key's (profile). Contracts see the list of them.
+#[derive(Debug, Drop)]
+pub struct Bytes {
+    items: Vec<u8>,
+}
+
+impl Model for Bytes {
+    ghost use Rattle.std.specs.Prelude.{List, ℕ};
+
+    ghost Value = { List ℕ };
+
+    ghost view = { λ bytes. bytes.items.items };
+}
+
+impl Bytes {
+    /// These bytes.
+    pub fn new(items: Vec<u8>) -> Bytes
+        ensures { result ≡ items.items }
+    {
+        Bytes { items }
+    }
+
+    /// The bytes one after the other.
+    pub fn as_slice(&self) -> &[u8]
+        ensures { result.now ≡ self.now }
+    {
+        &self.items
+    }
+}
+
+/// A file that is sent (profile). Its name is the one under which it is kept, and never a path.
+#[derive(Debug, Drop)]
+pub struct Upload {
+    pub kind: FileKind,
+    pub name: FileName,
+    pub body: Bytes,
+}
+
+/// What is asked (profile).
+#[derive(Debug, Drop)]
+pub enum Action {
+    /// That a file be loaded (profile).
+    Load(Upload),
+    /// That a run of a date and kind be made (profile).
+    Run(RunKey),
+    /// What an account has and pays in the latest run of a date (Section T in shape).
+    Account {
+        account: Account,
+        date: SettlementDate,
+    },
+    /// What the runs of all dates have moved to an account (profile).
+    Balance {
+        account: Account,
+    },
+    /// Which contracts of an account are in force on a date (Section P in shape).
+    Contracts {
+        account: Account,
+        date: SettlementDate,
+    },
+    /// Which runs a date has (profile).
+    Runs {
+        date: SettlementDate,
+    },
+}
+
+/// What is asked, and the key that is shown with it (profile).
+#[derive(Debug, Drop)]
+pub struct Request {
+    pub key: Bytes,
+    pub action: Action,
+}

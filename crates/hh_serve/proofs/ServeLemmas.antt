@@ -1,0 +1,79 @@
+-- What serving comes to, by what was read, handled and written.
+use Rattle.std.proofs.Common.{◌≡◌, ◌⊎◌, ℕ, ℤ, List, Bool, true, false, cond, Option, Result, Ok, Err, inl, inr, refl, sym, subst, ap}
+use Rattle.std.specs.Prelude.{MatchBool, IsErrAnd}
+use Rattle.hh_requests.specs.declared.reply.Reply.{Reply}
+use Rattle.hh_requests.specs.declared.request.Request.{Request}
+use Rattle.hh_states.specs.Content.{tables_of}
+use Rattle.hh_states.specs.States.{State}
+use Rattle.hh_office.specs.Machine.{next, step}
+use Rattle.hh_office.specs.PartyViews.{ForbidsOthers, ShowsByView}
+use Rattle.hh_office.specs.Promises.{ConservesAfter, HandleStep, RefusalLeaves, RepeatsOnce, Stands, StandsAfter, is_given_up}
+use Rattle.hh_office.specs.Transitions.{Transition}
+use Rattle.hh_office.specs.Views.{OfficeView, midnight_of}
+use Rattle.hh_replies.specs.declared.reply.WriteFault.{WriteFault}
+use Rattle.hh_replies.specs.declared.reply.WriteFault.TheVariants as write
+use Rattle.hh_replies.specs.Writes.{WritesReply}
+use Rattle.hh_wire.specs.declared.incoming.Incoming.{Incoming}
+use Rattle.hh_wire.specs.declared.incoming.Incoming.TheVariants.{Asked}
+use Rattle.hh_serve.specs.declared.serve.ServeFault.{ServeFault}
+use Rattle.hh_serve.specs.declared.serve.Served.{Served}
+use Rattle.hh_serve.specs.declared.serve.Served.TheVariants.{Replied}
+use Rattle.hh_serve.specs.ServeFaults.{serve_fault}
+use Rattle.hh_serve.specs.Serves.{Answer, IsAnswer, IsReadOf, Serves, StandsAfterOne, TellsNoMemory, answer_text}
+
+-- an answer is that the reply was not written
+passed_on : (result : Result Served ServeFault) (fault : WriteFault) → IsErrAnd result (λ served. served ≡ serve_fault fault) → Err (serve_fault fault) ≡ result
+passed_on (Ok served) fault is = absurd is
+passed_on (Err served) fault is = ap Err (sym is)
+
+-- what writing answers where it fails
+abbrev pub unwritten : WriteFault → Result (Unit {0}) WriteFault
+unwritten fault = Err fault
+
+-- A reply was written, or not to its end.
+module _ (source : Option (List ℕ)) (old new : OfficeView) (moment : ℤ) (before after : Option (List ℕ)) (first last : ℕ) (answer : Answer)
+    (is : IsAnswer source old new moment answer) where
+  pub replied : WritesReply before after first last (answer_text answer) (Ok tt) → Serves source old new moment before after (Ok Replied)
+  replied writes = (answer, is, writes.0)
+
+  unreplied : (fault : WriteFault) → WritesReply before after first last (answer_text answer) (Err fault)
+      → (TellsNoMemory answer → unwritten fault ≡ Err write.Memory → ⊥) → Serves source old new moment before after (Err (serve_fault fault))
+  unreplied write.Write writes wants = (answer, is, writes.0)
+  unreplied write.Memory writes wants = (answer, is, (λ tells. wants tells refl), writes.0)
+
+  pub not_replied : (fault : WriteFault) (result : Result Served ServeFault) → IsErrAnd result (λ served. served ≡ serve_fault fault)
+      → WritesReply before after first last (answer_text answer) (Err fault) → (TellsNoMemory answer → unwritten fault ≡ Err write.Memory → ⊥)
+      → Serves source old new moment before after result
+  not_replied fault result told writes wants =
+      subst (λ (r : Result Served ServeFault). Serves source old new moment before after r) (passed_on result fault told) (unreplied fault writes wants)
+
+-- A request was read and handled, at a moment that is written in two ways.
+module _ (old new : OfficeView) (moment at : ℤ) (same : at ≡ moment) (request : Request) (given : Reply) (steps : HandleStep old new at request given)
+    (stands : StandsAfter old new at request given) where
+  pub handled : (source : Option (List ℕ)) (read : Incoming) → read ≡ Asked request → IsReadOf source (Ok read)
+      → RefusalLeaves old new given → RepeatsOnce old new request given → ConservesAfter old new at request given
+      → ShowsByView old request given → ForbidsOthers old request given → IsAnswer source old new moment (Ok given)
+  handled source read is message untouched once sums view foreign = (
+    request,
+    subst (λ (i : Incoming). IsReadOf source (Ok i)) is message,
+    record {
+      step = subst (λ (m : ℤ). HandleStep old new m request given) same steps;
+      stands = subst (λ (m : ℤ). StandsAfter old new m request given) same stands;
+      untouched = untouched;
+      once = once;
+      sums = subst (λ (m : ℤ). ConservesAfter old new m request given) same sums;
+      view = view;
+      foreign = foreign;
+    },
+  )
+
+  stands_by : (m : ℤ) (s t : State) (reply : Reply) (b : Bool)
+      → MatchBool b (new ≡ old) ((given ≡ reply) × (new ≡ record old { content = tables_of (midnight_of old) t })) → Stands new (cond b s (next (midnight_of old) s m request))
+      → (new.zone ≡ old.zone) × (Stands new s ⊎ ((r : Request) × Stands new (next (midnight_of old) s m r)))
+  stands_by m s t reply true is after = (ap (λ (o : OfficeView). o.zone) is, inl after)
+  stands_by m s t reply false comes after = (ap (λ (o : OfficeView). o.zone) comes.1, inr (request, after))
+
+  pub stands_after_one : StandsAfterOne old new moment
+  stands_after_one = subst (λ (m : ℤ). StandsAfterOne old new m) same (λ s before.
+      let transition : Transition = step (midnight_of old) s at request in
+      stands_by at s transition.state transition.reply (is_given_up given) (steps s before) (stands s before))

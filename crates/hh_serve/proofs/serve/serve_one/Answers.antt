@@ -1,0 +1,63 @@
+use Rattle.std.proofs.Common.{Ok, Err, refl, rules, subst, w64, SFits}
+use Rattle.std.proofs.lemmas.Int.{to_z-of_z}
+use Rattle.hh_wire.specs.declared.incoming.WireFault.{WireFault}
+use Rattle.hh_serve.specs.Serves.{IsReadOf}
+use Rattle.hh_serve.proofs.ServeLemmas.{handled, not_replied, replied, stands_after_one}
+use Rattle.hh_serve.proofs.serve.serve_one.Goals as goal
+
+pub returns-in_err-write_reply-in-Ok-Asked-clause-served :
+    goal.returns-in_err-write_reply-in-Ok-Asked-clause-served
+returns-in_err-write_reply-in-Ok-Asked-clause-served g c =
+    let source = g.I.Source.remaining c.args.source.now in
+    let old = c.args.office.now in
+    let new = c.handle-reply.new.self in
+    let h = c.handle-reply.ensures in
+    let fits : SFits w64 c.args.moment = search rules in
+    let is = handled old new c.args.moment _ (to_z-of_z w64 c.args.moment fits) c.in-Ok-Asked.request c.handle-reply.result h.step h.stands
+    source c.in-Ok-Asked.field-0 c.in-Ok-Asked.field-0-is c.in-Ok-Asked.ensures.message h.untouched h.once h.sums h.view h.foreign in
+    not_replied source old new c.args.moment _ _ _ _ (Ok c.handle-reply.result) is c.in_err-write_reply-in-Ok-Asked.field-0.0 c.from_residual.result c.from_residual.ensures.1
+    c.in_err-write_reply-in-Ok-Asked.ensures.reply c.in_err-write_reply-in-Ok-Asked.ensures.no_memory
+
+pub returns-in_err-write_reply-in-Ok-Asked-clause-stands :
+    goal.returns-in_err-write_reply-in-Ok-Asked-clause-stands
+returns-in_err-write_reply-in-Ok-Asked-clause-stands g c =
+    let fits : SFits w64 c.args.moment = search rules in
+    stands_after_one c.args.office.now c.handle-reply.new.self c.args.moment _ (to_z-of_z w64 c.args.moment fits) c.in-Ok-Asked.request c.handle-reply.result
+    c.handle-reply.ensures.step c.handle-reply.ensures.stands
+
+pub returns-in_err-write_refused-in-Err-Refused-clause-served :
+    goal.returns-in_err-write_refused-in-Err-Refused-clause-served
+returns-in_err-write_refused-in-Err-Refused-clause-served g c =
+    let source = g.I.Source.remaining c.args.source.now in
+    let old = c.args.office.now in
+    let message = subst (λ (w : WireFault). IsReadOf source (Err w)) c.in-Err-Refused.field-0-is c.in-Err-Refused.ensures.message in
+    not_replied source old old c.args.moment _ _ _ _ (Err c.in-Err-Refused.refused) (message, refl) c.in_err-write_refused-in-Err-Refused.field-0.0
+    c.from_residual-in_err-write_refused-in-Err-Refused.result c.from_residual-in_err-write_refused-in-Err-Refused.ensures.1
+    c.in_err-write_refused-in-Err-Refused.ensures.reply c.in_err-write_refused-in-Err-Refused.ensures.no_memory
+
+pub returns-in_ok-write_reply-in-Ok-Asked-clause-served :
+    goal.returns-in_ok-write_reply-in-Ok-Asked-clause-served
+returns-in_ok-write_reply-in-Ok-Asked-clause-served g c =
+    let source = g.I.Source.remaining c.args.source.now in
+    let old = c.args.office.now in
+    let new = c.handle-reply.new.self in
+    let h = c.handle-reply.ensures in
+    let fits : SFits w64 c.args.moment = search rules in
+    let is = handled old new c.args.moment _ (to_z-of_z w64 c.args.moment fits) c.in-Ok-Asked.request c.handle-reply.result h.step h.stands
+    source c.in-Ok-Asked.field-0 c.in-Ok-Asked.field-0-is c.in-Ok-Asked.ensures.message h.untouched h.once h.sums h.view h.foreign in
+    replied source old new c.args.moment _ _ _ _ (Ok c.handle-reply.result) is c.in_ok-write_reply-in-Ok-Asked.ensures.reply
+
+pub returns-in_ok-write_reply-in-Ok-Asked-clause-stands :
+    goal.returns-in_ok-write_reply-in-Ok-Asked-clause-stands
+returns-in_ok-write_reply-in-Ok-Asked-clause-stands g c =
+    let fits : SFits w64 c.args.moment = search rules in
+    stands_after_one c.args.office.now c.handle-reply.new.self c.args.moment _ (to_z-of_z w64 c.args.moment fits) c.in-Ok-Asked.request c.handle-reply.result
+    c.handle-reply.ensures.step c.handle-reply.ensures.stands
+
+pub returns-in_ok-write_refused-in-Err-Refused-clause-served :
+    goal.returns-in_ok-write_refused-in-Err-Refused-clause-served
+returns-in_ok-write_refused-in-Err-Refused-clause-served g c =
+    let source = g.I.Source.remaining c.args.source.now in
+    let old = c.args.office.now in
+    let message = subst (λ (w : WireFault). IsReadOf source (Err w)) c.in-Err-Refused.field-0-is c.in-Err-Refused.ensures.message in
+    replied source old old c.args.moment _ _ _ _ (Err c.in-Err-Refused.refused) (message, refl) c.in_ok-write_refused-in-Err-Refused.ensures.reply

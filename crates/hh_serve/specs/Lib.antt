@@ -1,0 +1,2 @@
+pub mod ServeFaults
+pub mod Serves

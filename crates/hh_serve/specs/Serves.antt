@@ -1,0 +1,88 @@
+-- What serving a connection comes to: a request is read, the office handles it, and one reply goes out.
+use Rattle.std.specs.Prelude.{◌≡◌, ◌⊎◌, ℕ, ℤ, List, false, Option, IfSome, Result, Ok, Err}
+use Rattle.std.specs.Io.KnownBytes.{Appends, Keeps}
+use Rattle.hh_devices.specs.Devices.{AppendsFront, Failed}
+use Rattle.hh_names.specs.Faults.{memory_fault}
+use Rattle.hh_requests.specs.declared.reply.Reply.{Reply}
+use Rattle.hh_requests.specs.declared.reply.Reply.TheVariants as reply
+use Rattle.hh_requests.specs.declared.request.Request.{Request}
+use Rattle.hh_states.specs.States.{State}
+use Rattle.hh_office.specs.Machine.{next}
+use Rattle.hh_office.specs.PartyViews.{ForbidsOthers, ShowsByView}
+use Rattle.hh_office.specs.Promises.{ConservesAfter, HandleStep, RefusalLeaves, RepeatsOnce, Stands, StandsAfter}
+use Rattle.hh_office.specs.Views.{OfficeView, midnight_of}
+use Rattle.hh_replies.specs.declared.refusal.Refused.{Refused}
+use Rattle.hh_replies.specs.declared.refusal.RequestRefusal.TheVariants as refusal
+use Rattle.hh_replies.specs.ReplyText.{refused_text, reply_text}
+use Rattle.hh_wire.specs.declared.incoming.Incoming.{Incoming}
+use Rattle.hh_wire.specs.declared.incoming.Incoming.TheVariants as incoming
+use Rattle.hh_wire.specs.declared.incoming.WireFault.{WireFault}
+use Rattle.hh_wire.specs.declared.incoming.WireFault.TheVariants as fault
+use Rattle.hh_wire.specs.Message.{Reads}
+use Rattle.hh_serve.specs.declared.serve.ServeFault.{ServeFault}
+use Rattle.hh_serve.specs.declared.serve.ServeFault.TheVariants.{Memory, Read, Write}
+use Rattle.hh_serve.specs.declared.serve.Served.{Served}
+use Rattle.hh_serve.specs.declared.serve.Served.TheVariants.{Closed, Replied}
+
+-- the office handled a request that came at a moment and replied this, with all that it promises of a request
+pub record Handles (old new : OfficeView) (moment : ℤ) (request : Request) (given : Reply) : Type 0 where
+  pub step : HandleStep old new moment request given
+  pub stands : StandsAfter old new moment request given
+  pub untouched : RefusalLeaves old new given
+  pub once : RepeatsOnce old new request given
+  pub sums : ConservesAfter old new moment request given
+  pub view : ShowsByView old request given
+  pub foreign : ForbidsOthers old request given
+
+-- what is replied: a reply of the office, or that the request is refused before the office is asked
+abbrev pub Answer : Type 0
+Answer = Result Reply Refused
+
+-- the bytes of an answer
+abbrev pub answer_text : Answer → List ℕ
+answer_text (Ok given) = reply_text given false
+answer_text (Err refused) = refused_text refused
+
+-- the answer is that memory was refused
+abbrev pub TellsNoMemory : Answer → Type 0
+TellsNoMemory (Ok given) = given ≡ reply.Refused memory_fault
+TellsNoMemory (Err refused) = refused.cause ≡ refusal.Memory
+
+-- this was read of a source, which had these bytes where it tells them
+abbrev pub IsReadOf : Option (List ℕ) → Result Incoming WireFault → Type 0
+IsReadOf source read = IfSome source (λ bytes. Reads bytes read)
+
+-- A source had these bytes, and an office was the one before and is the other after a call that comes at a moment.
+module _ (source : Option (List ℕ)) (old new : OfficeView) (moment : ℤ) where
+  -- The answer is the office's reply to the request that the bytes ask, which it handled; or it is the refusal of what the bytes ask,
+  -- or of memory to read it, and the office stays as it was.
+  abbrev pub IsAnswer : Answer → Type 0
+  IsAnswer (Ok given) = (request : Request) × IsReadOf source (Ok (incoming.Asked request)) × Handles old new moment request given
+  IsAnswer (Err refused) = IsReadOf source (Err (fault.Refused refused)) × (new ≡ old)
+
+  -- A sink had taken these bytes before and has taken those after.
+  module _ (before after : Option (List ℕ)) where
+    -- Nothing was sent, and nothing is done; an answer went out; a read failed, and nothing is done; a beginning of an answer went
+    -- out; or nothing of it did, since memory was refused to write it, which is never so of the answer that memory was refused.
+    abbrev pub Serves : Result Served ServeFault → Type 0
+    Serves (Ok Closed) = IsReadOf source (Ok incoming.Closed) × (new ≡ old) × Keeps before after
+    Serves (Ok Replied) = (answer : Answer) × IsAnswer answer × Appends before after (answer_text answer)
+    Serves (Err Read) = (new ≡ old) × Keeps before after
+    Serves (Err Write) = (answer : Answer) × IsAnswer answer × AppendsFront before after (answer_text answer)
+    Serves (Err Memory) = (answer : Answer) × IsAnswer answer × (¬ (TellsNoMemory answer)) × Keeps before after
+
+-- an office stands for the state that it stood for, or for the machine's state after one request that came at a moment
+abbrev pub StandsAfterOne : OfficeView → OfficeView → ℤ → Type 0
+StandsAfterOne old new moment =
+    (s : State) → Stands old s
+    → (new.zone ≡ old.zone) × (Stands new s ⊎ ((request : Request) × Stands new (next (midnight_of old) s moment request)))
+
+-- a source counts one failure where a call answers that a read failed, and none elsewhere
+abbrev pub CountsReading : Result Served ServeFault → ℕ → ℕ → Type 0
+CountsReading (Err Read) old new = Failed old new
+CountsReading served old new = new ≡ old
+
+-- a sink counts one failure where a call answers that a write failed, and none elsewhere
+abbrev pub CountsWriting : Result Served ServeFault → ℕ → ℕ → Type 0
+CountsWriting (Err Write) old new = Failed old new
+CountsWriting served old new = new ≡ old

@@ -1,0 +1,81 @@
+//! Connections that are served: a request is read, the office handles it, and one reply is written.
+
+ghost use Rattle.hh_serve.specs.Serves.{CountsReading, CountsWriting, Serves, StandsAfterOne};
+
+use hh_devices::{Sink, Source};
+use hh_office::Office;
+use hh_replies::{WriteFault, write_refused, write_reply};
+use hh_store::Tables;
+use hh_wire::{Incoming, WireFault, read_request};
+use std::alloc::Global;
+
+/// What came of a connection that was served.
+#[derive(Clone, Copy, Debug, PartialEq, Eq)]
+pub enum Served {
+    /// The client closed before its first byte, and nothing was written.
+    Closed,
+    /// One reply was written.
+    Replied,
+}
+
+/// Why a connection was not served to its end.
+#[derive(Clone, Copy, Debug, PartialEq, Eq)]
+pub enum ServeFault {
+    /// A call of the source failed. Nothing was done, and nothing was written.
+    Read,
+    /// The sink failed or took nothing, and a beginning of the reply went out.
+    Write,
+    /// Memory was refused for the reply, and nothing was written.
+    Memory,
+}
+
+impl From<WriteFault> for ServeFault {
+    ghost use Rattle.std.specs.Prelude.{◌≡◌};
+    ghost use Rattle.hh_serve.specs.ServeFaults.{serve_fault};
+
+    ghost from_gives = { λ fault served. served ≡ serve_fault fault };
+
+    fn from(fault: WriteFault) -> ServeFault {
+        match fault {
+            WriteFault::Write => ServeFault::Write,
+            WriteFault::Memory => ServeFault::Memory,
+        }
+    }
+}
+
+/// Serves a connection (profile): reads what the client sends, has the office handle the request at a
+/// moment, in seconds since 1970-01-01T00:00:00Z, and writes one reply. A request that is refused before
+/// the office is asked, and memory that is refused for reading one, are replied too.
+///
+/// # Errors
+///
+/// `Read` where a call of the source failed in this call, and then nothing was done. `Write` where the
+/// sink failed or took nothing in this call, and `Memory` where the reply cannot be built: the request
+/// was handled then, or refused, and if it loads a file or orders a run it may come again.
+pub fn serve_one<T: Tables, I: Source, O: Sink>(
+    alloc: Global,
+    office: &mut Office<'_, T>,
+    moment: i64,
+    source: &mut I,
+    sink: &mut O,
+) -> Result<Served, ServeFault>
+    ensures served { Serves (I.remaining source.old) office.old office.new moment
+        (O.taken sink.old) (O.taken sink.new) result }
+    ensures stands { StandsAfterOne office.old office.new moment }
+    ensures read { CountsReading result (I.failures source.old) (I.failures source.new) }
+    ensures written { CountsWriting result (O.failures sink.old) (O.failures sink.new) }
+{
+    match read_request(alloc, source) {
+        Ok(Incoming::Closed) => Ok(Served::Closed),
+        Ok(Incoming::Asked(request)) => {
+            let reply = office.handle(moment, &request);
+            write_reply(alloc, &reply, false, sink)?;
+            Ok(Served::Replied)
+        }
+        Err(WireFault::Refused(refused)) => {
+            write_refused(alloc, &refused, sink)?;
+            Ok(Served::Replied)
+        }
+        Err(WireFault::Read) => Err(ServeFault::Read),
+    }
+}

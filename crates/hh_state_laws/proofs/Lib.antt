@@ -1,0 +1,19 @@
+mod AmountLaws
+mod ApartLaws
+pub mod BalanceLaws
+pub mod CompleteLaws
+pub mod ConsistentLaws
+pub mod CreditSumLaws
+mod EffectiveLaws
+mod LoadLaws
+pub mod PostingLaws
+mod PutLaws
+pub mod ReachLaws
+pub mod ReadyLaws
+pub mod ResultLaws
+mod RisingLaws
+pub mod RunLaws
+pub mod RunReadLaws
+mod RunRowLaws
+pub mod RunSumLaws
+pub mod SettledLaws

@@ -1,0 +1,22 @@
+//! What holds in each state that the settlement machine reaches, and what its tables add up to.
+#![tactic(auto)]
+
+mod consistency;
+mod effects;
+mod run_reads;
+mod sums;
+
+pub use consistency::{
+    consistent_runs, consistent_states, periods_ready, run_periods_ready, runs_complete,
+    sound_states,
+};
+pub use effects::{kept_files, load_effect, run_effect};
+pub use run_reads::{
+    day_nets_from_results, kept_kinds_of_dates, kept_postings, kept_results, kept_runs_of_dates,
+    kept_summaries, no_other_results,
+};
+pub use sums::{
+    cash_sums_to_zero, contracts_sum_to_zero, credits_sum_exactly, day_nets_are_sums,
+    each_period_settled, each_unit_credited, postings_total, run_postings_balance, runs_add_up,
+    settled_adds_up,
+};

@@ -1,0 +1,3 @@
+mod Examples
+pub mod KeyLaws
+pub mod ReadLaws

@@ -1,0 +1,119 @@
+-- What a load and a run write into the tables of an office, and what the tables are then.
+use Rattle.std.specs.Prelude.{◌≡◌, ℕ, ℤ, List, [], ◌∷◌, true}
+use Rattle.std.specs.FinMap.{put}
+use Rattle.hh_tables.specs.Tables.{put_all}
+use Rattle.hh_time.specs.Days.{Midnights}
+use Rattle.hh_names.specs.declared.values.Counterparties.{Counterparties}
+use Rattle.hh_names.specs.Accounts.{bytes_cmp}
+use Rattle.hh_rows.specs.declared.rows.Row.{Row}
+use Rattle.hh_rules.specs.Effects.{with_row}
+use Rattle.hh_rules.specs.FileRows.{fixed_references, timely_rows}
+use Rattle.hh_rules.specs.History.{Registered}
+use Rattle.hh_calc.specs.declared.result.AccountRow.{AccountRow}
+use Rattle.hh_runs.specs.declared.summary.Summary.{Summary}
+use Rattle.hh_runs.specs.declared.run_key.RunKey.{RunKey}
+use Rattle.hh_states.specs.declared.run_keys.CreditKey.{CreditKey}
+use Rattle.hh_states.specs.declared.run_keys.PostingKey.{PostingKey}
+use Rattle.hh_states.specs.declared.run_keys.ResultKey.{ResultKey}
+use Rattle.hh_states.specs.declared.file_key.FileKey.{FileKey}
+use Rattle.hh_states.specs.Content.{Content, credit_entries, credit_key_cmp, posting_entries, posting_key_cmp, result_entries, result_key_cmp, tables_of}
+use Rattle.hh_states.specs.Runs.{Run, latest_run, postings_after, run_key_cmp, settled_by}
+use Rattle.hh_states.specs.States.{AcceptedFile, State, file_key_cmp}
+use Rattle.hh_states.specs.Steps.{CanLoad, CanRun, IsReached, Load, after_load, after_run, kept_file, new_run, new_summary, rows_coming, timetable_at}
+
+-- what a load writes: the file with the counts of its reply, its rows that are not late, and the references that it fixes
+pub record LoadWrites : Type 0 where
+  pub key : FileKey
+  pub file : AcceptedFile
+  pub rows : List Row
+  pub references : List (List ℕ × Counterparties)
+
+-- what a run writes: its summary, the rows of its accounts, its credits and its postings
+pub record RunWrites : Type 0 where
+  pub key : RunKey
+  pub summary : Summary
+  pub results : List (ResultKey × AccountRow)
+  pub credits : List (CreditKey × ℤ)
+  pub postings : List (PostingKey × ℤ)
+
+-- what is registered and in force with a further row that is not late; references stand apart
+abbrev pub put_row : Row → Registered → Registered
+put_row r tables = record (with_row true r tables) { references = tables.references }
+
+-- what is registered and in force with further rows that are not late, one after the other
+abbrev pub put_rows : List Row → Registered → Registered
+put_rows [] tables = tables
+put_rows (r ∷ rows) tables = put_rows rows (put_row r tables)
+
+-- what is registered and in force after a load that writes this
+abbrev pub registered_with : LoadWrites → Registered → Registered
+registered_with w tables = record (put_rows w.rows tables) { references = put_all bytes_cmp w.references tables.references }
+
+-- the tables after a load that writes this
+abbrev pub effect_of_load : LoadWrites → Content → Content
+effect_of_load w content = record content {
+  registered = registered_with w content.registered;
+  files = put file_key_cmp w.key w.file content.files;
+}
+
+-- the tables after a run that writes this
+abbrev pub effect_of_run : RunWrites → Content → Content
+effect_of_run w content = record content {
+  runs = put run_key_cmp w.key w.summary content.runs;
+  results = put_all result_key_cmp w.results content.results;
+  credits = put_all credit_key_cmp w.credits content.credits;
+  postings = put_all posting_key_cmp w.postings content.postings;
+}
+
+module _ (midnight : Midnights) (s : State) where
+  -- the rows of a load that are not late
+  abbrev pub rows_in_time : Load → List Row
+  rows_in_time load = timely_rows (timetable_at midnight s) (rows_coming load)
+
+  -- the references that a load fixes, late rows included
+  abbrev pub references_fixed : Load → List (List ℕ × Counterparties)
+  references_fixed load = fixed_references (timetable_at midnight s) s.history (rows_coming load)
+
+  -- what the machine writes for an accepted load
+  abbrev pub load_writes : Load → LoadWrites
+  load_writes load = record {
+    key = load.key;
+    file = kept_file (timetable_at midnight s) load;
+    rows = rows_in_time load;
+    references = references_fixed load;
+  }
+
+  -- what the machine writes for a new run
+  abbrev pub run_writes : RunKey → RunWrites
+  run_writes key =
+      let run : Run = new_run s key in
+      record {
+        key = key;
+        summary = new_summary midnight s key;
+        results = result_entries key (settled_by (timetable_at midnight s) s.history run);
+        credits = credit_entries key (settled_by (timetable_at midnight s) s.history run);
+        postings = posting_entries key (postings_after (timetable_at midnight s) s.history (latest_run key.date s.runs) run);
+      }
+
+module _ (midnight : Midnights) (content : Content) where
+  -- these are the tables of a state that the machine reaches
+  abbrev pub StandsFor : State → Type 0
+  StandsFor s = IsReached midnight s × (content ≡ tables_of midnight s)
+
+  -- the machine writes this for a load that it accepts in a state with these tables
+  abbrev pub IsLoadFrom : LoadWrites → Type 0
+  IsLoadFrom w = (s : State) × (load : Load) × StandsFor s × CanLoad midnight s load × (w ≡ load_writes midnight s load)
+
+  -- the machine writes this for a new run that it makes in a state with these tables
+  abbrev pub IsRunFrom : RunWrites → Type 0
+  IsRunFrom w = (s : State) × (moment : ℤ) × (key : RunKey) × StandsFor s × CanRun midnight s moment key × (w ≡ run_writes midnight s key)
+
+-- what a load writes makes the tables of a reached state those of the state after the load
+abbrev pub LoadEffect : Type 0
+LoadEffect = (midnight : Midnights) (s : State) (load : Load) → IsReached midnight s → CanLoad midnight s load
+    → tables_of midnight (after_load midnight s load) ≡ effect_of_load (load_writes midnight s load) (tables_of midnight s)
+
+-- what a run writes makes the tables of a state those of the state after the run
+abbrev pub RunEffect : Type 0
+RunEffect = (midnight : Midnights) (s : State) (moment : ℤ) (key : RunKey) → CanRun midnight s moment key
+    → tables_of midnight (after_run s key) ≡ effect_of_run (run_writes midnight s key) (tables_of midnight s)

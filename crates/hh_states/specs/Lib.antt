@@ -1,0 +1,12 @@
+pub mod Changes
+pub mod Content
+pub mod DaySettlement
+pub mod PeriodSettlement
+pub mod Readiness
+pub mod Reads
+pub mod RunReads
+pub mod Runs
+pub mod Soundness
+pub mod States
+pub mod Steps
+pub mod Sums

@@ -1,0 +1,74 @@
+-- What the reading calls answer about the runs of a state, from the tables that stand for it.
+use Rattle.std.specs.Prelude.{◌≡◌, ℕ, ◌==◌, ℤ, ◌+ℤ◌, List, [], map, filter, Some, None}
+use Rattle.std.specs.FinMap.{find}
+use Rattle.std.specs.List.{AllByRecursion, flat_map}
+use Rattle.hh_num.specs.Totals.{total}
+use Rattle.hh_time.specs.Days.{Midnights}
+use Rattle.hh_names.specs.declared.account.Account.{Account}
+use Rattle.hh_rows.specs.declared.settlement_period.SettlementPeriod.{SettlementPeriod}
+use Rattle.hh_rules.specs.Lateness.{Timetable}
+use Rattle.hh_calc.specs.declared.result.AccountRow.{AccountRow}
+use Rattle.hh_calc.specs.Formulas.{of_account}
+use Rattle.hh_calc.specs.Terms.{Settled}
+use Rattle.hh_runs.specs.declared.run_kind.RunKind.{RunKind}
+use Rattle.hh_runs.specs.declared.summary.Summary.{Summary}
+use Rattle.hh_runs.specs.DayNets.{day_net_of}
+use Rattle.hh_runs.specs.declared.run_key.RunKey.{RunKey}
+use Rattle.hh_states.specs.Content.{runs_with_former, tables_of}
+use Rattle.hh_states.specs.Reads.{postings_in, results_in, runs_in}
+use Rattle.hh_states.specs.Runs.{nets_of, run_key_cmp, settled_by, summary_after}
+use Rattle.hh_states.specs.States.{State}
+use Rattle.hh_states.specs.Steps.{IsReached, kept_summary, kinds_on, timetable_at}
+use Rattle.hh_states.specs.Sums.{moved_by_runs}
+
+-- the summary that the tables of a state hold under a key is the one that is kept of the run
+abbrev pub HoldsSummaries : Type 0
+HoldsSummaries = (midnight : Midnights) (s : State) (key : RunKey)
+    → find run_key_cmp key (tables_of midnight s).runs ≡ kept_summary midnight s key
+
+-- the runs of a date, each by its kind with its summary, in the order in which they were made
+abbrev pub summaries_on : Timetable → State → ℕ → List (RunKind × Summary)
+summaries_on timetable s date =
+    map (λ r. (r.1.key.kind, summary_after timetable s.history r.0 r.1))
+    (filter (λ r. r.1.key.date == date) (runs_with_former s))
+
+-- the runs of a date in the tables of a reached state are the date's runs with their summaries, in that order
+abbrev pub HoldsRunsOfDates : Type 0
+HoldsRunsOfDates = (midnight : Midnights) (s : State) (date : ℕ) → IsReached midnight s
+    → runs_in (tables_of midnight s) date ≡ summaries_on (timetable_at midnight s) s date
+
+-- so they are of the kinds of the date's runs, in the order in which these were made
+abbrev pub HoldsRuns : Type 0
+HoldsRuns = (midnight : Midnights) (s : State) (date : ℕ) → IsReached midnight s
+    → map (λ r. r.0) (runs_in (tables_of midnight s) date) ≡ kinds_on s date
+
+-- the rows of accounts in settled periods, each with the number of its period
+abbrev pub rows_by_period : List (SettlementPeriod × Settled) → List (ℕ × AccountRow)
+rows_by_period day = flat_map (λ q. map (λ row. (q.0.period, row)) q.1.accounts) day
+
+-- the rows of each run in the tables of a reached state are those of the periods that it settles, by period, then by account
+abbrev pub HoldsResults : Type 0
+HoldsResults = (midnight : Midnights) (s : State) → IsReached midnight s
+    → AllByRecursion (λ r.
+    results_in (tables_of midnight s) r.key ≡ rows_by_period (settled_by (timetable_at midnight s) s.history r)) s.runs
+
+-- the tables of a state hold no rows of a run that is not there
+abbrev pub HoldsNoOtherResults : Type 0
+HoldsNoOtherResults = (midnight : Midnights) (s : State) (key : RunKey)
+    → kept_summary midnight s key ≡ None → results_in (tables_of midnight s) key ≡ []
+
+-- the postings to an account in the tables of a reached state come to what the latest runs of all dates move to it
+abbrev pub HoldsPostings : Type 0
+HoldsPostings = (midnight : Midnights) (s : State) (a : Account) → IsReached midnight s
+    → total (λ e. e.1) (postings_in (tables_of midnight s) a) ≡ moved_by_runs (timetable_at midnight s) s a
+
+-- what an account pays by these rows: the charges and shares of its own
+abbrev pub paid_in : Account → List (ℕ × AccountRow) → ℤ
+paid_in a rows = total (λ e. of_account a e.1.account (e.1.charge +ℤ e.1.share)) rows
+
+-- what an account pays by the rows of a run in the tables of a reached state is its day net in the run
+abbrev pub DayNetsFromResults : Type 0
+DayNetsFromResults = (midnight : Midnights) (s : State) (a : Account) → IsReached midnight s
+    → AllByRecursion (λ r.
+    paid_in a (results_in (tables_of midnight s) r.key)
+    ≡ day_net_of (nets_of (timetable_at midnight s) s.history (Some r)) a) s.runs

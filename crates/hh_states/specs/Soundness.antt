@@ -1,0 +1,106 @@
+-- What holds of all that is registered and in force, however the files came.
+use Rattle.std.specs.Prelude.{◌≡◌, ◌≢◌, ℕ, pos, ◌≤◌, ◌≤ℤ◌, List, length, Some, IsSome, IsTrue}
+use Rattle.std.specs.FinMap.{find}
+use Rattle.std.specs.List.{AllByRecursion}
+use Rattle.hh_num.specs.Quantities.{hundred_percent}
+use Rattle.hh_tables.specs.Tables.{IsTable, Table}
+use Rattle.hh_time.specs.Days.{Midnights}
+use Rattle.hh_names.specs.declared.values.Counterparties.{Counterparties}
+use Rattle.hh_names.specs.declared.values.Reallocation.{Reallocation}
+use Rattle.hh_names.specs.Accounts.{bytes_cmp}
+use Rattle.hh_rows.specs.DateRanges.{holds, is_inside}
+use Rattle.hh_rows.specs.Keys.{contract_key_cmp, reallocation_key_cmp, settlement_period_cmp, unit_period_cmp}
+use Rattle.hh_rows.specs.declared.keys.ContractKey.{ContractKey}
+use Rattle.hh_rows.specs.declared.keys.ReallocationKey.{ReallocationKey}
+use Rattle.hh_rows.specs.declared.keys.UnitPeriod.{UnitPeriod}
+use Rattle.hh_rows.specs.declared.rows.PartyRegistration.{PartyRegistration}
+use Rattle.hh_rows.specs.declared.rows.UnitRegistration.{UnitRegistration}
+use Rattle.hh_rules.specs.History.{Registered}
+use Rattle.hh_rules.specs.Percents.{percent_at}
+use Rattle.hh_rules.specs.Refusals.{most_parties, most_units}
+use Rattle.hh_states.specs.Runs.{seen_by}
+use Rattle.hh_states.specs.States.{State}
+use Rattle.hh_states.specs.Steps.{IsReached, registered_at, timetable_at}
+
+-- no more parties and units are registered than there may be, the reference of each contract in force is fixed, and of a unit
+-- at most 100 percent is in force in a Settlement Period
+pub record AreSound (tables : Registered) : Type 0 where
+  pub parties : length tables.parties ≤ most_parties
+  pub units : length tables.units ≤ most_units
+  pub fixed : (key : ContractKey) → IsSome (find contract_key_cmp key tables.contracts)
+      → IsSome (find bytes_cmp key.reference tables.references)
+  pub percents : (at : UnitPeriod) → percent_at tables.reallocations at ≤ℤ hundred_percent
+
+-- no percentage in force is negative
+abbrev pub NoneNegative : Table ReallocationKey Reallocation → Type 0
+NoneNegative reallocations = AllByRecursion (λ e. pos 0 ≤ℤ e.1.percent) reallocations
+
+-- a party is registered, and its range holds a date
+pub record IsPartyEffective (tables : Registered) (party : List ℕ) (date : ℕ) : Type 0 where
+  pub registration : PartyRegistration
+  pub registered : find bytes_cmp party tables.parties ≡ Some registration
+  pub holding : IsTrue (holds registration.range date)
+
+-- a unit is registered, and its range holds a date
+pub record IsUnitEffective (tables : Registered) (unit : List ℕ) (date : ℕ) : Type 0 where
+  pub registration : UnitRegistration
+  pub registered : find bytes_cmp unit tables.units ≡ Some registration
+  pub holding : IsTrue (holds registration.range date)
+
+-- a unit's lead party is registered, and the unit's range lies inside that party's
+pub record IsInsideLead (tables : Registered) (unit : UnitRegistration) : Type 0 where
+  pub lead : PartyRegistration
+  pub registered : find bytes_cmp unit.lead.party tables.parties ≡ Some lead
+  pub inside : IsTrue (is_inside unit.range lead.range)
+
+-- a contract's reference is fixed: its seller is another account than its buyer, and both parties are effective on its date
+pub record HasCounterparties (tables : Registered) (key : ContractKey) : Type 0 where
+  pub counterparties : Counterparties
+  pub fixed : find bytes_cmp key.reference tables.references ≡ Some counterparties
+  pub different : counterparties.seller ≢ counterparties.buyer
+  pub seller : IsPartyEffective tables counterparties.seller.party key.at.date
+  pub buyer : IsPartyEffective tables counterparties.buyer.party key.at.date
+
+-- a reallocation's unit and its account's party are effective on its date, and the account isn't the unit's lead account
+pub record IsToSubsidiary (tables : Registered) (key : ReallocationKey) : Type 0 where
+  pub unit : IsUnitEffective tables key.unit_period.unit key.unit_period.at.date
+  pub party : IsPartyEffective tables key.account.party key.unit_period.at.date
+  pub not_lead : unit.registration.lead ≢ key.account
+
+-- the keys of each of the seven tables rise, so that none stands twice
+pub record AreTables (tables : Registered) : Type 0 where
+  pub parties : IsTable bytes_cmp tables.parties
+  pub units : IsTable bytes_cmp tables.units
+  pub references : IsTable bytes_cmp tables.references
+  pub meters : IsTable unit_period_cmp tables.meters
+  pub prices : IsTable settlement_period_cmp tables.prices
+  pub contracts : IsTable contract_key_cmp tables.contracts
+  pub reallocations : IsTable reallocation_key_cmp tables.reallocations
+
+-- What is registered and in force fits together: there are no more parties and units than there may be, each unit's range lies
+-- inside its lead party's, each contract has its counterparties, each reallocation is to a subsidiary, of no unit is more than 100
+-- percent in force in a Settlement Period, and each reading is of a unit that is effective on the date.
+pub record AreConsistent (tables : Registered) : Type 0 where
+  pub rising : AreTables tables
+  pub parties : length tables.parties ≤ most_parties
+  pub units : length tables.units ≤ most_units
+  pub leads : (unit : List ℕ) (u : UnitRegistration) → find bytes_cmp unit tables.units ≡ Some u → IsInsideLead tables u
+  pub contracts : (key : ContractKey) → IsSome (find contract_key_cmp key tables.contracts) → HasCounterparties tables key
+  pub reallocations : (key : ReallocationKey) → IsSome (find reallocation_key_cmp key tables.reallocations)
+      → IsToSubsidiary tables key
+  pub percents : (at : UnitPeriod) → percent_at tables.reallocations at ≤ℤ hundred_percent
+  pub meters : (key : UnitPeriod) → IsSome (find unit_period_cmp key tables.meters)
+      → IsUnitEffective tables key.unit key.at.date
+
+-- in each state that the machine reaches, what is registered and in force is consistent
+abbrev pub ConsistentStates : Type 0
+ConsistentStates = (midnight : Midnights) (s : State) → IsReached midnight s → AreConsistent (registered_at midnight s)
+
+-- and it is sound
+abbrev pub SoundStates : Type 0
+SoundStates = (midnight : Midnights) (s : State) → IsReached midnight s → AreSound (registered_at midnight s)
+
+-- and consistent is, of each run of such a state, what was registered and in force when the run was ordered
+abbrev pub ConsistentRuns : Type 0
+ConsistentRuns = (midnight : Midnights) (s : State) → IsReached midnight s
+    → AllByRecursion (λ r. AreConsistent (seen_by (timetable_at midnight s) s.history r)) s.runs

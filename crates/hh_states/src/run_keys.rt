@@ -1,0 +1,30 @@
+//! The keys of what is kept of runs.
+
+use hh_names::{Account, PeriodNumber, UnitId};
+use hh_runs::RunKey;
+
+/// An account in a Settlement Period of a run (profile). Ordered by run, then by period, then by
+/// account.
+#[derive(Clone, Copy, Debug, PartialEq, Eq, PartialOrd, Ord)]
+pub struct ResultKey {
+    pub run: RunKey,
+    pub period: PeriodNumber,
+    pub account: Account,
+}
+
+/// An account that is credited from a unit in a Settlement Period of a run (profile). Ordered by run,
+/// then by period, then by the bytes of the unit's id, then by account.
+#[derive(Clone, Copy, Debug, PartialEq, Eq, PartialOrd, Ord)]
+pub struct CreditKey {
+    pub run: RunKey,
+    pub period: PeriodNumber,
+    pub unit: UnitId,
+    pub account: Account,
+}
+
+/// An account to which a run posts (profile). Ordered by run, then by account.
+#[derive(Clone, Copy, Debug, PartialEq, Eq, PartialOrd, Ord)]
+pub struct PostingKey {
+    pub run: RunKey,
+    pub account: Account,
+}
