@@ -1,18 +1,18 @@
 //! The bodies of replies.
 
 ghost use Rattle.std.specs.Prelude.{◌≡◌, IfOk, OnOk, codes, option_map, string_bytes};
-ghost use Rattle.serde_json.specs.Data.{string};
+ghost use Rattle.serde_json.specs.Data.{put as with_member, string};
 ghost use Rattle.serde_json.specs.View.{members_view, view};
-ghost use Rattle.hh_names.specs.Accounts.{account_text};
-ghost use Rattle.hh_replies.specs.Bodies.{account_body, balance_body, contract_body, contracts_body, count_data, counterparty_of, fault_body, kind_data, list_data, loaded_body, period_body, reply_body, role_of, run_body, runs_body, with_place};
+ghost use Rattle.hh_replies.specs.Bodies.{account_body, account_data, balance_body, contract_body, contracts_body, count_data, counterparty_of, date_data, energy_data, fault_body, kind_data, list_data, loaded_body, period_body, reply_body, role_of, run_body, runs_body, volume_data, with_place};
 
 use crate::member_text::{date_text, number_text};
 use hh_calc::AccountRow;
 use hh_names::{Account, Counterparties, Fault, PeriodNumber, UnitId};
-use hh_num::Pence;
+use hh_num::{Kwh, Pence, Ticks};
 use hh_requests::{AccountReply, ContractsReply, Loaded, Reply, RunsReply};
 use hh_rows::ContractRow;
 use hh_runs::{RunKey, RunKind, Summary};
+use hh_time::SettlementDate;
 use serde_json::{Map, Value, json, put};
 use std::alloc::{AllocError, Global};
 
@@ -49,17 +49,19 @@ fn run_value(alloc: Global, run: RunKey, summary: Summary) -> Result<Value, Allo
         residual,
         postings,
     } = summary;
-    let date = date_text(alloc, run.date)?;
-    let kind = run.kind.code();
-    let residual = residual.units();
-    json!(in alloc; {
-        "accounts": accounts,
-        "date": date,
-        "kind": kind,
-        "periods": periods,
-        "postings": postings,
-        "residual_pence": residual
-    })
+    let mut members = Map::new(alloc);
+    put(&mut members, alloc, "accounts", Value::from(accounts))?;
+    put_date(alloc, &mut members, run.date)?;
+    put_code(alloc, &mut members, run.kind)?;
+    put(&mut members, alloc, "periods", Value::from(periods))?;
+    put(&mut members, alloc, "postings", Value::from(postings))?;
+    put(
+        &mut members,
+        alloc,
+        "residual_pence",
+        Value::from(residual.units()),
+    )?;
+    Ok(Value::Object(members))
 }
 
 /// What an account has and pays in a Settlement Period.
@@ -67,22 +69,25 @@ fn period_value(alloc: Global, row: &(PeriodNumber, AccountRow)) -> Result<Value
     ensures { IfOk result (λ value. view value ≡ period_body row.now) }
 {
     let (period, row) = row;
-    let balancing = number_text(alloc, row.balancing)?;
-    let charge = row.charge.units();
-    let contracts = number_text(alloc, row.contracts)?;
-    let credited = number_text(alloc, row.credited)?;
-    let imbalance = number_text(alloc, row.imbalance)?;
-    let period = period.number();
-    let share = row.share.units();
-    json!(in alloc; {
-        "balancing": balancing,
-        "charge_pence": charge,
-        "contracts": contracts,
-        "credited": credited,
-        "imbalance": imbalance,
-        "period": period,
-        "share_pence": share
-    })
+    let mut members = Map::new(alloc);
+    put_energy(alloc, &mut members, "balancing", row.balancing)?;
+    put(
+        &mut members,
+        alloc,
+        "charge_pence",
+        Value::from(row.charge.units()),
+    )?;
+    put_energy(alloc, &mut members, "contracts", row.contracts)?;
+    put_energy(alloc, &mut members, "credited", row.credited)?;
+    put_energy(alloc, &mut members, "imbalance", row.imbalance)?;
+    put(&mut members, alloc, "period", Value::from(period.number()))?;
+    put(
+        &mut members,
+        alloc,
+        "share_pence",
+        Value::from(row.share.units()),
+    )?;
+    Ok(Value::Object(members))
 }
 
 /// The same of each Settlement Period.
@@ -100,33 +105,40 @@ fn periods_value(alloc: Global, rows: &[(PeriodNumber, AccountRow)]) -> Result<V
 fn account_value(alloc: Global, reply: &AccountReply) -> Result<Value, AllocError>
     ensures { IfOk result (λ value. view value ≡ account_body reply.now) }
 {
-    let account = account_text(alloc, &reply.account())?;
     let run = reply.run();
-    let date = date_text(alloc, run.date)?;
-    let kind = run.kind.code();
-    let net = reply.net().units();
+    let mut members = Map::new(alloc);
+    put_account(alloc, &mut members, "account", &reply.account())?;
+    put_date(alloc, &mut members, run.date)?;
+    put_code(alloc, &mut members, run.kind)?;
+    put(
+        &mut members,
+        alloc,
+        "net_pence",
+        Value::from(reply.net().units()),
+    )?;
     let periods = periods_value(alloc, reply.rows())?;
-    json!(in alloc; {
-        "account": account,
-        "date": date,
-        "kind": kind,
-        "net_pence": net,
-        "periods": periods
-    })
+    put(&mut members, alloc, "periods", periods)?;
+    Ok(Value::Object(members))
 }
 
 /// What runs have moved to an account.
 fn balance_value(alloc: Global, account: &Account, moved: Pence) -> Result<Value, AllocError>
     ensures { IfOk result (λ value. view value ≡ balance_body account.now moved) }
 {
-    let account = account_text(alloc, account)?;
-    let moved = moved.units();
-    json!(in alloc; {"account": account, "moved_pence": moved})
+    let mut members = Map::new(alloc);
+    put_account(alloc, &mut members, "account", account)?;
+    put(
+        &mut members,
+        alloc,
+        "moved_pence",
+        Value::from(moved.units()),
+    )?;
+    Ok(Value::Object(members))
 }
 
 /// The other account of a contract.
-fn counterparty_of(account: &Account, counterparties: Counterparties) -> Account
-    ensures { result ≡ counterparty_of account.now counterparties }
+fn counterparty_of(account: &Account, counterparties: &Counterparties) -> Account
+    ensures { result ≡ counterparty_of account.now counterparties.now }
 {
     if counterparties.seller == *account {
         counterparties.buyer
@@ -136,8 +148,8 @@ fn counterparty_of(account: &Account, counterparties: Counterparties) -> Account
 }
 
 /// Whether an account sells or buys.
-fn role_of(account: &Account, counterparties: Counterparties) -> &'static str
-    ensures { result.now ≡ role_of account.now counterparties }
+fn role_of(account: &Account, counterparties: &Counterparties) -> &'static str
+    ensures { result.now ≡ role_of account.now counterparties.now }
 {
     if counterparties.seller == *account {
         "seller"
@@ -150,19 +162,21 @@ fn role_of(account: &Account, counterparties: Counterparties) -> &'static str
 fn contract_value(alloc: Global, account: &Account, row: &ContractRow) -> Result<Value, AllocError>
     ensures { IfOk result (λ value. view value ≡ contract_body account.now row.now) }
 {
-    let counterparties = row.contract.counterparties;
-    let counterparty = account_text(alloc, &counterparty_of(account, counterparties))?;
-    let volume = number_text(alloc, row.contract.volume)?;
-    let period = row.key.at.period.number();
-    let reference = row.key.reference.as_str();
-    let role = role_of(account, counterparties);
-    json!(in alloc; {
-        "counterparty": counterparty,
-        "mwh": volume,
-        "period": period,
-        "reference": reference,
-        "role": role
-    })
+    let counterparties = &row.contract.counterparties;
+    let counterparty = counterparty_of(account, counterparties);
+    let mut members = Map::new(alloc);
+    put_account(alloc, &mut members, "counterparty", &counterparty)?;
+    put_volume(alloc, &mut members, row.contract.volume)?;
+    let period = Value::from(row.key.at.period.number());
+    put(&mut members, alloc, "period", period)?;
+    put_str(alloc, &mut members, "reference", row.key.reference.as_str())?;
+    put_str(
+        alloc,
+        &mut members,
+        "role",
+        role_of(account, counterparties),
+    )?;
+    Ok(Value::Object(members))
 }
 
 /// Contracts as one of their accounts sees them.
@@ -186,10 +200,12 @@ fn contracts_value(alloc: Global, reply: &ContractsReply) -> Result<Value, Alloc
     ensures { IfOk result (λ value. view value ≡ contracts_body reply.now) }
 {
     let account = reply.account();
+    let mut members = Map::new(alloc);
+    put_account(alloc, &mut members, "account", &account)?;
     let contracts = contract_values(alloc, &account, reply.contracts())?;
-    let account = account_text(alloc, &account)?;
-    let date = date_text(alloc, reply.date())?;
-    json!(in alloc; {"account": account, "contracts": contracts, "date": date})
+    put(&mut members, alloc, "contracts", contracts)?;
+    put_date(alloc, &mut members, reply.date())?;
+    Ok(Value::Object(members))
 }
 
 /// The codes of kinds of runs.
@@ -207,9 +223,11 @@ fn kinds_value(alloc: Global, kinds: &[RunKind]) -> Result<Value, AllocError>
 fn runs_value(alloc: Global, reply: &RunsReply) -> Result<Value, AllocError>
     ensures { IfOk result (λ value. view value ≡ runs_body reply.now) }
 {
-    let date = date_text(alloc, reply.date())?;
+    let mut members = Map::new(alloc);
+    put_date(alloc, &mut members, reply.date())?;
     let runs = kinds_value(alloc, reply.kinds())?;
-    json!(in alloc; {"date": date, "runs": runs})
+    put(&mut members, alloc, "runs", runs)?;
+    Ok(Value::Object(members))
 }
 
 /// A refusal, with the places that it has.
@@ -218,8 +236,7 @@ fn fault_value(alloc: Global, fault: &Fault) -> Result<Value, AllocError>
 {
     let mut members = Map::new(alloc);
     put_number(alloc, &mut members, "column", fault.column)?;
-    let name = Value::try_from_str(alloc, fault.refusal.name())?;
-    put(&mut members, alloc, "name", name)?;
+    put_str(alloc, &mut members, "name", fault.refusal.name())?;
     let period = fault.period.map(|period| u32::from(period.number()));
     put_number(alloc, &mut members, "period", period)?;
     put(
@@ -259,19 +276,87 @@ fn put_unit(
         with_place (codes "unit") (option_map string unit) (members_view members.old.entries)) }
 {
     match unit {
-        Some(unit) => put(
-            members,
-            alloc,
-            "unit",
-            Value::try_from_str(alloc, unit.as_str())?,
-        ),
+        Some(unit) => put_str(alloc, members, "unit", unit.as_str()),
         None => Ok(()),
     }
 }
 
-/// The text of an account.
-fn account_text(alloc: Global, account: &Account) -> Result<String, AllocError>
-    ensures { IfOk result (λ text. string_bytes text ≡ account_text account.now) }
+/// Puts a text under its key.
+fn put_str(
+    alloc: Global,
+    members: &mut Map<String, Value>,
+    key: &str,
+    text: &str,
+) -> Result<(), AllocError>
+    ensures { OnOk result (members_view members.new.entries ≡
+        with_member key.now (string text.now) (members_view members.old.entries)) }
 {
-    format!(in alloc; "{account}")
+    let text = Value::try_from_str(alloc, text)?;
+    put(members, alloc, key, text)
+}
+
+/// Puts the text of an account under its key.
+fn put_account(
+    alloc: Global,
+    members: &mut Map<String, Value>,
+    key: &str,
+    account: &Account,
+) -> Result<(), AllocError>
+    ensures { OnOk result (members_view members.new.entries ≡
+        with_member key.now (account_data account.now) (members_view members.old.entries)) }
+{
+    let text = format!(in alloc; "{account}")?;
+    put(members, alloc, key, Value::String(text))
+}
+
+/// Puts the text of a date.
+fn put_date(
+    alloc: Global,
+    members: &mut Map<String, Value>,
+    date: SettlementDate,
+) -> Result<(), AllocError>
+    ensures { OnOk result (members_view members.new.entries ≡
+        with_member (codes "date") (date_data date) (members_view members.old.entries)) }
+{
+    let text = date_text(alloc, date)?;
+    put(members, alloc, "date", Value::String(text))
+}
+
+/// Puts the code of a kind of run.
+fn put_code(
+    alloc: Global,
+    members: &mut Map<String, Value>,
+    kind: RunKind,
+) -> Result<(), AllocError>
+    ensures { OnOk result (members_view members.new.entries ≡
+        with_member (codes "kind") (kind_data kind) (members_view members.old.entries)) }
+{
+    put_str(alloc, members, "kind", kind.code())
+}
+
+/// Puts energy, in MWh, under its key.
+fn put_energy(
+    alloc: Global,
+    members: &mut Map<String, Value>,
+    key: &str,
+    energy: Ticks,
+) -> Result<(), AllocError>
+    ensures { OnOk result (members_view members.new.entries ≡
+        with_member key.now (energy_data energy) (members_view members.old.entries)) }
+{
+    let text = number_text(alloc, energy)?;
+    put(members, alloc, key, Value::String(text))
+}
+
+/// Puts a volume, in MWh.
+fn put_volume(
+    alloc: Global,
+    members: &mut Map<String, Value>,
+    volume: Kwh,
+) -> Result<(), AllocError>
+    ensures { OnOk result (members_view members.new.entries ≡
+        with_member (codes "mwh") (volume_data volume) (members_view members.old.entries)) }
+{
+    let text = number_text(alloc, volume)?;
+    put(members, alloc, "mwh", Value::String(text))
 }
