@@ -73,6 +73,17 @@ class Settled(OfTheProgram):
         meter, contracts = str(self.room / "meter.csv"), str(self.room / "contracts.csv")
         self.assertEqual(settle("period", "--", meter, contracts, "-5"), (0, text, b""))
 
+    def test_the_last_rows_count(self):
+        """Of a unit, and of a reference. The accounts that rows before them name are settled too."""
+        # A-C has 10 MWh, 1 of them for the system, and buys 2 of A-P: 11 MWh too much and 2 too little, at 10 pounds.
+        meter, contracts = "U1,A0-P,7,1,0\nU1,A-C,10,1,1\n", "C1,A-P,A-C,5\nC1,A-P,A-C,2\n"
+        text = (
+            b"account A-P credited 0.0000000000 imbalance -2.0000000000 charge 2000\n"
+            b"account A-C credited 10.0000000000 imbalance 11.0000000000 charge -11000\n"
+            b"account A0-P credited 0.0000000000 imbalance 0.0000000000 charge 0\nresidual 9000\n"
+        )
+        self.assertEqual(self.period(meter, contracts, "10"), (0, text, b""))
+
     def test_a_write_of_more_than_4096_bytes(self):
         rows, text = period_of(100)
         self.assertGreaterEqual(len(text), 5000)
@@ -117,6 +128,13 @@ class Refused(OfTheProgram):
     def test_a_reference_that_moved(self):
         rows = "C,A-P,B-P,1\nD,A-P,B-P,1\nC,A-P,B-C,1\n"
         self.refused(self.period("", rows, "1"), "refused 36 ReferenceMoved row 3 in contracts")
+
+    def test_what_is_read_first(self):
+        """METER, then the whole of CONTRACTS, then its counterparties, then PRICE."""
+        self.refused(self.period("U1,A-P,1,1\n", "C1,A-P,A-P,1\n", "x"), "refused 13 BadRecord row 1 in meter")
+        rows = "C1,A-P,A-P,1\nC2,A-P,B-P,1.0001\n"
+        self.refused(self.period("", rows, "x"), "refused 14 BadField row 2 column 4 in contracts")
+        self.refused(self.period("", "C1,A-P,A-P,1\n", "x"), "refused 35 SameAccount row 1 in contracts")
 
     def test_a_charge_past_its_limit(self):
         # Each unit gives 20,000 MWh. Five at 99,999.99999 pounds are 10^12 - 100 pence, and 10^12 may be.

@@ -8,49 +8,55 @@ use std::io::ErrorKind;
 use std::test::Fail;
 use std::{fs, io};
 
-/// The bytes that a path reads as, through the bound of the trait.
-fn read_of<I: Inputs>(
+/// Whether a path reads as these bytes, through the bound of the trait.
+fn reads_as<I: Inputs>(alloc: Global, inputs: &I, path: &str, most: usize, bytes: &[u8]) -> bool {
+    inputs
+        .read(alloc, path, most)
+        .is_ok_and(|read| read.as_slice() == bytes)
+}
+
+/// How many bytes are read of a path.
+fn length_of<I: Inputs>(
     alloc: Global,
     inputs: &I,
     path: &str,
     most: usize,
-) -> Result<Vec<u8>, InputFault> {
-    inputs.read(alloc, path, most)
+) -> Result<usize, InputFault> {
+    inputs.read(alloc, path, most).map(|read| read.len())
 }
 
+/// Three files, of which two have one path.
+const FILES: [MemoryFile<'_>; 3] = [
+    MemoryFile {
+        path: "a.csv",
+        bytes: b"first",
+    },
+    MemoryFile {
+        path: "b.csv",
+        bytes: b"second",
+    },
+    MemoryFile {
+        path: "a.csv",
+        bytes: b"third",
+    },
+];
+
 #[test]
-fn files_in_memory(rt: HostRuntime) -> Result<(), Fail> {
-    let files = [
-        MemoryFile {
-            path: "a.csv",
-            bytes: b"first",
-        },
-        MemoryFile {
-            path: "b.csv",
-            bytes: b"second",
-        },
-        MemoryFile {
-            path: "a.csv",
-            bytes: b"third",
-        },
-    ];
-    let inputs = MemoryInputs::new(&files);
+fn files_in_memory(rt: HostRuntime) {
+    let inputs = MemoryInputs::new(&FILES);
     for (path, most, bytes) in [
         ("a.csv", 100, b"first".as_slice()),
         ("b.csv", 6, b"second".as_slice()),
         ("b.csv", 3, b"sec".as_slice()),
         ("b.csv", 0, b"".as_slice()),
     ] {
-        let read = read_of(rt.alloc(), &inputs, path, most);
-        assert_eq!(&rt;
-            read.is_ok_and(|read| read.as_slice() == bytes),
-            true,
+        assert!(rt;
+            reads_as(rt.alloc(), &inputs, path, most, bytes),
             "{path} {most}"
         );
     }
-    let absent = read_of(rt.alloc(), &inputs, "c.csv", 9).map(|read| read.len());
-    assert_eq!(&rt; absent, Err(InputFault::Unreadable));
-    Ok(())
+    let absent = length_of(rt.alloc(), &inputs, "c.csv", 9);
+    assert_eq!(rt; absent, Err(InputFault::Unreadable));
 }
 
 #[test]
@@ -59,18 +65,11 @@ fn files_of_the_system(rt: HostRuntime) -> Result<(), Fail> {
     let (one, other) = ("/tmp/hh_inputs_one.csv", "/tmp/hh_inputs_other.csv");
     fs::write(&rt, one, "one file")?;
     fs::write(&rt, other, "the other")?;
-    let first = read_of(rt.alloc(), &inputs, one, 100);
-    let second = read_of(rt.alloc(), &inputs, other, 5);
+    let first = reads_as(rt.alloc(), &inputs, one, 100, b"one file");
+    let second = reads_as(rt.alloc(), &inputs, other, 5, b"the o");
     fs::remove_file(&rt, one)?;
     fs::remove_file(&rt, other)?;
-    assert_eq!(&rt;
-        first.is_ok_and(|read| read.as_slice() == b"one file".as_slice()),
-        true
-    );
-    assert_eq!(&rt;
-        second.is_ok_and(|read| read.as_slice() == b"the o".as_slice()),
-        true
-    );
+    assert_eq!(&rt; (first, second), (true, true));
     for (path, most, length) in [
         ("/dev/null", 9, Ok(0)),
         ("/dev/zero", 20_000, Ok(20_000)),
@@ -78,10 +77,16 @@ fn files_of_the_system(rt: HostRuntime) -> Result<(), Fail> {
         ("", 9, Err(InputFault::Unreadable)),
         ("/nowhere/meter.csv", 9, Err(InputFault::Unreadable)),
     ] {
-        let read = read_of(rt.alloc(), &inputs, path, most).map(|read| read.len());
+        let read = length_of(rt.alloc(), &inputs, path, most);
         assert_eq!(&rt; read, length, "{path}");
     }
     Ok(())
+}
+
+/// Whether these are the first bytes of a source that gives `abcdef` in pieces of two.
+fn front_is(alloc: Global, most: usize, bytes: &[u8]) -> bool {
+    let mut source = MemorySource::new(b"abcdef").in_pieces(2);
+    read_front(alloc, &mut source, most).is_ok_and(|read| read.as_slice() == bytes)
 }
 
 #[test]
@@ -92,18 +97,12 @@ fn fronts_of_sources(rt: HostRuntime) {
         (6, b"abcdef".as_slice()),
         (9, b"abcdef".as_slice()),
     ] {
-        let mut source = MemorySource::new(b"abcdef").in_pieces(2);
-        let read = read_front(rt.alloc(), &mut source, most);
-        assert_eq!(&rt;
-            read.is_ok_and(|read| read.as_slice() == bytes),
-            true,
-            "{most}"
-        );
+        assert!(rt; front_is(rt.alloc(), most, bytes), "{most}");
     }
     let mut failing = MemorySource::new(b"abcdef").failing_after(3);
     let read = read_front(rt.alloc(), &mut failing, 6).map(|read| read.len());
-    assert_eq!(&rt; read, Err(InputFault::Unreadable));
-    assert_eq!(&rt; failing.failures(), 1);
+    assert_eq!(rt; read, Err(InputFault::Unreadable));
+    assert_eq!(rt; failing.failures(), 1);
 }
 
 #[test]

@@ -159,22 +159,27 @@ fn all_become(
     true
 }
 
-/// The register after some rows, if each becomes what stands beside it. Before them come two parties, a unit of each,
-/// and a contract between them.
+/// The parties of a market and a unit of each, as rows.
+fn names() -> [Option<Row>; 4] {
+    [
+        party_row(b"GENCO", b"2024-01-01"),
+        party_row(b"SUPCO", b"2024-01-01"),
+        unit_row(b"G1", b"GENCO-P", b"2024-01-01"),
+        unit_row(b"S1", b"SUPCO-C", b"2024-01-01"),
+    ]
+}
+
+/// Whether the market's parties, its units and a contract between the two are accepted.
+fn takes_market(register: &mut Register, zone: &TimeZone<'_>) -> bool {
+    let contract = contract_row(b"C1", b"GENCO-P", b"SUPCO-C", 99_000);
+    names().iter().all(|row| outcome(register, zone, MOMENT, *row) == Some(APPLIED))
+        && outcome(register, zone, MOMENT, contract) == Some(APPLIED)
+}
+
+/// The register after some rows, if each becomes what stands beside it. The market comes before them.
 fn after(alloc: Global, zone: &TimeZone<'_>, steps: &[(i64, Option<Row>, u8)]) -> Option<Register> {
-    let market = [
-        (MOMENT, party_row(b"GENCO", b"2024-01-01"), APPLIED),
-        (MOMENT, party_row(b"SUPCO", b"2024-01-01"), APPLIED),
-        (MOMENT, unit_row(b"G1", b"GENCO-P", b"2024-01-01"), APPLIED),
-        (MOMENT, unit_row(b"S1", b"SUPCO-C", b"2024-01-01"), APPLIED),
-        (
-            MOMENT,
-            contract_row(b"C1", b"GENCO-P", b"SUPCO-C", 99_000),
-            APPLIED,
-        ),
-    ];
     let mut register = Register::new(alloc, LeadMinutes::default());
-    if all_become(&mut register, zone, &market) && all_become(&mut register, zone, steps) {
+    if takes_market(&mut register, zone) && all_become(&mut register, zone, steps) {
         Some(register)
     } else {
         None
@@ -249,23 +254,22 @@ fn held(register: &mut Register, row: Option<Row>) -> Option<u8> {
     }
 }
 
-/// The register of a part that serves for the rows of files in a market of two parties.
-fn part(alloc: Global) -> Option<Register> {
-    let mut register = Register::part(alloc, LeadMinutes::default(), 2, 2);
-    let rows = [
-        party_row(b"GENCO", b"2024-01-01"),
-        party_row(b"SUPCO", b"2024-01-01"),
-        unit_row(b"G1", b"GENCO-P", b"2024-01-01"),
-        unit_row(b"S1", b"SUPCO-C", b"2024-01-01"),
+/// A reading, a price and a reallocation of 60 percent.
+fn values() -> [Option<Row>; 3] {
+    [
         meter_row(b"G1", b"2024-07-01", 1),
         price_row(b"2024-07-01", 1, 5_000_000),
         reallocation_row(b"SUPCO-P", 6_000_000),
-    ];
-    if holds(&mut register, &rows) && holds_reference(&mut register) == Some(true) {
-        Some(register)
-    } else {
-        None
-    }
+    ]
+}
+
+/// The register of a part that serves for the rows of files in a market of two parties.
+fn part(alloc: Global) -> Option<Register> {
+    let mut register = Register::part(alloc, LeadMinutes::default(), 2, 2);
+    let held = holds(&mut register, &names())
+        && holds(&mut register, &values())
+        && holds_reference(&mut register) == Some(true);
+    if held { Some(register) } else { None }
 }
 
 /// What is found in a part, and what becomes of 40.00001 and of 40 percent beside 60.

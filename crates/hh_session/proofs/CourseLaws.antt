@@ -97,7 +97,7 @@ module _ (old new : OfficeView) (run : RunStep) (request : Request) (is : reques
       made_by s transition.state transition.reply (is_given_up given) refl
       (ap (step (midnight_of old) s run.moment) is) (steps s stands) (after s stands)
 
--- a load and a run that are given up for want of memory leave the state
+-- a load and a run that are given up as memory ran out leave the state
 pub load_gives_up : (reads : List ℕ → Option (List ℕ) → Type 0) (midnight : Midnights) (load : LoadStep) (s : State) → LoadDoes reads midnight s load no_memory s
 load_gives_up reads midnight load s = inr (refl, refl)
 

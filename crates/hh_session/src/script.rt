@@ -10,10 +10,10 @@ use hh_devices::{DeviceFailed, Sink};
 use hh_inputs::{InputFault, Inputs};
 use hh_names::{Fault, Refusal};
 use hh_office::Office;
+use hh_plain_tables::PlainTables;
 use hh_rows::Settings;
 use hh_script::{ScriptFault, ScriptLine, read_script};
 use hh_sockets::Loopback;
-use hh_store::PlainTables;
 use hh_time::london;
 use std::alloc::Global;
 

@@ -16,10 +16,3 @@ fn main(rt: HostRuntime) -> ExitCode {
     let mut err = StreamSink::new(rt.stderr());
     ExitCode::from(run(&rt, &inputs, &loopback, &mut out, &mut err))
 }
-
-#[cfg(test)]
-mod period_tests;
-#[cfg(test)]
-mod script_tests;
-#[cfg(test)]
-mod words_tests;

@@ -34,7 +34,7 @@ impl KeptFile {
     }
 
     /// The same once more. `Err` only where memory is refused.
-    pub(crate) fn copy(&self, alloc: Global) -> Result<KeptFile, AllocError>
+    pub fn copy(&self, alloc: Global) -> Result<KeptFile, AllocError>
         ensures { IfOk result (λ file. file ≡ self.now) }
     {
         Ok(KeptFile {

@@ -72,7 +72,7 @@ impl LoadChange {
     }
 
     /// The key under which the file is kept.
-    pub(crate) fn key(&self) -> FileKey
+    pub fn key(&self) -> FileKey
         ensures { result ≡ self.now.key }
     {
         FileKey {
@@ -81,8 +81,8 @@ impl LoadChange {
         }
     }
 
-    /// The file with the counts of its reply, without the rest.
-    pub(crate) fn into_file(self) -> KeptFile
+    /// The file with the counts of its reply, handed on without a copy.
+    pub fn into_file(self) -> KeptFile
         ensures { result ≡ self.file }
     {
         self.file

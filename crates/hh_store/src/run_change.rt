@@ -94,8 +94,8 @@ impl RunChange {
         &self.postings
     }
 
-    /// The rows of the run's accounts, its credits and its postings.
-    pub(crate) fn into_rows(self) -> RunRows
+    /// The rows of the run's accounts, its credits and its postings, handed on without a copy.
+    pub fn into_rows(self) -> RunRows
         ensures results { result.results.items ≡ self.results }
         ensures credits { result.credits.items ≡ self.credits }
         ensures postings { result.postings.items ≡ self.postings }
@@ -108,10 +108,13 @@ impl RunChange {
     }
 }
 
-/// The rows of a run, but for its summary.
-#[derive(Drop)]
-pub(crate) struct RunRows {
-    pub(crate) results: Vec<(ResultKey, AccountRow)>,
-    pub(crate) credits: Vec<(CreditKey, Ticks)>,
-    pub(crate) postings: Vec<(PostingKey, Pence)>,
+/// What a new run writes but for its summary, each row under its key (profile).
+#[derive(Debug, Drop)]
+pub struct RunRows {
+    /// The rows of its accounts.
+    pub results: Vec<(ResultKey, AccountRow)>,
+    /// Its credits: energy in ticks.
+    pub credits: Vec<(CreditKey, Ticks)>,
+    /// Its postings, in pence.
+    pub postings: Vec<(PostingKey, Pence)>,
 }

@@ -1,5 +1,5 @@
-//! The store, the office and HTTP tried from outside: tests of what no clause of theirs says, and of what
-//! no program calls. The office's answers are tested through `settle`.
+//! The store, the office and HTTP tried from outside: what no clause of theirs says and no program shows. What programs
+//! show, the office's answers and the bytes of its replies, is tested through `settle`.
 //!
 //! They stand in a crate of their own, since the tests of a crate are proved with all of it once more.
 #![tactic(auto)]
@@ -10,7 +10,5 @@ mod office_tests;
 mod reply_tests;
 #[cfg(test)]
 mod request_tests;
-#[cfg(test)]
-mod serve_tests;
 #[cfg(test)]
 mod store_tests;

@@ -2,9 +2,9 @@
 
 use hh_names::{Account, OperatorKey, Refusal};
 use hh_office::Office;
+use hh_plain_tables::PlainTables;
 use hh_requests::{Action, Bytes, Reply, Request};
 use hh_rows::{LeadMinutes, Settings};
-use hh_store::PlainTables;
 use hh_time::{SettlementDate, london};
 use std::alloc::Global;
 use std::test::Fail;

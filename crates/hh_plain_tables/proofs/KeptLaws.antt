@@ -1,0 +1,57 @@
+-- What a load puts into the tables of what is registered and in force, table by table.
+use Rattle.std.proofs.Common.{◌≡◌, List, [], ◌∷◌, refl, sym, ap, ◌∙◌}
+use Rattle.std.specs.Prelude.{filter_map, unwrap_or}
+use Rattle.hh_tables.specs.Tables.{put_all}
+use Rattle.hh_names.specs.Accounts.{bytes_cmp}
+use Rattle.hh_rows.specs.Keys.{contract_key_cmp, reallocation_key_cmp, settlement_period_cmp, unit_period_cmp}
+use Rattle.hh_rows.specs.declared.rows.Row.{Row}
+use Rattle.hh_rows.specs.declared.rows.Row.TheVariants as row
+use Rattle.hh_rules.specs.Entries.{contract_entry, meter_entry, party_entry, price_entry, reallocation_entry, unit_entry}
+use Rattle.hh_rules.specs.History.{Registered}
+use Rattle.hh_states.specs.Changes.{LoadWrites, put_row, put_rows, registered_with}
+use Rattle.hh_plain_tables.specs.declared.kept_register.ChangedTables.{ChangedTables}
+use Rattle.hh_plain_tables.specs.KeptTables.{with_changed}
+
+-- the tables with the entries of rows put into each
+abbrev by_table : List Row → Registered → Registered
+by_table rows tables = record {
+  parties = put_all bytes_cmp (filter_map party_entry rows) tables.parties;
+  units = put_all bytes_cmp (filter_map unit_entry rows) tables.units;
+  references = tables.references;
+  meters = put_all unit_period_cmp (filter_map meter_entry rows) tables.meters;
+  prices = put_all settlement_period_cmp (filter_map price_entry rows) tables.prices;
+  contracts = put_all contract_key_cmp (filter_map contract_entry rows) tables.contracts;
+  reallocations = put_all reallocation_key_cmp (filter_map reallocation_entry rows) tables.reallocations;
+}
+
+-- rows that are put in one after the other put their entries into each table
+put_rows_by_table : (rows : List Row) (tables : Registered) → put_rows rows tables ≡ by_table rows tables
+put_rows_by_table [] tables = refl
+put_rows_by_table (row.Party r ∷ rows) tables = put_rows_by_table rows (put_row (row.Party r) tables)
+put_rows_by_table (row.Unit r ∷ rows) tables = put_rows_by_table rows (put_row (row.Unit r) tables)
+put_rows_by_table (row.Meter r ∷ rows) tables = put_rows_by_table rows (put_row (row.Meter r) tables)
+put_rows_by_table (row.Price r ∷ rows) tables = put_rows_by_table rows (put_row (row.Price r) tables)
+put_rows_by_table (row.Contract r ∷ rows) tables = put_rows_by_table rows (put_row (row.Contract r) tables)
+put_rows_by_table (row.Reallocation r ∷ rows) tables = put_rows_by_table rows (put_row (row.Reallocation r) tables)
+
+-- tables that were made anew with the entries of a load are, taken over, those after the load
+pub changed_with : (w : LoadWrites) (tables : Registered) (changed : ChangedTables)
+    → unwrap_or changed.parties tables.parties ≡ put_all bytes_cmp (filter_map party_entry w.rows) tables.parties
+    → unwrap_or changed.units tables.units ≡ put_all bytes_cmp (filter_map unit_entry w.rows) tables.units
+    → unwrap_or changed.references tables.references ≡ put_all bytes_cmp w.references tables.references
+    → unwrap_or changed.meters tables.meters ≡ put_all unit_period_cmp (filter_map meter_entry w.rows) tables.meters
+    → unwrap_or changed.prices tables.prices ≡ put_all settlement_period_cmp (filter_map price_entry w.rows) tables.prices
+    → unwrap_or changed.contracts tables.contracts ≡ put_all contract_key_cmp (filter_map contract_entry w.rows) tables.contracts
+    → unwrap_or changed.reallocations tables.reallocations ≡ put_all reallocation_key_cmp (filter_map reallocation_entry w.rows) tables.reallocations
+    → with_changed changed tables ≡ registered_with w tables
+changed_with w tables changed parties units references meters prices contracts reallocations =
+    (λ i. record {
+      parties = parties i;
+      units = units i;
+      references = references i;
+      meters = meters i;
+      prices = prices i;
+      contracts = contracts i;
+      reallocations = reallocations i;
+    })
+    ∙ ap (λ (t : Registered). record t { references = put_all bytes_cmp w.references tables.references }) (sym (put_rows_by_table w.rows tables))

@@ -1,0 +1,9 @@
+mod ContractLaws
+mod DayLaws
+mod KeptLaws
+mod NamedLaws
+mod OutputLaws
+mod PartLaws
+mod RangeLaws
+mod SoundLaws
+mod UntilLaws
