@@ -37,23 +37,53 @@ class WrongBodies(unittest.TestCase):
         names = [edit.name for edit in (*HOME.glob("crates/*/must-fail/*.edit"), *FOLDER.glob("*/*.edit"))]
         self.assertEqual(sorted(names), sorted(set(names)))
 
+    def tried(self, check):
+        """How many wrong bodies of hh_rows are refused, and how many are not, where this stands in for the check: it is given the
+        sources with those bodies in place, and gives what the check says."""
+        own = HOME / "crates" / "hh_rows" / "src"
+        told = lambda words, **how: subprocess.CompletedProcess(words, 1, check({file.name: file.read_text() for file in (how["cwd"] / "src").iterdir()}))
+        with tempfile.TemporaryDirectory() as room:
+            left = pathlib.Path(room) / "crates" / "hh_rows" / "src"
+            shutil.copytree(own, left)
+            with mock.patch("subprocess.run", told), contextlib.redirect_stdout(io.StringIO()):
+                counts = script().try_crate(pathlib.Path(room), "hh_rows")
+            self.assertEqual({file.name: file.read_text() for file in left.iterdir()}, {file.name: file.read_text() for file in own.iterdir()})
+        return counts
+
     def test_a_crate_has_its_own_bodies_again(self):
-        """The crates above stand on it when theirs are tried. (The check is stood in for: it says nothing.)"""
+        """The crates above stand on it when theirs are tried; `tried` sees it."""
+        seen = []
+        self.tried(lambda files: seen.append(files["date_range.rt"]) or "")
+        self.assertTrue(set(seen) - {(HOME / "crates" / "hh_rows" / "src" / "date_range.rt").read_text()})
+
+    def test_what_the_compiler_refuses_is_not_refused(self):
+        """No contract was tried then. All bodies are told as errors, but no line says that the crate is not proved."""
+        said = "".join(f"src/{file}.rt:{line}:1: error[E0308]: mismatched types\n" for file, line in self.lines())
+        edits = len(list((FOLDER / "hh_rows").glob("*.edit")))
+        self.assertEqual(self.tried(lambda files: said), (0, edits))
+        self.assertEqual(self.tried(lambda files: f"{said}logic=not-proved functions=1\n"), (edits, 0))
+
+    def test_one_that_waits_is_tried_by_itself(self):
+        """A body beside others only waits for the proof of what it calls; by itself it is refused."""
+        own = {file.name: file.read_text() for file in (HOME / "crates" / "hh_rows" / "src").iterdir()}
+        alone = "".join(f"src/{file}.rt:{line}:1: error: it is not proved that a clause holds\n" for file, line in self.lines())
+        waits = "fn hh_rows::date_range::DateRange::new: not proved; it calls hh_rows::date_range::inside\nlogic=not-proved functions=1\n"
+        edits = len(list((FOLDER / "hh_rows").glob("*.edit")))
         seen = []
 
-        def check(words, **how):
-            seen.append((how["cwd"] / "src" / "date_range.rt").read_text())
-            return subprocess.CompletedProcess(words, 1, "")
+        def check(files):
+            turned = [name for name in own if files[name] != own[name]]
+            seen.append(len(turned))
+            return waits if len(turned) > 1 else f"{alone}logic=not-proved functions=1\n"
 
-        own = HOME / "crates" / "hh_rows" / "src"
-        with tempfile.TemporaryDirectory() as room:
-            copy = pathlib.Path(room)
-            shutil.copytree(own, copy / "crates" / "hh_rows" / "src")
-            with mock.patch("subprocess.run", check), contextlib.redirect_stdout(io.StringIO()):
-                script().try_crate(copy, "hh_rows")
-            left = {file.name: file.read_text() for file in (copy / "crates" / "hh_rows" / "src").iterdir()}
-        self.assertTrue(set(seen) - {(own / "date_range.rt").read_text()})
-        self.assertEqual(left, {file.name: file.read_text() for file in own.iterdir()})
+        self.assertEqual(self.tried(check), (edits, 0))
+        self.assertGreater(max(seen), 1)
+
+    def lines(self):
+        """Each line of the sources of hh_rows, by its file."""
+        for file in sorted((HOME / "crates" / "hh_rows" / "src").iterdir()):
+            for line in range(1, len(file.read_text().splitlines()) + 1):
+                yield file.stem, line
 
 
 if __name__ == "__main__":
