@@ -7,6 +7,7 @@ import pathlib
 import shutil
 import subprocess
 import tempfile
+import threading
 import unittest
 from unittest import mock
 
@@ -78,6 +79,35 @@ class WrongBodies(unittest.TestCase):
 
         self.assertEqual(self.tried(check), (edits, 0))
         self.assertGreater(max(seen), 1)
+
+    def test_crates_are_tried_side_by_side(self):
+        """Each lane works in a copy of its own. The checks wait for each other, so that both are there at once."""
+        module, both, folders = script(), threading.Barrier(2, timeout=60), set()
+
+        def copy_into(room):
+            copy = pathlib.Path(tempfile.mkdtemp(dir=room))
+            for crate in ("hh_heads", "hh_serve"):
+                shutil.copytree(HOME / "crates" / crate / "src", copy / "crates" / crate / "src")
+            return copy
+
+        def check(words, **how):
+            if how["cwd"] not in folders:
+                folders.add(how["cwd"])
+                both.wait()
+            return subprocess.CompletedProcess(words, 1, "")
+
+        module.copy_into = copy_into
+        with tempfile.TemporaryDirectory() as room, mock.patch("subprocess.run", check), contextlib.redirect_stdout(io.StringIO()):
+            counts = module.try_all(["hh_serve", "hh_heads"], room, 2)
+        edits = [len(list((FOLDER / crate).glob("*.edit"))) for crate in ("hh_heads", "hh_serve")]
+        self.assertEqual(counts, [(0, count) for count in edits])
+        self.assertEqual({folder.name for folder in folders}, {"hh_heads", "hh_serve"})
+        self.assertEqual(len({folder.parent for folder in folders}), 2)
+
+    def test_a_crate_without_wrong_bodies(self):
+        said = subprocess.run([FOLDER / "try", "hh_rows", "hh_nothing"], capture_output=True, text=True)
+        self.assertEqual((said.returncode, said.stdout), (2, ""))
+        self.assertEqual(said.stderr, "wrong-bodies/try: no wrong body of hh_nothing stands in this folder\n")
 
     def lines(self):
         """Each line of the sources of hh_rows, by its file."""
