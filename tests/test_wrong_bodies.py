@@ -1,4 +1,5 @@
-"""Each wrong body that the gate doesn't try still turns the body of a function, and each has a name of its own."""
+"""Each wrong body that the gate doesn't try still turns the body of a function, and each has a name of its own; and what the script
+that tries them counts as refused."""
 import contextlib
 import importlib.machinery
 import importlib.util
@@ -63,6 +64,22 @@ class WrongBodies(unittest.TestCase):
         edits = len(list((FOLDER / "hh_rows").glob("*.edit")))
         self.assertEqual(self.tried(lambda files: said), (0, edits))
         self.assertEqual(self.tried(lambda files: f"{said}logic=not-proved functions=1\n"), (edits, 0))
+
+    def test_what_tells_of_a_body(self):
+        """Not that it waits for another, nor that its proof names what is no longer there."""
+        said = """\
+./proofs/keys/named/Answers.antt:3:5: error: `returns`: `goal.returns`: module `Goals` has no `returns` that can be named from here
+./proofs/keys/open/Answers.antt:3:5: error: `returns`: `search`: no proof of `result ≡ 1`
+./proofs/keys/open/Answers.antt:9:1: error: 1 declaration that depends on `returns`, which was rejected, was not checked: clause
+fn hh_rows::keys::named: not proved
+fn hh_rows::keys::open: not proved
+fn hh_rows::keys::waits: not proved; it calls `hh_rows::keys::open`, which is not proved
+fn hh_rows::keys::Key::bare: no proof: expected answers in ./proofs/keys/Key/bare/Answers.antt; `search` did not prove `returns`
+fn hh_rows::keys::right: proved
+"""
+        told = set(script().told_of(HOME / "crates" / "hh_rows", said))
+        self.assertEqual({name for _, name in told}, {"open", "bare"})
+        self.assertLessEqual({("keys", "open"), ("keys", "bare"), ("Key", "bare")}, told)
 
     def test_one_that_waits_is_tried_by_itself(self):
         """A body beside others only waits for the proof of what it calls; by itself it is refused."""
