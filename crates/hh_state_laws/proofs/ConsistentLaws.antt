@@ -30,20 +30,17 @@ use Rattle.hh_rows.proofs.KeyLaws.{contract_key_total, exact_contract_keys, exac
 use Rattle.hh_rules.specs.declared.timing.Timing.{Timing}
 use Rattle.hh_rules.specs.Effects.{with_row}
 use Rattle.hh_rules.specs.Entries.{contract_entry, meter_entry, party_entry, price_entry, reallocation_entry, reference_entry, unit_entry}
-use Rattle.hh_rules.specs.FileRows.{first_fault, refusal_after}
+use Rattle.hh_rules.specs.FileRows.{refusal_after}
 use Rattle.hh_rules.specs.History.{History, Registered, registered_in}
-use Rattle.hh_rules.specs.Lateness.{Timetable, accepted_at, comes_in_time, is_before_deadline, is_in_time, is_there, lacks_period, timing_by, timing_of}
+use Rattle.hh_rules.specs.Lateness.{Accepted, Timetable, accepted_at, comes_in_time, is_before_deadline, is_in_time, is_there, lacks_period, timing_by, timing_of}
 use Rattle.hh_rules.specs.Percents.{percent_of_others}
 use Rattle.hh_rules.specs.Refusals.{contract_refusals, is_party_off, is_same_mark, is_unit_moved, is_unit_off, meter_refusals, most_parties, most_units, party_refusals, reallocation_refusals, refusals_of, unit_refusals, whole_standing}
 use Rattle.hh_rules.proofs.HistoryLaws.{looks_back}
 use Rattle.hh_states.specs.Content.{nothing_registered}
-use Rattle.hh_states.specs.Runs.{Run, seen_by}
 use Rattle.hh_states.specs.Soundness.{AreConsistent, AreTables, ConsistentRuns, ConsistentStates, HasCounterparties, IsInsideLead, IsToSubsidiary, IsUnitEffective}
-use Rattle.hh_states.specs.Steps.{at_first, by_load, by_run, new_run, rows_coming, timetable_at}
-use Rattle.hh_state_laws.proofs.ApartLaws.{all-append}
+use Rattle.hh_state_laws.proofs.AcceptedLaws.{reached_holds, runs_hold}
 use Rattle.hh_state_laws.proofs.EffectiveLaws.{Keeps, KeepsParty, KeepsUnit, counterparties_stay, fixed_by_row, inside_itself, inside_lead, lead_stays, not_passed, one_account, party_effective, party_stays, same_parties, same_units, subsidiary_stays, two_accounts, unit_effective, unit_stays}
 use Rattle.hh_state_laws.proofs.PutLaws.{keys-put, keys-put_in_time, length-put_within, percents-put_in_time, stays-put, stays-put_new, table-put_entry, table-put_in_time, table-put_new, values-put}
-use Rattle.hh_state_laws.proofs.ReachLaws.{AreWithin, reached_within, seen_same}
 
 -- none of the conditions of a list is met
 abbrev NoneMet : List (Refusal × Bool) → Type 0
@@ -258,45 +255,16 @@ nothing_consistent = record {
   meters = λ key there. absurd (false_is_not_true there);
 }
 
--- the fault of the first row that is refused: this row's, or a later one's
-abbrev told : ℕ → Option Refusal → Option Fault → Option Fault
-told n why later = elim why [ Some r ↦ Some (row_fault r n) | None ↦ later ]
-
--- rows of which none is refused leave consistent what is registered and in force
-consistent_after : (timetable : Timetable) (rows history : History) (n : ℕ) → first_fault timetable history n rows ≡ None
-    → AreConsistent (registered_in timetable history) → AreConsistent (registered_in timetable (history ++ rows))
-consistent_after timetable [] history n none before = subst (λ h. AreConsistent (registered_in timetable h)) (sym (append-nil history)) before
-consistent_after timetable (a ∷ rows) history n none before =
-    let tables : Registered = registered_in timetable history in
-    elim (refusal_after timetable history a) as (λ o. refusal_after timetable history a ≡ o
-    → told n o (first_fault timetable (history ++ a ∷ []) (n + 1) rows) ≡ None → AreConsistent (registered_in timetable (history ++ a ∷ rows))) [
-      | Some why ↦ λ is refused. cc
-      | None ↦ λ is later.
-          let one : AreConsistent (registered_in timetable (history ++ a ∷ [])) =
-          subst AreConsistent (sym (looks_back timetable history a)) (with_accepted timetable a.moment a.row tables before is) in
-          subst (λ h. AreConsistent (registered_in timetable h)) (append_assoc history (a ∷ []) rows)
-          (consistent_after timetable rows (history ++ a ∷ []) (n + 1) later one)
-    ] refl none
+-- a row that is accepted after a history leaves consistent what is registered and in force
+consistent_with : (timetable : Timetable) (history : History) (a : Accepted) → AreConsistent (registered_in timetable history) → refusal_after timetable history a ≡ None
+    → AreConsistent (registered_in timetable (history ++ a ∷ []))
+consistent_with timetable history a before accepted =
+    subst AreConsistent (sym (looks_back timetable history a)) (with_accepted timetable a.moment a.row (registered_in timetable history) before accepted)
 
 -- in each reached state what is registered and in force is consistent
 pub reached_consistent : ConsistentStates
-reached_consistent midnight s (at_first settings) = nothing_consistent
-reached_consistent midnight s (by_load t load reached can) =
-    consistent_after (timetable_at midnight t) (rows_coming load) t.history 1 can.1 (reached_consistent midnight t reached)
-reached_consistent midnight s (by_run t moment key reached can) = reached_consistent midnight t reached
-
--- what runs saw, later rows leave
-seen_stays : (timetable : Timetable) (history more : History) (runs : List Run) → AreWithin (length history) runs
-    → AllByRecursion (λ r. AreConsistent (seen_by timetable history r)) runs → AllByRecursion (λ r. AreConsistent (seen_by timetable (history ++ more) r)) runs
-seen_stays timetable history more [] within all = tt
-seen_stays timetable history more (r ∷ runs) within all =
-    (subst AreConsistent (sym (seen_same timetable history more r within.0)) all.0, seen_stays timetable history more runs within.1 all.1)
+reached_consistent = reached_holds (λ timetable history. AreConsistent (registered_in timetable history)) (λ timetable. nothing_consistent) consistent_with
 
 -- and so it was when each run was ordered
 pub runs_consistent : ConsistentRuns
-runs_consistent midnight s (at_first settings) = tt
-runs_consistent midnight s (by_load t load reached can) =
-    seen_stays (timetable_at midnight t) t.history (rows_coming load) t.runs (reached_within midnight t reached) (runs_consistent midnight t reached)
-runs_consistent midnight s (by_run t moment key reached can) =
-    all-append (λ r. AreConsistent (seen_by (timetable_at midnight t) t.history r)) t.runs (new_run t key ∷ []) (runs_consistent midnight t reached)
-    (subst (λ h. AreConsistent (registered_in (timetable_at midnight t) h)) (sym (take_all (length t.history) t.history (omega arith))) (reached_consistent midnight t reached), tt)
+runs_consistent = runs_hold (λ timetable history. AreConsistent (registered_in timetable history)) (λ timetable. nothing_consistent) consistent_with

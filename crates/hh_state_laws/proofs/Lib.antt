@@ -1,3 +1,4 @@
+mod AcceptedLaws
 mod AmountLaws
 mod ApartLaws
 pub mod BalanceLaws
