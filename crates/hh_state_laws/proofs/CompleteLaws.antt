@@ -49,7 +49,7 @@ nothing_made make None none = refl
 nothing_made make (Some x) none = cc
 
 -- where a search finds nothing, no element passes its test
-none_passes : {X : Type 0} (test : X → Bool) (xs : List X) → find test xs ≡ None → AllByRecursion (λ x. test x ≡ false) xs
+pub none_passes : {X : Type 0} (test : X → Bool) (xs : List X) → find test xs ≡ None → AllByRecursion (λ x. test x ≡ false) xs
 none_passes test [] none = tt
 none_passes test (x ∷ xs) none = elim (test x) as (λ b. cond b (Some x) (find test xs) ≡ None → (b ≡ false) × AllByRecursion (λ y. test y ≡ false) xs) [
   | true ↦ λ e. cc

@@ -4,6 +4,7 @@ mod ApartLaws
 pub mod BalanceLaws
 pub mod CompleteLaws
 pub mod ConsistentLaws
+pub mod CountLaws
 pub mod CreditSumLaws
 mod EffectiveLaws
 mod LoadLaws
@@ -18,3 +19,4 @@ pub mod RunReadLaws
 mod RunRowLaws
 pub mod RunSumLaws
 pub mod SettledLaws
+pub mod TurnoverLaws

@@ -90,7 +90,7 @@ last_of-cons x [] = refl
 last_of-cons x (y ∷ xs) = last_of-cons y xs ∙ behind_two (last_of xs) x y ∙ ap (λ o. option_or o (Some x)) (sym (last_of-cons y xs))
 
 -- the latest run of a date with one more run in front
-latest_run-cons : (date : ℕ) (x : Run) (runs : List Run) → latest_run date (x ∷ runs) ≡ cond (x.key.date == date) (option_or (latest_run date runs) (Some x)) (latest_run date runs)
+pub latest_run-cons : (date : ℕ) (x : Run) (runs : List Run) → latest_run date (x ∷ runs) ≡ cond (x.key.date == date) (option_or (latest_run date runs) (Some x)) (latest_run date runs)
 latest_run-cons date x runs =
     elim (x.key.date == date) as (λ b. last_of (cond b (x ∷ runs_of_date date runs) (runs_of_date date runs)) ≡ cond b (option_or (latest_run date runs) (Some x)) (latest_run date runs)) [
       | true ↦ last_of-cons x (runs_of_date date runs)
@@ -215,7 +215,7 @@ runs_distinct midnight s (by_run t moment key reached can) =
     (λ r apart. ((eq_by_cmp_equiv run_key_total).symm r.key key ∙ apart, tt)) t.runs (others midnight t key can.0))
 
 -- what holds of each run holds of each with its former
-all-with_former : (P : Run → Type 0) (earlier runs : List Run) → AllByRecursion P runs → AllByRecursion (λ r. P r.1) (with_former earlier runs)
+pub all-with_former : (P : Run → Type 0) (earlier runs : List Run) → AllByRecursion P runs → AllByRecursion (λ r. P r.1) (with_former earlier runs)
 all-with_former P earlier [] h = tt
 all-with_former P earlier (r ∷ runs) h = (h.0, all-with_former P (earlier ++ r ∷ []) runs h.1)
 

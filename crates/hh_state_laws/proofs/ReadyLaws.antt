@@ -65,7 +65,7 @@ module _ {X : Type 0} (P : X → Type 0) where
   all_both Q (x ∷ xs) h k = ((h.0, k.0), all_both Q xs h.1 k.1)
 
 -- each two elements of a list differ
-abbrev Differ : {X : Type 0} → (X → X → Type 0) → List X → Type 0
+abbrev pub Differ : {X : Type 0} → (X → X → Type 0) → List X → Type 0
 Differ D [] = Unit {0}
 Differ D (x ∷ xs) = AllByRecursion (D x) xs × Differ D xs
 
@@ -77,7 +77,7 @@ pairs_differ D (x ∷ xs) h zero (suc j) d before below = All-from_recursion (D 
 pairs_differ D (x ∷ xs) h (suc i) (suc j) d before below = pairs_differ D xs h.1 i j d (omega arith) (omega arith)
 
 -- what is told apart differs
-differs : {K : Type 0} {R : K → K → Ordering} → IsTotalOrder R → (x y : K) → eq_by_cmp R x y ≡ false → x ≢ y
+pub differs : {K : Type 0} {R : K → K → Ordering} → IsTotalOrder R → (x y : K) → eq_by_cmp R x y ≡ false → x ≢ y
 differs {R = R} o x y apart one = false_is_not_true (sym apart ∙ sym (ap (eq_by_cmp R x) one) ∙ (eq_by_cmp_equiv o).refl x)
 
 -- what stands in a list and is not its first stands behind it
@@ -104,7 +104,7 @@ module _ {X : Type 0} (ys : List X) (y : X) (there : Contains ys y) where
 
 module _ {X Y : Type 0} (f : X → Y) where
   -- different elements of a list are no more than its elements
-  no_more : (xs : List X) (ys : List Y) → Differ (λ x z. f x ≢ f z) xs → AllByRecursion (λ x. Contains ys (f x)) xs → length xs ≤ length ys
+  pub no_more : (xs : List X) (ys : List Y) → Differ (λ x z. f x ≢ f z) xs → AllByRecursion (λ x. Contains ys (f x)) xs → length xs ≤ length ys
   no_more [] ys apart inside = omega arith
   no_more (x ∷ xs) ys apart inside =
       let left : List Y = without ys (f x) inside.0 in
@@ -181,14 +181,14 @@ parties_rise (e ∷ es) up =
     )
 
 -- of each party there are at most two accounts
-two_each : (test : List ℕ × PartyRegistration → Bool) (es : Table (List ℕ) PartyRegistration) → length (flat_map (λ e. both_accounts e.0) (filter test es)) ≤ 2 * length es
+pub two_each : (test : List ℕ × PartyRegistration → Bool) (es : Table (List ℕ) PartyRegistration) → length (flat_map (λ e. both_accounts e.0) (filter test es)) ≤ 2 * length es
 two_each test [] = omega arith
 two_each test (e ∷ es) =
     let rest = two_each test es in
     elim (test e) as (λ b. length (flat_map (λ x. both_accounts x.0) (cond b (e ∷ filter test es) (filter test es))) ≤ 2 * length (e ∷ es)) [ true ↦ omega arith | false ↦ omega arith ]
 
 -- an account is one of both of its party
-one_of_both : (side : Side) (own party : List ℕ) (more : List Account) → party ≡ own → Contains (both_accounts party ++ more) (record { party = own; side = side })
+pub one_of_both : (side : Side) (own party : List ℕ) (more : List Account) → party ≡ own → Contains (both_accounts party ++ more) (record { party = own; side = side })
 one_of_both Production own party more is = (0, omega arith, λ i. record { party = is i; side = Production })
 one_of_both Consumption own party more is = (1, omega arith, λ i. record { party = is i; side = Consumption })
 

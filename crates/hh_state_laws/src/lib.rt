@@ -1,11 +1,15 @@
 //! What holds in each state that the settlement machine reaches, and what its tables add up to.
 #![tactic(auto)]
 
+mod amounts;
 mod consistency;
 mod effects;
 mod run_reads;
 mod sums;
 
+pub use amounts::{
+    balances_within, day_nets_within, paid_within, summaries_within, turnovers_within,
+};
 pub use consistency::{
     consistent_runs, consistent_states, periods_ready, run_periods_ready, runs_complete,
     sound_states,

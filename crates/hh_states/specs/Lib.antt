@@ -1,3 +1,4 @@
+pub mod Amounts
 pub mod Changes
 pub mod Content
 pub mod DaySettlement
