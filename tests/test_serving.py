@@ -275,6 +275,23 @@ class Replies(Served):
         wanted += ["account,moved_pence", *(f"{account},{-moved}" for account, moved in nets.items())]
         self.assertEqual(printed[2 + 48 * 5 :], wanted)
 
+    def test_a_large_balance(self):
+        """GENCO-P sells as much on three dates, which comes to 143,999,999,985,600 pence: more than one date may come to."""
+        net = 47_999_999_995_200
+        self.assertGreater(3 * net, 10**14)
+        numbers, before, over = range(1, 49), [self.load(*MARKET[0], "parties.csv")], NEXT_END + 86_400
+        for date in (DAY, "2024-07-02", "2024-07-03"):
+            sold = [f"L{number},GENCO-P,SUPCO-C,{date},{period},10000" for number in range(10) for period in numbers]
+            prices = [f"{date},{period},99999.99999" for period in numbers]
+            before += [self.load("contracts", sold, f"{date}.csv"), self.load("prices", prices, f"{date}.csv")]
+            before.append(self.order("SF", over, date))
+        self.serve(2, f"report {OPERATOR} balances", moment=over, before=before)
+        for account, key, moved in (("GENCO-P", GENCO, 3 * net), ("SUPCO-C", SUPCO, -3 * net)):
+            wanted = f'{{"account":"{account}","moved_pence":{moved}}}'
+            self.assertEqual(self.ask(request("GET", f"/balances/{account}", key)), reply(200, wanted))
+        balances = {"GENCO-P": 3 * net, "GENCO-C": 0, "SUPCO-P": 0, "SUPCO-C": -3 * net}
+        self.assertEqual(self.rest(), ["account,moved_pence", *(f"{account},{moved}" for account, moved in balances.items())])
+
     def test_files_are_loaded(self):
         """What clients send and what the script's lines load comes into one office."""
         rows = text_of("contracts", [f"C2,GENCO-P,SUPCO-C,{DAY},2,1.000"])

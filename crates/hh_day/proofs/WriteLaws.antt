@@ -33,13 +33,13 @@ use Rattle.hh_day.proofs.AccountLaws.{accounts_settled}
 use Rattle.hh_day.proofs.DifferenceLaws.{same_differences}
 
 -- what holds where there is none, and of each of a list, holds of the last
-of_the_last : {X : Type 0} (P : Option X → Type 0) → P None → (xs : List X) → AllByRecursion (λ x. P (Some x)) xs → P (last_of xs)
+pub of_the_last : {X : Type 0} (P : Option X → Type 0) → P None → (xs : List X) → AllByRecursion (λ x. P (Some x)) xs → P (last_of xs)
 of_the_last P none [] all = none
 of_the_last P none (x ∷ []) all = all.0
 of_the_last P none (x ∷ y ∷ xs) all = of_the_last P none (y ∷ xs) all.1
 
 -- what holds of each of a list holds of each that passes a test
-of_those_that_pass : {X : Type 0} (P : X → Type 0) (test : X → Bool) (xs : List X) → AllByRecursion P xs → AllByRecursion P (filter test xs)
+pub of_those_that_pass : {X : Type 0} (P : X → Type 0) (test : X → Bool) (xs : List X) → AllByRecursion P xs → AllByRecursion P (filter test xs)
 of_those_that_pass P test [] all = tt
 of_those_that_pass P test (x ∷ xs) all =
     elim (test x) as (λ b. AllByRecursion P (cond b (x ∷ filter test xs) (filter test xs))) [
@@ -137,7 +137,7 @@ module _ (midnight : Midnights) where
     sees_all = ap (registered_in timetable) (sym (take-length s.history))
 
     -- so it settles the periods of its date by that
-    settles_the_day : day_in midnight s key.date ≡ settled_by timetable s.history run
+    pub settles_the_day : day_in midnight s key.date ≡ settled_by timetable s.history run
     settles_the_day = ap (λ tables. settled_day tables (periods_on key.date (period_count midnight key.date))) sees_all
 
     -- what an account paid in the latest run of the date before is its day net in that run

@@ -1,4 +1,5 @@
 pub mod Headline
 pub mod NewRuns
 pub mod PeriodSteps
+pub mod RunLimits
 pub mod RunParts

@@ -1,12 +1,14 @@
-//! That a period is settled in one way, that what is written for a run is what the machine writes, and
-//! what the tables of an office add up to.
+//! That a period is settled in one way, that what is written for a run is what the machine writes and fits
+//! the types that keep it, and what the tables of an office add up to.
 
 ghost use Rattle.hh_day.specs.Headline.{ReachedConserve};
 ghost use Rattle.hh_day.specs.NewRuns.{SettledInOneWay, WritesTheRun};
+ghost use Rattle.hh_day.specs.RunLimits.{RunsFit, TermsReady};
 
 use hh_state_laws::{
     cash_sums_to_zero, contracts_sum_to_zero, day_nets_are_sums, day_nets_from_results,
-    each_period_settled, each_unit_credited, kept_results, postings_total, run_postings_balance,
+    each_period_settled, each_unit_credited, kept_results, periods_ready, postings_total,
+    run_postings_balance, summaries_within, turnovers_within,
 };
 
 /// That a period that is settled is settled in one way, where what it is settled from fits together
@@ -27,6 +29,28 @@ pub fn writes_the_run()
     // These do nothing, but each carries a law for the proof.
     day_nets_from_results();
     day_nets_are_sums();
+}
+
+/// That what the Settlement Periods of a date are settled from may be settled: in each state that the
+/// machine reaches. So `settle_day` fails for memory alone there (profile).
+pub fn terms_ready()
+    ensures { TermsReady }
+{
+    // Does nothing, but carries a law for the proof.
+    periods_ready();
+}
+
+/// That what is written for a new run of the settled periods of its date fits the types that keep it: in
+/// each state that the machine reaches, and for each run that is not there and not refused there. So
+/// `run_change` fails for memory alone there (profile).
+pub fn runs_fit()
+    ensures { RunsFit }
+{
+    // These do nothing, but each carries a law for the proof.
+    turnovers_within();
+    summaries_within();
+    kept_results();
+    writes_the_run();
 }
 
 /// That the sums of the headline hold of the tables of each state that the machine reaches: each run has a

@@ -8,6 +8,6 @@ mod nets;
 mod run;
 mod settle;
 
-pub use laws::{reached_conserve, settled_in_one_way, writes_the_run};
+pub use laws::{reached_conserve, runs_fit, settled_in_one_way, terms_ready, writes_the_run};
 pub use run::run_change;
 pub use settle::{SettledDay, SettledPeriod, settle_day};

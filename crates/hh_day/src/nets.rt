@@ -1,6 +1,9 @@
 //! What accounts pay by rows, in all.
 
-ghost use Rattle.std.specs.Prelude.{◌≡◌, ◌+ℤ◌, pos, unwrap_or, IfOk, IfSome, OnOk};
+ghost use Rattle.std.specs.Prelude.{◌≡◌, ◌+ℤ◌, pos, unwrap_or, IfErr, IfOk, OnOk, SomeIff};
+ghost use Rattle.hh_num.specs.Ranges.{IsBetween};
+ghost use Rattle.hh_runs.specs.DayNets.{day_cash, day_net_of};
+ghost use Rattle.hh_day.specs.RunLimits.{AreTurnoversSmall};
 ghost use Rattle.hh_day.specs.RunParts.{AddsRow, AreNetsOf};
 
 use hh_calc::AccountRow;
@@ -12,9 +15,12 @@ use std::alloc::Global;
 ///
 /// # Errors
 ///
-/// `Memory` where memory is refused; `Store` where what an account pays lies off the range of day nets.
+/// `Memory` where memory is refused; `Store` where what an account pays, by the rows up to some place, lies
+/// off the range of day nets, which it doesn't where its turnover by them is small.
 pub(crate) fn nets_of<K>(alloc: Global, rows: &[(K, AccountRow)]) -> Result<DayNetTable, StoreFault>
-    ensures { IfOk result (AreNetsOf rows.now) }
+    ensures nets { IfOk result (AreNetsOf rows.now) }
+    ensures memory_alone { AreTurnoversSmall rows.now
+        → IfErr result (λ fault. fault ≡ StoreFault.Memory) }
 {
     let mut nets = DayNetTable::new(alloc);
     let mut place = 0;
@@ -37,7 +43,10 @@ fn place_behind(nets: &DayNetTable, place: usize, row: &AccountRow) -> usize {
 
 /// Adds what a row moves to the net of its account, which is looked for at this place first.
 fn add_row(nets: &mut DayNetTable, place: usize, row: &AccountRow) -> Result<(), StoreFault>
-    ensures { OnOk result (AddsRow row.now nets.old nets.new) }
+    ensures added { OnOk result (AddsRow row.now nets.old nets.new) }
+    ensures memory_alone { IsBetween day_cash.least day_cash.most
+        (day_net_of nets.old row.now.account +ℤ (row.now.charge +ℤ row.now.share))
+        → IfErr result (λ fault. fault ≡ StoreFault.Memory) }
 {
     let Some(net) = net_with(nets.get_near(place, &row.account), row) else {
         return Err(StoreFault::Store);
@@ -46,11 +55,11 @@ fn add_row(nets: &mut DayNetTable, place: usize, row: &AccountRow) -> Result<(),
     Ok(())
 }
 
-/// The net of an account, none standing for 0, with the charge and the share of a row; none where it lies
-/// off the range of day nets.
+/// The net of an account, none standing for 0, with the charge and the share of a row; none exactly where
+/// it lies off the range of day nets.
 fn net_with(net: Option<DayNet>, row: &AccountRow) -> Option<DayNet>
-    ensures { IfSome result (λ sum.
-        sum ≡ unwrap_or net (pos 0) +ℤ (row.now.charge +ℤ row.now.share)) }
+    ensures { let sum = unwrap_or net (pos 0) +ℤ (row.now.charge +ℤ row.now.share) in
+        SomeIff result (IsBetween day_cash.least day_cash.most sum) sum }
 {
     let before = match net {
         Some(net) => net.units(),

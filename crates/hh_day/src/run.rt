@@ -1,9 +1,12 @@
 //! What is written for a new run.
 
-ghost use Rattle.std.specs.Prelude.{◌≡◌, map, IfOk, IfSome};
+ghost use Rattle.std.specs.Prelude.{◌≡◌, map, IfErr, IfOk, SomeIff};
+ghost use Rattle.hh_num.specs.Quantities.{amounts_of_cash};
+ghost use Rattle.hh_num.specs.Ranges.{IsBetween};
 ghost use Rattle.hh_num.specs.Totals.{total};
 ghost use Rattle.hh_runs.specs.Postings.{entry_of};
 ghost use Rattle.hh_day.specs.NewRuns.{summary_of, IsWrittenFor};
+ghost use Rattle.hh_day.specs.RunLimits.{FitsFields, FitsRun};
 
 use crate::entries::{account_count, credit_entries, posting_entries, result_entries};
 use crate::nets::nets_of;
@@ -22,15 +25,17 @@ use std::alloc::Global;
 ///
 /// # Errors
 ///
-/// `Memory` where memory is refused; `Store` where a sum of the rows lies off its range, which those of a
-/// state that the machine reaches don't.
+/// `Memory` where memory is refused; `Store` where a sum of the rows or a count lies off its range, which
+/// those of a run that the machine makes don't (`runs_fit`).
 pub fn run_change(
     alloc: Global,
     run: RunKey,
     day: &[SettledPeriod],
     former: &[(PeriodNumber, AccountRow)],
 ) -> Result<RunChange, StoreFault>
-    ensures { IfOk result (IsWrittenFor run day.now former.now) }
+    ensures written { IfOk result (IsWrittenFor run day.now former.now) }
+    ensures memory_alone { FitsRun run day.now former.now
+        → IfErr result (λ fault. fault ≡ StoreFault.Memory) }
 {
     let results = result_entries(alloc, &run, day)?;
     let former_nets = nets_of(alloc, former)?;
@@ -44,10 +49,11 @@ pub fn run_change(
     Ok(RunChange::new(run, summary, results, credits, posted))
 }
 
-/// What a run is summed up as, by its settled Settlement Periods and its postings; none where a count or
-/// the sum of the residuals lies off its range.
+/// What a run is summed up as, by its settled Settlement Periods and its postings; none exactly where a
+/// count or the sum of the residuals lies off the range of its field.
 fn summary_of(day: &[SettledPeriod], postings: &[Posting]) -> Option<Summary>
-    ensures { IfSome result (λ summary. summary ≡ summary_of day.now (map entry_of postings.now)) }
+    ensures { let summary = summary_of day.now (map entry_of postings.now) in
+        SomeIff result (FitsFields summary) summary }
 {
     Some(Summary {
         periods: u8::try_from(day.len()).ok()?,
@@ -57,13 +63,14 @@ fn summary_of(day: &[SettledPeriod], postings: &[Posting]) -> Option<Summary>
     })
 }
 
-/// The sum of the residuals of Settlement Periods; none where it leaves the range of pence on the way.
+/// The sum of the residuals of Settlement Periods; none exactly where it lies off the range of pence.
 fn residual_of(day: &[SettledPeriod]) -> Option<Pence>
-    ensures { IfSome result (λ sum. sum ≡ total (λ q. q.1.residual) day.now) }
+    ensures { let sum = total (λ q. q.1.residual) day.now in
+        SomeIff result (IsBetween amounts_of_cash.least amounts_of_cash.most sum) sum }
 {
-    let mut sum = 0i64;
+    let mut sum = 0i128;
     for settled in day {
-        sum = sum.checked_add(settled.result().residual().units())?;
+        sum += i128::from(settled.result().residual().units());
     }
-    Some(Pence::of(sum))
+    Pence::new(i64::try_from(sum).ok()?)
 }

@@ -1,3 +1,4 @@
+pub mod AmountLaws
 pub mod EnquiryLaws
 pub mod HandleLaws
 pub mod ListLaws

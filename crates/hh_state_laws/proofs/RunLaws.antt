@@ -27,7 +27,7 @@ use Rattle.hh_state_laws.proofs.LoadLaws.{in_key_order-append}
 use Rattle.hh_state_laws.proofs.RunRowLaws.{credits_own, postings_distinct, postings_own, results_distinct, results_own, run_credits_distinct}
 
 -- a new run comes last, with the latest run of its date before it
-with_former-append : (earlier runs : List Run) (r : Run) → with_former earlier (runs ++ r ∷ []) ≡ with_former earlier runs ++ (latest_run r.key.date (earlier ++ runs), r) ∷ []
+pub with_former-append : (earlier runs : List Run) (r : Run) → with_former earlier (runs ++ r ∷ []) ≡ with_former earlier runs ++ (latest_run r.key.date (earlier ++ runs), r) ∷ []
 with_former-append earlier [] r = ap (λ es. (latest_run r.key.date es, r) ∷ []) (sym (append-nil earlier))
 with_former-append earlier (x ∷ runs) r =
     ap (λ ps. (latest_run x.key.date earlier, x) ∷ ps) (with_former-append (earlier ++ x ∷ []) runs r ∙ ap (λ es. with_former (earlier ++ x ∷ []) runs ++ (latest_run r.key.date es, r) ∷ []) (append_assoc earlier (x ∷ []) runs))

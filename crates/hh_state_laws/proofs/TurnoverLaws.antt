@@ -73,7 +73,7 @@ module _ {X : Type 0} (f : X → ℤ) where
       omega (arith, ints)
 
 -- a sum over what is made of each element
-sum_by-made : {X Y : Type 0} (f : Y → ℕ) (g : X → Y) (xs : List X) → sum_by f (map g xs) ≡ sum_by (λ x. f (g x)) xs
+pub sum_by-made : {X Y : Type 0} (f : Y → ℕ) (g : X → Y) (xs : List X) → sum_by f (map g xs) ≡ sum_by (λ x. f (g x)) xs
 sum_by-made f g [] = refl
 sum_by-made f g (x ∷ xs) = sum_by-cons f (g x) (map g xs) ∙ ap (λ n. f (g x) + n) (sum_by-made f g xs) ∙ sym (sum_by-cons (λ y. f (g y)) x xs)
 
@@ -233,7 +233,7 @@ turnovers_within midnight s a reached =
         omega arith
 
 -- what is no greater in size than the greatest turnover is a day net
-is_day_net : (z : ℤ) (turnover : ℕ) → unsigned_abs z ≤ turnover → turnover ≤ greatest_turnover → IsBetween day_cash.least day_cash.most z
+pub is_day_net : (z : ℤ) (turnover : ℕ) → unsigned_abs z ≤ turnover → turnover ≤ greatest_turnover → IsBetween day_cash.least day_cash.most z
 is_day_net z turnover small few = (omega (arith, ints), omega (arith, ints))
 
 -- what accounts pay by the rows of runs

@@ -4,7 +4,7 @@ use Rattle.hh_day.specs.RunParts.{AddsRow}
 use Rattle.hh_day.proofs.NetLaws.{adds_row}
 use Rattle.hh_day.proofs.nets.add_row.Goals as goal
 
-pub returns : goal.returns
-returns c =
+pub returns-clause-added : goal.returns-clause-added
+returns-clause-added c =
     subst (AddsRow c.args.row.now c.args.nets.now) (sym c.in_ok-put_near.ensures.ok)
-    (adds_row c.args.nets.now c.args.row.now c.in-Some.net (c.in-Some.ensures ∙ ap (λ net. unwrap_or net (pos 0) +ℤ (c.args.row.now.charge +ℤ c.args.row.now.share)) c.get_near.ensures))
+    (adds_row c.args.nets.now c.args.row.now c.in-Some.net (c.in-Some.ensures.1 ∙ ap (λ net. unwrap_or net (pos 0) +ℤ (c.args.row.now.charge +ℤ c.args.row.now.share)) c.get_near.ensures))

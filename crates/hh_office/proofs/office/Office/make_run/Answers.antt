@@ -6,7 +6,7 @@ use Rattle.hh_office.proofs.office.Office.make_run.Goals as goal
 pub returns-clause-made : goal.returns-clause-made
 returns-clause-made g c = record {
   writes = c.in_ok-change.change;
-  written = subst (λ rows. IsWrittenFor c.args.key c.args.day.now rows c.in_ok-change.change) (c.deref.ensures.value ∙ c.in_ok-rows.ensures.value) c.in_ok-change.ensures;
+  written = subst (λ rows. IsWrittenFor c.args.key c.args.day.now rows c.in_ok-change.change) (c.deref.ensures.value ∙ c.in_ok-rows.ensures.value) c.in_ok-change.ensures.written;
   kept = subst (λ o. WritesRun o c.commit_run.new.self c.in_ok-change.change) c.in_ok-rows.ensures.same c.in_ok-commit_run.ensures.written;
   replied = c.ran-reply.ensures;
 }

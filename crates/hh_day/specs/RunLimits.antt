@@ -1,0 +1,48 @@
+-- When what is written for a new run fits the types that keep it.
+use Rattle.std.specs.Prelude.{◌≡◌, ℕ, ◌^◌, ◌≤◌, ◌<◌, unsigned_abs, ℤ, List, map, sum_by, All}
+use Rattle.hh_num.specs.Quantities.{amounts_of_cash}
+use Rattle.hh_num.specs.Ranges.{IsBetween}
+use Rattle.hh_time.specs.Days.{Midnights}
+use Rattle.hh_names.specs.declared.account.Account.{Account}
+use Rattle.hh_rows.specs.declared.settlement_period.SettlementPeriod.{SettlementPeriod}
+use Rattle.hh_calc.specs.declared.result.AccountRow.{AccountRow}
+use Rattle.hh_calc.specs.Ready.{IsReady}
+use Rattle.hh_calc.specs.Terms.{PeriodTerms, Settled}
+use Rattle.hh_runs.specs.declared.summary.Summary.{Summary}
+use Rattle.hh_runs.specs.declared.run_key.RunKey.{RunKey}
+use Rattle.hh_states.specs.Amounts.{greatest_turnover}
+use Rattle.hh_states.specs.Changes.{RunWrites}
+use Rattle.hh_states.specs.PeriodSettlement.{terms_at}
+use Rattle.hh_states.specs.RunReads.{rows_by_period}
+use Rattle.hh_states.specs.States.{State}
+use Rattle.hh_states.specs.Steps.{CanRun, IsReached, registered_at}
+use Rattle.hh_day.specs.NewRuns.{IsWrittenFor, day_in, former_rows}
+use Rattle.hh_day.specs.RunParts.{moved_by_row}
+
+-- each account's turnover by rows, under whatever keys they stand, is at most that of a run: so is what any of the rows come to
+abbrev pub AreTurnoversSmall : {K : Type 0} → List (K × AccountRow) → Type 0
+AreTurnoversSmall rows = (a : Account) → sum_by (λ e. unsigned_abs (moved_by_row a e.1)) rows ≤ greatest_turnover
+
+-- a summary's counts and its residual fit its fields
+pub record FitsFields (summary : Summary) : Type 0 where
+  pub periods : summary.periods < 2 ^ 8
+  pub accounts : summary.accounts < 2 ^ 16
+  pub residual : IsBetween amounts_of_cash.least amounts_of_cash.most summary.residual
+  pub postings : summary.postings < 2 ^ 16
+
+-- What is written for a run whose periods are settled so fits, where the run of the date before it had these rows: the turnovers of
+-- accounts are small by the old rows and by the new ones, and what it is summed up as fits the fields of a summary.
+pub record FitsRun (run : RunKey) (day : List (SettlementPeriod × Settled)) (former : List (ℕ × AccountRow)) : Type 0 where
+  pub before : AreTurnoversSmall former
+  pub now : AreTurnoversSmall (rows_by_period day)
+  pub summary : (writes : RunWrites) → IsWrittenFor run day former writes → FitsFields writes.summary
+
+-- in each state that the machine reaches, what each Settlement Period is settled from may be settled
+abbrev pub TermsReady : Type 0
+TermsReady = (midnight : Midnights) (s : State) (periods : List SettlementPeriod) (terms : List PeriodTerms) → IsReached midnight s
+    → terms ≡ map (terms_at (registered_at midnight s)) periods → All IsReady terms
+
+-- and what is written for each run that is not there and not refused there fits
+abbrev pub RunsFit : Type 0
+RunsFit = (midnight : Midnights) (s : State) (moment : ℤ) (key : RunKey) → IsReached midnight s → CanRun midnight s moment key
+    → FitsRun key (day_in midnight s key.date) (former_rows midnight s key.date)

@@ -1,0 +1,48 @@
+-- What accounts have and pay, by the tables of a state that the machine reaches, fits the types of replies.
+use Rattle.std.proofs.Common.{◌≡◌, ℕ, List, [], ◌∷◌, sym, subst, true, arith}
+use Rattle.std.specs.Prelude.{ℤ, ◌+ℤ◌, ◌==◌, IfSome}
+use Rattle.std.specs.List.{AllByRecursion}
+use Rattle.std.proofs.lemmas.Int.{ints}
+use Rattle.hh_num.specs.Quantities.{amounts_of_cash}
+use Rattle.hh_num.specs.Ranges.{IsBetween}
+use Rattle.hh_num.specs.Totals.{total}
+use Rattle.hh_num.proofs.TotalLaws.{total-filter}
+use Rattle.hh_time.specs.Days.{Midnights}
+use Rattle.hh_names.specs.declared.account.Account.{Account}
+use Rattle.hh_names.specs.Accounts.{is_same_account}
+use Rattle.hh_calc.specs.declared.result.AccountRow.{AccountRow}
+use Rattle.hh_runs.specs.DayNets.{day_cash}
+use Rattle.hh_states.specs.Amounts.{BalancesWithin, PaidWithin, balances}
+use Rattle.hh_states.specs.Content.{tables_of}
+use Rattle.hh_states.specs.Reads.{postings_in, results_in}
+use Rattle.hh_states.specs.RunReads.{HoldsPostings, paid_in}
+use Rattle.hh_states.specs.Runs.{Run, latest_run}
+use Rattle.hh_states.specs.States.{State}
+use Rattle.hh_states.specs.Steps.{IsReached}
+use Rattle.hh_office.specs.Enquiries.{net_of_rows, rows_of_account}
+use Rattle.hh_office.proofs.EnquiryLaws.{latest_holds}
+
+-- what an account's own rows come to is what it pays by all rows
+pub own_rows : (a : Account) (rows : List (ℕ × AccountRow)) → net_of_rows (rows_of_account a rows) ≡ paid_in a rows
+own_rows a rows = total-filter (λ (e : ℕ × AccountRow). e.1.charge +ℤ e.1.share) (λ e. is_same_account e.1.account a) rows
+
+module _ (midnight : Midnights) (s : State) (reached : IsReached midnight s) where
+  -- by the rows of the latest run of a date it is a day net
+  pub latest_net_fits : PaidWithin → (a : Account) (date : ℕ)
+      → IfSome (latest_run date s.runs) (λ r. IsBetween day_cash.least day_cash.most (net_of_rows (rows_of_account a (results_in (tables_of midnight s) r.key))) × ((r.key.date == date) ≡ true))
+  latest_net_fits paid a date =
+      latest_holds (λ r. IsBetween day_cash.least day_cash.most (net_of_rows (rows_of_account a (results_in (tables_of midnight s) r.key)))) date s.runs (each s.runs (paid midnight s a reached))
+    where
+      each : (runs : List Run) → AllByRecursion (λ r. IsBetween day_cash.least day_cash.most (paid_in a (results_in (tables_of midnight s) r.key))) runs
+          → AllByRecursion (λ r. IsBetween day_cash.least day_cash.most (net_of_rows (rows_of_account a (results_in (tables_of midnight s) r.key)))) runs
+      each [] within = tt
+      each (r ∷ runs) within = (subst (IsBetween day_cash.least day_cash.most) (sym (own_rows a (results_in (tables_of midnight s) r.key))) within.0, each runs within.1)
+
+  -- what its postings come to is an amount of cash
+  pub balance_fits : HoldsPostings → BalancesWithin → (a : Account) → IsBetween amounts_of_cash.least amounts_of_cash.most (total (λ e. e.1) (postings_in (tables_of midnight s) a))
+  balance_fits held within a =
+      let narrow = subst (IsBetween balances.least balances.most) (sym (held midnight s a reached)) (within midnight s a reached) in
+      wider (total (λ e. e.1) (postings_in (tables_of midnight s) a)) narrow
+    where
+      wider : (z : ℤ) → IsBetween balances.least balances.most z → IsBetween amounts_of_cash.least amounts_of_cash.most z
+      wider z narrow = let low = narrow.0 in let high = narrow.1 in (omega (arith, ints), omega (arith, ints))
