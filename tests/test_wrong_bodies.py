@@ -66,19 +66,28 @@ class WrongBodies(unittest.TestCase):
         self.assertEqual(self.tried(lambda files: f"{said}logic=not-proved functions=1\n"), (edits, 0))
 
     def test_what_tells_of_a_body(self):
-        """Not that it waits for another, nor that its proof names what is no longer there."""
+        """Not that it waits for another, nor that its proof names what is no longer there, or proves what the body no longer owes."""
         said = """\
+./proofs/keys/idle/Answers.antt:6:32: error: `returns-clause`: expected type `Unit {0}`, but this has type `c.in-Some.y ≡ c.args.x`
+  computed as far as they go, the two types are `Unit {0}` (expected) and `Path Prim.Native.Nat.ℕ c.in-Some.y c.args.x` (found)
+./proofs/keys/long/Answers.antt:8:1: error: in `returns-clause`:
+  computed as far as they go, the two types are `Unit {0}` (expected) and `Path Prim.Native.Nat.ℕ c.in-Some.y c.args.x` (found)
+./proofs/keys/both/Answers.antt:6:32: error: `returns-clause`: expected type `Unit {0}`, but this has type `c.in-Some.y ≡ c.args.x`
+./proofs/keys/both/Answers.antt:9:12: error: `returns`: expected type `result ≡ 1`, but this has type `Unit {0}`
 ./proofs/keys/named/Answers.antt:3:5: error: `returns`: `goal.returns`: module `Goals` has no `returns` that can be named from here
 ./proofs/keys/open/Answers.antt:3:5: error: `returns`: `search`: no proof of `result ≡ 1`
 ./proofs/keys/open/Answers.antt:9:1: error: 1 declaration that depends on `returns`, which was rejected, was not checked: clause
 fn hh_rows::keys::named: not proved
 fn hh_rows::keys::open: not proved
+fn hh_rows::keys::idle: not proved
+fn hh_rows::keys::long: not proved
+fn hh_rows::keys::both: not proved
 fn hh_rows::keys::waits: not proved; it calls `hh_rows::keys::open`, which is not proved
 fn hh_rows::keys::Key::bare: no proof: expected answers in ./proofs/keys/Key/bare/Answers.antt; `search` did not prove `returns`
 fn hh_rows::keys::right: proved
 """
         told = set(script().told_of(HOME / "crates" / "hh_rows", said))
-        self.assertEqual({name for _, name in told}, {"open", "bare"})
+        self.assertEqual({name for _, name in told}, {"open", "bare", "both"})
         self.assertLessEqual({("keys", "open"), ("keys", "bare"), ("Key", "bare")}, told)
 
     def test_one_that_waits_is_tried_by_itself(self):

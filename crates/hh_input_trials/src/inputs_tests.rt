@@ -25,40 +25,6 @@ fn length_of<I: Inputs>(
     inputs.read(alloc, path, most).map(|read| read.len())
 }
 
-/// Three files, of which two have one path.
-const FILES: [MemoryFile<'_>; 3] = [
-    MemoryFile {
-        path: "a.csv",
-        bytes: b"first",
-    },
-    MemoryFile {
-        path: "b.csv",
-        bytes: b"second",
-    },
-    MemoryFile {
-        path: "a.csv",
-        bytes: b"third",
-    },
-];
-
-#[test]
-fn files_in_memory(rt: HostRuntime) {
-    let inputs = MemoryInputs::new(&FILES);
-    for (path, most, bytes) in [
-        ("a.csv", 100, b"first".as_slice()),
-        ("b.csv", 6, b"second".as_slice()),
-        ("b.csv", 3, b"sec".as_slice()),
-        ("b.csv", 0, b"".as_slice()),
-    ] {
-        assert!(rt;
-            reads_as(rt.alloc(), &inputs, path, most, bytes),
-            "{path} {most}"
-        );
-    }
-    let absent = length_of(rt.alloc(), &inputs, "c.csv", 9);
-    assert_eq!(rt; absent, Err(InputFault::Unreadable));
-}
-
 #[test]
 fn files_of_the_system(rt: HostRuntime) -> Result<(), Fail> {
     let inputs = FileInputs(RuntimeFiles(&rt));

@@ -1,3 +1,2 @@
 pub mod FileInputs
 pub mod Inputs
-pub mod MemoryInputs

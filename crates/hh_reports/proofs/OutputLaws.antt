@@ -1,5 +1,5 @@
 -- What goes out and what is held back, call after call.
-use Rattle.std.proofs.Common.{◌≡◌, ℕ, ◌+◌, ◌<◌, List, [], ◌∷◌, ◌++◌, length, take, drop, get_or, Option, Some, None, Result, Ok, Err, refl, sym, ap, subst, ◌∙◌, append_assoc}
+use Rattle.std.proofs.Common.{◌≡◌, ℕ, ◌+◌, ◌<◌, List, [], ◌∷◌, ◌++◌, length, take, drop, get_or, Option, Some, None, Result, Ok, Err, refl, sym, ap, subst, ◌∙◌, append_assoc, arith}
 use Rattle.std.specs.Io.KnownBytes.{Appends}
 use Rattle.std.specs.Prelude.{IsErrAnd, OnOk}
 use Rattle.std.specs.List.{flat_map}
@@ -7,7 +7,7 @@ use Rattle.std.proofs.lemmas.List.{append-nil, take-append-drop, take_more}
 use Rattle.std.proofs.lemmas.List.Concat.{flat_map-append}
 use Rattle.hh_devices.specs.Devices.{AppendsFront}
 use Rattle.hh_reports.specs.declared.fault.ReportFault.{ReportFault}
-use Rattle.hh_reports.specs.Output.{CountsFault, IsPassed, Passes, Sends}
+use Rattle.hh_reports.specs.Output.{CountsFault, IsPassed, IsShort, Passes, Sends}
 
 appends_none : (a : Option (List ℕ)) → Appends a a []
 appends_none None = tt
@@ -27,12 +27,12 @@ counted_on : (fault : ReportFault) (f g h : ℕ) → g ≡ f → CountsFault fau
 counted_on fault f g h same counts = subst (λ n. CountsFault fault n h) same counts
 
 -- nothing went out
-pub held_back : (a : Option (List ℕ)) (h : List ℕ) (f : ℕ) → IsPassed a a h f f h
-held_back a h f = record { gone = []; went = appends_none a; rest = refl; same = refl }
+pub held_back : (a : Option (List ℕ)) (h : List ℕ) (f : ℕ) → IsShort h → IsPassed a a h f f h
+held_back a h f short = record { gone = []; went = appends_none a; rest = refl; short = short; same = refl }
 
 -- a page that went out
 pub passed : {A : Type 0} (a b : Option (List ℕ)) (h k : List ℕ) (f g : ℕ) (r : Result A ReportFault) → Sends a b f g h r → OnOk r (k ≡ []) → Passes a b k f g h r
-passed a b h k f g (Ok x) now empty = record { gone = h; went = now.0; rest = sym (append-nil h) ∙ ap (λ u. h ++ u) (sym empty); same = now.1 }
+passed a b h k f g (Ok x) now empty = record { gone = h; went = now.0; rest = sym (append-nil h) ∙ ap (λ u. h ++ u) (sym empty); short = subst IsShort (sym empty) (omega arith); same = now.1 }
 passed a b h k f g (Err fault) now empty = now
 
 -- a text behind one that went out or is held back
@@ -58,6 +58,7 @@ went_on a b c h k m f g n s t before now =
       went = appends_more a b c before.gone now.gone before.went now.went;
       rest = sym (append_assoc h s t) ∙ ap (λ u. u ++ t) before.rest ∙ append_assoc before.gone k t ∙ ap (λ u. before.gone ++ u) now.rest
           ∙ sym (append_assoc before.gone now.gone m);
+      short = now.short;
       same = now.same ∙ before.same;
     }
 

@@ -6,7 +6,7 @@ ghost use Rattle.hh_num.specs.Totals.{total};
 ghost use Rattle.hh_reports.specs.DayReport.{period_account_line, charge_in, day_report_text, heads_line, net_line, period_lines, periods_lines, period_residual_line, row_lines, rows_of_period, title_line};
 ghost use Rattle.hh_reports.specs.Fields.{cash_of, energies_of, energy_text, pence_text, flush_right};
 ghost use Rattle.hh_reports.specs.Nets.{nets_from_rows};
-ghost use Rattle.hh_reports.specs.Output.{Passes, Sends};
+ghost use Rattle.hh_reports.specs.Output.{IsShort, Passes, Sends};
 
 use crate::fault::ReportFault;
 use crate::page::Page;
@@ -104,6 +104,7 @@ fn write_periods<S: Sink>(
     rows: &[(PeriodNumber, AccountRow)],
     out: &mut S,
 ) -> Result<(), ReportFault>
+    requires { IsShort page.old }
     ensures { Passes (S.taken out.old) (S.taken out.new) page.new
         (S.failures out.old) (S.failures out.new)
         (page.old ++ periods_lines periods rows.now) result }
@@ -124,6 +125,7 @@ fn write_period<S: Sink>(
     rows: &[(PeriodNumber, AccountRow)],
     out: &mut S,
 ) -> Result<(), ReportFault>
+    requires { IsShort page.old }
     ensures { Passes (S.taken out.old) (S.taken out.new) page.new
         (S.failures out.old) (S.failures out.new)
         (page.old ++ period_lines period (rows_of_period period rows.now)) result }
@@ -139,6 +141,7 @@ fn write_accounts<S: Sink>(
     rows: &[(PeriodNumber, AccountRow)],
     out: &mut S,
 ) -> Result<i128, ReportFault>
+    requires { IsShort page.old }
     ensures writes { Passes (S.taken out.old) (S.taken out.new) page.new
         (S.failures out.old) (S.failures out.new)
         (page.old ++ flat_map (row_lines period) rows.now) result }
@@ -160,6 +163,7 @@ fn write_row<S: Sink>(
     entry: &(PeriodNumber, AccountRow),
     out: &mut S,
 ) -> Result<i128, ReportFault>
+    requires { IsShort page.old }
     ensures writes { Passes (S.taken out.old) (S.taken out.new) page.new
         (S.failures out.old) (S.failures out.new) (page.old ++ row_lines period entry.now) result }
     ensures charge { IfOk result (λ charge. charge ≡ charge_in period entry.now) }
@@ -268,6 +272,7 @@ fn write_nets<S: Sink>(
     nets: &[(Account, i128)],
     out: &mut S,
 ) -> Result<(), ReportFault>
+    requires { IsShort page.old }
     ensures { Passes (S.taken out.old) (S.taken out.new) page.new
         (S.failures out.old) (S.failures out.new) (page.old ++ flat_map net_line nets.now) result }
 {

@@ -7,7 +7,7 @@ ghost use Rattle.hh_runs.specs.RunKinds.{run_kind_code};
 ghost use Rattle.hh_reports.specs.Exports.{balance_line, balances_text, party_lines, result_line, results_text};
 ghost use Rattle.hh_reports.specs.Fields.{cash_of, energies_of, energy_text, pence_text};
 ghost use Rattle.hh_reports.specs.Nets.{sum_for, sum_in};
-ghost use Rattle.hh_reports.specs.Output.{Passes, Sends};
+ghost use Rattle.hh_reports.specs.Output.{IsShort, Passes, Sends};
 
 use crate::fault::ReportFault;
 use crate::page::Page;
@@ -72,6 +72,7 @@ fn write_rows<S: Sink>(
     rows: &[(PeriodNumber, AccountRow)],
     out: &mut S,
 ) -> Result<(), ReportFault>
+    requires { IsShort page.old }
     ensures { Passes (S.taken out.old) (S.taken out.new) page.new
         (S.failures out.old) (S.failures out.new)
         (page.old ++ flat_map (result_line run.now) rows.now) result }
@@ -205,6 +206,7 @@ fn write_parties<S: Sink>(
     sums: &SumTable,
     out: &mut S,
 ) -> Result<(), ReportFault>
+    requires { IsShort page.old }
     ensures { Passes (S.taken out.old) (S.taken out.new) page.new
         (S.failures out.old) (S.failures out.new)
         (page.old ++ flat_map (party_lines (sum_in sums.now)) parties.now) result }

@@ -72,7 +72,7 @@ impl DateRange {
     pub fn is_inside(self, other: DateRange) -> bool
         ensures { result ≡ is_inside self other }
     {
-        other.from <= self.from && self.to <= other.to
+        other.from() <= self.from() && self.to() <= other.to()
     }
 }
 

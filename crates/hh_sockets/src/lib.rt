@@ -2,9 +2,7 @@
 #![tactic(auto)]
 
 mod loopback;
-mod none;
 mod runtime;
 
 pub use loopback::{Connection, Listener, Loopback, SocketFailed};
-pub use none::{NoListener, NoLoopback};
 pub use runtime::{RuntimeListener, RuntimeLoopback};
