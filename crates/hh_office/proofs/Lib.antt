@@ -7,3 +7,4 @@ pub mod ReportLaws
 pub mod RunLaws
 pub mod StepLaws
 pub mod ViewLaws
+pub mod WordLaws

@@ -1,7 +1,10 @@
 //! What is asked of accounts, contracts and runs.
 
-ghost use Rattle.std.specs.Prelude.{◌≡◌, map, IfOk, IfSome, Some};
+ghost use Rattle.std.specs.Prelude.{◌≡◌, map, IfOk, Some, SomeIff};
+ghost use Rattle.hh_num.specs.Quantities.{amounts_of_cash};
+ghost use Rattle.hh_num.specs.Ranges.{IsBetween};
 ghost use Rattle.hh_num.specs.Totals.{total};
+ghost use Rattle.hh_runs.specs.DayNets.{day_cash};
 ghost use Rattle.hh_states.specs.Reads.{results_in, runs_in};
 ghost use Rattle.hh_office.specs.Enquiries.{account_reply, balance_reply, contracts_reply, net_of_rows, reply_by_rows, rows_of_account, runs_reply};
 ghost use Rattle.hh_office.specs.Promises.{RepliesAs, TellsInEachState};
@@ -176,26 +179,26 @@ fn rows_of(
     Ok(found)
 }
 
-/// What the rows of an account come to, if a day net may be as great.
+/// What the rows of an account come to; none exactly where no day net is as great.
 fn net_of(rows: &[(PeriodNumber, AccountRow)]) -> Option<DayNet>
-    ensures { IfSome result (λ net. net ≡ net_of_rows rows.now) }
+    ensures { let net = net_of_rows rows.now in
+        SomeIff result (IsBetween day_cash.least day_cash.most net) net }
 {
-    let mut net = 0i64;
+    let mut net = 0i128;
     for row in rows {
-        net = net
-            .checked_add(row.1.charge.units())?
-            .checked_add(row.1.share.units())?;
+        net += i128::from(row.1.charge.units()) + i128::from(row.1.share.units());
     }
-    DayNet::new(net)
+    DayNet::new(i64::try_from(net).ok()?)
 }
 
-/// What postings come to, if an amount of cash may be as great.
+/// What postings come to; none exactly where no amount of cash is as great.
 fn sum_of(postings: &[(RunKey, Pence)]) -> Option<Pence>
-    ensures { IfSome result (λ sum. sum ≡ total (λ e. e.1) postings.now) }
+    ensures { let sum = total (λ e. e.1) postings.now in
+        SomeIff result (IsBetween amounts_of_cash.least amounts_of_cash.most sum) sum }
 {
-    let mut sum = 0i64;
+    let mut sum = 0i128;
     for posting in postings {
-        sum = sum.checked_add(posting.1.units())?;
+        sum += i128::from(posting.1.units());
     }
-    Pence::new(sum)
+    Pence::new(i64::try_from(sum).ok()?)
 }
