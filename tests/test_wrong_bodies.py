@@ -1,10 +1,11 @@
 """Each wrong body that the gate doesn't try still turns the body of a function, and each has a name of its own; and what the script
-that tries them counts as refused."""
+that tries them counts as refused. Those of the gate and these turn what `settle` runs, but for calls that are offered beside it."""
 import contextlib
 import importlib.machinery
 import importlib.util
 import io
 import pathlib
+import re
 import shutil
 import subprocess
 import tempfile
@@ -15,6 +16,11 @@ from unittest import mock
 from programs import HOME
 
 FOLDER = HOME / "wrong-bodies"
+FUNCTION = re.compile(r"(?m)^( *)(?:pub(?:\([a-z]+\))? )?(?:const )?fn (\w+)")
+# Calls that `settle` doesn't make: of a row by itself, of a list of requests, of a date, and of devices in memory.
+OFFERED = {"check_row", "apply_row", "run_all", "day_of", "day_number", "date_at", "in_pieces"}
+# What the language calls without naming it.
+UNNAMED = {"main", "fmt", "cmp", "partial_cmp", "eq", "from", "next", "clone", "drop", "default"}
 
 
 def script():
@@ -25,6 +31,33 @@ def script():
     return module
 
 
+def names_in_bodies():
+    """The names in the bodies of the functions of each name, those of tests and of what is measured left out."""
+    found = {}
+    for file in HOME.glob("crates/*/src/**/*.rt"):
+        crate = file.relative_to(HOME).parts[1]
+        if crate.endswith("_trials") or crate in ("hh_measures", "hh_bench") or "tests" in file.name:
+            continue
+        text = re.sub(r"//.*", "", file.read_text(encoding="utf-8"))
+        starts = list(FUNCTION.finditer(text))
+        for start, end in zip(starts, [*(other.start() for other in starts[1:]), len(text)]):
+            body = re.compile(rf"(?m)^{start[1]}\{{|\{{$").search(text, start.end(), end)
+            if body:
+                found.setdefault(start[2], set()).update(re.findall(r"\w+", text[body.end() : end]))
+    return found
+
+
+def run_by_settle():
+    """The names of the functions that `settle` may run, by the names in the bodies of those that it runs."""
+    bodies, found, left = names_in_bodies(), set(), sorted(UNNAMED)
+    while left:
+        name = left.pop()
+        if name in bodies and name not in found:
+            found.add(name)
+            left += bodies[name]
+    return found
+
+
 class WrongBodies(unittest.TestCase):
     def test_each_turns_a_function(self):
         turned = script().turned
@@ -33,6 +66,16 @@ class WrongBodies(unittest.TestCase):
         for edit in edits:
             with self.subTest(edit=f"{edit.parent.name}/{edit.name}"):
                 self.assertTrue(turned(edit.parent.name, edit))
+
+    def test_each_turns_what_settle_runs(self):
+        """Told by names alone, so a call that has the name of another is taken for one that `settle` makes."""
+        turned, run = script().turned, run_by_settle()
+        for crate in (HOME / "crates").iterdir():
+            for edit in (*crate.glob("must-fail/*.edit"), *(FOLDER / crate.name).glob("*.edit")):
+                with self.subTest(edit=f"{crate.name}/{edit.name}"):
+                    self.assertIn(turned(crate.name, edit)[-1][2], run | OFFERED)
+        for name in OFFERED:
+            self.assertNotIn(name, run)
 
     def test_each_has_a_name_of_its_own(self):
         """Also beside those that the gate tries, since pages name them without their crates."""
