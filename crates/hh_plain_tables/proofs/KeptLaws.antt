@@ -9,7 +9,7 @@ use Rattle.hh_rows.specs.declared.rows.Row.TheVariants as row
 use Rattle.hh_rules.specs.Entries.{contract_entry, meter_entry, party_entry, price_entry, reallocation_entry, unit_entry}
 use Rattle.hh_rules.specs.History.{Registered}
 use Rattle.hh_states.specs.Changes.{LoadWrites, put_row, put_rows, registered_with}
-use Rattle.hh_plain_tables.specs.declared.kept_register.ChangedTables.{ChangedTables}
+use Rattle.hh_plain_tables.specs.declared.changed_tables.ChangedTables.{ChangedTables}
 use Rattle.hh_plain_tables.specs.KeptTables.{with_changed}
 
 -- the tables with the entries of rows put into each

@@ -1,9 +1,1 @@
-mod ContractLaws
-mod DayLaws
 mod KeptLaws
-mod NamedLaws
-mod OutputLaws
-mod PartLaws
-mod RangeLaws
-mod SoundLaws
-mod UntilLaws

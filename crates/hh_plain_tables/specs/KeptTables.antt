@@ -1,7 +1,7 @@
 -- Tables in memory: those that a load changes are made anew, and then take the place of those before.
 use Rattle.std.specs.Prelude.{unwrap_or}
 use Rattle.hh_rules.specs.History.{Registered}
-use Rattle.hh_plain_tables.specs.declared.kept_register.ChangedTables.{ChangedTables}
+use Rattle.hh_plain_tables.specs.declared.changed_tables.ChangedTables.{ChangedTables}
 
 -- what is registered and in force with each table that was made anew in the place of the one before
 abbrev pub with_changed : ChangedTables → Registered → Registered

@@ -1,18 +1,17 @@
 //! What is kept of runs, in memory.
 
-ghost use Rattle.std.specs.Prelude.{◌≡◌, filter_map, map, option_map, IfOk, OnErr, OnOk};
+ghost use Rattle.std.specs.Prelude.{◌≡◌, filter_map, IfOk, OnErr, OnOk};
 ghost use Rattle.std.specs.FinMap.{find, put};
 ghost use Rattle.hh_tables.specs.Tables.{put_all};
 ghost use Rattle.hh_states.specs.Content.{credit_key_cmp, posting_key_cmp, result_key_cmp};
 ghost use Rattle.hh_states.specs.Reads.{posting_to, result_in, summary_on};
 ghost use Rattle.hh_states.specs.Runs.{run_key_cmp};
 ghost use Rattle.hh_plain_tables.specs.KeptRuns.{kept_with, no_runs};
-ghost use Rattle.hh_store.specs.Outputs.{reported_as};
 
 use hh_calc::AccountRow;
+use hh_kept_rows::{postings_to, results_of, runs_on};
 use hh_names::{Account, PeriodNumber};
 use hh_num::{Pence, Ticks};
-use hh_reports::ReportedRun;
 use hh_runs::{RunKey, RunKind, Summary};
 use hh_states::{CreditKey, PostingKey, ResultKey};
 use hh_store::{RunChange, RunRows};
@@ -128,13 +127,7 @@ impl KeptRuns {
     ) -> Result<Vec<(RunKind, Summary)>, AllocError>
         ensures { IfOk result (λ runs. runs.items ≡ filter_map (summary_on date) self.now.runs) }
     {
-        let mut found = Vec::new(alloc);
-        for (key, summary) in self.runs.rows() {
-            if let Some(run) = summary_on(date, *key, *summary) {
-                found.push(run)?;
-            }
-        }
-        Ok(found)
+        runs_on(alloc, date, self.runs.rows())
     }
 
     /// The rows of a run's accounts, by Settlement Period, then by account. `Err` only where memory is
@@ -147,13 +140,7 @@ impl KeptRuns {
         ensures { IfOk result (λ rows.
             rows.items ≡ filter_map (result_in run.now) self.now.results) }
     {
-        let mut found = Vec::new(alloc);
-        for (key, row) in self.results.rows() {
-            if let Some(row) = result_in(run, *key, *row) {
-                found.push(row)?;
-            }
-        }
-        Ok(found)
+        results_of(alloc, run, self.results.rows())
     }
 
     /// What the runs posted to an account, by the dates of the runs, then by their kinds. `Err` only where
@@ -166,70 +153,20 @@ impl KeptRuns {
         ensures { IfOk result (λ rows.
             rows.items ≡ filter_map (posting_to account.now) self.now.postings) }
     {
-        let mut found = Vec::new(alloc);
-        for (key, pence) in self.postings.rows() {
-            if let Some(posting) = posting_to(account, *key, *pence) {
-                found.push(posting)?;
-            }
-        }
-        Ok(found)
+        postings_to(alloc, account, self.postings.rows())
     }
 
-    /// A run as its reports show it, if it is there.
-    pub(crate) fn reported(&self, run: &RunKey) -> Option<ReportedRun>
-        ensures { result ≡ option_map (reported_as run.now)
-            (find run_key_cmp run.now self.now.runs) }
+    /// The summary of a run, if it is there.
+    pub(crate) fn summary_of(&self, run: &RunKey) -> Option<Summary>
+        ensures { result ≡ find run_key_cmp run.now self.now.runs }
     {
-        let summary = self.runs.get(run)?;
-        Some(ReportedRun {
-            date: run.date,
-            kind: run.kind,
-            periods: summary.periods,
-        })
+        self.runs.get(run)
     }
 
-    /// All that runs have posted, each amount under its account. `Err` only where memory is refused.
-    pub(crate) fn amounts_posted(&self, alloc: Global) -> Result<Vec<(Account, Pence)>, AllocError>
-        ensures { IfOk result (λ amounts.
-            amounts.items ≡ map (λ e. (e.0.account, e.1)) self.now.postings) }
+    /// All that runs have posted, in the order of the keys.
+    pub(crate) fn postings(&self) -> &[(PostingKey, Pence)]
+        ensures { result.now ≡ self.now.postings }
     {
-        self.postings
-            .rows()
-            .iter()
-            .map(|row| (row.0.account, row.1))
-            .collect(alloc)
-    }
-}
-
-/// A run's kind and summary, if it is of this date.
-fn summary_on(date: SettlementDate, run: RunKey, summary: Summary) -> Option<(RunKind, Summary)>
-    ensures { result ≡ summary_on date (run, summary) }
-{
-    if run.date == date {
-        Some((run.kind, summary))
-    } else {
-        None
-    }
-}
-
-/// A row with its period, if it is of this run.
-fn result_in(run: &RunKey, key: ResultKey, row: AccountRow) -> Option<(PeriodNumber, AccountRow)>
-    ensures { result ≡ result_in run.now (key, row) }
-{
-    if key.run.cmp(run).is_eq() {
-        Some((key.period, row))
-    } else {
-        None
-    }
-}
-
-/// A posting with its run, if it is to this account.
-fn posting_to(account: &Account, key: PostingKey, pence: Pence) -> Option<(RunKey, Pence)>
-    ensures { result ≡ posting_to account.now (key, pence) }
-{
-    if key.account == *account {
-        Some((key.run, pence))
-    } else {
-        None
+        self.postings.rows()
     }
 }

@@ -12,13 +12,13 @@ ghost use Rattle.hh_states.specs.States.{empty_state};
 ghost use Rattle.hh_store.specs.DayReads.{IsDayData};
 ghost use Rattle.hh_store.specs.Outputs.{Outputs, balances_in, day_report_in, export_in};
 
-use crate::kept_register::KeptRegister;
+use crate::changed_tables::{changed_by, take_over};
 use crate::kept_runs::KeptRuns;
 use hh_calc::AccountRow;
 use hh_devices::Sink;
+use hh_kept_rows::{KeptRegister, write_balances_of, write_day_report_of, write_results_of};
 use hh_names::{Account, Counterparties, FileName, PartyId, PeriodNumber, Reference, UnitId};
 use hh_num::Pence;
-use hh_reports::{write_balances, write_day_report, write_results};
 use hh_rows::{ContractRow, FileKind, PartyRegistration, Row, Settings, UnitRegistration};
 use hh_rules::Register;
 use hh_runs::{RunKey, RunKind, Summary};
@@ -192,11 +192,11 @@ impl Tables for PlainTables {
         ensures never_store { IfErr result (λ fault. fault ≢ OutputFault.Store) }
         ensures same { self.new ≡ self.old }
     {
-        let Some(reported) = self.runs.reported(run) else {
+        let Some(summary) = self.runs.summary_of(run) else {
             return Ok(());
         };
         let rows = self.runs.results_of(self.alloc, run)?;
-        Ok(write_results(self.alloc, &reported, &rows, out)?)
+        write_results_of(self.alloc, run, &summary, &rows, out)
     }
 
     fn day_report<S: Sink>(&mut self, run: &RunKey, out: &mut S) -> Result<(), OutputFault>
@@ -206,11 +206,11 @@ impl Tables for PlainTables {
         ensures never_store { IfErr result (λ fault. fault ≢ OutputFault.Store) }
         ensures same { self.new ≡ self.old }
     {
-        let Some(reported) = self.runs.reported(run) else {
+        let Some(summary) = self.runs.summary_of(run) else {
             return Ok(());
         };
         let rows = self.runs.results_of(self.alloc, run)?;
-        Ok(write_day_report(self.alloc, &reported, &rows, out)?)
+        write_day_report_of(self.alloc, run, &summary, &rows, out)
     }
 
     fn balances<S: Sink>(&mut self, out: &mut S) -> Result<(), OutputFault>
@@ -219,9 +219,12 @@ impl Tables for PlainTables {
         ensures never_store { IfErr result (λ fault. fault ≢ OutputFault.Store) }
         ensures same { self.new ≡ self.old }
     {
-        let parties = self.register.party_ids(self.alloc)?;
-        let postings = self.runs.amounts_posted(self.alloc)?;
-        Ok(write_balances(self.alloc, &parties, &postings, out)?)
+        write_balances_of(
+            self.alloc,
+            self.register.parties.rows(),
+            self.runs.postings(),
+            out,
+        )
     }
 
     fn apply_load(&mut self, change: LoadChange) -> Result<(), StoreFault>
@@ -230,9 +233,9 @@ impl Tables for PlainTables {
         ensures err { OnErr result (self.new ≡ self.old) }
         ensures memory_alone { IfErr result (λ fault. fault ≡ StoreFault.Memory) }
     {
-        let changed = self.register.changed_by(self.alloc, &change)?;
+        let changed = changed_by(self.alloc, &self.register, &change)?;
         self.files.put_row(change.key(), change.into_file())?;
-        self.register.take_over(changed);
+        take_over(&mut self.register, changed);
         Ok(())
     }
 

@@ -1,0 +1,192 @@
+-- The reallocations of the units in the Settlement Periods that rows name, and that a part that has them serves for the rows.
+use Rattle.std.proofs.Common.{◌≡◌, ℕ, zero, suc, ◌+◌, ◌<◌, List, [], ◌∷◌, ◌++◌, length, take, get_or, refl, sym, ap, subst, ◌∙◌, Bool, true, false, cond, Ordering, append_assoc}
+use Rattle.std.specs.Prelude.{◌≢◌, filter, T}
+use Rattle.std.specs.BTreeMap.{is_at}
+use Rattle.std.specs.BTreeSet.{BTreeSet, Updates, contains}
+use Rattle.std.specs.Cmp.{IsTotalOrder, Equal-is}
+use Rattle.std.specs.FinMap.{put, is_sorted}
+use Rattle.std.specs.FinMap.Entries.{below_all, by_order}
+use Rattle.std.specs.List.{All}
+use Rattle.std.specs.Ordering.{eq_by_cmp, is_lt, ordering_reverse}
+use Rattle.std.specs.declared.cmp.Ordering.TheVariants.{Greater}
+use Rattle.std.proofs.lemmas.List.{append-nil}
+use Rattle.std.proofs.lemmas.List.Elements.{All-more, All-weaker, filter_more}
+use Rattle.hh_tables.specs.Tables.{IsTable, Table, put_all}
+use Rattle.hh_tables.proofs.MergeLaws.{from_true, put_all-append, put_all_is_table}
+use Rattle.hh_tables.proofs.RowLaws.{both, first, less, second, sorted-filter}
+use Rattle.hh_names.specs.declared.values.Reallocation.{Reallocation}
+use Rattle.hh_rows.specs.Keys.{reallocation_key_cmp, unit_period_cmp}
+use Rattle.hh_rows.specs.declared.keys.ReallocationKey.{ReallocationKey}
+use Rattle.hh_rows.specs.declared.keys.UnitPeriod.{UnitPeriod}
+use Rattle.hh_rows.specs.declared.rows.ReallocationRow.{ReallocationRow}
+use Rattle.hh_rows.specs.declared.rows.Row.{Row}
+use Rattle.hh_rows.specs.declared.rows.Row.TheVariants as row
+use Rattle.hh_rows.proofs.KeyLaws.{exact_unit_periods, reallocation_key_total}
+use Rattle.hh_rules.specs.History.{Registered}
+use Rattle.hh_rules.specs.RegisterView.{AgreesOn, RegisterView, ServesFor, holding, reallocations_at, tables_in}
+use Rattle.hh_kept_rows.specs.Parts.{AgreesOnNames, Grows, IsNamedIn, IsPartOf, is_named_in, whole_of, with_reallocations}
+use Rattle.hh_kept_rows.proofs.PartLaws.{names_grown}
+
+module _ {K V : Type 0} (R : K → K → Ordering) where
+  below-take : (k : K) (es : Table K V) (i : ℕ) → T (below_all R k es) → T (below_all R k (take i es))
+  below-take k es zero h = tt
+  below-take k [] (suc i) h = tt
+  below-take k (e ∷ es) (suc i) h = both _ _ (first _ _ h) (below-take k es i (second _ _ h))
+
+  sorted-take : (es : Table K V) (i : ℕ) → T (is_sorted R es) → T (is_sorted R (take i es))
+  sorted-take es zero h = tt
+  sorted-take [] (suc i) h = tt
+  sorted-take (e ∷ es) (suc i) h = both _ _ (below-take e.0 es i (first _ _ h)) (sorted-take es i (second _ _ h))
+
+module _ {K V : Type 0} {R : K → K → Ordering} (o : IsTotalOrder R) where
+  below_within : (k : K) (front : Table K V) (e : K × V) (rest : Table K V) → T (below_all R k (front ++ e ∷ rest)) → T (is_lt (R k e.0))
+  below_within k [] e rest h = first _ _ h
+  below_within k (x ∷ front) e rest h = below_within k front e rest (second _ _ h)
+
+  -- an entry above all others is put at the end
+  put_behind_all : (front : Table K V) (e : K × V) (rest : Table K V) → T (is_sorted R (front ++ e ∷ rest)) → put R e.0 e.1 front ≡ front ++ e ∷ []
+  put_behind_all [] e rest h = refl
+  put_behind_all (x ∷ front) e rest h =
+      let above : R e.0 x.0 ≡ Greater = o.antisymm e.0 x.0 ∙ ap ordering_reverse (less _ (below_within x.0 front e rest (first _ _ h))) in
+      ap (λ r. by_order r ((e.0, e.1) ∷ x ∷ front) ((x.0, e.1) ∷ front) (x ∷ put R e.0 e.1 front)) above
+      ∙ ap (λ es. x ∷ es) (put_behind_all front e rest (second _ _ h))
+
+  -- entries in the order of their keys that are put behind others
+  put_all_behind : (es front : Table K V) → T (is_sorted R (front ++ es)) → put_all R es front ≡ front ++ es
+  put_all_behind [] front h = sym (append-nil front)
+  put_all_behind (e ∷ es) front h =
+      ap (put_all R es) (put_behind_all front e es h)
+      ∙ put_all_behind es (front ++ e ∷ []) (subst (λ l. T (is_sorted R l)) (sym (append_assoc front (e ∷ []) es)) h)
+      ∙ append_assoc front (e ∷ []) es
+
+-- what passes a test is found among what passes a wider one
+filter_within : {X : Type 0} (test wider : X → Bool) → ((x : X) → test x ≡ true → wider x ≡ true) → (xs : List X) → filter test (filter wider xs) ≡ filter test xs
+filter_within test wider within [] = refl
+filter_within test wider within (x ∷ xs) =
+    let rest = filter_within test wider within xs in
+    elim (test x) as (λ b. test x ≡ b → filter test (cond (wider x) (x ∷ filter wider xs) (filter wider xs)) ≡ cond b (x ∷ filter test xs) (filter test xs)) [
+      | true ↦ λ passes. ap (λ b. filter test (cond b (x ∷ filter wider xs) (filter wider xs))) (within x passes)
+          ∙ ap (λ b. cond b (x ∷ filter test (filter wider xs)) (filter test (filter wider xs))) passes
+          ∙ ap (λ l. x ∷ l) rest
+      | false ↦ λ fails. elim (wider x) as (λ w. filter test (cond w (x ∷ filter wider xs) (filter wider xs)) ≡ filter test xs) [
+        | true ↦ ap (λ b. cond b (x ∷ filter test (filter wider xs)) (filter test (filter wider xs))) fails ∙ rest
+        | false ↦ rest
+      ]
+    ] refl
+
+module _ (whole : Registered) (rising : IsTable reallocation_key_cmp whole.reallocations) (named : BTreeSet UnitPeriod) where
+  -- the reallocations of what is named
+  abbrev held : Table ReallocationKey Reallocation
+  held = filter (is_named_in named) whole.reallocations
+
+  -- the part's reallocations, once those of what is named are put in
+  put_held : put_all reallocation_key_cmp held [] ≡ held
+  put_held = put_all_behind reallocation_key_total held [] (sorted-filter reallocation_key_cmp (is_named_in named) whole.reallocations (from_true _ rising))
+
+  -- and so once the first of them are
+  pub put_so_far : (i : ℕ) → put_all reallocation_key_cmp (filter (is_named_in named) (take i whole.reallocations)) [] ≡ filter (is_named_in named) (take i whole.reallocations)
+  put_so_far i =
+      put_all_behind reallocation_key_total (filter (is_named_in named) (take i whole.reallocations)) []
+      (sorted-filter reallocation_key_cmp (is_named_in named) (take i whole.reallocations) (sorted-take reallocation_key_cmp whole.reallocations i (from_true _ rising)))
+
+  held_at : (at : UnitPeriod) → contains unit_period_cmp named at ≡ true
+      → filter (λ e. eq_by_cmp unit_period_cmp e.0.unit_period at) held ≡ reallocations_at whole at
+  held_at at is_named =
+      filter_within (λ e. eq_by_cmp unit_period_cmp e.0.unit_period at) (is_named_in named)
+      (λ e here. ap (contains unit_period_cmp named) (exact_unit_periods e.0.unit_period at ((Equal-is (unit_period_cmp e.0.unit_period at)).0 here)) ∙ is_named) whole.reallocations
+
+  -- with what a row names and the reallocations of what is named, the part has what the row is judged by
+  agrees_with_held : (part : RegisterView) (r : Row) → AgreesOnNames whole (tables_in part) r → IsNamedIn named r → AgreesOn whole (tables_in (with_reallocations held part)) r
+  agrees_with_held part (row.Party r) names is_named = names
+  agrees_with_held part (row.Unit r) names is_named = names
+  agrees_with_held part (row.Meter r) names is_named = names
+  agrees_with_held part (row.Price r) names is_named = names
+  agrees_with_held part (row.Contract r) names is_named = names
+  agrees_with_held part (row.Reallocation r) (party, unit) is_named = (party, unit, held_at r.key.unit_period is_named)
+
+  -- so that it serves for the rows
+  pub serves_with_held : (lead_minutes : ℕ) (rows : List Row) (part new : RegisterView) → IsPartOf (whole_of lead_minutes whole) part → All (AgreesOnNames whole (tables_in part)) rows → All (IsNamedIn named) rows
+      → new ≡ with_reallocations (put_all reallocation_key_cmp held (tables_in part).reallocations) part
+      → ServesFor rows (whole_of lead_minutes whole) new
+  serves_with_held lead_minutes rows part new is names are_named became =
+      let rows_are : put_all reallocation_key_cmp held (tables_in part).reallocations ≡ held = ap (put_all reallocation_key_cmp held) is.reallocations ∙ put_held in
+      subst (ServesFor rows (whole_of lead_minutes whole)) (sym (became ∙ ap (λ es. with_reallocations es part) rows_are)) (record {
+        rising = rising;
+        part_rising = subst (IsTable reallocation_key_cmp) put_held (put_all_is_table reallocation_key_total held [] refl);
+        lead_minutes = is.lead_minutes;
+        parties = is.party_count;
+        units = is.unit_count;
+        agrees = λ k d below. agrees_with_held part _ (names k d below) (are_named k d below);
+      })
+
+-- what is named stays so
+stays_named : (old new : BTreeSet UnitPeriod) → ((at : UnitPeriod) → contains unit_period_cmp old at ≡ true → contains unit_period_cmp new at ≡ true) → (r : Row) → IsNamedIn old r → IsNamedIn new r
+stays_named old new more (row.Party r) h = h
+stays_named old new more (row.Unit r) h = h
+stays_named old new more (row.Meter r) h = h
+stays_named old new more (row.Price r) h = h
+stays_named old new more (row.Contract r) h = h
+stays_named old new more (row.Reallocation r) h = more r.key.unit_period h
+
+-- one more row is named
+pub named_more : (rows : List Row) (i : ℕ) (r : Row) → i < length rows → r ≡ get_or rows i r → (old new : BTreeSet UnitPeriod) → All (IsNamedIn old) (take i rows)
+    → ((at : UnitPeriod) → contains unit_period_cmp old at ≡ true → contains unit_period_cmp new at ≡ true) → IsNamedIn new r → All (IsNamedIn new) (take (i + 1) rows)
+named_more rows i r inside is old new so_far more own =
+    All-more (IsNamedIn new) rows i r inside (All-weaker (IsNamedIn old) (IsNamedIn new) (stays_named old new more) (take i rows) so_far) (subst (IsNamedIn new) is own)
+
+-- one more reallocation, which is held if it is of what is named
+pub held_more : (named : BTreeSet UnitPeriod) (es : Table ReallocationKey Reallocation) (i : ℕ) (e : ReallocationKey × Reallocation) → i < length es → e ≡ get_or es i e → (before : Table ReallocationKey Reallocation)
+    → put_all reallocation_key_cmp (filter (is_named_in named) (take (i + 1) es)) before
+    ≡ cond (is_named_in named e) (put reallocation_key_cmp e.0 e.1 (put_all reallocation_key_cmp (filter (is_named_in named) (take i es)) before)) (put_all reallocation_key_cmp (filter (is_named_in named) (take i es)) before)
+held_more named es i e inside is before =
+    ap (λ l. put_all reallocation_key_cmp l before) (filter_more (is_named_in named) es i e inside ∙ ap (λ x. filter (is_named_in named) (take i es) ++ cond (is_named_in named x) (x ∷ []) []) (sym is))
+    ∙ elim (is_named_in named e) as (λ b. put_all reallocation_key_cmp (filter (is_named_in named) (take i es) ++ cond b (e ∷ []) []) before
+    ≡ cond b (put reallocation_key_cmp e.0 e.1 (put_all reallocation_key_cmp (filter (is_named_in named) (take i es)) before)) (put_all reallocation_key_cmp (filter (is_named_in named) (take i es)) before)) [
+      | true ↦ put_all-append reallocation_key_cmp (filter (is_named_in named) (take i es)) (e ∷ []) before
+      | false ↦ ap (λ l. put_all reallocation_key_cmp l before) (append-nil (filter (is_named_in named) (take i es)))
+    ]
+
+-- what is put into a set of names leaves the others there
+pub still_named : (old new : BTreeSet UnitPeriod) (key : UnitPeriod) → Updates unit_period_cmp old new key true → (at : UnitPeriod) → contains unit_period_cmp old at ≡ true → contains unit_period_cmp new at ≡ true
+still_named old new key updates at h =
+    updates.0 at ∙ elim (is_at (unit_period_cmp key) at) as (λ b. cond b true (contains unit_period_cmp old at) ≡ true) [ true ↦ refl | false ↦ h ]
+
+-- a further row is agreed on
+pub names_more : (whole : Registered) (rows : List Row) (i : ℕ) (r : Row) → i < length rows → r ≡ get_or rows i r → (old new : RegisterView) → Grows whole old new
+    → All (AgreesOnNames whole (tables_in old)) (take i rows) → AgreesOnNames whole (tables_in new) r → All (AgreesOnNames whole (tables_in new)) (take (i + 1) rows)
+names_more whole rows i r inside is old new grows so_far own =
+    All-more (AgreesOnNames whole (tables_in new)) rows i r inside
+    (All-weaker (AgreesOnNames whole (tables_in old)) (AgreesOnNames whole (tables_in new)) (names_grown whole old new grows) (take i rows) so_far)
+    (subst (AgreesOnNames whole (tables_in new)) is own)
+
+module _ (named : BTreeSet UnitPeriod) where
+  -- the part with those that are named of the reallocations
+  abbrev with_named : Table ReallocationKey Reallocation → RegisterView → RegisterView
+  with_named es part = with_reallocations (put_all reallocation_key_cmp (filter (is_named_in named) es) (tables_in part).reallocations) part
+
+  module _ (es lent : Table ReallocationKey Reallocation) (same : lent ≡ es) (i : ℕ) (e : ReallocationKey × Reallocation) (inside : i < length lent) (is : e ≡ get_or lent i e) (first old new : RegisterView) (so_far : old ≡ with_named (take i es) first) where
+    one_more : put_all reallocation_key_cmp (filter (is_named_in named) (take (i + 1) es)) (tables_in first).reallocations
+        ≡ cond (is_named_in named e) (put reallocation_key_cmp e.0 e.1 (put_all reallocation_key_cmp (filter (is_named_in named) (take i es)) (tables_in first).reallocations))
+        (put_all reallocation_key_cmp (filter (is_named_in named) (take i es)) (tables_in first).reallocations)
+    one_more = held_more named es i e (subst (λ l. i < length l) same inside) (subst (λ l. e ≡ get_or l i e) same is) (tables_in first).reallocations
+
+    pub holds_more : is_named_in named e ≡ true → new ≡ holding (row.Reallocation (record { key = e.0; reallocation = e.1 })) old → new ≡ with_named (take (i + 1) es) first
+    holds_more here became =
+        became ∙ ap (holding (row.Reallocation (record { key = e.0; reallocation = e.1 }))) so_far
+        ∙ sym (ap (λ rows. with_reallocations rows first) (one_more ∙ ap (λ b. cond b (put reallocation_key_cmp e.0 e.1 (put_all reallocation_key_cmp (filter (is_named_in named) (take i es)) (tables_in first).reallocations))
+        (put_all reallocation_key_cmp (filter (is_named_in named) (take i es)) (tables_in first).reallocations)) here))
+
+    pub skips_more : is_named_in named e ≡ false → new ≡ old → new ≡ with_named (take (i + 1) es) first
+    skips_more elsewhere became =
+        became ∙ so_far
+        ∙ sym (ap (λ rows. with_reallocations rows first) (one_more ∙ ap (λ b. cond b (put reallocation_key_cmp e.0 e.1 (put_all reallocation_key_cmp (filter (is_named_in named) (take i es)) (tables_in first).reallocations))
+        (put_all reallocation_key_cmp (filter (is_named_in named) (take i es)) (tables_in first).reallocations)) elsewhere))
+
+-- a row of another kind names no unit in a Settlement Period
+pub not_named : (named : BTreeSet UnitPeriod) (r : Row) → ((x : ReallocationRow) → r ≢ row.Reallocation x) → IsNamedIn named r
+not_named named (row.Party r) other = tt
+not_named named (row.Unit r) other = tt
+not_named named (row.Meter r) other = tt
+not_named named (row.Price r) other = tt
+not_named named (row.Contract r) other = tt
+not_named named (row.Reallocation r) other = absurd (other r refl)

@@ -1,0 +1,282 @@
+-- A part of a register grows by what the whole has, and then serves for the rows that name it.
+use Rattle.std.proofs.Common.{◌≡◌, ℕ, List, length, refl, sym, ap, subst, ◌∙◌, true, false, cond, Some, None, Ordering, inl, inr}
+use Rattle.std.specs.Prelude.{◌⊎◌, is_some, OnOk, Result, Ok, Err}
+use Rattle.std.specs.Cmp.{IsTotalOrder, Equal-is, eq_by_cmp_equiv}
+use Rattle.std.specs.FinMap.{find, put}
+use Rattle.std.specs.FinMap.Entries.{find-put}
+use Rattle.std.specs.Ordering.{eq_by_cmp}
+use Rattle.std.specs.declared.cmp.Ordering.TheVariants.{Equal}
+use Rattle.std.proofs.lemmas.Map.Lookups.{exact_bytes}
+use Rattle.std.proofs.lemmas.Result.{on_ok_weaker}
+use Rattle.hh_tables.specs.Tables.{Table}
+use Rattle.hh_names.specs.declared.values.Counterparties.{Counterparties}
+use Rattle.hh_names.specs.Accounts.{bytes_cmp}
+use Rattle.hh_names.proofs.AccountLaws.{bytes_total}
+use Rattle.hh_rows.specs.declared.rows.Row.{Row}
+use Rattle.hh_rows.specs.declared.rows.Row.TheVariants as row
+use Rattle.hh_rows.specs.declared.rows.ContractRow.{ContractRow}
+use Rattle.hh_rows.specs.declared.rows.MeterRow.{MeterRow}
+use Rattle.hh_rows.specs.declared.rows.PartyRow.{PartyRow}
+use Rattle.hh_rows.specs.declared.rows.PriceRow.{PriceRow}
+use Rattle.hh_rows.specs.declared.rows.UnitRow.{UnitRow}
+use Rattle.hh_rows.specs.Keys.{contract_key_cmp, settlement_period_cmp, unit_period_cmp}
+use Rattle.hh_rows.specs.declared.keys.UnitPeriod.{UnitPeriod}
+use Rattle.hh_rows.specs.declared.settlement_period.SettlementPeriod.{SettlementPeriod}
+use Rattle.hh_rows.proofs.KeyLaws.{contract_key_total, exact_contract_keys, exact_settlement_periods, exact_unit_periods, settlement_period_total, unit_period_total}
+use Rattle.hh_rules.specs.Effects.{put_new}
+use Rattle.hh_rules.specs.History.{Registered}
+use Rattle.hh_rules.specs.RegisterView.{AgreesOnParty, AgreesOnReference, AgreesOnUnit, RegisterView, empty_part, holding, holding_reference, tables_in}
+use Rattle.hh_kept_rows.specs.Parts.{AgreesOnNames, Grows, GrowsTable, IsPartOf, IsPartOfTable, whole_of}
+
+module _ {K V : Type 0} {R : K → K → Ordering} (o : IsTotalOrder R) (exact : (x y : K) → R x y ≡ Equal → x ≡ y) (whole old : Table K V) (k : K) (v : V) (has : find R k whole ≡ Some v) where
+  -- an entry of the whole that is put into the part
+  grows-put : GrowsTable R whole old (put R k v old)
+  grows-put q = elim (eq_by_cmp R q k) as (λ b. eq_by_cmp R q k ≡ b → (find R q (put R k v old) ≡ find R q old) ⊎ (find R q (put R k v old) ≡ find R q whole)) [
+    | true ↦ λ same. inr (find-put R o q k v old ∙ ap (λ b. cond b (Some v) (find R q old)) same ∙ sym has ∙ ap (λ x. find R x whole) (sym (exact q k ((Equal-is (R q k)).0 same))))
+    | false ↦ λ apart. inl (find-put R o q k v old ∙ ap (λ b. cond b (Some v) (find R q old)) apart)
+  ] refl
+
+  agrees-put : find R k (put R k v old) ≡ find R k whole
+  agrees-put = find-put R o k k v old ∙ ap (λ b. cond b (Some v) (find R k old)) ((eq_by_cmp_equiv o).refl k) ∙ sym has
+
+  grows-put_new : GrowsTable R whole old (put_new R (Some (k, v)) old)
+  grows-put_new = elim (is_some (find R k old)) as (λ b. GrowsTable R whole old (cond b old (put R k v old))) [
+    | true ↦ λ q. inl refl
+    | false ↦ grows-put
+  ]
+
+module _ {K V : Type 0} (R : K → K → Ordering) (whole : Table K V) (k : K) where
+  -- where the whole has nothing, the part has nothing
+  agrees-none : (part : Table K V) → IsPartOfTable R whole part → find R k whole ≡ None → find R k part ≡ find R k whole
+  agrees-none part within none = elim (within k) as (λ _. find R k part ≡ find R k whole) [ inl nothing ↦ nothing ∙ sym none | inr same ↦ same ]
+
+  -- what agrees stays
+  agrees-grown : (old new : Table K V) → GrowsTable R whole old new → find R k old ≡ find R k whole → find R k new ≡ find R k whole
+  agrees-grown old new grows agrees = elim (grows k) as (λ _. find R k new ≡ find R k whole) [ inl same ↦ same ∙ agrees | inr has ↦ has ]
+
+module _ {K V : Type 0} (R : K → K → Ordering) (whole : Table K V) where
+  within-grown : (old new : Table K V) → IsPartOfTable R whole old → GrowsTable R whole old new → IsPartOfTable R whole new
+  within-grown old new within grows k = elim (grows k) as (λ _. (find R k new ≡ None) ⊎ (find R k new ≡ find R k whole)) [
+    | inl same ↦ elim (within k) as (λ _. (find R k new ≡ None) ⊎ (find R k new ≡ find R k whole)) [ inl nothing ↦ inl (same ∙ nothing) | inr is ↦ inr (same ∙ is) ]
+    | inr has ↦ inr has
+  ]
+
+  grows-both : (a b c : Table K V) → GrowsTable R whole a b → GrowsTable R whole b c → GrowsTable R whole a c
+  grows-both a b c first second k = elim (second k) as (λ _. (find R k c ≡ find R k a) ⊎ (find R k c ≡ find R k whole)) [
+    | inl same ↦ elim (first k) as (λ _. (find R k c ≡ find R k a) ⊎ (find R k c ≡ find R k whole)) [ inl before ↦ inl (same ∙ before) | inr has ↦ inr (same ∙ has) ]
+    | inr has ↦ inr has
+  ]
+
+module _ (whole : Registered) where
+  pub grows_none : (part : RegisterView) → Grows whole part part
+  grows_none part = record {
+    lead_minutes = refl;
+    party_count = refl;
+    unit_count = refl;
+    parties = λ k. inl refl;
+    units = λ k. inl refl;
+    references = λ k. inl refl;
+    meters = λ k. inl refl;
+    prices = λ k. inl refl;
+    contracts = λ k. inl refl;
+    reallocations = refl;
+  }
+
+  pub grows_twice : (a b c : RegisterView) → Grows whole a b → Grows whole b c → Grows whole a c
+  grows_twice a b c first second = record {
+    lead_minutes = second.lead_minutes ∙ first.lead_minutes;
+    party_count = second.party_count ∙ first.party_count;
+    unit_count = second.unit_count ∙ first.unit_count;
+    parties = grows-both bytes_cmp whole.parties (tables_in a).parties (tables_in b).parties (tables_in c).parties first.parties second.parties;
+    units = grows-both bytes_cmp whole.units (tables_in a).units (tables_in b).units (tables_in c).units first.units second.units;
+    references = grows-both bytes_cmp whole.references (tables_in a).references (tables_in b).references (tables_in c).references first.references second.references;
+    meters = grows-both unit_period_cmp whole.meters (tables_in a).meters (tables_in b).meters (tables_in c).meters first.meters second.meters;
+    prices = grows-both settlement_period_cmp whole.prices (tables_in a).prices (tables_in b).prices (tables_in c).prices first.prices second.prices;
+    contracts = grows-both contract_key_cmp whole.contracts (tables_in a).contracts (tables_in b).contracts (tables_in c).contracts first.contracts second.contracts;
+    reallocations = second.reallocations ∙ first.reallocations;
+  }
+
+  pub part_grown : (lead_minutes : ℕ) (old new : RegisterView) → IsPartOf (whole_of lead_minutes whole) old → Grows whole old new → IsPartOf (whole_of lead_minutes whole) new
+  part_grown lead_minutes old new part grows = record {
+    lead_minutes = grows.lead_minutes ∙ part.lead_minutes;
+    party_count = grows.party_count ∙ part.party_count;
+    unit_count = grows.unit_count ∙ part.unit_count;
+    parties = within-grown bytes_cmp whole.parties (tables_in old).parties (tables_in new).parties part.parties grows.parties;
+    units = within-grown bytes_cmp whole.units (tables_in old).units (tables_in new).units part.units grows.units;
+    references = within-grown bytes_cmp whole.references (tables_in old).references (tables_in new).references part.references grows.references;
+    meters = within-grown unit_period_cmp whole.meters (tables_in old).meters (tables_in new).meters part.meters grows.meters;
+    prices = within-grown settlement_period_cmp whole.prices (tables_in old).prices (tables_in new).prices part.prices grows.prices;
+    contracts = within-grown contract_key_cmp whole.contracts (tables_in old).contracts (tables_in new).contracts part.contracts grows.contracts;
+    reallocations = grows.reallocations ∙ part.reallocations;
+  }
+
+  module _ (old new : RegisterView) (grows : Grows whole old new) where
+    pub party_grown : (party : List ℕ) → AgreesOnParty whole (tables_in old) party → AgreesOnParty whole (tables_in new) party
+    party_grown party = agrees-grown bytes_cmp whole.parties party (tables_in old).parties (tables_in new).parties grows.parties
+
+    pub unit_grown : (unit : List ℕ) → AgreesOnUnit whole (tables_in old) unit → AgreesOnUnit whole (tables_in new) unit
+    unit_grown unit = agrees-grown bytes_cmp whole.units unit (tables_in old).units (tables_in new).units grows.units
+
+    pub reference_grown : (reference : List ℕ) → AgreesOnReference whole (tables_in old) reference → AgreesOnReference whole (tables_in new) reference
+    reference_grown reference = agrees-grown bytes_cmp whole.references reference (tables_in old).references (tables_in new).references grows.references
+
+    -- what a row names stays alike
+    pub names_grown : (r : Row) → AgreesOnNames whole (tables_in old) r → AgreesOnNames whole (tables_in new) r
+    names_grown (row.Party r) party = party_grown r.party party
+    names_grown (row.Unit r) (party, unit) = (party_grown r.registration.lead.party party, unit_grown r.unit unit)
+    names_grown (row.Meter r) (unit, reading) =
+        (unit_grown r.key.unit unit, agrees-grown unit_period_cmp whole.meters r.key (tables_in old).meters (tables_in new).meters grows.meters reading)
+    names_grown (row.Price r) price = agrees-grown settlement_period_cmp whole.prices r.at (tables_in old).prices (tables_in new).prices grows.prices price
+    names_grown (row.Contract r) (seller, buyer, reference, volume) = (
+      party_grown r.contract.counterparties.seller.party seller,
+      party_grown r.contract.counterparties.buyer.party buyer,
+      reference_grown r.key.reference reference,
+      agrees-grown contract_key_cmp whole.contracts r.key (tables_in old).contracts (tables_in new).contracts grows.contracts volume,
+    )
+    names_grown (row.Reallocation r) (party, unit) = (party_grown r.key.account.party party, unit_grown r.key.unit_period.unit unit)
+
+  module _ (old : RegisterView) where
+    -- rows and references of the whole that the part gets
+    pub grows_party : (r : PartyRow) → find bytes_cmp r.party whole.parties ≡ Some r.registration → Grows whole old (holding (row.Party r) old)
+    grows_party r has = record {
+      lead_minutes = refl;
+      party_count = refl;
+      unit_count = refl;
+      parties = grows-put bytes_total exact_bytes whole.parties (tables_in old).parties r.party r.registration has;
+      units = λ k. inl refl;
+      references = λ k. inl refl;
+      meters = λ k. inl refl;
+      prices = λ k. inl refl;
+      contracts = λ k. inl refl;
+      reallocations = refl;
+    }
+
+    pub agrees_party : (r : PartyRow) → find bytes_cmp r.party whole.parties ≡ Some r.registration → AgreesOnParty whole (tables_in (holding (row.Party r) old)) r.party
+    agrees_party r has = agrees-put bytes_total exact_bytes whole.parties (tables_in old).parties r.party r.registration has
+
+    pub grows_unit : (r : UnitRow) → find bytes_cmp r.unit whole.units ≡ Some r.registration → Grows whole old (holding (row.Unit r) old)
+    grows_unit r has = record {
+      lead_minutes = refl;
+      party_count = refl;
+      unit_count = refl;
+      parties = λ k. inl refl;
+      units = grows-put bytes_total exact_bytes whole.units (tables_in old).units r.unit r.registration has;
+      references = λ k. inl refl;
+      meters = λ k. inl refl;
+      prices = λ k. inl refl;
+      contracts = λ k. inl refl;
+      reallocations = refl;
+    }
+
+    pub agrees_unit : (r : UnitRow) → find bytes_cmp r.unit whole.units ≡ Some r.registration → AgreesOnUnit whole (tables_in (holding (row.Unit r) old)) r.unit
+    agrees_unit r has = agrees-put bytes_total exact_bytes whole.units (tables_in old).units r.unit r.registration has
+
+    pub grows_reference : (reference : List ℕ) (c : Counterparties) → find bytes_cmp reference whole.references ≡ Some c → Grows whole old (holding_reference reference c old)
+    grows_reference reference c has = record {
+      lead_minutes = refl;
+      party_count = refl;
+      unit_count = refl;
+      parties = λ k. inl refl;
+      units = λ k. inl refl;
+      references = grows-put bytes_total exact_bytes whole.references (tables_in old).references reference c has;
+      meters = λ k. inl refl;
+      prices = λ k. inl refl;
+      contracts = λ k. inl refl;
+      reallocations = refl;
+    }
+
+    pub agrees_reference : (reference : List ℕ) (c : Counterparties) → find bytes_cmp reference whole.references ≡ Some c → AgreesOnReference whole (tables_in (holding_reference reference c old)) reference
+    agrees_reference reference c has = agrees-put bytes_total exact_bytes whole.references (tables_in old).references reference c has
+
+    pub grows_reading : (r : MeterRow) → find unit_period_cmp r.key whole.meters ≡ Some r.reading → Grows whole old (holding (row.Meter r) old)
+    grows_reading r has = record {
+      lead_minutes = refl;
+      party_count = refl;
+      unit_count = refl;
+      parties = λ k. inl refl;
+      units = λ k. inl refl;
+      references = λ k. inl refl;
+      meters = grows-put unit_period_total exact_unit_periods whole.meters (tables_in old).meters r.key r.reading has;
+      prices = λ k. inl refl;
+      contracts = λ k. inl refl;
+      reallocations = refl;
+    }
+
+    pub agrees_reading : (r : MeterRow) → find unit_period_cmp r.key whole.meters ≡ Some r.reading
+        → find unit_period_cmp r.key (tables_in (holding (row.Meter r) old)).meters ≡ find unit_period_cmp r.key whole.meters
+    agrees_reading r has = agrees-put unit_period_total exact_unit_periods whole.meters (tables_in old).meters r.key r.reading has
+
+    pub grows_price : (r : PriceRow) → find settlement_period_cmp r.at whole.prices ≡ Some r.price → Grows whole old (holding (row.Price r) old)
+    grows_price r has = record {
+      lead_minutes = refl;
+      party_count = refl;
+      unit_count = refl;
+      parties = λ k. inl refl;
+      units = λ k. inl refl;
+      references = λ k. inl refl;
+      meters = λ k. inl refl;
+      prices = grows-put settlement_period_total exact_settlement_periods whole.prices (tables_in old).prices r.at r.price has;
+      contracts = λ k. inl refl;
+      reallocations = refl;
+    }
+
+    pub agrees_price : (r : PriceRow) → find settlement_period_cmp r.at whole.prices ≡ Some r.price
+        → find settlement_period_cmp r.at (tables_in (holding (row.Price r) old)).prices ≡ find settlement_period_cmp r.at whole.prices
+    agrees_price r has = agrees-put settlement_period_total exact_settlement_periods whole.prices (tables_in old).prices r.at r.price has
+
+    pub grows_contract : (r : ContractRow) → find bytes_cmp r.key.reference whole.references ≡ Some r.contract.counterparties → find contract_key_cmp r.key whole.contracts ≡ Some r.contract.volume
+        → Grows whole old (holding (row.Contract r) old)
+    grows_contract r fixed has = record {
+      lead_minutes = refl;
+      party_count = refl;
+      unit_count = refl;
+      parties = λ k. inl refl;
+      units = λ k. inl refl;
+      references = grows-put_new bytes_total exact_bytes whole.references (tables_in old).references r.key.reference r.contract.counterparties fixed;
+      meters = λ k. inl refl;
+      prices = λ k. inl refl;
+      contracts = grows-put contract_key_total exact_contract_keys whole.contracts (tables_in old).contracts r.key r.contract.volume has;
+      reallocations = refl;
+    }
+
+    pub agrees_contract : (r : ContractRow) → find contract_key_cmp r.key whole.contracts ≡ Some r.contract.volume
+        → find contract_key_cmp r.key (tables_in (holding (row.Contract r) old)).contracts ≡ find contract_key_cmp r.key whole.contracts
+    agrees_contract r has = agrees-put contract_key_total exact_contract_keys whole.contracts (tables_in old).contracts r.key r.contract.volume has
+
+  -- what the whole doesn't have, the part doesn't have
+  module _ (lead_minutes : ℕ) (part : RegisterView) (is : IsPartOf (whole_of lead_minutes whole) part) where
+    pub no_party : (party : List ℕ) → find bytes_cmp party whole.parties ≡ None → AgreesOnParty whole (tables_in part) party
+    no_party party none = agrees-none bytes_cmp whole.parties party (tables_in part).parties is.parties none
+
+    pub no_unit : (unit : List ℕ) → find bytes_cmp unit whole.units ≡ None → AgreesOnUnit whole (tables_in part) unit
+    no_unit unit none = agrees-none bytes_cmp whole.units unit (tables_in part).units is.units none
+
+    pub no_reading : (key : UnitPeriod) → find unit_period_cmp key whole.meters ≡ None → find unit_period_cmp key (tables_in part).meters ≡ find unit_period_cmp key whole.meters
+    no_reading key none = agrees-none unit_period_cmp whole.meters key (tables_in part).meters is.meters none
+
+    pub no_price : (at : SettlementPeriod) → find settlement_period_cmp at whole.prices ≡ None → find settlement_period_cmp at (tables_in part).prices ≡ find settlement_period_cmp at whole.prices
+    no_price at none = agrees-none settlement_period_cmp whole.prices at (tables_in part).prices is.prices none
+
+-- what holds of the part with one more row holds after the call that holds it
+pub once_held : {X E : Type 0} (P : RegisterView → Type 0) (held new : RegisterView) (r : Result X E) → OnOk r (new ≡ held) → P held → OnOk r (P new)
+once_held P held new r is p = on_ok_weaker r (λ e. subst P (sym e) p) is
+
+-- what follows of two things that hold where a call succeeds
+pub where_both : {X E P Q S : Type 0} (r : Result X E) → (P → Q → S) → OnOk r P → OnOk r Q → OnOk r S
+where_both (Ok x) both p q = both p q
+where_both (Err e) both p q = tt
+
+-- a part that counts all parties and units and holds none of them yet
+pub empty_is_part : (whole : Registered) (lead_minutes parties units : ℕ) → parties ≡ length whole.parties → units ≡ length whole.units → IsPartOf (whole_of lead_minutes whole) (empty_part lead_minutes parties units)
+empty_is_part whole lead_minutes parties units all_parties all_units = record {
+  lead_minutes = refl;
+  party_count = all_parties;
+  unit_count = all_units;
+  parties = λ k. inl refl;
+  units = λ k. inl refl;
+  references = λ k. inl refl;
+  meters = λ k. inl refl;
+  prices = λ k. inl refl;
+  contracts = λ k. inl refl;
+  reallocations = refl;
+}

@@ -1,0 +1,5 @@
+pub mod DayRolls
+pub mod KeptContracts
+pub mod KeptReallocations
+pub mod Parts
+pub mod Reports

@@ -1,0 +1,105 @@
+//! Where the rows of a Settlement Day likely stand.
+
+use crate::kept_day::{DayRoll, unit_period};
+use crate::kept_register::KeptRegister;
+use hh_names::{Account, Reallocation};
+use hh_rows::{ReallocationKey, SettlementPeriod, UnitPeriod};
+use std::alloc::{AllocError, Global};
+
+/// For each unit of a date, where its rows of the date stand in the tables, and its lead account among
+/// the accounts. Each search looks there first, and finds the same wherever that is: a wrong place costs
+/// time alone.
+#[derive(Drop)]
+pub(crate) struct DayPlaces(Vec<UnitPlaces>);
+
+/// Where a unit's rows of a date stand in the tables, and its lead account among the accounts.
+#[derive(Clone, Copy)]
+pub(crate) struct UnitPlaces {
+    /// The place of its lead account among the accounts of the date.
+    pub(crate) lead: usize,
+    /// The place of its first reading.
+    readings: usize,
+    /// The place of its first reallocation.
+    reallocations: usize,
+    /// The place behind its last reallocation.
+    reallocations_end: usize,
+}
+
+impl DayPlaces {
+    /// Where to look first for the rows of the unit that has this place among the units of the date.
+    pub(crate) fn of_unit(&self, unit: usize) -> UnitPlaces {
+        match self.0.get(unit) {
+            Some(places) => *places,
+            None => UnitPlaces {
+                lead: 0,
+                readings: 0,
+                reallocations: 0,
+                reallocations_end: 0,
+            },
+        }
+    }
+}
+
+impl UnitPlaces {
+    /// Where to look first for the reading in a Settlement Period: where it stands if the unit has one in
+    /// each earlier period of the date.
+    pub(crate) fn reading_at(self, at: &SettlementPeriod) -> usize {
+        self.readings
+            .saturating_add(usize::from(at.period.number()))
+            .saturating_sub(1)
+    }
+
+    /// Where to look first for the reallocations of a unit in a Settlement Period.
+    pub(crate) fn reallocations_at(
+        self,
+        rows: &[(ReallocationKey, Reallocation)],
+        key: &UnitPeriod,
+    ) -> usize {
+        match rows.get(self.reallocations..self.reallocations_end) {
+            Some(of_date) => self.reallocations.saturating_add(of_date.partition_point(|row| row
+                .0
+                .unit_period
+                .cmp(key)
+                .is_lt())),
+            None => 0,
+        }
+    }
+}
+
+impl KeptRegister {
+    /// Where the rows of the units of a date stand that are of these Settlement Periods of the date, and
+    /// their lead accounts.
+    pub(crate) fn places_of(
+        &self,
+        alloc: Global,
+        roll: &DayRoll,
+        periods: &[SettlementPeriod],
+    ) -> Result<DayPlaces, AllocError> {
+        let mut places = Vec::with_capacity(alloc, roll.units.len())?;
+        if let (Some(first), Some(last)) = (periods.first(), periods.last()) {
+            for unit in roll.units.as_slice() {
+                let lead = place_of_lead(&roll.accounts, &unit.1.lead);
+                let (first, last) = (unit_period(&unit.0, first), unit_period(&unit.0, last));
+                places.push(self.places_between(lead, &first, &last))?;
+            }
+        }
+        Ok(DayPlaces(places))
+    }
+
+    /// Where the rows of a unit stand from one Settlement Period up to another, where its lead account
+    /// stands at this place.
+    fn places_between(&self, lead: usize, first: &UnitPeriod, last: &UnitPeriod) -> UnitPlaces {
+        let rows = self.reallocations.rows();
+        UnitPlaces {
+            lead,
+            readings: self.meters.count_below(first),
+            reallocations: rows.partition_point(|row| row.0.unit_period.cmp(first).is_lt()),
+            reallocations_end: rows.partition_point(|row| row.0.unit_period.cmp(last).is_le()),
+        }
+    }
+}
+
+/// The place of a lead account among the accounts of a date, or 0 where it isn't one of them.
+fn place_of_lead(accounts: &[Account], lead: &Account) -> usize {
+    accounts.binary_search(lead).unwrap_or(0)
+}

@@ -1,0 +1,348 @@
+//! What a Settlement Day is settled from.
+
+ghost use Rattle.std.specs.Prelude.{◌≡◌, All, find, filter, filter_map, map, pos, unwrap_or, IfOk, is_none};
+ghost use Rattle.hh_rules.specs.RegisterView.{reallocations_at};
+ghost use Rattle.hh_states.specs.DaySettlement.{missing_meter, missing_price, periods_on, unit_periods_at};
+ghost use Rattle.hh_states.specs.PeriodSettlement.{accounts_on, price_of, reading_of, subsidiaries_of, terms_at, unit_at, units_on};
+ghost use Rattle.hh_store.specs.DayReads.{IsDayData};
+ghost use Rattle.hh_kept_rows.specs.DayRolls.{IsRollOf, row_on};
+ghost use Rattle.hh_kept_rows.specs.KeptContracts.{is_in_period};
+
+use crate::day_places::{DayPlaces, UnitPlaces};
+use crate::kept_reallocations::{count_of, first_of};
+use crate::kept_register::KeptRegister;
+use hh_calc::{PeriodData, Subsidiary, UnitData};
+use hh_names::{Account, Contract, Reallocation, Side, UnitId};
+use hh_num::{Kwh, Price};
+use hh_rows::{
+    ContractKey, ContractRow, ReallocationKey, SettlementPeriod, UnitPeriod, UnitRegistration,
+};
+use hh_store::{DayData, periods_of};
+use hh_time::{Day, SettlementDate};
+use std::alloc::{AllocError, Global};
+
+/// What all Settlement Periods of a date have in common: its accounts, its units, and the rows of
+/// contracts in force on it, by their references.
+#[derive(Drop)]
+pub(crate) struct DayRoll {
+    pub(crate) accounts: Vec<Account>,
+    pub(crate) units: Vec<(UnitId, UnitRegistration)>,
+    pub(crate) contracts: Vec<ContractRow>,
+}
+
+impl KeptRegister {
+    /// What the Settlement Periods of a day are settled from, or what is missing for it. `Err` only where
+    /// memory is refused.
+    pub fn day_data(&self, alloc: Global, day: &Day) -> Result<DayData, AllocError>
+        ensures { IfOk result (IsDayData self.now (periods_on day.now.date day.now.count)) }
+    {
+        let periods = periods_of(alloc, day)?;
+        if let Some(at) = self.missing_price(&periods) {
+            return Ok(DayData::MissingPrice(at));
+        }
+        let roll = self.roll_of(alloc, day.date)?;
+        let places = self.places_of(alloc, &roll, &periods)?;
+        if let Some(key) = self.missing_meter(&roll.units, &places, &periods) {
+            return Ok(DayData::MissingMeter(key));
+        }
+        let terms = self.data_of(alloc, &roll, &places, &periods)?;
+        Ok(DayData::Periods(terms))
+    }
+
+    /// The first of these Settlement Periods that has no price.
+    fn missing_price(&self, periods: &[SettlementPeriod]) -> Option<SettlementPeriod>
+        ensures { result ≡ missing_price self.now periods.now }
+    {
+        for at in periods {
+            if self.lacks_price(at) {
+                return Some(*at);
+            }
+        }
+        None
+    }
+
+    /// Whether a Settlement Period has no price.
+    fn lacks_price(&self, at: &SettlementPeriod) -> bool
+        ensures { result ≡ is_none (price_of self.now at.now) }
+    {
+        self.prices.get(at).is_none()
+    }
+
+    /// What all Settlement Periods of a date have in common.
+    fn roll_of(&self, alloc: Global, date: SettlementDate) -> Result<DayRoll, AllocError>
+        ensures { IfOk result (IsRollOf self.now date) }
+    {
+        Ok(DayRoll {
+            accounts: self.accounts_on(alloc, date)?,
+            units: self.units_on(alloc, date)?,
+            contracts: self.rows_on(alloc, date)?,
+        })
+    }
+
+    /// The accounts of a date, in account order.
+    fn accounts_on(&self, alloc: Global, date: SettlementDate) -> Result<Vec<Account>, AllocError>
+        ensures { IfOk result (λ accounts. accounts.items ≡ accounts_on self.now date) }
+    {
+        let mut accounts = Vec::new(alloc);
+        for party in self.parties.rows() {
+            if party.1.range.holds(date) {
+                accounts.push(Account {
+                    party: party.0,
+                    side: Side::Production,
+                })?;
+                accounts.push(Account {
+                    party: party.0,
+                    side: Side::Consumption,
+                })?;
+            }
+        }
+        Ok(accounts)
+    }
+
+    /// The units of a date, in the order of their ids.
+    fn units_on(
+        &self,
+        alloc: Global,
+        date: SettlementDate,
+    ) -> Result<Vec<(UnitId, UnitRegistration)>, AllocError>
+        ensures { IfOk result (λ units. units.items ≡ units_on self.now date) }
+    {
+        let mut units = Vec::new(alloc);
+        for unit in self.units.rows() {
+            if unit.1.range.holds(date) {
+                units.push(*unit)?;
+            }
+        }
+        Ok(units)
+    }
+
+    /// The rows of contracts in force on a date, in the order of their references.
+    fn rows_on(&self, alloc: Global, date: SettlementDate) -> Result<Vec<ContractRow>, AllocError>
+        ensures { IfOk result (λ rows.
+            rows.items ≡ filter_map (row_on self.now date) self.now.contracts) }
+    {
+        let mut rows = Vec::new(alloc);
+        for (key, volume) in self.contracts.rows() {
+            if let Some(row) = self.row_on(date, *key, *volume) {
+                rows.push(row)?;
+            }
+        }
+        Ok(rows)
+    }
+
+    /// The row in force of a contract, if it is of this date.
+    fn row_on(&self, date: SettlementDate, key: ContractKey, volume: Kwh) -> Option<ContractRow>
+        ensures { result ≡ row_on self.now date (key, volume) }
+    {
+        if key.at.date != date {
+            return None;
+        }
+        let counterparties = self.reference(&key.reference)?;
+        let contract = Contract {
+            counterparties,
+            volume,
+        };
+        Some(ContractRow { key, contract })
+    }
+
+    /// The first of these Settlement Periods of one date in which a unit of the date has no reading, with
+    /// the first such unit.
+    fn missing_meter(
+        &self,
+        units: &[(UnitId, UnitRegistration)],
+        places: &DayPlaces,
+        periods: &[SettlementPeriod],
+    ) -> Option<UnitPeriod>
+        requires { All (λ at. units.now ≡ units_on self.now at.date) periods.now }
+        ensures { result ≡ missing_meter self.now periods.now }
+    {
+        for at in periods {
+            if let Some(key) = self.missing_meter_at(units, places, at) {
+                return Some(key);
+            }
+        }
+        None
+    }
+
+    /// The first of the units of a Settlement Period that has no reading.
+    fn missing_meter_at(
+        &self,
+        units: &[(UnitId, UnitRegistration)],
+        places: &DayPlaces,
+        at: &SettlementPeriod,
+    ) -> Option<UnitPeriod>
+        requires { units.now ≡ units_on self.now at.now.date }
+        ensures { result ≡ find (λ key. is_none (reading_of self.now key))
+            (unit_periods_at self.now at.now) }
+    {
+        for (place, unit) in units.iter().enumerate() {
+            let key = unit_period(&unit.0, at);
+            if self.lacks_reading(places.of_unit(place).reading_at(at), &key) {
+                return Some(key);
+            }
+        }
+        None
+    }
+
+    /// Whether a unit has no reading in a Settlement Period. It is sought near a place.
+    fn lacks_reading(&self, near: usize, key: &UnitPeriod) -> bool
+        ensures { result ≡ is_none (reading_of self.now key.now) }
+    {
+        self.meters.get_near(near, key).is_none()
+    }
+
+    /// What these Settlement Periods of one date are settled from.
+    fn data_of(
+        &self,
+        alloc: Global,
+        roll: &DayRoll,
+        places: &DayPlaces,
+        periods: &[SettlementPeriod],
+    ) -> Result<Vec<PeriodData>, AllocError>
+        requires { All (λ at. IsRollOf self.now at.date roll.now) periods.now }
+        ensures { IfOk result (λ terms. terms.items ≡ map (terms_at self.now) periods.now) }
+    {
+        let mut found = Vec::with_capacity(alloc, periods.len())?;
+        for at in periods {
+            found.push(self.period_data(alloc, roll, places, at)?)?;
+        }
+        Ok(found)
+    }
+
+    /// What a Settlement Period is settled from. Where it has no price, the price counts as 0, and a unit
+    /// that has no reading is left out.
+    fn period_data(
+        &self,
+        alloc: Global,
+        roll: &DayRoll,
+        places: &DayPlaces,
+        at: &SettlementPeriod,
+    ) -> Result<PeriodData, AllocError>
+        requires { IsRollOf self.now at.now.date roll.now }
+        ensures { IfOk result (λ terms. terms ≡ terms_at self.now at.now) }
+    {
+        let accounts = Vec::from_slice(alloc, &roll.accounts)?;
+        let units = self.units_at(alloc, &roll.units, places, at)?;
+        let contracts = contracts_at(alloc, &roll.contracts, at)?;
+        let price = self.price_at(at);
+        Ok(PeriodData::new(accounts, units, contracts, price))
+    }
+
+    /// The price of a Settlement Period, which counts as 0 where there is none.
+    fn price_at(&self, at: &SettlementPeriod) -> Price
+        ensures { result ≡ unwrap_or (price_of self.now at.now) (pos 0) }
+    {
+        self.prices.get(at).unwrap_or(Price::of(0))
+    }
+
+    /// What the units that have a reading in a Settlement Period are settled from.
+    fn units_at(
+        &self,
+        alloc: Global,
+        units: &[(UnitId, UnitRegistration)],
+        places: &DayPlaces,
+        at: &SettlementPeriod,
+    ) -> Result<Vec<UnitData>, AllocError>
+        ensures { IfOk result (λ terms.
+            terms.items ≡ filter_map (unit_at self.now at.now) units.now) }
+    {
+        let mut found = Vec::with_capacity(alloc, units.len())?;
+        for (place, unit) in units.iter().enumerate() {
+            if let Some(unit) = self.unit_at(alloc, unit, places.of_unit(place), at)? {
+                found.push(unit)?;
+            }
+        }
+        Ok(found)
+    }
+
+    /// What a unit is settled from in a Settlement Period, if it has a reading. Its rows are sought at
+    /// these places first.
+    fn unit_at(
+        &self,
+        alloc: Global,
+        unit: &(UnitId, UnitRegistration),
+        places: UnitPlaces,
+        at: &SettlementPeriod,
+    ) -> Result<Option<UnitData>, AllocError>
+        ensures { IfOk result (λ terms. terms ≡ unit_at self.now at.now unit.now) }
+    {
+        let key = unit_period(&unit.0, at);
+        let Some(reading) = self.meters.get_near(places.reading_at(at), &key) else {
+            return Ok(None);
+        };
+        let subsidiaries = self.subsidiaries_of(alloc, places, &key)?;
+        let data = UnitData::new(
+            unit.0,
+            unit.1.lead,
+            unit.1.interconnector,
+            reading,
+            subsidiaries,
+        );
+        Ok(Some(data.with_lead_near(places.lead)))
+    }
+
+    /// The subsidiaries of a unit in a Settlement Period, in account order.
+    fn subsidiaries_of(
+        &self,
+        alloc: Global,
+        places: UnitPlaces,
+        key: &UnitPeriod,
+    ) -> Result<Vec<Subsidiary>, AllocError>
+        ensures { IfOk result (λ subsidiaries.
+            subsidiaries.items ≡ subsidiaries_of self.now key.now) }
+    {
+        let rows = self.reallocations_of(places, key);
+        let mut subsidiaries = Vec::with_capacity(alloc, rows.len())?;
+        for row in rows {
+            subsidiaries.push(Subsidiary {
+                account: row.0.account,
+                reallocation: row.1,
+            })?;
+        }
+        Ok(subsidiaries)
+    }
+
+    /// The reallocations in force of a unit in a Settlement Period, in account order.
+    fn reallocations_of(
+        &self,
+        places: UnitPlaces,
+        key: &UnitPeriod,
+    ) -> &[(ReallocationKey, Reallocation)]
+        ensures { result.now ≡ reallocations_at self.now key.now }
+    {
+        let rows = self.reallocation_rows();
+        let first = first_of(rows, key, places.reallocations_at(rows, key));
+        let (_, rest) = rows.split_at(first);
+        let count = count_of(rest, key);
+        let (found, _) = rest.split_at(count);
+        found
+    }
+}
+
+/// A unit in a Settlement Period.
+pub(crate) fn unit_period(unit: &UnitId, at: &SettlementPeriod) -> UnitPeriod
+    ensures { result ≡ record { unit = unit.now; at = at.now } }
+{
+    UnitPeriod {
+        unit: *unit,
+        at: *at,
+    }
+}
+
+/// The contracts of a Settlement Period among the rows in force on its date.
+fn contracts_at(
+    alloc: Global,
+    rows: &[ContractRow],
+    at: &SettlementPeriod,
+) -> Result<Vec<Contract>, AllocError>
+    ensures { IfOk result (λ contracts. contracts.items
+        ≡ map (λ r. r.contract) (filter (is_in_period at.now.period) rows.now)) }
+{
+    let mut contracts = Vec::new(alloc);
+    for row in rows {
+        if row.key.at.period == at.period {
+            contracts.push(row.contract)?;
+        }
+    }
+    Ok(contracts)
+}

@@ -1,0 +1,17 @@
+//! What is done with rows that a store keeps, once it has them in the order of their keys: the register
+//! that rows are judged by, the contracts of an account, what a Settlement Day is settled from, and the
+//! reports.
+#![tactic(auto)]
+
+mod day_places;
+mod kept_contracts;
+mod kept_day;
+mod kept_reallocations;
+mod kept_register;
+mod part;
+mod reports;
+mod run_rows;
+
+pub use kept_register::KeptRegister;
+pub use reports::{write_balances_of, write_day_report_of, write_results_of};
+pub use run_rows::{postings_to, results_of, runs_on};

@@ -1,0 +1,350 @@
+//! The part of what is registered and in force that rows are judged by.
+
+ghost use Rattle.std.specs.Prelude.{◌≡◌, ◌≤◌, ℕ, [], false, filter, All, IfErr, IfOk, IsOk, OnOk, Some};
+ghost use Rattle.std.specs.FinMap.{find};
+ghost use Rattle.hh_tables.specs.Tables.{IsTable, put_all};
+ghost use Rattle.hh_rows.specs.Keys.{contract_key_cmp, reallocation_key_cmp, settlement_period_cmp, unit_period_cmp};
+ghost use Rattle.hh_rules.specs.RegisterView.{held_row, holding, tables_in, AgreesOnParty, AgreesOnReference, AgreesOnUnit, ServesFor};
+ghost use Rattle.hh_states.specs.Soundness.{AreSound, NoneNegative};
+ghost use Rattle.hh_kept_rows.specs.Parts.{is_after, is_named_in, whole_of, with_reallocations, AgreesOnNames, AreUntil, Grows, IsNamedIn, IsPartOf};
+
+use crate::kept_register::KeptRegister;
+use hh_names::{Contract, PartyId, Reading, Reallocation, Reference, Refusal, UnitId};
+use hh_rows::{
+    ContractKey, ContractRow, LeadMinutes, MeterRow, PartyRow, PriceRow, ReallocationKey,
+    ReallocationRow, Row, SettlementPeriod, UnitPeriod, UnitRow,
+};
+use hh_rules::Register;
+use hh_store::StoreFault;
+use std::alloc::{AllocError, Global};
+use std::collections::BTreeSet;
+
+impl KeptRegister {
+    /// A register that judges these rows, and is changed by them, as one of everything that is
+    /// registered and in force would. `Store` only where that is not sound.
+    pub fn register_for(
+        &self,
+        alloc: Global,
+        lead_minutes: LeadMinutes,
+        rows: &[Row],
+    ) -> Result<Register, StoreFault>
+        ensures serves { IfOk result (ServesFor rows.now (whole_of lead_minutes self.now)) }
+        ensures memory_alone { AreSound self.now
+            → IfErr result (λ fault. fault ≡ StoreFault.Memory) }
+    {
+        let mut part = self.names_of(alloc, lead_minutes, rows)?;
+        let named = periods_named(alloc, rows)?;
+        self.hold_reallocations(&mut part, &named)?;
+        Ok(part)
+    }
+
+    /// A register that has what these rows name, and the rows in force of their keys, but no
+    /// reallocation. `Store` only where what is registered and in force is not sound.
+    fn names_of(
+        &self,
+        alloc: Global,
+        lead_minutes: LeadMinutes,
+        rows: &[Row],
+    ) -> Result<Register, StoreFault>
+        ensures part { IfOk result (IsPartOf (whole_of lead_minutes self.now)) }
+        ensures agrees { IfOk result (λ part.
+            All (AgreesOnNames self.now (tables_in part)) rows.now) }
+        ensures memory_alone { AreSound self.now
+            → IfErr result (λ fault. fault ≡ StoreFault.Memory) }
+    {
+        let parties = count(self.parties.len())?;
+        let units = count(self.units.len())?;
+        let mut part = Register::part(alloc, lead_minutes, parties, units);
+        let last = self.last_reading_for(rows);
+        for row in rows {
+            self.hold_names(&mut part, &last, row)?;
+        }
+        Ok(part)
+    }
+
+    /// A Settlement Period after which no reading counts, where the rows are readings and any counts.
+    fn last_reading_for(&self, rows: &[Row]) -> Option<SettlementPeriod>
+        ensures { AreUntil result self.now.meters }
+    {
+        match rows.first() {
+            Some(Row::Meter(_)) => {
+                let (first, rest) = self.meters.rows().split_first()?;
+                Some(last_period(first.0.at, rest))
+            }
+            _ => None,
+        }
+    }
+
+    /// Holds what a row names, and the row in force of its key if it isn't a reallocation. No reading
+    /// counts after `last`, if that is a Settlement Period. `Store` where no row has fixed the reference
+    /// of a contract in force.
+    fn hold_names(
+        &self,
+        part: &mut Register,
+        last: &Option<SettlementPeriod>,
+        row: &Row,
+    ) -> Result<(), StoreFault>
+        requires { AreUntil last.now self.now.meters }
+        ensures grows { OnOk result (Grows self.now part.old part.new) }
+        ensures agrees { (lead_minutes : ℕ) → IsPartOf (whole_of lead_minutes self.now) part.old
+            → OnOk result (AgreesOnNames self.now (tables_in part.new) row.now) }
+        ensures memory_alone { AreSound self.now
+            → IfErr result (λ fault. fault ≡ StoreFault.Memory) }
+    {
+        match row {
+            Row::Party(row) => self.hold_party(part, &row.party),
+            Row::Unit(row) => {
+                self.hold_party(part, &row.registration.lead.party)?;
+                self.hold_unit(part, &row.unit)
+            }
+            Row::Meter(row) => {
+                self.hold_unit(part, &row.key.unit)?;
+                self.hold_reading(part, last, &row.key)
+            }
+            Row::Price(row) => self.hold_price(part, &row.at),
+            Row::Contract(row) => {
+                self.hold_party(part, &row.contract.counterparties.seller.party)?;
+                self.hold_party(part, &row.contract.counterparties.buyer.party)?;
+                self.hold_reference(part, &row.key.reference)?;
+                self.hold_contract(part, &row.key)
+            }
+            Row::Reallocation(row) => {
+                self.hold_party(part, &row.key.account.party)?;
+                self.hold_unit(part, &row.key.unit_period.unit)
+            }
+        }
+    }
+
+    /// Holds a party, if it is registered and not held yet.
+    fn hold_party(&self, part: &mut Register, party: &PartyId) -> Result<(), StoreFault>
+        ensures grows { OnOk result (Grows self.now part.old part.new) }
+        ensures agrees { (lead_minutes : ℕ) → IsPartOf (whole_of lead_minutes self.now) part.old
+            → OnOk result (AgreesOnParty self.now (tables_in part.new) party.now) }
+        ensures memory_alone { IfErr result (λ fault. fault ≡ StoreFault.Memory) }
+    {
+        if part.party(party).is_some() {
+            return Ok(());
+        }
+        match self.party(party) {
+            Some(registration) => hold(
+                part,
+                Row::Party(PartyRow {
+                    party: *party,
+                    registration,
+                }),
+            ),
+            None => Ok(()),
+        }
+    }
+
+    /// Holds a unit, if it is registered and not held yet.
+    fn hold_unit(&self, part: &mut Register, unit: &UnitId) -> Result<(), StoreFault>
+        ensures grows { OnOk result (Grows self.now part.old part.new) }
+        ensures agrees { (lead_minutes : ℕ) → IsPartOf (whole_of lead_minutes self.now) part.old
+            → OnOk result (AgreesOnUnit self.now (tables_in part.new) unit.now) }
+        ensures memory_alone { IfErr result (λ fault. fault ≡ StoreFault.Memory) }
+    {
+        if part.unit(unit).is_some() {
+            return Ok(());
+        }
+        match self.unit(unit) {
+            Some(registration) => hold(
+                part,
+                Row::Unit(UnitRow {
+                    unit: *unit,
+                    registration,
+                }),
+            ),
+            None => Ok(()),
+        }
+    }
+
+    /// Holds the seller and the buyer of a reference, if a row has fixed them.
+    fn hold_reference(&self, part: &mut Register, reference: &Reference) -> Result<(), StoreFault>
+        ensures grows { OnOk result (Grows self.now part.old part.new) }
+        ensures agrees { (lead_minutes : ℕ) → IsPartOf (whole_of lead_minutes self.now) part.old
+            → OnOk result (AgreesOnReference self.now (tables_in part.new) reference.now) }
+        ensures memory_alone { IfErr result (λ fault. fault ≡ StoreFault.Memory) }
+    {
+        match self.reference(reference) {
+            Some(counterparties) => Ok(part.hold_reference(*reference, counterparties)?),
+            None => Ok(()),
+        }
+    }
+
+    /// Holds the reading that counts for a unit in a Settlement Period, if there is one.
+    fn hold_reading(
+        &self,
+        part: &mut Register,
+        last: &Option<SettlementPeriod>,
+        key: &UnitPeriod,
+    ) -> Result<(), StoreFault>
+        requires { AreUntil last.now self.now.meters }
+        ensures grows { OnOk result (Grows self.now part.old part.new) }
+        ensures agrees { (lead_minutes : ℕ) → IsPartOf (whole_of lead_minutes self.now) part.old
+            → OnOk result (find unit_period_cmp key.now (tables_in part.new).meters
+            ≡ find unit_period_cmp key.now self.now.meters) }
+        ensures memory_alone { IfErr result (λ fault. fault ≡ StoreFault.Memory) }
+    {
+        match self.reading_until(last, key) {
+            Some(reading) => hold(part, Row::Meter(MeterRow { key: *key, reading })),
+            None => Ok(()),
+        }
+    }
+
+    /// The reading that counts for a unit in a Settlement Period, if there is one. None counts after
+    /// `last`, if that is a Settlement Period: most readings come in the order of time.
+    fn reading_until(&self, last: &Option<SettlementPeriod>, key: &UnitPeriod) -> Option<Reading>
+        requires { AreUntil last.now self.now.meters }
+        ensures { result ≡ find unit_period_cmp key.now self.now.meters }
+    {
+        match last {
+            Some(last) if last.cmp(&key.at).is_lt() => None,
+            _ => self.meters.get(key),
+        }
+    }
+
+    /// Holds the price that counts for a Settlement Period, if there is one.
+    fn hold_price(&self, part: &mut Register, at: &SettlementPeriod) -> Result<(), StoreFault>
+        ensures grows { OnOk result (Grows self.now part.old part.new) }
+        ensures agrees { (lead_minutes : ℕ) → IsPartOf (whole_of lead_minutes self.now) part.old
+            → OnOk result (find settlement_period_cmp at.now (tables_in part.new).prices
+            ≡ find settlement_period_cmp at.now self.now.prices) }
+        ensures memory_alone { IfErr result (λ fault. fault ≡ StoreFault.Memory) }
+    {
+        match self.prices.get(at) {
+            Some(price) => hold(part, Row::Price(PriceRow { at: *at, price })),
+            None => Ok(()),
+        }
+    }
+
+    /// Holds the volume in force of a reference in a Settlement Period, if a row is in force. `Store`
+    /// where no row has fixed the reference.
+    fn hold_contract(&self, part: &mut Register, key: &ContractKey) -> Result<(), StoreFault>
+        ensures grows { OnOk result (Grows self.now part.old part.new) }
+        ensures agrees { (lead_minutes : ℕ) → IsPartOf (whole_of lead_minutes self.now) part.old
+            → OnOk result (find contract_key_cmp key.now (tables_in part.new).contracts
+            ≡ find contract_key_cmp key.now self.now.contracts) }
+        ensures memory_alone { AreSound self.now
+            → IfErr result (λ fault. fault ≡ StoreFault.Memory) }
+    {
+        let Some(volume) = self.contracts.get(key) else {
+            return Ok(());
+        };
+        let Some(counterparties) = self.reference(&key.reference) else {
+            return Err(StoreFault::Store);
+        };
+        let contract = Contract {
+            counterparties,
+            volume,
+        };
+        let key = *key;
+        hold(part, Row::Contract(ContractRow { key, contract }))
+    }
+
+    /// Holds all reallocations in force of the units in the Settlement Periods that are named. `Store`
+    /// where more than 100 percent of a unit would be in force.
+    fn hold_reallocations(
+        &self,
+        part: &mut Register,
+        named: &BTreeSet<UnitPeriod>,
+    ) -> Result<(), StoreFault>
+        ensures held { OnOk result (part.new ≡ with_reallocations
+            (put_all reallocation_key_cmp (filter (is_named_in named.now) self.now.reallocations)
+            (tables_in part.old).reallocations) part.old) }
+        ensures rising { IsTable reallocation_key_cmp self.now.reallocations }
+        ensures memory_alone { AreSound self.now → (tables_in part.old).reallocations ≡ []
+            → IfErr result (λ fault. fault ≡ StoreFault.Memory) }
+    {
+        let rows = self.reallocation_rows();
+        none_negative(rows);
+        for (key, reallocation) in rows {
+            if named.contains(&key.unit_period) {
+                let row = ReallocationRow {
+                    key: *key,
+                    reallocation: *reallocation,
+                };
+                hold(part, Row::Reallocation(row))?;
+            }
+        }
+        Ok(())
+    }
+
+    /// The reallocations in force, in the order of their keys.
+    pub(crate) fn reallocation_rows(&self) -> &[(ReallocationKey, Reallocation)]
+        ensures rows { result.now ≡ self.now.reallocations }
+        ensures rising { IsTable reallocation_key_cmp self.now.reallocations }
+    {
+        let rows = self.reallocations.rows();
+        if let Some(first) = rows.first() {
+            let _first = self.reallocations.get(&first.0);
+        }
+        rows
+    }
+}
+
+/// Says what the type of a percentage says of those of rows: none is negative. The compiler leaves
+/// nothing of it.
+fn none_negative(rows: &[(ReallocationKey, Reallocation)])
+    ensures { NoneNegative rows.now }
+{
+    for row in rows {
+        let _units = row.1.percent.units();
+    }
+}
+
+/// The last of a Settlement Period and those of some readings.
+fn last_period(first: SettlementPeriod, readings: &[(UnitPeriod, Reading)]) -> SettlementPeriod
+    ensures first { is_after first result ≡ false }
+    ensures until { AreUntil (Some result) readings.now }
+{
+    let mut last = first;
+    for reading in readings {
+        if last.cmp(&reading.0.at).is_lt() {
+            last = reading.0.at;
+        }
+    }
+    last
+}
+
+/// How many there are; `Store` where they are more than a `u32` counts, and than any office has.
+fn count(rows: usize) -> Result<u32, StoreFault>
+    ensures value { IfOk result (λ count. count ≡ rows) }
+    ensures counted { rows ≤ u32.MAX → IsOk result }
+{
+    match u32::try_from(rows) {
+        Ok(count) => Ok(count),
+        Err(_) => Err(StoreFault::Store),
+    }
+}
+
+/// Holds a row; `Store` where more than 100 percent of a unit would be in force.
+fn hold(part: &mut Register, row: Row) -> Result<(), StoreFault>
+    ensures held { OnOk result (part.new ≡ holding row part.old) }
+    ensures memory_alone { IsOk (held_row row part.old)
+        → IfErr result (λ fault. fault ≡ StoreFault.Memory) }
+{
+    match part.hold_row(row) {
+        Ok(()) => Ok(()),
+        Err(fault) => {
+            if fault.refusal == Refusal::Memory {
+                Err(StoreFault::Memory)
+            } else {
+                Err(StoreFault::Store)
+            }
+        }
+    }
+}
+
+/// The units with the Settlement Periods that rows of reallocations name.
+fn periods_named(alloc: Global, rows: &[Row]) -> Result<BTreeSet<UnitPeriod>, AllocError>
+    ensures { IfOk result (λ named. All (IsNamedIn named) rows.now) }
+{
+    let mut named = BTreeSet::new(alloc);
+    for row in rows {
+        if let Row::Reallocation(row) = row {
+            named.insert(row.key.unit_period)?;
+        }
+    }
+    Ok(named)
+}

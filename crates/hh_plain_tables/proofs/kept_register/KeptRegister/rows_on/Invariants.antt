@@ -1,8 +1,0 @@
-use Rattle.std.proofs.Common.{◌≡◌, take}
-use Rattle.std.specs.Prelude.{filter_map}
-use Rattle.hh_plain_tables.specs.DayRolls.{row_on}
-use Rattle.hh_plain_tables.proofs.kept_register.KeptRegister.rows_on.Given as goal
-
--- the rows of the date among those so far
-abbrev pub invariant-loop-key : goal.invariant-loop-key
-invariant-loop-key l = l.rows.items ≡ filter_map (row_on l.self l.date) (take l.key-index l.key-items)

@@ -1,8 +1,0 @@
-use Rattle.std.proofs.Common.{◌≡◌, take}
-use Rattle.std.specs.Prelude.{filter}
-use Rattle.hh_rows.specs.DateRanges.{holds}
-use Rattle.hh_plain_tables.proofs.kept_register.KeptRegister.units_on.Given as goal
-
--- the units so far whose range holds the date
-abbrev pub invariant-loop-unit : goal.invariant-loop-unit
-invariant-loop-unit l = l.units.items ≡ filter (λ e. holds e.1.range l.date) (take l.unit-index l.unit-items)

@@ -1,7 +1,0 @@
-use Rattle.std.proofs.Common.{take}
-use Rattle.hh_states.specs.Soundness.{NoneNegative}
-use Rattle.hh_plain_tables.proofs.part.none_negative.Given as goal
-
--- so far none is
-abbrev pub invariant-loop-row : goal.invariant-loop-row
-invariant-loop-row l = NoneNegative (take l.row-index l.rows)

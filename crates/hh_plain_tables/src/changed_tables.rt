@@ -1,0 +1,99 @@
+//! The tables that a load changes, made anew.
+
+ghost use Rattle.std.specs.Prelude.{◌≡◌, unwrap_or, IfOk};
+ghost use Rattle.hh_tables.specs.Tables.{put_all};
+ghost use Rattle.hh_states.specs.Changes.{registered_with};
+ghost use Rattle.hh_plain_tables.specs.KeptTables.{with_changed};
+
+use crate::entries::{contracts_of, meters_of, parties_of, prices_of, reallocations_of, units_of};
+use hh_kept_rows::KeptRegister;
+use hh_names::{Counterparties, PartyId, Reading, Reallocation, Reference, UnitId};
+use hh_num::{Kwh, Price};
+use hh_rows::{
+    ContractKey, PartyRegistration, ReallocationKey, SettlementPeriod, UnitPeriod, UnitRegistration,
+};
+use hh_store::LoadChange;
+use hh_tables::ListTable;
+use std::alloc::{AllocError, Global};
+
+/// The tables that a load changes, made anew; a table that it doesn't change is missing.
+#[derive(Drop)]
+pub(crate) struct ChangedTables {
+    pub(crate) parties: Option<ListTable<PartyId, PartyRegistration>>,
+    pub(crate) units: Option<ListTable<UnitId, UnitRegistration>>,
+    pub(crate) references: Option<ListTable<Reference, Counterparties>>,
+    pub(crate) meters: Option<ListTable<UnitPeriod, Reading>>,
+    pub(crate) prices: Option<ListTable<SettlementPeriod, Price>>,
+    pub(crate) contracts: Option<ListTable<ContractKey, Kwh>>,
+    pub(crate) reallocations: Option<ListTable<ReallocationKey, Reallocation>>,
+}
+
+/// The tables that a load changes, made anew. `Err` only where memory is refused.
+pub(crate) fn changed_by(
+    alloc: Global,
+    register: &KeptRegister,
+    change: &LoadChange,
+) -> Result<ChangedTables, AllocError>
+    ensures { IfOk result (λ changed.
+        with_changed changed register.now ≡ registered_with change.now register.now) }
+{
+    let rows = change.rows();
+    let fixed = Vec::from_slice(alloc, change.references())?;
+    let parties = with_entries(alloc, &register.parties, parties_of(alloc, rows)?)?;
+    let units = with_entries(alloc, &register.units, units_of(alloc, rows)?)?;
+    let references = with_entries(alloc, &register.references, fixed)?;
+    let meters = with_entries(alloc, &register.meters, meters_of(alloc, rows)?)?;
+    let prices = with_entries(alloc, &register.prices, prices_of(alloc, rows)?)?;
+    let contracts = with_entries(alloc, &register.contracts, contracts_of(alloc, rows)?)?;
+    let reallocations = with_entries(
+        alloc,
+        &register.reallocations,
+        reallocations_of(alloc, rows)?,
+    )?;
+    Ok(ChangedTables {
+        parties,
+        units,
+        references,
+        meters,
+        prices,
+        contracts,
+        reallocations,
+    })
+}
+
+/// Takes over the tables that were made anew. Takes no memory, and can't fail.
+pub(crate) fn take_over(register: &mut KeptRegister, changed: ChangedTables)
+    ensures { register.new ≡ with_changed changed register.old }
+{
+    take_table(&mut register.parties, changed.parties);
+    take_table(&mut register.units, changed.units);
+    take_table(&mut register.references, changed.references);
+    take_table(&mut register.meters, changed.meters);
+    take_table(&mut register.prices, changed.prices);
+    take_table(&mut register.contracts, changed.contracts);
+    take_table(&mut register.reallocations, changed.reallocations);
+}
+
+/// The table with entries put into it, made anew, if there are entries.
+fn with_entries<K: Ord + Copy, V: Copy>(
+    alloc: Global,
+    table: &ListTable<K, V>,
+    entries: Vec<(K, V)>,
+) -> Result<Option<ListTable<K, V>>, AllocError>
+    ensures { IfOk result (λ changed.
+        unwrap_or changed table.now ≡ put_all K.cmp entries.items table.now) }
+{
+    if entries.is_empty() {
+        return Ok(None);
+    }
+    Ok(Some(table.with_rows(alloc, entries)?))
+}
+
+/// Takes over a table that was made anew, if it was.
+fn take_table<K: Ord + Copy, V: Copy>(table: &mut ListTable<K, V>, changed: Option<ListTable<K, V>>)
+    ensures { table.new ≡ unwrap_or changed table.old }
+{
+    if let Some(changed) = changed {
+        *table = changed;
+    }
+}
