@@ -6,7 +6,6 @@ use Rattle.std.specs.List.{AllByRecursion}
 use Rattle.std.proofs.lemmas.Int.{ints}
 use Rattle.std.proofs.lemmas.List.Elements.{All-from_recursion}
 use Rattle.std.proofs.lemmas.List.Sums.{sum_by-append, sum_by-take-drop}
-use Rattle.hh_num.specs.Quantities.{amounts_of_cash}
 use Rattle.hh_num.specs.Ranges.{IsBetween}
 use Rattle.hh_num.specs.Totals.{total}
 use Rattle.hh_time.specs.Days.{Midnights}
@@ -15,7 +14,7 @@ use Rattle.hh_names.proofs.AccountLaws.{account_total}
 use Rattle.hh_rows.specs.declared.settlement_period.SettlementPeriod.{SettlementPeriod}
 use Rattle.hh_calc.specs.declared.result.AccountRow.{AccountRow}
 use Rattle.hh_calc.specs.Ready.{IsReady}
-use Rattle.hh_calc.specs.Terms.{PeriodTerms, Settled}
+use Rattle.hh_calc.specs.Terms.{Settled}
 use Rattle.hh_runs.specs.declared.summary.Summary.{Summary}
 use Rattle.hh_runs.specs.DayNets.{DayNets, day_cash, day_net_of}
 use Rattle.hh_runs.specs.declared.run_key.RunKey.{RunKey}

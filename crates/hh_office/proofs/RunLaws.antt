@@ -17,6 +17,7 @@ use Rattle.hh_states.specs.Readiness.{AreTermsConsistent, PeriodsReady}
 use Rattle.hh_states.specs.States.{State}
 use Rattle.hh_states.specs.Steps.{after_run, first_there, missing_meter_fault, period_fault, registered_at, CanRun, kept_summary, kinds_on, new_summary, run_fault}
 use Rattle.hh_day.specs.NewRuns.{day_in, IsSettledDay, SettlesDay, IsWrittenFor, WritesTheRun, former_rows}
+use Rattle.hh_day.specs.RunLimits.{FitsRun, RunsFit}
 use Rattle.hh_office.specs.Promises.{Stands, UnlessFailed, gives_up, MakesTransition, reply_of}
 use Rattle.hh_office.specs.Settling.{Lacks, WritesRun, lack_fault, settle_fault, AreTermsOf, IsOverDay, TellsOrder, order_fault, IsNext, IsRunMade, RefusesIn, SettlesIn, rows_before}
 use Rattle.hh_office.specs.Views.{OfficeView, midnight_of}
@@ -341,6 +342,18 @@ module _ (office : OfficeView) (s : State) (stands : Stands office s) (summaries
     run_unsettled fault refuses =
         comes_refused office s fault (run (midnight_of office) s moment key) stands
         (unless_by (gives_up fault) _ _ (λ is. by_new moment next.0 ∙ ap made_or (by_settling ∙ is)) (refuses s stands))
+
+    -- what is written for it fits the types that keep it
+    pub run_fits : RunsFit → (day : List (SettlementPeriod × Settled)) (former : Option RunKey) → SettlesIn office moment key.date day
+        → former ≡ latest_key key.date (runs_in office.content key.date) → FitsRun key day (rows_before office.content former)
+    run_fits law day former settles is_former =
+        let midnight : Midnights = midnight_of office in
+        let settled = settles s stands in
+        let can : CanRun midnight s moment key = (sym kept_by_kind ∙ next.0, by_settling ∙ settled.0) in
+        let rows : rows_before office.content former ≡ former_rows midnight s key.date =
+        ap (rows_before office.content) (is_former ∙ latest_is office s stands runs key.date) ∙ rows_before_are (latest_run key.date s.runs) in
+        subst (λ d. FitsRun key d (rows_before office.content former)) (sym settled.1)
+        (subst (FitsRun key (day_in midnight s key.date)) (sym rows) (law midnight s moment key stands.0 can))
 
     -- it is made
     pub run_made : WritesTheRun → (new : OfficeView) (day : List (SettlementPeriod × Settled)) (former : Option RunKey) (given : Reply)

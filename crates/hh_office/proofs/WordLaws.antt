@@ -1,5 +1,5 @@
 -- Sums of charges and shares, in 128 bits.
-use Rattle.std.proofs.Common.{◌≡◌, ℕ, ◌+◌, ◌*◌, ◌^◌, ◌≤◌, ◌<◌, sym, ap, subst, ◌∙◌, arith, FitsSigned, of_z, to_z}
+use Rattle.std.proofs.Common.{◌≡◌, ℕ, ◌+◌, ◌*◌, ◌^◌, ◌≤◌, ◌<◌, sym, ap, subst, ◌∙◌, arith, FitsSigned}
 use Rattle.std.specs.Prelude.{ℤ, ◌+ℤ◌, unsigned_abs}
 use Rattle.std.specs.Int.{w128}
 use Rattle.std.proofs.lemmas.Int.{ints, to_z-of_z}

@@ -1,5 +1,5 @@
 -- How many accounts a run settles and posts to at most, and that the summary of each run is within its limits.
-use Rattle.std.proofs.Common.{◌≡◌, ℕ, zero, suc, ◌+◌, ◌*◌, ◌≤◌, ◌<◌, List, [], ◌∷◌, ◌++◌, length, map, refl, sym, ap, subst, ◌∙◌, Bool, true, false, cond, Option, Some, None, Ordering, arith}
+use Rattle.std.proofs.Common.{◌≡◌, ℕ, zero, suc, ◌*◌, ◌≤◌, List, [], ◌∷◌, ◌++◌, length, map, refl, sym, ap, subst, ◌∙◌, Bool, true, false, cond, Option, Some, None, Ordering, arith}
 use Rattle.std.specs.Prelude.{ℤ, ◌≢◌, Contains, drop, filter, is_some, take, unsigned_abs}
 use Rattle.std.specs.Cmp.{IsTotalOrder, eq_by_cmp_equiv}
 use Rattle.std.specs.FinMap.{find, put}
@@ -16,7 +16,6 @@ use Rattle.hh_tables.proofs.RowLaws.{equal}
 use Rattle.hh_tables.proofs.TableLaws.{false_is_not_true, find-in_key_order, is_some-find-latest}
 use Rattle.hh_time.specs.Days.{Midnights, period_count}
 use Rattle.hh_names.specs.declared.account.Account.{Account}
-use Rattle.hh_names.specs.declared.account.Side.TheVariants.{Production, Consumption}
 use Rattle.hh_names.specs.Accounts.{account_cmp, bytes_cmp}
 use Rattle.hh_names.proofs.AccountLaws.{account_total, bytes_total}
 use Rattle.hh_rows.specs.DateRanges.{holds}
@@ -28,7 +27,7 @@ use Rattle.hh_rules.specs.Lateness.{Timetable}
 use Rattle.hh_rules.specs.Refusals.{most_parties}
 use Rattle.hh_calc.specs.Limits.{greatest_cash}
 use Rattle.hh_calc.specs.Terms.{Settled}
-use Rattle.hh_runs.specs.DayNets.{DayNets, differences, is_changed, with_change}
+use Rattle.hh_runs.specs.DayNets.{DayNets, is_changed, with_change}
 use Rattle.hh_states.specs.Amounts.{IsSummaryWithin, SummariesWithin, most_accounts, most_periods}
 use Rattle.hh_states.specs.Content.{runs_with_former}
 use Rattle.hh_states.specs.DaySettlement.{day_net, settled_at}

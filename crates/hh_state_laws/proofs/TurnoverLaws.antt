@@ -1,6 +1,6 @@
 -- How much accounts pay at most in a Settlement Period, in a run and over all dates, where no period passes a limit.
-use Rattle.std.proofs.Common.{◌≡◌, ℕ, zero, suc, ◌+◌, ◌*◌, ◌-◌, ◌≤◌, ◌<◌, List, [], ◌∷◌, ◌++◌, length, map, refl, sym, ap, subst, ◌∙◌, Bool, true, false, cond, not, Option, Some, None, add-one, arith}
-use Rattle.std.specs.Prelude.{ℤ, pos, ◌+ℤ◌, ◌≢◌, ◌==◌, ◌&&◌, ◌||◌, All, Contains, find, is_some, sum_by, take, unsigned_abs, unwrap_or}
+use Rattle.std.proofs.Common.{◌≡◌, ℕ, zero, suc, ◌+◌, ◌*◌, ◌≤◌, ◌<◌, List, [], ◌∷◌, ◌++◌, length, map, refl, sym, ap, subst, ◌∙◌, Bool, true, false, cond, not, Option, Some, None, add-one, arith}
+use Rattle.std.specs.Prelude.{ℤ, pos, ◌+ℤ◌, ◌≢◌, ◌==◌, Contains, is_some, sum_by, take, unsigned_abs, unwrap_or}
 use Rattle.std.specs.List.{AllByRecursion, list_all}
 use Rattle.std.specs.Option.{option_or}
 use Rattle.std.specs.Cmp.{eq_by_cmp_equiv}
@@ -27,13 +27,13 @@ use Rattle.hh_calc.specs.declared.result.AccountRow.{AccountRow}
 use Rattle.hh_calc.specs.declared.result.Figures.{Figures}
 use Rattle.hh_calc.specs.Formulas.{figures, of_account, residual, residual_shares, weights}
 use Rattle.hh_calc.specs.Limits.{greatest_cash, is_account_within, is_within_limits}
-use Rattle.hh_calc.specs.Terms.{PeriodTerms, Settled}
+use Rattle.hh_calc.specs.Terms.{PeriodTerms}
 use Rattle.hh_runs.specs.DayNets.{day_cash, day_net_of}
 use Rattle.hh_runs.specs.declared.run_key.RunKey.{RunKey}
 use Rattle.hh_states.specs.Amounts.{BalancesWithin, DayNetsWithin, PaidWithin, TurnoversWithin, balances, greatest_turnover, most_periods, turnover_in}
 use Rattle.hh_states.specs.Content.{tables_of}
 use Rattle.hh_states.specs.DaySettlement.{from_one_to, periods_on, settled_day, too_large}
-use Rattle.hh_states.specs.PeriodSettlement.{account_rows, accounts_on, settled, terms_at}
+use Rattle.hh_states.specs.PeriodSettlement.{account_rows, settled, terms_at}
 use Rattle.hh_states.specs.Readiness.{IsComplete}
 use Rattle.hh_states.specs.Reads.{results_in}
 use Rattle.hh_states.specs.RunReads.{paid_in, rows_by_period}
