@@ -1,6 +1,6 @@
 -- Unit after unit: the sums of accounts over units.
 use Rattle.std.proofs.Common.{◌≡◌, ℕ, ◌+◌, ◌<◌, Bool, true, false, cond, List, [], ◌∷◌, ◌++◌, ◌-◌, ◌*◌, ◌≤◌, length, get_or, take, drop, map, replicate, refl, sym, ap, ◌∙◌, arith, length-append}
-use Rattle.std.specs.Prelude.{◌+ℤ◌, not, sum_by, All}
+use Rattle.std.specs.Prelude.{pos, ◌+ℤ◌, not, sum_by, All}
 use Rattle.std.proofs.Math.IntN.{+ℤ_idl}
 use Rattle.std.proofs.Math.Seq.{drop-append_seam}
 use Rattle.std.proofs.lemmas.List.{append-nil, length-map, take_all, take_more}
@@ -10,13 +10,12 @@ use Rattle.std.proofs.lemmas.List.Sums.{sum_by-append}
 use Rattle.hh_num.specs.Totals.{total}
 use Rattle.hh_num.proofs.TotalLaws.{total-append}
 use Rattle.hh_names.specs.declared.account.Account.{Account}
-use Rattle.hh_names.specs.declared.values.Contract.{Contract}
 use Rattle.hh_calc.specs.declared.result.CreditRow.{CreditRow}
 use Rattle.hh_calc.specs.declared.sums.AccountSums.{AccountSums}
-use Rattle.hh_calc.specs.Formulas.{balanced, balancing_of, credited_of, credits_of, net_of, sums_over, unit_credits, weighing, weight_of}
+use Rattle.hh_calc.specs.Formulas.{all_sums, balanced, balancing_of, credited_of, credits_of, net_contracts, period_sums, unit_credits, unit_sums, weighing, weight_of}
 use Rattle.hh_calc.specs.Ready.{most_subsidiaries, HasFewSubsidiaries}
 use Rattle.hh_calc.specs.Sums.{balancing_amounts, greatest_credit, greatest_sum, greatest_volume, no_sums, with_amounts, with_contracts, with_credits, with_unit, AreChanged, AreGrown, IsWithin}
-use Rattle.hh_calc.specs.Terms.{BmUnit}
+use Rattle.hh_calc.specs.Terms.{BmUnit, PeriodTerms}
 use Rattle.hh_calc.proofs.SumLaws.{all_within, changed_on, grown_on, none_more, total-more, weight_of_none}
 use Rattle.hh_calc.proofs.CreditFacts.{credit_of}
 
@@ -60,16 +59,16 @@ module _ (units : List BmUnit) (i : ℕ) (u : BmUnit) (inside : i < length units
       one false = ap (sum_by (weight_of a)) (append-nil (unit_credits u))
 
   -- the sums over one unit more
-  pub units_step : (contracts : List Contract) (a : Account) → with_unit u a (sums_over (take i units) contracts a) ≡ sums_over (take (i + 1) units) contracts a
-  units_step contracts a = λ j. record {
+  pub units_step : (a : Account) → with_unit u a (unit_sums (take i units) a) ≡ unit_sums (take (i + 1) units) a
+  units_step a = λ j. record {
     credited = (sym (ap (total (credited_of a)) credits_next ∙ total-append (credited_of a) (credits_of (take i units)) (unit_credits u))) j;
     balancing = sym (total-more (balancing_of a) units i u inside is) j;
-    contracts = (sums_over (take i units) contracts a).contracts;
+    contracts = pos 0;
     weight = weight_next a j;
   }
 
 -- no units
-pub sums_start : (accounts : List Account) → replicate (length accounts) no_sums ≡ map (sums_over [] []) accounts
+pub sums_start : (accounts : List Account) → replicate (length accounts) no_sums ≡ map (unit_sums []) accounts
 sums_start [] = refl
 sums_start (a ∷ accounts) = λ i. no_sums ∷ sums_start accounts i
 
@@ -102,18 +101,13 @@ module _ (u : BmUnit) (credits : List CreditRow) (are : credits ≡ unit_credits
       (λ a s. (λ i. with_amounts (lead_is i) (x_is i) a (with_credits (weighs_is i) (are i) a s)) ∙ unit_step u a s)
       old middle new
 
--- contracts after units
-pub contracts_after : (accounts : List Account) (units : List BmUnit) (contracts : List Contract) (old new : List AccountSums)
-    → old ≡ map (sums_over units []) accounts → AreChanged accounts (with_contracts contracts) old new → new ≡ map (sums_over units contracts) accounts
-contracts_after accounts units contracts old new e changed = changed (sums_over units []) e ∙ (λ i. map (λ a. one a i) accounts)
+-- a period's contracts after its units
+pub contracts_after : (p : PeriodTerms) (old new : List AccountSums)
+    → old ≡ map (unit_sums p.units) p.accounts → AreChanged p.accounts (with_contracts p.contracts) old new → new ≡ all_sums p
+contracts_after p old new e changed = changed (unit_sums p.units) e ∙ (λ i. map (λ a. one a i) p.accounts)
   where
-    one : (a : Account) → with_contracts contracts a (sums_over units [] a) ≡ sums_over units contracts a
-    one a = λ j. record {
-      credited = total (credited_of a) (credits_of units);
-      balancing = total (balancing_of a) units;
-      contracts = +ℤ_idl (total (net_of a) contracts) j;
-      weight = sum_by (weight_of a) (credits_of (weighing units));
-    }
+    one : (a : Account) → with_contracts p.contracts a (unit_sums p.units a) ≡ period_sums p a
+    one a = λ j. record (unit_sums p.units a) { contracts = +ℤ_idl (net_contracts p a) j }
 
 -- sums that have nothing are within any size
 pub none_within : (accounts : List Account) (most : ℕ) (sums : List AccountSums) → sums ≡ replicate (length accounts) no_sums → All (IsWithin most) sums

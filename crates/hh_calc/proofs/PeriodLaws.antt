@@ -21,7 +21,7 @@ use Rattle.hh_calc.specs.declared.data.Subsidiary.{Subsidiary}
 use Rattle.hh_calc.specs.declared.result.AccountRow.{AccountRow}
 use Rattle.hh_calc.specs.declared.result.CreditRow.{CreditRow}
 use Rattle.hh_calc.specs.declared.result.Figures.{Figures}
-use Rattle.hh_calc.specs.Formulas.{contracted, credits_of, figures, lead_credit, loss_adjusted, net_of, of_account, period_sums, residual, subsidiary_credit, unit_credits, weights}
+use Rattle.hh_calc.specs.Formulas.{contracted, credits_of, figures, lead_credit, loss_adjusted, net_contracts, net_of, of_account, period_sums, residual, subsidiary_credit, unit_credits, weights}
 use Rattle.hh_calc.specs.Ready.{AreInOrder, AreNamed, AreUnitsDistinct, IsContractNamed}
 use Rattle.hh_calc.specs.Settled.{figures_of, shares_shown, AddsUp, IsSettled, IsUnitCredited, SharesDepartLeast}
 use Rattle.hh_calc.specs.Terms.{PeriodTerms, Settled, BmUnit}
@@ -61,7 +61,7 @@ module _ (p : PeriodTerms) (up : AreInOrder p) where
   all_contracts (c ∷ cs) named = λ i. one_contract c (named 0 c (omega arith)) i +ℤ all_contracts cs (λ k d lt. named (suc k) d (omega arith)) i
 
   -- and so do the accounts' net contracts
-  contracts_sum : AreNamed p → total (λ a. (figures p a).contracts) p.accounts ≡ pos 0
+  contracts_sum : AreNamed p → total (net_contracts p) p.accounts ≡ pos 0
   contracts_sum named = total-swap net_of p.accounts p.contracts ∙ all_contracts p.contracts named.1
 
 -- The credits from a unit sum to its loss-adjusted volume; where they do not count, to zero.

@@ -84,13 +84,13 @@ module _ (a : Account) where
   abbrev pub net_of : Contract → ℤ
   net_of c = of_account c.counterparties.seller (contracted c) -ℤ of_account c.counterparties.buyer (contracted c)
 
--- what an account has from these units and contracts: credited energy is a sum over the credits, balancing volume over the
--- units, net contracts over the contracts, and its weight over the sizes of the credits that weigh
-abbrev pub sums_over : List BmUnit → List Contract → Account → AccountSums
-sums_over units contracts a = record {
+-- What an account has from these units alone: credited energy is a sum over the credits, balancing volume over the units, and its
+-- weight over the sizes of the credits that weigh.
+abbrev pub unit_sums : List BmUnit → Account → AccountSums
+unit_sums units a = record {
   credited = total (credited_of a) (credits_of units);
   balancing = total (balancing_of a) units;
-  contracts = total (net_of a) contracts;
+  contracts = pos 0;
   weight = sum_by (weight_of a) (credits_of (weighing units));
 }
 
@@ -114,9 +114,13 @@ figures_from account sums price = record {
 }
 
 module _ (p : PeriodTerms) where
-  -- the sums of an account over the period
+  -- the net contracts of an account in the period, in ticks: what it sells by the contracts less what it buys
+  abbrev pub net_contracts : Account → ℤ
+  net_contracts a = total (net_of a) p.contracts
+
+  -- the sums of an account over the period: what it has from the units, and its net contracts
   abbrev pub period_sums : Account → AccountSums
-  period_sums = sums_over p.units p.contracts
+  period_sums a = record (unit_sums p.units a) { contracts = net_contracts a }
 
   -- the figures of an account over the period
   abbrev pub figures : Account → Figures

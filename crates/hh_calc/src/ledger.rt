@@ -1,7 +1,7 @@
 //! The credits of a period, and the sums of its accounts, which are made together.
 
 ghost use Rattle.std.specs.Prelude.{◌≡◌, ◌+◌, ◌*◌, ◌++◌, [], length, map, replicate, All, IfOk, OnOk};
-ghost use Rattle.hh_calc.specs.Formulas.{all_sums, credits_of, sums_over, unit_credits};
+ghost use Rattle.hh_calc.specs.Formulas.{all_sums, credits_of, unit_credits, unit_sums};
 ghost use Rattle.hh_calc.specs.Ready.{AreAccountsInOrder, AreInOrder, AreNamed, AreSubsidiariesFew, HasFewSubsidiaries, IsUnitNamed};
 ghost use Rattle.hh_calc.specs.Sums.{greatest_credit, greatest_sum, greatest_unit_sum, greatest_volume, no_sums, with_unit, AreChanged, AreGrown, IsWithin};
 
@@ -65,7 +65,7 @@ fn add_units(
     requires none { credits.old.items ≡ [] }
     requires start { sums.old ≡ replicate (length accounts.now) no_sums }
     ensures credits { OnOk result (credits.new.items ≡ credits_of units.now) }
-    ensures sums { OnOk result (sums.new ≡ map (sums_over units.now []) accounts.now) }
+    ensures sums { OnOk result (sums.new ≡ map (unit_sums units.now) accounts.now) }
     ensures small { OnOk result (All (IsWithin greatest_unit_sum) sums.new) }
 {
     for unit in units {

@@ -13,7 +13,7 @@ add_contracts-requires-clause-named c = rw (c.accounts-2.ensures, c.contracts.en
 pub returns-clause-sums : goal.returns-clause-sums
 returns-clause-sums c =
     let p = c.args.period.now in
-    contracts_after p.accounts p.units p.contracts c.add_units.new.sums c.add_contracts.new.sums (rw (c.accounts.ensures, c.units.ensures) at c.in_ok-add_units.ensures.sums)
+    contracts_after p c.add_units.new.sums c.add_contracts.new.sums (rw (c.accounts.ensures, c.units.ensures) at c.in_ok-add_units.ensures.sums)
     (rw (c.accounts-2.ensures, c.contracts.ensures) at c.add_contracts.ensures.added)
 
 pub returns-clause-small : goal.returns-clause-small

@@ -1,5 +1,5 @@
-use Rattle.std.proofs.Common.{◌∙◌, ◌+◌, ◌*◌, ◌++◌, [], ap, arith, length, map, take, sym, length-append}
-use Rattle.hh_calc.specs.Formulas.{sums_over, unit_credits}
+use Rattle.std.proofs.Common.{◌∙◌, ◌+◌, ◌*◌, ◌++◌, ap, arith, length, map, take, sym, length-append}
+use Rattle.hh_calc.specs.Formulas.{unit_credits, unit_sums}
 use Rattle.hh_calc.specs.Ready.{HasFewSubsidiaries, IsUnitNamed}
 use Rattle.hh_calc.specs.Sums.{greatest_credit, greatest_sum, greatest_unit_sum, greatest_volume}
 use Rattle.hh_calc.proofs.LedgerLaws.{credits_next, none_within, sums_start, units_step}
@@ -32,8 +32,8 @@ loop-unit-preserved c =
     let long = ap length more ∙ length-append c.loop-unit.credits.items (unit_credits unit) in
     record {
       credits = more ∙ ap (λ rows. rows ++ unit_credits unit) c.loop-unit.invariant.credits ∙ sym (credits_next units i unit (omega arith) c.unit-item.is);
-      sums = c.in_ok-add_unit.ensures.added (sums_over (take i units) []) c.loop-unit.invariant.sums
-          ∙ (λ j. map (λ a. units_step units i unit (omega arith) c.unit-item.is [] a j) c.args.accounts.now);
+      sums = c.in_ok-add_unit.ensures.added (unit_sums (take i units)) c.loop-unit.invariant.sums
+          ∙ (λ j. map (λ a. units_step units i unit (omega arith) c.unit-item.is a j) c.args.accounts.now);
       small = all_within ((length c.loop-unit.credits.items * greatest_credit + i * greatest_volume) + (length (unit_credits unit) * greatest_credit + greatest_volume)) _ _ (omega arith)
           (c.in_ok-add_unit.ensures.grown (length c.loop-unit.credits.items * greatest_credit + i * greatest_volume) c.loop-unit.invariant.small);
     }

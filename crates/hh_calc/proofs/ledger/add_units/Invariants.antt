@@ -1,6 +1,6 @@
-use Rattle.std.proofs.Common.{◌≡◌, ◌+◌, ◌*◌, [], length, map, take}
+use Rattle.std.proofs.Common.{◌≡◌, ◌+◌, ◌*◌, length, map, take}
 use Rattle.std.specs.Prelude.{All}
-use Rattle.hh_calc.specs.Formulas.{credits_of, sums_over}
+use Rattle.hh_calc.specs.Formulas.{credits_of, unit_sums}
 use Rattle.hh_calc.specs.Sums.{greatest_credit, greatest_volume, IsWithin}
 use Rattle.hh_calc.proofs.ledger.add_units.Given as goal
 
@@ -8,6 +8,6 @@ use Rattle.hh_calc.proofs.ledger.add_units.Given as goal
 abbrev pub invariant-loop-unit : goal.invariant-loop-unit
 invariant-loop-unit l = record {
   credits : l.credits.items ≡ credits_of (take l.unit-index l.units);
-  sums : l.sums ≡ map (sums_over (take l.unit-index l.units) []) l.accounts;
+  sums : l.sums ≡ map (unit_sums (take l.unit-index l.units)) l.accounts;
   small : All (IsWithin (length l.credits.items * greatest_credit + l.unit-index * greatest_volume)) l.sums;
 }
