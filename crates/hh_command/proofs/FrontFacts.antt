@@ -1,14 +1,14 @@
 -- The front of a file that has more bytes than a file may have tells all that the whole file does.
-use Rattle.std.proofs.Common.{◌≡◌, ◌<◌, ℕ, List, length, take, Result, Ok, Err, cond, refl, sym, ap, ◌∙◌, arith, Bool, true, false, ltb}
+use Rattle.std.proofs.Common.{◌≡◌, ◌<◌, ℕ, List, [], ◌∷◌, length, take, Result, Ok, Err, cond, refl, sym, ap, ◌∙◌, arith, Bool, true, false, ltb}
 use Rattle.std.proofs.lemmas.Bool.{lt-ltb, ltb-false, ltb-true}
 use Rattle.std.proofs.lemmas.List.{length-take-le, take_all}
 use Rattle.hh_names.specs.declared.fault.Fault.{Fault}
 use Rattle.hh_names.specs.declared.fault.Refusal.TheVariants.{FileTooLarge}
 use Rattle.hh_names.specs.Faults.{plain_fault}
 use Rattle.hh_num.specs.Quantities.{price_value}
-use Rattle.hh_texts.specs.PeriodFiles.{period_contract_header, period_contract_row, period_meter_header, period_meter_row}
+use Rattle.hh_texts.specs.PeriodFiles.{period_contract_form, period_meter_form}
 use Rattle.hh_texts.specs.Records.{records_of}
-use Rattle.hh_texts.specs.Rows.{most_bytes, rows_of, rows_under}
+use Rattle.hh_texts.specs.Rows.{FileForm, most_bytes, rows_of, rows_under}
 use Rattle.hh_texts.specs.declared.period_contracts.PeriodContractRow.{PeriodContractRow}
 use Rattle.hh_texts.specs.declared.period_meters.PeriodMeterRow.{PeriodMeterRow}
 use Rattle.hh_period.specs.declared.rejection.Input.TheVariants.{Contracts, Meter}
@@ -20,22 +20,22 @@ abbrev outcome_of : Result (List PeriodMeterRow) Fault → Result (List PeriodCo
 outcome_of meters contracts price = (read_from Meter meters >>= (λ meter_rows. read_from Contracts contracts >>= (λ rows. read_from Contracts (accepted_rows rows) >>= (λ contract_rows. priced (price_value price) >>= (λ value. Ok (period_of meter_rows contract_rows value)))))) >>= settled_text
 
 module _ (most : ℕ) (enough : most_bytes < most) where
-  module _ {Row : Type 0} (header : List (List ℕ)) (row_of : List (List ℕ) → Result Row ℕ) (bytes : List ℕ) where
+  module _ {Row : Type 0} (forms : List (FileForm Row)) (bytes : List ℕ) where
     -- a file that is read whole is itself, and of a larger one too many bytes are read
-    rows_of-front : rows_of header row_of (take most bytes) ≡ rows_of header row_of bytes
+    rows_of-front : rows_of forms (take most bytes) ≡ rows_of forms bytes
     unfolding rows_of
     rows_of-front = go (ltb most (length bytes)) refl
       where
-        go : (b : Bool) → ltb most (length bytes) ≡ b → rows_of header row_of (take most bytes) ≡ rows_of header row_of bytes
-        go false is = ap (rows_of header row_of) (take_all most bytes (ltb-false most (length bytes) is))
+        go : (b : Bool) → ltb most (length bytes) ≡ b → rows_of forms (take most bytes) ≡ rows_of forms bytes
+        go false is = ap (rows_of forms) (take_all most bytes (ltb-false most (length bytes) is))
         go true is =
             let larger : most < length bytes = ltb-true most (length bytes) is in
             let cut : ltb most_bytes (length (take most bytes)) ≡ true = ap (ltb most_bytes) (length-take-le most bytes (omega arith)) ∙ lt-ltb most_bytes most enough in
             let whole : ltb most_bytes (length bytes) ≡ true = lt-ltb most_bytes (length bytes) (omega (arith, enough)) in
-            ap (λ t. cond t (Err (plain_fault FileTooLarge)) (rows_under header row_of (records_of (take most bytes)))) cut
-            ∙ sym (ap (λ t. cond t (Err (plain_fault FileTooLarge)) (rows_under header row_of (records_of bytes))) whole)
+            ap (λ t. cond t (Err (plain_fault FileTooLarge)) (rows_under forms (records_of (take most bytes)))) cut
+            ∙ sym (ap (λ t. cond t (Err (plain_fault FileTooLarge)) (rows_under forms (records_of bytes))) whole)
 
   -- so the fronts of two files come to what the files do
   pub period_outcome-front : (meter contracts price : List ℕ) → period_outcome (take most meter) (take most contracts) price ≡ period_outcome meter contracts price
   period_outcome-front meter contracts price =
-      λ i. outcome_of (rows_of-front period_meter_header period_meter_row meter i) (rows_of-front period_contract_header period_contract_row contracts i) price
+      λ i. outcome_of (rows_of-front (period_meter_form ∷ []) meter i) (rows_of-front (period_contract_form ∷ []) contracts i) price

@@ -1,5 +1,6 @@
 -- Row after row.
-use Rattle.std.proofs.Common.{◌≡◌, ℕ, zero, suc, ◌+◌, ◌<◌, ◌≤◌, Bool, true, false, List, [], ◌∷◌, ◌++◌, length, Some, None, drop, Result, Ok, Err, ◌≢◌, refl, sym, ap, ◌∙◌, arith, append-nil, append_assoc, ltb, eqb, nat_eq, not, ◌&&◌, map, get_or, Bor, add-one}
+use Rattle.std.proofs.Common.{◌≡◌, ℕ, zero, suc, ◌+◌, ◌<◌, ◌≤◌, Bool, true, false, cond, List, [], ◌∷◌, ◌++◌, length, Some, None, drop, Result, Ok, Err, ◌≢◌, refl, sym, ap, ◌∙◌, arith, append-nil, append_assoc, ltb, eqb, nat_eq, not, ◌&&◌, map, get_or, Bor, add-one}
+use Rattle.std.specs.Prelude.{Option, find, option_map}
 use Rattle.std.proofs.lemmas.Bool.Decides.{nat_tests}
 use Rattle.std.proofs.lemmas.List.{length-map}
 use Rattle.hh_names.specs.declared.fault.Fault.{Fault}
@@ -8,7 +9,7 @@ use Rattle.hh_names.specs.Faults.{plain_fault, row_fault, field_fault}
 use Rattle.csv.specs.Records.{field_at}
 use Rattle.std.specs.Cmp.Lexicographic.{pointwise}
 use Rattle.hh_texts.specs.Records.{records_of}
-use Rattle.hh_texts.specs.Rows.{rows_from, rows_under, rows_of, same_fields, row_with}
+use Rattle.hh_texts.specs.Rows.{FileForm, form_under, rows_by, rows_from, rows_under, rows_of, same_fields, row_with}
 
 -- rows with others before them
 abbrev pub behind : {Row : Type 0} → List Row → Result (List Row) Fault → Result (List Row) Fault
@@ -77,27 +78,35 @@ field_at-none [] i lt h = omega arith
 field_at-none (f ∷ fs) zero lt h = cc h
 field_at-none (f ∷ fs) (suc i) lt h = field_at-none fs i (omega arith) h
 
--- a file by its records, and those by the header
-pub rows_of-records : {Row : Type 0} (header : List (List ℕ)) (row_of : List (List ℕ) → Result Row ℕ) (bytes : List ℕ) (records : List (List (List ℕ))) → length bytes ≤ 1048576 → records ≡ records_of bytes
-    → rows_of header row_of bytes ≡ rows_under header row_of records
+-- a file by its records, and those by the form that has the header
+pub rows_of-records : {Row : Type 0} (forms : List (FileForm Row)) (bytes : List ℕ) (records : List (List (List ℕ))) → length bytes ≤ 1048576 → records ≡ records_of bytes
+    → rows_of forms bytes ≡ rows_under forms records
 unfolding rows_of
-rows_of-records header row_of bytes records few e =
+rows_of-records forms bytes records few e =
     let past : ltb 1048576 (length bytes) ≡ false = grind (arith, nat_tests) in
     rw (past, e) refl
 
-pub rows_under-none : {Row : Type 0} (header : List (List ℕ)) (row_of : List (List ℕ) → Result Row ℕ) (records : List (List (List ℕ))) → records ≡ [] → rows_under header row_of records ≡ Err (plain_fault BadHeader)
+pub rows_under-none : {Row : Type 0} (forms : List (FileForm Row)) (records : List (List (List ℕ))) → records ≡ [] → rows_under forms records ≡ Err (plain_fault BadHeader)
 unfolding rows_under
-rows_under-none header row_of records e = rw e refl
+rows_under-none forms records e = rw e refl
 
-pub rows_under-other : {Row : Type 0} (header fields : List (List ℕ)) (row_of : List (List ℕ) → Result Row ℕ) (records rest : List (List (List ℕ))) → records ≡ fields ∷ rest → same_fields fields header ≡ false
-    → rows_under header row_of records ≡ Err (plain_fault BadHeader)
+pub rows_under-form : {Row : Type 0} (forms : List (FileForm Row)) (fields : List (List ℕ)) (records rest : List (List (List ℕ))) (form : Option (FileForm Row)) → records ≡ fields ∷ rest → form ≡ form_under fields forms
+    → rows_under forms records ≡ rows_by form rest
 unfolding rows_under
-rows_under-other header fields row_of records rest e h = rw (e, h) refl
+rows_under-form forms fields records rest form e h = rw e (ap (λ o. rows_by o rest) (sym h))
 
-pub rows_under-header : {Row : Type 0} (header fields : List (List ℕ)) (row_of : List (List ℕ) → Result Row ℕ) (records rest : List (List (List ℕ))) → records ≡ fields ∷ rest → same_fields fields header ≡ true
-    → rows_under header row_of records ≡ rows_from (length header) row_of 1 rest
-unfolding rows_under
-rows_under-header header fields row_of records rest e h = rw (e, h) refl
+-- a map after another
+pub option_map-twice : {X Y Z : Type 0} (f : Y → Z) (h : X → Y) (o : Option X) → option_map (λ x. f (h x)) o ≡ option_map f (option_map h o)
+option_map-twice f h None = refl
+option_map-twice f h (Some x) = refl
+
+-- the first of what a map gives
+pub find-map : {X Y : Type 0} (test : Y → Bool) (f : X → Y) (xs : List X) → find test (map f xs) ≡ option_map f (find (λ x. test (f x)) xs)
+find-map test f [] = refl
+find-map test f (x ∷ xs) = elim (test (f x)) as (λ b. cond b (Some (f x)) (find test (map f xs)) ≡ option_map f (cond b (Some x) (find (λ y. test (f y)) xs))) [
+  | true ↦ refl
+  | false ↦ find-map test f xs
+]
 
 -- a field that is not its name decides, and one that is leaves it to the rest
 pub same_fields-differ : (fields : List (List ℕ)) (names : List (Bor (List ℕ))) (i : ℕ) (field name : List ℕ) (d : Bor (List ℕ)) → i < length names → field_at fields i ≡ Some field → name ≡ (get_or names i d).now

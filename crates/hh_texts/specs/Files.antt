@@ -12,7 +12,7 @@ use Rattle.hh_rows.specs.declared.file_kind.FileKind.TheVariants as kind
 use Rattle.hh_rows.specs.declared.rows.Row.{Row}
 use Rattle.hh_rows.specs.declared.rows.Row.TheVariants as row
 use Rattle.hh_texts.specs.Fields.{column, ◌>>=◌}
-use Rattle.hh_texts.specs.Rows.{rows_of}
+use Rattle.hh_texts.specs.Rows.{FileForm, rows_of}
 
 -- the columns of each kind of file
 abbrev pub kind_header : FileKind → List (List ℕ)
@@ -93,6 +93,14 @@ kind_row kind.Prices = price_row
 kind_row kind.Contracts = contract_row
 kind_row kind.Reallocations = reallocation_row
 
+-- the form of a kind of file
+abbrev pub kind_form : FileKind → FileForm Row
+kind_form kind = record { header = kind_header kind; row = kind_row kind }
+
+-- the forms of a kind of file: each kind has one
+abbrev pub kind_forms : FileKind → List (FileForm Row)
+kind_forms kind = kind_form kind ∷ []
+
 -- the rows of a file of a kind, or the first fault in it
 abbrev pub file_rows : FileKind → List ℕ → Result (List Row) Fault
-file_rows kind = rows_of (kind_header kind) (kind_row kind)
+file_rows kind = rows_of (kind_forms kind)

@@ -7,7 +7,7 @@ use Rattle.hh_names.specs.Words.{unit_value, reference_value}
 use Rattle.hh_texts.specs.declared.period_meters.PeriodMeterRow.{PeriodMeterRow}
 use Rattle.hh_texts.specs.declared.period_contracts.PeriodContractRow.{PeriodContractRow}
 use Rattle.hh_texts.specs.Fields.{column, ◌>>=◌}
-use Rattle.hh_texts.specs.Rows.{rows_of}
+use Rattle.hh_texts.specs.Rows.{FileForm, rows_of}
 
 -- the columns of a file of meter volumes
 abbrev pub period_meter_header : List (List ℕ)
@@ -23,9 +23,13 @@ period_meter_row fields = do
   balancing ← column fields 5 volume_value
   Ok (record { unit = unit; lead = account; reading = record { metered = metered; tlm = tlm; balancing = balancing } })
 
+-- the form of a file of meter volumes
+abbrev pub period_meter_form : FileForm PeriodMeterRow
+period_meter_form = record { header = period_meter_header; row = period_meter_row }
+
 -- the rows of a file of meter volumes, or the first fault in it
 abbrev pub period_meter_rows : List ℕ → Result (List PeriodMeterRow) Fault
-period_meter_rows = rows_of period_meter_header period_meter_row
+period_meter_rows = rows_of (period_meter_form ∷ [])
 
 -- the columns of a file of contract volumes
 abbrev pub period_contract_header : List (List ℕ)
@@ -40,6 +44,10 @@ period_contract_row fields = do
   volume ← column fields 4 volume_value
   Ok (record { reference = reference; contract = record { counterparties = record { seller = seller; buyer = buyer }; volume = volume } })
 
+-- the form of a file of contract volumes
+abbrev pub period_contract_form : FileForm PeriodContractRow
+period_contract_form = record { header = period_contract_header; row = period_contract_row }
+
 -- the rows of a file of contract volumes, or the first fault in it
 abbrev pub period_contract_rows : List ℕ → Result (List PeriodContractRow) Fault
-period_contract_rows = rows_of period_contract_header period_contract_row
+period_contract_rows = rows_of (period_contract_form ∷ [])

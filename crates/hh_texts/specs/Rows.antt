@@ -1,5 +1,5 @@
 -- The rows of a file, or the first fault in it.
-use Rattle.std.specs.Prelude.{ℕ, ◌+◌, List, [], ◌∷◌, length, Result, Ok, Err, nat_lt, ◌==◌, if◌then◌else◌, nat_eq, Bool}
+use Rattle.std.specs.Prelude.{ℕ, ◌+◌, List, [], ◌∷◌, length, find, Option, Some, None, Result, Ok, Err, nat_lt, ◌==◌, if◌then◌else◌, nat_eq, Bool}
 use Rattle.std.specs.Cmp.Lexicographic.{pointwise}
 use Rattle.hh_names.specs.declared.fault.Fault.{Fault}
 use Rattle.hh_names.specs.declared.fault.Refusal.TheVariants.{FileTooLarge, TooManyRows, BadHeader, BadRecord}
@@ -37,11 +37,26 @@ rows_from columns row_of number (fields ∷ records) =
     else if length fields == columns then row_with (at_row number (row_of fields)) (rows_from columns row_of (number + 1) records)
     else Err (row_fault BadRecord number)
 
--- the rows of records, the first of which is to be the header
-unfoldable pub rows_under : {Row : Type 0} → List (List ℕ) → (List (List ℕ) → Result Row ℕ) → List (List (List ℕ)) → Result (List Row) Fault
-rows_under header row_of [] = Err (plain_fault BadHeader)
-rows_under header row_of (first ∷ records) = if same_fields first header then rows_from (length header) row_of 1 records else Err (plain_fault BadHeader)
+-- A form of file: the columns that its header names, and the row that a record under it reads as, or the first column that doesn't
+-- read.
+pub record FileForm (Row : Type 0) : Type 0 where
+  pub header : List (List ℕ)
+  pub row : List (List ℕ) → Result Row ℕ
 
--- the rows of a file with this header, each as row_of reads its record
-unfoldable pub rows_of : {Row : Type 0} → List (List ℕ) → (List (List ℕ) → Result Row ℕ) → List ℕ → Result (List Row) Fault
-rows_of header row_of bytes = if nat_lt most_bytes (length bytes) then Err (plain_fault FileTooLarge) else rows_under header row_of (records_of bytes)
+-- the first of these forms whose header is this record
+abbrev pub form_under : {Row : Type 0} → List (List ℕ) → List (FileForm Row) → Option (FileForm Row)
+form_under first forms = find (λ form. same_fields first form.header) forms
+
+-- the rows of the records under a header, by the form that has it
+abbrev pub rows_by : {Row : Type 0} → Option (FileForm Row) → List (List (List ℕ)) → Result (List Row) Fault
+rows_by None records = Err (plain_fault BadHeader)
+rows_by (Some form) records = rows_from (length form.header) form.row 1 records
+
+-- the rows of records, the first of which is to be the header of one of these forms
+unfoldable pub rows_under : {Row : Type 0} → List (FileForm Row) → List (List (List ℕ)) → Result (List Row) Fault
+rows_under forms [] = Err (plain_fault BadHeader)
+rows_under forms (first ∷ records) = rows_by (form_under first forms) records
+
+-- the rows of a file of one of these forms, or the first fault in it
+unfoldable pub rows_of : {Row : Type 0} → List (FileForm Row) → List ℕ → Result (List Row) Fault
+rows_of forms bytes = if nat_lt most_bytes (length bytes) then Err (plain_fault FileTooLarge) else rows_under forms (records_of bytes)

@@ -2,7 +2,7 @@
 
 ghost use Rattle.std.specs.Prelude.{◌≡◌, ◌≤◌, length, IfOk};
 ghost use Rattle.csv.specs.Records.{fields_of};
-ghost use Rattle.hh_texts.specs.Files.{contract_row, file_rows, kind_header, kind_row, meter_row, party_row, price_row, reallocation_row, unit_row};
+ghost use Rattle.hh_texts.specs.Files.{contract_row, file_rows, kind_form, kind_forms, meter_row, party_row, price_row, reallocation_row, unit_row};
 ghost use Rattle.hh_names.specs.Faults.{faults, Gives};
 ghost use Rattle.hh_texts.specs.Rows.{most_rows};
 
@@ -24,9 +24,7 @@ use std::alloc::Global;
 impl Form for FileKind {
     type Row = Row;
 
-    ghost header = { kind_header };
-
-    ghost row_of = { kind_row };
+    ghost form = { kind_form };
 
     fn header(&self) -> &'static [&'static str] {
         match self {
@@ -183,5 +181,5 @@ pub fn read_file(alloc: Global, kind: FileKind, bytes: &[u8]) -> Result<Vec<Row>
     ensures rows { Gives faults (λ rows. rows.items) result (file_rows kind bytes.now) }
     ensures few { IfOk result (λ rows. length rows.items ≤ most_rows) }
 {
-    read_rows(alloc, &kind, bytes)
+    read_rows(alloc, &[kind], bytes)
 }

@@ -1,10 +1,10 @@
 //! Forms of files, and the one reader of them all.
 
-ghost use Rattle.std.specs.Prelude.{◌≡◌, ◌≤◌, ℕ, List, length, Result, map, IfOk};
+ghost use Rattle.std.specs.Prelude.{◌≡◌, ◌≤◌, length, map, option_map, IfOk};
 ghost use Rattle.csv.specs.Records.{fields_of};
 ghost use Rattle.hh_names.specs.Faults.{faults, Gives};
 ghost use Rattle.hh_texts.specs.Records.{IsReading, left_of};
-ghost use Rattle.hh_texts.specs.Rows.{most_rows, rows_of, rows_from, same_fields};
+ghost use Rattle.hh_texts.specs.Rows.{FileForm, form_under, most_rows, rows_of, rows_from, same_fields};
 
 use crate::records::{next_record, records_in};
 use csv::{ByteRecord, Reader};
@@ -21,38 +21,48 @@ pub const MOST_ROWS: u32 = 20_000;
 pub trait Form {
     type Row: Drop;
 
-    ghost header: { Self → List (List ℕ) };
-
-    ghost row_of: { Self → List (List ℕ) → Result Self.Row ℕ };
+    /// What contracts see of it.
+    ghost form: { Self → FileForm Self.Row };
 
     /// The names of the columns, of which the first record consists.
     fn header(&self) -> &'static [&'static str]
-        ensures { map (λ name. name.now) result.now ≡ header self.now };
+        ensures { map (λ name. name.now) result.now ≡ (form self.now).header };
 
     /// The row that a record of as many fields reads as, or the first column, from 1, that
     /// doesn't read.
     fn read_row(&self, fields: &ByteRecord) -> Result<Self::Row, u32>
-        requires { length (fields_of fields.now) ≡ length (header self.now) }
-        ensures { result ≡ row_of self.now (fields_of fields.now) };
+        requires { length (fields_of fields.now) ≡ length (form self.now).header }
+        ensures { result ≡ (form self.now).row (fields_of fields.now) };
 }
 
-/// The rows of a file of this form, or the first fault in it: `FileTooLarge`, then `BadHeader`,
-/// then by row, from 1 without the header, `TooManyRows`, `BadRecord` and `BadField`. `Memory`
-/// may come in the place of any answer.
-pub fn read_rows<F: Form>(alloc: Global, form: &F, bytes: &[u8]) -> Result<Vec<F::Row>, Fault>
+/// The rows of a file of one of these forms, the first whose header the file has, or the first fault
+/// in it: `FileTooLarge`, then `BadHeader`, then by row, from 1 without the header, `TooManyRows`,
+/// `BadRecord` and `BadField`. `Memory` may come in the place of any answer.
+pub fn read_rows<F: Form>(alloc: Global, forms: &[F], bytes: &[u8]) -> Result<Vec<F::Row>, Fault>
     ensures rows { Gives faults (λ rows. rows.items) result
-        (rows_of (F.header form.now) (F.row_of form.now) bytes.now) }
+        (rows_of (map F.form forms.now) bytes.now) }
     ensures few { IfOk result (λ rows. length rows.items ≤ most_rows) }
 {
     if bytes.len() > MOST_BYTES {
         return Err(Fault::of(Refusal::FileTooLarge));
     }
     let mut reader = records_in(alloc, bytes);
-    let mut fields = ByteRecord::new(alloc);
-    if !next_record(&mut reader, &mut fields)? || !has_fields(&fields, form.header()) {
+    let mut header = ByteRecord::new(alloc);
+    if !next_record(&mut reader, &mut header)? {
         return Err(Fault::of(Refusal::BadHeader));
     }
-    rows_under(alloc, form, &mut reader)
+    match form_under(&header, forms) {
+        Some(form) => rows_under(alloc, form, &mut reader),
+        None => Err(Fault::of(Refusal::BadHeader)),
+    }
+}
+
+/// The first of these forms whose header is this record.
+fn form_under<'f, F: Form>(header: &ByteRecord, forms: &'f [F]) -> Option<&'f F>
+    ensures { option_map (λ form. F.form form.now) result
+        ≡ form_under (fields_of header.now) (map F.form forms.now) }
+{
+    forms.iter().find(|form| has_fields(header, form.header()))
 }
 
 /// Whether a record has these fields and no others.
@@ -81,7 +91,8 @@ fn rows_under<F: Form>(
 ) -> Result<Vec<F::Row>, Fault>
     requires { IsReading reader.old }
     ensures rows { Gives faults (λ rows. rows.items) result
-        (rows_from (length (F.header form.now)) (F.row_of form.now) 1 (left_of reader.old)) }
+        (rows_from (length (F.form form.now).header) (F.form form.now).row 1
+        (left_of reader.old)) }
     ensures few { IfOk result (λ rows. length rows.items ≤ most_rows) }
 {
     let columns = form.header().len();

@@ -2,7 +2,7 @@
 
 ghost use Rattle.std.specs.Prelude.{◌≤◌, length, IfOk};
 ghost use Rattle.hh_names.specs.Faults.{faults, Gives};
-ghost use Rattle.hh_texts.specs.PeriodFiles.{period_contract_header, period_contract_row, period_contract_rows};
+ghost use Rattle.hh_texts.specs.PeriodFiles.{period_contract_form, period_contract_row, period_contract_rows};
 ghost use Rattle.hh_texts.specs.Rows.{most_rows};
 
 use crate::fields::field_in;
@@ -28,9 +28,7 @@ pub struct PeriodContracts;
 impl Form for PeriodContracts {
     type Row = PeriodContractRow;
 
-    ghost header = { λ _. period_contract_header };
-
-    ghost row_of = { λ _. period_contract_row };
+    ghost form = { λ _. period_contract_form };
 
     fn header(&self) -> &'static [&'static str] {
         &["reference", "seller", "buyer", "mwh"]
@@ -57,5 +55,5 @@ pub fn read_period_contracts(alloc: Global, bytes: &[u8]) -> Result<Vec<PeriodCo
     ensures rows { Gives faults (λ rows. rows.items) result (period_contract_rows bytes.now) }
     ensures few { IfOk result (λ rows. length rows.items ≤ most_rows) }
 {
-    read_rows(alloc, &PeriodContracts, bytes)
+    read_rows(alloc, &[PeriodContracts], bytes)
 }

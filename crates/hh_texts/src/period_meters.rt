@@ -2,7 +2,7 @@
 
 ghost use Rattle.std.specs.Prelude.{◌≤◌, length, IfOk};
 ghost use Rattle.hh_names.specs.Faults.{faults, Gives};
-ghost use Rattle.hh_texts.specs.PeriodFiles.{period_meter_header, period_meter_row, period_meter_rows};
+ghost use Rattle.hh_texts.specs.PeriodFiles.{period_meter_form, period_meter_row, period_meter_rows};
 ghost use Rattle.hh_texts.specs.Rows.{most_rows};
 
 use crate::fields::field_in;
@@ -30,9 +30,7 @@ pub struct PeriodMeters;
 impl Form for PeriodMeters {
     type Row = PeriodMeterRow;
 
-    ghost header = { λ _. period_meter_header };
-
-    ghost row_of = { λ _. period_meter_row };
+    ghost form = { λ _. period_meter_form };
 
     fn header(&self) -> &'static [&'static str] {
         &["unit", "account", "metered_mwh", "tlm", "balancing_mwh"]
@@ -57,5 +55,5 @@ pub fn read_period_meters(alloc: Global, bytes: &[u8]) -> Result<Vec<PeriodMeter
     ensures rows { Gives faults (λ rows. rows.items) result (period_meter_rows bytes.now) }
     ensures few { IfOk result (λ rows. length rows.items ≤ most_rows) }
 {
-    read_rows(alloc, &PeriodMeters, bytes)
+    read_rows(alloc, &[PeriodMeters], bytes)
 }

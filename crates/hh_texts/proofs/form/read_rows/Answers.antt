@@ -1,10 +1,9 @@
-use Rattle.std.proofs.Common.{arith, sym, ap, ◌∙◌}
+use Rattle.std.proofs.Common.{None, Some, arith, map, sym, ap, ◌∙◌}
+use Rattle.std.specs.Prelude.{option_map}
 use Rattle.std.proofs.lemmas.Bool.Decides.{nat_tests}
-use Rattle.csv.specs.Records.{fields_of}
-use Rattle.hh_texts.specs.Rows.{rows_of, same_fields}
-use Rattle.hh_texts.proofs.RowFacts.{rows_of-records, rows_under-none, rows_under-other, rows_under-header}
+use Rattle.hh_texts.specs.Rows.{rows_of}
+use Rattle.hh_texts.proofs.RowFacts.{rows_of-records, rows_under-none, rows_under-form}
 use Rattle.hh_texts.proofs.form.read_rows.Goals as goal
-use Rattle.hh_texts.proofs.form.read_rows.Goals.{then-not-branch-via-then-not-branch, then-not-branch-via-else-not-branch+then-not-has_fields}
 
 pub returns-then-bytes-gt-MOST_BYTES-clause-rows : goal.returns-then-bytes-gt-MOST_BYTES-clause-rows
 unfolding rows_of
@@ -12,18 +11,23 @@ returns-then-bytes-gt-MOST_BYTES-clause-rows g c = grind (arith, nat_tests)
 
 pub returns-then-not-branch-clause-rows : goal.returns-then-not-branch-clause-rows
 returns-then-not-branch-clause-rows g c =
-    let records = rows_of-records _ _ _ _ (omega arith) c.records_in-reader.ensures.all in
-    rw c.of-then-not-branch.ensures elim c.then-not-branch.branch [
-      | then-not-branch-via-then-not-branch w ↦ records ∙ rows_under-none _ _ _ (rw w.if-not-branch.true at c.in_ok-next_record.ensures.record)
-      | then-not-branch-via-else-not-branch+then-not-has_fields w ↦
-          records ∙ rows_under-other _ _ _ _ _ (rw w.if-not-branch.false at c.in_ok-next_record.ensures.record)
-          (ap (same_fields _) (sym w.header.ensures) ∙ sym w.has_fields.ensures ∙ w.if-not-has_fields.true)
-    ]
+    let forms = map g.F.Form.form c.args.forms.now in
+    rw c.of-then-not-branch.ensures (rows_of-records forms c.args.bytes.now _ (omega arith) c.records_in-reader.ensures.all
+    ∙ rows_under-none forms _ (rw c.if-not-branch.true at c.in_ok-next_record.ensures.record))
+
+pub returns-in-Some-clause-rows : goal.returns-in-Some-clause-rows
+returns-in-Some-clause-rows g c =
+    let form = g.F.Form.form in
+    let forms = map form c.args.forms.now in
+    let records = rows_of-records forms c.args.bytes.now _ (omega arith) c.records_in-reader.ensures.all in
+    let found = sym (ap (option_map (λ f. form f.now)) c.in-Some.is) ∙ c.form_under.ensures in
+    let under = rows_under-form forms _ _ _ (Some (form c.in-Some.form.now)) (rw c.if-not-branch.false at c.in_ok-next_record.ensures.record) found in
+    rw (records ∙ under) c.rows_under.ensures.rows
 
 pub returns-clause-rows : goal.returns-clause-rows
 returns-clause-rows g c =
-    let header = g.F.Form.header c.args.form.now in
-    let row_of = g.F.Form.row_of c.args.form.now in
-    let records = rows_of-records header row_of c.args.bytes.now _ (omega arith) c.records_in-reader.ensures.all in
-    let under = rows_under-header header _ row_of _ _ (rw c.if-not-branch.false at c.in_ok-next_record.ensures.record) (ap (same_fields (fields_of c.next_record.new.fields)) (sym c.header.ensures) ∙ sym c.has_fields.ensures ∙ c.if-not-has_fields.false) in
-    rw (records ∙ under) c.rows_under.ensures.rows
+    let form = g.F.Form.form in
+    let forms = map form c.args.forms.now in
+    let records = rows_of-records forms c.args.bytes.now _ (omega arith) c.records_in-reader.ensures.all in
+    let found = sym (ap (option_map (λ f. form f.now)) c.in-None.is) ∙ c.form_under.ensures in
+    rw c.of-in-None.ensures (records ∙ rows_under-form forms _ _ _ None (rw c.if-not-branch.false at c.in_ok-next_record.ensures.record) found)

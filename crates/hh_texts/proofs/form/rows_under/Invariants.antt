@@ -7,7 +7,7 @@ use Rattle.hh_texts.proofs.form.rows_under.Given as goal
 -- the rows so far, and those of the records that are left, are all the rows
 abbrev pub invariant-loop-row : goal.invariant-loop-row
 invariant-loop-row g l =
-    let read = rows_from (length (g.F.Form.header l.form)) (g.F.Form.row_of l.form) in
+    let read = rows_from (length (g.F.Form.form l.form).header) (g.F.Form.form l.form).row in
     record {
       reading : IsReading l.reader;
       few : length l.rows.items + 1 ≡ l.row;
