@@ -1,25 +1,29 @@
 -- The Settlement Periods of a day, settled one after the other.
-use Rattle.std.proofs.Common.{◌≡◌, ℕ, zero, suc, ◌+◌, ◌<◌, List, [], ◌∷◌, ◌++◌, map, length, take, get_or, refl, sym, ap, subst, ◌∙◌, Bool, true, false, cond, Some, None, arith}
-use Rattle.std.specs.Prelude.{All, IsTrue, find, not}
+use Rattle.std.proofs.Common.{◌≡◌, ℕ, zero, suc, ◌+◌, ◌<◌, List, [], ◌∷◌, ◌++◌, length, take, get_or, refl, sym, ap, subst, ◌∙◌, Bool, true, false, cond, Some, None, arith}
+use Rattle.std.specs.Prelude.{IsFalse, IsTrue, Option, find, min, not}
+use Rattle.std.specs.List.{AllZip}
 use Rattle.std.specs.Option.{option_or}
-use Rattle.std.proofs.lemmas.List.{get_or-map, map-append, take_more}
+use Rattle.std.proofs.Math.Nat.{min-eq_left}
+use Rattle.std.proofs.lemmas.List.{map-append, take_all, take_more}
 use Rattle.std.proofs.lemmas.List.Folds.{find-append}
+use Rattle.std.proofs.lemmas.Slice.Zip.{AllZip-long}
 use Rattle.hh_rows.specs.declared.settlement_period.SettlementPeriod.{SettlementPeriod}
 use Rattle.hh_rules.specs.History.{Registered}
 use Rattle.hh_calc.specs.Limits.{is_within_limits, kept_where}
 use Rattle.hh_calc.specs.Settled.{IsSettled}
 use Rattle.hh_calc.specs.Terms.{PeriodTerms, Settled}
 use Rattle.hh_states.specs.DaySettlement.{settled_at, settled_day, too_large}
-use Rattle.hh_states.specs.PeriodSettlement.{settled, terms_at}
-use Rattle.hh_states.specs.Readiness.{AreTermsConsistent}
+use Rattle.hh_states.specs.PeriodSettlement.{terms_at}
+use Rattle.hh_states.specs.Readiness.{ArePeriodsConsistent, AreTermsConsistent}
+use Rattle.hh_store.specs.DayReads.{ArePeriodsOf, IsPeriodOf}
 use Rattle.hh_day.specs.NewRuns.{SettledInOneWay}
 use Rattle.hh_day.specs.PeriodSteps.{SettlesPeriod}
 
--- So many of these Settlement Periods are settled so from these terms, and none of them passes a limit, by whatever is registered
--- and in force, where the terms of each fit together.
+-- So many of these Settlement Periods are settled so from these, and none of them passes a limit, by whatever is registered and in
+-- force, where what each is settled from fits together.
 abbrev pub SettlesFirst : ℕ → List SettlementPeriod → List PeriodTerms → List (SettlementPeriod × Settled) → Type 0
 SettlesFirst n periods terms day =
-    (tables : Registered) → terms ≡ map (terms_at tables) periods → All AreTermsConsistent terms
+    (tables : Registered) → ArePeriodsOf tables periods terms → ArePeriodsConsistent tables periods
     → (too_large tables (take n periods) ≡ None) × (day ≡ settled_day tables (take n periods))
 
 -- a search over a list that goes on
@@ -49,8 +53,14 @@ module _ {X : Type 0} (test : X → Bool) where
 
 -- what a period comes to that is settled within the limits, where a period is settled in one way
 pub settles_within : SettledInOneWay → (at : SettlementPeriod) (p : PeriodTerms) (s : Settled) → IsTrue (is_within_limits p) → IsSettled p s → SettlesPeriod at p (Some (at, s))
-settles_within one_way at p s within is consistent =
-    ap (λ x. Some (at, x)) (one_way p s consistent is) ∙ sym (ap (λ b. kept_where b (at, settled p)) within)
+settles_within one_way at p s within is tables is_of consistent =
+    ap (λ x. Some (at, x)) (one_way (terms_at tables at) s consistent (subst (λ q. IsSettled q s) is_of is))
+    ∙ sym (ap (λ b. kept_where b (settled_at tables at)) (sym (ap is_within_limits is_of) ∙ within))
+
+-- what a period comes to that passes a limit
+pub settles_beyond : (at : SettlementPeriod) (p : PeriodTerms) → IsFalse (is_within_limits p) → SettlesPeriod at p None
+settles_beyond at p beyond tables is_of consistent =
+    sym (ap (λ b. kept_where b (settled_at tables at)) (sym (ap is_within_limits is_of) ∙ beyond))
 
 -- a period of which there is a settlement is within the limits, and that is its settlement
 kept : (b : Bool) (x y : SettlementPeriod × Settled) → Some x ≡ kept_where b y → (b ≡ true) × (x ≡ y)
@@ -68,35 +78,47 @@ not_kept true y e = absurd (no_none e)
     no_none : None ≡ Some y → ⊥
     no_none h = cc
 
--- the terms of a place are those of the Settlement Period of that place
-terms_of_place : (tables : Registered) (periods : List SettlementPeriod) (terms : List PeriodTerms) (n : ℕ) (at : SettlementPeriod) (p : PeriodTerms) → n < length periods → get_or periods n at ≡ at → get_or terms n p ≡ p
-    → terms ≡ map (terms_at tables) periods → p ≡ terms_at tables at
-terms_of_place tables periods terms n at p inside is_at is_p same =
-    sym is_p ∙ ap (λ ts. get_or ts n p) same ∙ get_or-map (terms_at tables) periods n at p inside ∙ ap (terms_at tables) is_at
+-- what is so of each of two lists' elements, one by one, is so at each place
+at_place : {X Y : Type 0} (R : X → Y → Type 0) (xs : List X) (ys : List Y) (n : ℕ) (x : X) (y : Y) → n < length xs → AllZip R xs ys → get_or xs n x ≡ x → get_or ys n y ≡ y → R x y
+at_place R [] ys n x y inside all is_x is_y = absurd (nothing_below n inside)
+  where
+    nothing_below : (i : ℕ) → i < 0 → ⊥
+    nothing_below i h = omega (arith, h)
+at_place R (z ∷ xs) [] n x y inside all is_x is_y = absurd all
+at_place R (z ∷ xs) (w ∷ ys) zero x y inside all is_x is_y = subst (R x) is_y (subst (λ v. R v w) is_x all.0)
+at_place R (z ∷ xs) (w ∷ ys) (suc n) x y inside all is_x is_y = at_place R xs ys n x y (omega (arith, inside)) all.1 is_x is_y
 
--- the next Settlement Period settled too
-pub settles_next : (periods : List SettlementPeriod) (terms : List PeriodTerms) (n : ℕ) (at : SettlementPeriod) (p : PeriodTerms) (day : List (SettlementPeriod × Settled)) (one : SettlementPeriod × Settled)
-    → n < length periods → n < length terms → get_or periods n at ≡ at → get_or terms n p ≡ p
-    → SettlesFirst n periods terms day → SettlesPeriod at p (Some one)
-    → SettlesFirst (n + 1) periods terms (day ++ one ∷ [])
-settles_next periods terms n at p day one inside inside_terms is_at is_p so_far settles tables same consistent =
-    let here : p ≡ terms_at tables at = terms_of_place tables periods terms n at p inside is_at is_p same in
-    let fits : AreTermsConsistent p = subst AreTermsConsistent is_p (consistent n p inside_terms) in
-    let is : (is_within_limits p ≡ true) × (one ≡ (at, settled p)) = kept (is_within_limits p) one (at, settled p) (settles fits) in
-    let before = so_far tables same consistent in (
-      not_yet (λ q. not (is_within_limits (terms_at tables q))) periods n at inside is_at before.0 (ap (λ q. not (is_within_limits q)) (sym here) ∙ ap not is.0),
-      (λ i. before.1 i ++ (is.1 ∙ ap (λ q. (at, settled q)) here) i ∷ [])
-          ∙ sym (map-append (settled_at tables) (take n periods) (at ∷ []))
-          ∙ ap (settled_day tables) (sym (take_more periods n at inside ∙ ap (λ q. take n periods ++ q ∷ []) is_at)),
-    )
+-- all are settled, where as many are as there are of both
+pub settles_all : (periods : List SettlementPeriod) (terms : List PeriodTerms) (n : ℕ) (day : List (SettlementPeriod × Settled)) → n ≡ min (length periods) (length terms) → SettlesFirst n periods terms day
+    → (tables : Registered) → ArePeriodsOf tables periods terms → ArePeriodsConsistent tables periods → (too_large tables periods ≡ None) × (day ≡ settled_day tables periods)
+settles_all periods terms n day counted so_far tables are consistent =
+    let long : length terms ≡ length periods = AllZip-long (IsPeriodOf tables) periods terms are in
+    let each : n ≡ length periods = counted ∙ min-eq_left (omega arith) in
+    subst (λ ps. (too_large tables ps ≡ None) × (day ≡ settled_day tables ps)) (take_all n periods (omega arith)) (so_far tables are consistent)
 
--- the next Settlement Period passes a limit, the first that does
-pub passes_first : (periods : List SettlementPeriod) (terms : List PeriodTerms) (n : ℕ) (at : SettlementPeriod) (p : PeriodTerms) (day : List (SettlementPeriod × Settled))
-    → n < length periods → n < length terms → get_or periods n at ≡ at → get_or terms n p ≡ p
-    → SettlesFirst n periods terms day → SettlesPeriod at p None
-    → (tables : Registered) → terms ≡ map (terms_at tables) periods → All AreTermsConsistent terms → too_large tables periods ≡ Some at
-passes_first periods terms n at p day inside inside_terms is_at is_p so_far settles tables same consistent =
-    let here : p ≡ terms_at tables at = terms_of_place tables periods terms n at p inside is_at is_p same in
-    let fits : AreTermsConsistent p = subst AreTermsConsistent is_p (consistent n p inside_terms) in
-    now_found (λ q. not (is_within_limits (terms_at tables q))) periods n at inside is_at (so_far tables same consistent).0
-    (ap (λ q. not (is_within_limits q)) (sym here) ∙ ap not (not_kept (is_within_limits p) (at, settled p) (settles fits)))
+-- the Settlement Period of a place, with what it is settled from
+module _ (periods : List SettlementPeriod) (terms : List PeriodTerms) (n : ℕ) (at : SettlementPeriod) (p : PeriodTerms) (inside : n < length periods)
+    (is_at : get_or periods n at ≡ at) (is_p : get_or terms n p ≡ p) (day : List (SettlementPeriod × Settled)) (so_far : SettlesFirst n periods terms day) where
+  -- it comes to what it is settled as
+  comes_to : (outcome : Option (SettlementPeriod × Settled)) → SettlesPeriod at p outcome → (tables : Registered) → ArePeriodsOf tables periods terms → ArePeriodsConsistent tables periods
+      → outcome ≡ kept_where (is_within_limits (terms_at tables at)) (settled_at tables at)
+  comes_to outcome settles tables are consistent =
+      settles tables (at_place (IsPeriodOf tables) periods terms n at p inside are is_at is_p) (subst (λ q. AreTermsConsistent (terms_at tables q)) is_at (consistent n at inside))
+
+  -- it is settled too
+  pub settles_next : (one : SettlementPeriod × Settled) → SettlesPeriod at p (Some one) → SettlesFirst (n + 1) periods terms (day ++ one ∷ [])
+  settles_next one settles tables are consistent =
+      let is : (is_within_limits (terms_at tables at) ≡ true) × (one ≡ settled_at tables at) =
+      kept (is_within_limits (terms_at tables at)) one (settled_at tables at) (comes_to (Some one) settles tables are consistent) in
+      let before = so_far tables are consistent in (
+        not_yet (λ q. not (is_within_limits (terms_at tables q))) periods n at inside is_at before.0 (ap not is.0),
+        (λ i. before.1 i ++ is.1 i ∷ [])
+            ∙ sym (map-append (settled_at tables) (take n periods) (at ∷ []))
+            ∙ ap (settled_day tables) (sym (take_more periods n at inside ∙ ap (λ q. take n periods ++ q ∷ []) is_at)),
+      )
+
+  -- it passes a limit, the first that does
+  pub passes_first : SettlesPeriod at p None → (tables : Registered) → ArePeriodsOf tables periods terms → ArePeriodsConsistent tables periods → too_large tables periods ≡ Some at
+  passes_first settles tables are consistent =
+      now_found (λ q. not (is_within_limits (terms_at tables q))) periods n at inside is_at (so_far tables are consistent).0
+      (ap not (not_kept (is_within_limits (terms_at tables at)) (settled_at tables at) (comes_to None settles tables are consistent)))

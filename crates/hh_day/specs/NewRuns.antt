@@ -1,5 +1,5 @@
 -- A new run: the Settlement Periods of its date, settled, and what is written for it.
-use Rattle.std.specs.Prelude.{◌≡◌, ℕ, ℤ, List, [], ◌∷◌, length, map, All, None, Some}
+use Rattle.std.specs.Prelude.{◌≡◌, ℕ, ℤ, List, [], ◌∷◌, length, None, Some}
 use Rattle.hh_num.specs.Totals.{total}
 use Rattle.hh_time.specs.Days.{Midnights, period_count}
 use Rattle.hh_names.specs.declared.account.Account.{Account}
@@ -14,13 +14,14 @@ use Rattle.hh_runs.specs.declared.run_key.RunKey.{RunKey}
 use Rattle.hh_states.specs.Changes.{RunWrites, run_writes}
 use Rattle.hh_states.specs.Content.{credit_entries, posting_entries, result_entries, tables_of}
 use Rattle.hh_states.specs.DaySettlement.{periods_on, settled_day, too_large}
-use Rattle.hh_states.specs.PeriodSettlement.{settled, terms_at}
-use Rattle.hh_states.specs.Readiness.{AreTermsConsistent}
+use Rattle.hh_states.specs.PeriodSettlement.{settled}
+use Rattle.hh_states.specs.Readiness.{ArePeriodsConsistent, AreTermsConsistent}
 use Rattle.hh_states.specs.Reads.{results_in}
 use Rattle.hh_states.specs.RunReads.{paid_in, rows_by_period}
 use Rattle.hh_states.specs.Runs.{latest_run}
 use Rattle.hh_states.specs.States.{State}
 use Rattle.hh_states.specs.Steps.{CanRun, IsReached, registered_at}
+use Rattle.hh_store.specs.DayReads.{ArePeriodsOf}
 use Rattle.hh_day.specs.declared.settle.SettledDay.{SettledDay}
 use Rattle.hh_day.specs.declared.settle.SettledDay.TheVariants.{Settled as all_settled, TooLarge}
 
@@ -30,11 +31,11 @@ IsSettledDay tables periods (TooLarge at) = too_large tables periods ≡ Some at
 IsSettledDay tables periods (all_settled day) =
     (too_large tables periods ≡ None) × (day.items ≡ settled_day tables periods)
 
--- These Settlement Periods are settled from these terms, by whatever is registered and in force, where the terms of each fit
--- together.
+-- These Settlement Periods are settled from these, one for each, by whatever is registered and in force, where what each is settled
+-- from fits together.
 abbrev pub SettlesDay : List SettlementPeriod → List PeriodTerms → SettledDay → Type 0
 SettlesDay periods terms outcome =
-    (tables : Registered) → terms ≡ map (terms_at tables) periods → All AreTermsConsistent terms
+    (tables : Registered) → ArePeriodsOf tables periods terms → ArePeriodsConsistent tables periods
     → IsSettledDay tables periods outcome
 
 -- how many accounts a run settles: those of its first Settlement Period

@@ -1,12 +1,17 @@
 -- One Settlement Period of a day, settled; and the periods of a day up to some place.
 use Rattle.std.specs.Prelude.{◌≡◌, Option}
 use Rattle.hh_rows.specs.declared.settlement_period.SettlementPeriod.{SettlementPeriod}
+use Rattle.hh_rules.specs.History.{Registered}
 use Rattle.hh_calc.specs.Limits.{is_within_limits, kept_where}
 use Rattle.hh_calc.specs.Terms.{PeriodTerms, Settled}
-use Rattle.hh_states.specs.PeriodSettlement.{settled}
+use Rattle.hh_states.specs.DaySettlement.{settled_at}
+use Rattle.hh_states.specs.PeriodSettlement.{terms_at}
 use Rattle.hh_states.specs.Readiness.{AreTermsConsistent}
+use Rattle.hh_store.specs.DayReads.{IsPeriodOf}
 
--- a Settlement Period is settled from these terms, where they fit together; there is no settlement exactly where it would pass a
--- limit
+-- A Settlement Period is settled from this, by whatever is registered and in force, where what it is settled from fits together;
+-- there is no settlement exactly where it would pass a limit.
 abbrev pub SettlesPeriod : SettlementPeriod → PeriodTerms → Option (SettlementPeriod × Settled) → Type 0
-SettlesPeriod at terms outcome = AreTermsConsistent terms → outcome ≡ kept_where (is_within_limits terms) (at, settled terms)
+SettlesPeriod at terms outcome =
+    (tables : Registered) → IsPeriodOf tables at terms → AreTermsConsistent (terms_at tables at)
+    → outcome ≡ kept_where (is_within_limits (terms_at tables at)) (settled_at tables at)

@@ -17,7 +17,7 @@ use Rattle.hh_states.specs.RunReads.{rows_by_period}
 use Rattle.hh_states.specs.States.{State}
 use Rattle.hh_states.specs.Steps.{CanRun, IsReached, registered_at}
 use Rattle.hh_day.specs.NewRuns.{IsWrittenFor, day_in, former_rows}
-use Rattle.hh_day.specs.RunParts.{moved_by_row}
+use Rattle.hh_calc.specs.Settled.{moved_by_row}
 
 -- each account's turnover by rows, under whatever keys they stand, is at most that of a run: so is what any of the rows come to
 abbrev pub AreTurnoversSmall : {K : Type 0} → List (K × AccountRow) → Type 0

@@ -3,8 +3,8 @@
 ghost use Rattle.std.specs.Prelude.{◌≡◌, All, find, filter, filter_map, map, pos, unwrap_or, IfOk, is_none};
 ghost use Rattle.hh_rules.specs.RegisterView.{reallocations_at};
 ghost use Rattle.hh_states.specs.DaySettlement.{missing_meter, missing_price, periods_on, unit_periods_at};
-ghost use Rattle.hh_states.specs.PeriodSettlement.{accounts_on, price_of, reading_of, subsidiaries_of, terms_at, unit_at, units_on};
-ghost use Rattle.hh_store.specs.DayReads.{IsDayData};
+ghost use Rattle.hh_states.specs.PeriodSettlement.{accounts_on, price_of, reading_of, subsidiaries_of, unit_at, units_on};
+ghost use Rattle.hh_store.specs.DayReads.{ArePeriodsOf, IsDayData, IsPeriodOf};
 ghost use Rattle.hh_kept_rows.specs.DayRolls.{IsRollOf, row_on};
 ghost use Rattle.hh_kept_rows.specs.KeptContracts.{is_in_period};
 
@@ -31,22 +31,19 @@ pub(crate) struct DayRoll {
 }
 
 impl KeptRegister {
-    /// What the Settlement Periods of a day are settled from, or what is missing for it. `Err` only where
+    /// What the Settlement Periods of a day are settled from, and what is missing for it. `Err` only where
     /// memory is refused.
     pub fn day_data(&self, alloc: Global, day: &Day) -> Result<DayData, AllocError>
         ensures { IfOk result (IsDayData self.now (periods_on day.now.date day.now.count)) }
     {
         let periods = periods_of(alloc, day)?;
-        if let Some(at) = self.missing_price(&periods) {
-            return Ok(DayData::MissingPrice(at));
-        }
         let roll = self.roll_of(alloc, day.date)?;
         let places = self.places_of(alloc, &roll, &periods)?;
-        if let Some(key) = self.missing_meter(&roll.units, &places, &periods) {
-            return Ok(DayData::MissingMeter(key));
-        }
-        let terms = self.data_of(alloc, &roll, &places, &periods)?;
-        Ok(DayData::Periods(terms))
+        Ok(DayData {
+            missing_price: self.missing_price(&periods),
+            missing_meter: self.missing_meter(&roll.units, &places, &periods),
+            periods: self.data_of(alloc, &roll, &places, &periods)?,
+        })
     }
 
     /// The first of these Settlement Periods that has no price.
@@ -200,7 +197,7 @@ impl KeptRegister {
         periods: &[SettlementPeriod],
     ) -> Result<Vec<PeriodData>, AllocError>
         requires { All (λ at. IsRollOf self.now at.date roll.now) periods.now }
-        ensures { IfOk result (λ terms. terms.items ≡ map (terms_at self.now) periods.now) }
+        ensures { IfOk result (λ terms. ArePeriodsOf self.now periods.now terms.items) }
     {
         let mut found = Vec::with_capacity(alloc, periods.len())?;
         for at in periods {
@@ -219,7 +216,7 @@ impl KeptRegister {
         at: &SettlementPeriod,
     ) -> Result<PeriodData, AllocError>
         requires { IsRollOf self.now at.now.date roll.now }
-        ensures { IfOk result (λ terms. terms ≡ terms_at self.now at.now) }
+        ensures { IfOk result (IsPeriodOf self.now at.now) }
     {
         let accounts = Vec::from_slice(alloc, &roll.accounts)?;
         let units = self.units_at(alloc, &roll.units, places, at)?;

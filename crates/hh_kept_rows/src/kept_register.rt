@@ -3,7 +3,7 @@
 ghost use Rattle.std.specs.Prelude.{◌≡◌};
 ghost use Rattle.std.specs.FinMap.{find};
 ghost use Rattle.hh_names.specs.Accounts.{bytes_cmp};
-ghost use Rattle.hh_states.specs.Content.{nothing_registered};
+ghost use Rattle.hh_rules.specs.History.{nothing_registered};
 ghost use Rattle.hh_states.specs.Reads.{is_key_known_in};
 
 use hh_names::{Counterparties, PartyId, Reading, Reallocation, Reference, UnitId};

@@ -15,11 +15,11 @@ use Rattle.hh_requests.specs.declared.reply.Reply.{Reply}
 use Rattle.hh_requests.specs.declared.reply.Reply.TheVariants as reply
 use Rattle.hh_states.specs.Content.{Content, tables_of}
 use Rattle.hh_states.specs.Reads.{results_in, runs_in}
-use Rattle.hh_states.specs.RunReads.{HoldsResults, HoldsRuns}
+use Rattle.hh_states.specs.RunReads.{rows_in_run, HoldsResults, HoldsRuns}
 use Rattle.hh_states.specs.Runs.{Run, last_of, latest_run, runs_of_date}
 use Rattle.hh_states.specs.States.{State}
 use Rattle.hh_states.specs.Steps.{kinds_on}
-use Rattle.hh_office.specs.Enquiries.{account_reply, reply_by_rows, reply_by_run, rows_in_run, rows_of_account}
+use Rattle.hh_office.specs.Enquiries.{account_reply, reply_by_rows, reply_by_run, rows_of_account}
 use Rattle.hh_office.specs.Promises.{MakesTransition, RepliesAs, Stands, reply_of}
 use Rattle.hh_office.specs.Reads.{latest_key}
 use Rattle.hh_office.specs.Transitions.{unchanged}

@@ -1,6 +1,6 @@
 -- Runs that are ordered: what the steps of the office come to.
-use Rattle.std.proofs.Common.{◌≡◌, ℕ, List, [], ◌∷◌, map, refl, sym, ap, subst, ◌∙◌, Bool, true, false, cond, Option, Some, None, Result, Ok, Err, Ordering, Less, Equal, Greater}
-use Rattle.std.specs.Prelude.{ℤ, All, MatchBool, OnOk, option_map, IfErr, is_some, ◌||◌, ◌==◌, filter_map}
+use Rattle.std.proofs.Common.{◌≡◌, ℕ, List, [], ◌∷◌, get_or, map, refl, sym, ap, subst, ◌∙◌, Bool, true, false, cond, Option, Some, None, Result, Ok, Err, Ordering, Less, Equal, Greater}
+use Rattle.std.specs.Prelude.{ℤ, MatchBool, OnOk, option_map, IfErr, is_some, ◌||◌, ◌==◌, filter_map}
 use Rattle.std.specs.Option.{option_or}
 use Rattle.hh_time.specs.Days.{Midnights, is_over, period_count}
 use Rattle.hh_names.specs.declared.fault.Fault.{Fault}
@@ -13,16 +13,15 @@ use Rattle.hh_states.specs.Changes.{IsRunFrom, RunEffect, RunWrites, effect_of_r
 use Rattle.hh_states.specs.Content.{Content, tables_of}
 use Rattle.hh_states.specs.DaySettlement.{missing_meter, missing_price, periods_on, settled_day, too_large}
 use Rattle.hh_states.specs.PeriodSettlement.{terms_at}
-use Rattle.hh_states.specs.Readiness.{AreTermsConsistent, PeriodsReady}
+use Rattle.hh_states.specs.Readiness.{ArePeriodsConsistent, AreTermsConsistent, PeriodsReady}
 use Rattle.hh_states.specs.States.{State}
-use Rattle.hh_states.specs.Steps.{after_run, first_there, missing_meter_fault, period_fault, registered_at, CanRun, kept_summary, kinds_on, new_summary, run_fault}
+use Rattle.hh_states.specs.Steps.{after_run, first_there, missing_meter_fault, period_fault, registered_at, CanRun, kept_summary, kinds_on, new_summary, run_fault, settle_fault}
 use Rattle.hh_day.specs.NewRuns.{day_in, IsSettledDay, SettlesDay, IsWrittenFor, WritesTheRun, former_rows}
 use Rattle.hh_day.specs.RunLimits.{FitsRun, RunsFit}
 use Rattle.hh_office.specs.Promises.{Stands, UnlessFailed, gives_up, MakesTransition, reply_of}
-use Rattle.hh_office.specs.Settling.{Lacks, WritesRun, lack_fault, settle_fault, AreTermsOf, IsOverDay, TellsOrder, order_fault, IsNext, IsRunMade, RefusesIn, SettlesIn, rows_before}
+use Rattle.hh_office.specs.Settling.{Lacks, WritesRun, lack_fault, AreTermsOf, IsOverDay, TellsOrder, order_fault, IsNext, IsRunMade, RefusesIn, SettlesIn, rows_before}
 use Rattle.hh_office.specs.Views.{OfficeView, midnight_of}
 use Rattle.std.proofs.lemmas.Option.{none-some}
-use Rattle.std.proofs.lemmas.List.Elements.{All-nil, All-cons}
 use Rattle.std.specs.Result.{IsErr, IsErrAnd}
 use Rattle.hh_tables.proofs.TableLaws.{false_is_not_true}
 use Rattle.hh_day.specs.declared.settle.SettledDay.{SettledDay}
@@ -76,12 +75,6 @@ or_some (Some y) b rest x is = is
 or_none : {X : Type 0} (a b rest : Option X) → option_or a b ≡ None → option_or a (option_or b rest) ≡ rest
 or_none None b rest is = ap (λ o. option_or o rest) is
 or_none (Some y) b rest is = absurd (none-some y (sym is))
-
--- what holds of the terms of each Settlement Period holds of them all
-all_terms : (tables : Registered) (P : PeriodTerms → Type 0) (periods : List SettlementPeriod) → ((at : SettlementPeriod) → P (terms_at tables at))
-    → All P (map (terms_at tables) periods)
-all_terms tables P [] each = All-nil P
-all_terms tables P (at ∷ periods) each = All-cons P (terms_at tables at) (map (terms_at tables) periods) (each at) (all_terms tables P periods each)
 
 -- what follows unless the request was given up
 unless_by : (b : Bool) (P Q : Type 0) → (P → Q) → MatchBool b (Unit {0}) P → MatchBool b (Unit {0}) Q
@@ -149,11 +142,10 @@ module _ (office : OfficeView) (s : State) (stands : Stands office s) (moment : 
   )
 
   -- what each period is settled from fits together
-  terms_fit : PeriodsReady → (terms : List PeriodTerms) → terms ≡ map (terms_at office.content.registered) (periods_on date count) → All AreTermsConsistent terms
-  terms_fit ready terms is =
-      subst (All AreTermsConsistent) (sym is)
-      (subst (λ tables. All AreTermsConsistent (map (terms_at tables) (periods_on date count))) (sym same_tables)
-      (all_terms (registered_at (midnight_of office) s) AreTermsConsistent (periods_on date count) (λ at. ready (midnight_of office) s at stands.0)))
+  terms_fit : PeriodsReady → ArePeriodsConsistent office.content.registered (periods_on date count)
+  terms_fit ready k at inside =
+      subst (λ tables. AreTermsConsistent (terms_at tables (get_or (periods_on date count) k at))) (sym same_tables)
+      (ready (midnight_of office) s (get_or (periods_on date count) k at) stands.0)
 
 -- an error that is passed on is the one that came
 pub passed_err : {X : Type 0} (result : Result X Fault) (fault : Fault) (P : Fault → Type 0) → IsErr result × IsErrAnd result (λ f. f ≡ fault) → P fault → IfErr result P
@@ -184,7 +176,7 @@ module _ (office : OfficeView) (s : State) (stands : Stands office s) (moment : 
       subst (λ d. AreTermsOf office.content.registered (periods_on d day.count) terms) over.0 of_day in
       let does_date : SettlesDay (periods_on date day.count) terms outcome = subst (λ d. SettlesDay (periods_on d day.count) terms outcome) over.0 does in
       by_outcome outcome of_date.0 (does_date office.content.registered of_date.1
-      (terms_fit office s stands moment date day.count over.1 over.2 ready terms of_date.1))
+      (terms_fit office s stands moment date day.count over.1 over.2 ready))
 
   pub lacks : (fault : Fault) → Lacks office.content.registered (periods_on day.date day.count) fault
       → UnlessFailed fault (settle_fault (midnight_of office) s moment date ≡ Some fault)

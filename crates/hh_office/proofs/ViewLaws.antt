@@ -24,11 +24,11 @@ use Rattle.hh_requests.specs.declared.request.Action.TheVariants as ask
 use Rattle.hh_requests.specs.declared.request.Request.{Request}
 use Rattle.hh_states.specs.Content.{tables_of}
 use Rattle.hh_states.specs.Reads.{results_in}
-use Rattle.hh_states.specs.RunReads.{HoldsPostings, HoldsResults}
+use Rattle.hh_states.specs.RunReads.{rows_in_run, HoldsPostings, HoldsResults}
 use Rattle.hh_states.specs.Runs.{Run, last_of, latest_run, runs_of_date}
 use Rattle.hh_states.specs.States.{State}
 use Rattle.hh_states.specs.Steps.{IsReached, kinds_on, registered_at}
-use Rattle.hh_office.specs.Enquiries.{account_reply, balance_reply, reply_by_rows, reply_by_run, rows_in_run, rows_of_account}
+use Rattle.hh_office.specs.Enquiries.{account_reply, balance_reply, reply_by_rows, reply_by_run, rows_of_account}
 use Rattle.hh_office.specs.Machine.{act, answer, is_holder, is_key_of, is_operator, is_party_key, may}
 use Rattle.hh_office.specs.PartyViews.{ForbidsOthers, LooksAlike, ShowsByView, is_foreign, is_own, key_in}
 use Rattle.hh_office.specs.Promises.{HandleStep, is_given_up}

@@ -5,7 +5,7 @@ use Rattle.std.specs.Option.{option_or}
 use Rattle.hh_time.specs.declared.day.Day.{Day}
 use Rattle.hh_time.specs.Days.{Midnights, is_over, period_count}
 use Rattle.hh_names.specs.declared.fault.Fault.{Fault}
-use Rattle.hh_names.specs.declared.fault.Refusal.TheVariants.{DayNotOver, MissingPrice, TooLarge}
+use Rattle.hh_names.specs.declared.fault.Refusal.TheVariants.{DayNotOver, MissingPrice}
 use Rattle.hh_names.specs.Faults.{first_met, plain_fault}
 use Rattle.hh_rows.specs.declared.settlement_period.SettlementPeriod.{SettlementPeriod}
 use Rattle.hh_rules.specs.History.{Registered}
@@ -20,11 +20,11 @@ use Rattle.hh_requests.specs.declared.reply.Reply.{Reply}
 use Rattle.hh_requests.specs.declared.reply.Reply.TheVariants as reply
 use Rattle.hh_states.specs.Changes.{RunWrites, run_writes}
 use Rattle.hh_states.specs.Content.{Content, tables_of}
-use Rattle.hh_states.specs.DaySettlement.{missing_meter, missing_price, periods_on, too_large}
-use Rattle.hh_states.specs.PeriodSettlement.{terms_at}
+use Rattle.hh_states.specs.DaySettlement.{missing_meter, missing_price}
 use Rattle.hh_states.specs.Reads.{results_in, runs_in}
 use Rattle.hh_states.specs.States.{State}
-use Rattle.hh_states.specs.Steps.{CanRun, after_run, first_there, missing_meter_fault, period_fault, registered_at}
+use Rattle.hh_states.specs.Steps.{CanRun, after_run, missing_meter_fault, period_fault, settle_fault}
+use Rattle.hh_store.specs.DayReads.{ArePeriodsOf}
 use Rattle.hh_day.specs.NewRuns.{IsWrittenFor, day_in}
 use Rattle.hh_office.specs.Promises.{Stands, UnlessFailed}
 use Rattle.hh_office.specs.Views.{OfficeView, midnight_of}
@@ -49,9 +49,9 @@ abbrev pub lack_fault : Registered → List SettlementPeriod → Option Fault
 lack_fault tables periods =
     option_or (option_map (period_fault MissingPrice) (missing_price tables periods)) (option_map missing_meter_fault (missing_meter tables periods))
 
--- nothing is missing for these Settlement Periods, and they are settled from these terms
+-- nothing is missing for these Settlement Periods, and they are settled from these, one for each
 abbrev pub AreTermsOf : Registered → List SettlementPeriod → List PeriodTerms → Type 0
-AreTermsOf tables periods terms = (lack_fault tables periods ≡ None) × (terms ≡ map (terms_at tables) periods)
+AreTermsOf tables periods terms = (lack_fault tables periods ≡ None) × ArePeriodsOf tables periods terms
 
 -- something is missing for these Settlement Periods, unless the request was given up
 abbrev pub Lacks : Registered → List SettlementPeriod → Fault → Type 0
@@ -65,17 +65,6 @@ IsOverDay midnight moment date day =
 -- a date is not over at a moment, or has no periods
 abbrev pub IsEarly : Midnights → ℤ → ℕ → Fault → Type 0
 IsEarly midnight moment date fault = (is_over midnight date moment ≡ false) × (fault ≡ plain_fault DayNotOver)
-
--- why the Settlement Periods of a date are not settled, if they are not
-abbrev pub settle_fault : Midnights → State → ℤ → ℕ → Option Fault
-settle_fault midnight s moment date =
-    let periods : List SettlementPeriod = periods_on date (period_count midnight date) in
-    first_there (
-    (if is_over midnight date moment then None else Some (plain_fault DayNotOver))
-    ∷ option_map (period_fault MissingPrice) (missing_price (registered_at midnight s) periods)
-    ∷ option_map missing_meter_fault (missing_meter (registered_at midnight s) periods)
-    ∷ option_map (period_fault TooLarge) (too_large (registered_at midnight s) periods)
-    ∷ [])
 
 module _ (office : OfficeView) (moment : ℤ) (date : ℕ) where
   -- the Settlement Periods of a date are settled so in each state that the office stands for, and nothing is against it

@@ -25,7 +25,7 @@ use hh_requests::Reply;
 use hh_rows::{SettlementPeriod, UnitPeriod};
 use hh_runs::{NextRun, RunKey, RunKind, Summary, next_kind};
 use hh_state_laws::{kept_kinds_of_dates, kept_summaries, periods_ready, run_effect};
-use hh_store::{DayData, RunChange, StoreFault, Tables};
+use hh_store::{RunChange, StoreFault, Tables};
 use hh_time::{Day, SettlementDate};
 use jiff::tz::TimeZone;
 use std::alloc::Global;
@@ -117,10 +117,11 @@ impl<'z, T: Tables> Office<'z, T> {
             (periods_on day.now.date day.now.count)) }
         ensures same { self.new ≡ self.old }
     {
-        match self.tables.day_data(day)? {
-            DayData::MissingPrice(at) => Err(period_fault(Refusal::MissingPrice, &at)),
-            DayData::MissingMeter(key) => Err(missing_meter_fault(&key)),
-            DayData::Periods(terms) => Ok(terms),
+        let found = self.tables.day_data(day)?;
+        match (found.missing_price, found.missing_meter) {
+            (Some(at), _) => Err(period_fault(Refusal::MissingPrice, &at)),
+            (None, Some(key)) => Err(missing_meter_fault(&key)),
+            (None, None) => Ok(found.periods),
         }
     }
 

@@ -31,12 +31,11 @@ use Rattle.hh_rules.specs.declared.timing.Timing.{Timing}
 use Rattle.hh_rules.specs.Effects.{with_row}
 use Rattle.hh_rules.specs.Entries.{contract_entry, meter_entry, party_entry, price_entry, reallocation_entry, reference_entry, unit_entry}
 use Rattle.hh_rules.specs.FileRows.{refusal_after}
-use Rattle.hh_rules.specs.History.{History, Registered, registered_in}
+use Rattle.hh_rules.specs.History.{nothing_registered, registered_in, History, Registered}
 use Rattle.hh_rules.specs.Lateness.{Accepted, Timetable, accepted_at, comes_in_time, is_before_deadline, is_in_time, is_there, lacks_period, timing_by, timing_of}
 use Rattle.hh_rules.specs.Percents.{percent_of_others}
 use Rattle.hh_rules.specs.Refusals.{contract_refusals, is_party_off, is_same_mark, is_unit_moved, is_unit_off, meter_refusals, most_parties, most_units, party_refusals, reallocation_refusals, refusals_of, unit_refusals, whole_standing}
 use Rattle.hh_rules.proofs.HistoryLaws.{looks_back}
-use Rattle.hh_states.specs.Content.{nothing_registered}
 use Rattle.hh_states.specs.Soundness.{AreConsistent, AreTables, ConsistentRuns, ConsistentStates, HasCounterparties, IsInsideLead, IsToSubsidiary, IsUnitEffective}
 use Rattle.hh_state_laws.proofs.AcceptedLaws.{reached_holds, runs_hold}
 use Rattle.hh_state_laws.proofs.EffectiveLaws.{Keeps, KeepsParty, KeepsUnit, counterparties_stay, fixed_by_row, inside_itself, inside_lead, lead_stays, not_passed, one_account, party_effective, party_stays, same_parties, same_units, subsidiary_stays, two_accounts, unit_effective, unit_stays}

@@ -31,7 +31,8 @@ use Rattle.hh_runs.specs.DayNets.{DayNets, is_changed, with_change}
 use Rattle.hh_states.specs.Amounts.{IsSummaryWithin, SummariesWithin, most_accounts, most_periods}
 use Rattle.hh_states.specs.Content.{runs_with_former}
 use Rattle.hh_states.specs.DaySettlement.{day_net, settled_at}
-use Rattle.hh_states.specs.PeriodSettlement.{accounts_on, both_accounts}
+use Rattle.hh_names.specs.PartyAccounts.{both_accounts}
+use Rattle.hh_states.specs.PeriodSettlement.{accounts_on}
 use Rattle.hh_states.specs.Readiness.{IsComplete}
 use Rattle.hh_states.specs.Runs.{Run, accounts_of, nets_of, periods_of, postings_after, seen_by, settled_by, summary_after}
 use Rattle.hh_states.specs.Soundness.{AreConsistent}

@@ -40,7 +40,8 @@ use Rattle.hh_rules.specs.RegisterView.{reallocations_at}
 use Rattle.hh_calc.specs.declared.data.Subsidiary.{Subsidiary}
 use Rattle.hh_calc.specs.Ready.{HasFewSubsidiaries, IsContractNamed, IsUnitNamed}
 use Rattle.hh_calc.specs.Terms.{BmUnit}
-use Rattle.hh_states.specs.PeriodSettlement.{accounts_on, both_accounts, reading_of, rows_in_force, subsidiaries_of, terms_at, unit_with, units_on}
+use Rattle.hh_names.specs.PartyAccounts.{both_accounts}
+use Rattle.hh_states.specs.PeriodSettlement.{accounts_on, reading_of, rows_in_force, subsidiaries_of, terms_at, unit_with, units_on}
 use Rattle.hh_states.specs.Readiness.{AreTermsConsistent, PeriodsReady, RunPeriodsReady}
 use Rattle.hh_states.specs.Runs.{seen_by}
 use Rattle.hh_states.specs.Soundness.{AreConsistent, IsPartyEffective}

@@ -33,7 +33,8 @@ use Rattle.hh_states.specs.declared.run_keys.PostingKey.{PostingKey}
 use Rattle.hh_states.specs.declared.run_keys.ResultKey.{ResultKey}
 use Rattle.hh_states.specs.Content.{all_postings, all_results, posting_key_cmp, result_entries, result_key, result_key_cmp, tables_of}
 use Rattle.hh_states.specs.DaySettlement.{day_net, from_one_to, period_net, periods_on, settled_at, settled_day}
-use Rattle.hh_states.specs.PeriodSettlement.{account_rows, accounts_on, both_accounts, settled, terms_at}
+use Rattle.hh_names.specs.PartyAccounts.{both_accounts}
+use Rattle.hh_states.specs.PeriodSettlement.{account_rows, accounts_on, settled, terms_at}
 use Rattle.hh_states.specs.Reads.{posting_to, results_in}
 use Rattle.hh_states.specs.RunReads.{DayNetsFromResults, HoldsNoOtherResults, HoldsPostings, HoldsResults, paid_in, rows_by_period}
 use Rattle.hh_states.specs.Runs.{Run, nets_of, run_key_cmp, settled_by}

@@ -28,7 +28,8 @@ use Rattle.hh_states.specs.declared.run_keys.PostingKey.{PostingKey}
 use Rattle.hh_states.specs.declared.run_keys.ResultKey.{ResultKey}
 use Rattle.hh_states.specs.Content.{credit_entries, credit_key, credit_key_cmp, posting_entries, posting_key_cmp, result_entries, result_key, result_key_cmp}
 use Rattle.hh_states.specs.DaySettlement.{from_one_to, periods_on, settled_at, settled_day}
-use Rattle.hh_states.specs.PeriodSettlement.{UnitAccount, account_rows, accounts_on, both_accounts, in_credit_order, keyed_credits, settled, terms_at, unit_account_cmp}
+use Rattle.hh_names.specs.PartyAccounts.{both_accounts}
+use Rattle.hh_states.specs.PeriodSettlement.{UnitAccount, account_rows, accounts_on, in_credit_order, keyed_credits, settled, terms_at, unit_account_cmp}
 use Rattle.hh_states.specs.Runs.{run_key_cmp}
 use Rattle.hh_states.proofs.KeyLaws.{unit_account_total}
 use Rattle.hh_state_laws.proofs.ApartLaws.{NoneAlike, all-append, all-map, all-weaken, distinct-append, distinct-filter, distinct-map, distinct-weaken, distinct_blocks, first_part, have_one_key, second_part, sorted_distinct}

@@ -20,6 +20,10 @@ pub record AreTermsConsistent (p : PeriodTerms) : Type 0 where
   pub units : AreUnitsDistinct p
   pub credits : All CreditsEachOnce p.units
 
+-- what each of these Settlement Periods is settled from, by what is registered and in force, fits together
+abbrev pub ArePeriodsConsistent : Registered → List SettlementPeriod → Type 0
+ArePeriodsConsistent tables periods = All (λ at. AreTermsConsistent (terms_at tables at)) periods
+
 -- in each state that the machine reaches, what each Settlement Period is settled from fits together
 abbrev pub PeriodsReady : Type 0
 PeriodsReady = (midnight : Midnights) (s : State) (at : SettlementPeriod) → IsReached midnight s

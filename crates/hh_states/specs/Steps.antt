@@ -83,18 +83,22 @@ module _ (midnight : Midnights) (s : State) where
     files = s.files ++ (load.key, kept_file timetable_at load) ∷ [];
   }
 
-  -- Why a run that is not there yet is refused at a moment, if it is: for the order of runs, since the day is not over, or for
-  -- the first Settlement Period of the date that lacks a price or a reading or passes a limit.
-  abbrev pub run_fault : ℤ → RunKey → Option Fault
-  run_fault moment key =
-      let periods : List SettlementPeriod = periods_on key.date (period_count midnight key.date) in
+  -- Why the Settlement Periods of a date are not settled at a moment, if they are not: since the day is not over, or for the first
+  -- of them that lacks a price or a reading or passes a limit.
+  abbrev pub settle_fault : ℤ → ℕ → Option Fault
+  settle_fault moment date =
+      let periods : List SettlementPeriod = periods_on date (period_count midnight date) in
       first_there (
-      option_map plain_fault (first_met (order_refusals (kinds_on s key.date) key.kind))
-      ∷ (if is_over midnight key.date moment then None else Some (plain_fault DayNotOver))
+      (if is_over midnight date moment then None else Some (plain_fault DayNotOver))
       ∷ option_map (period_fault MissingPrice) (missing_price registered_at periods)
       ∷ option_map missing_meter_fault (missing_meter registered_at periods)
       ∷ option_map (period_fault TooLarge) (too_large registered_at periods)
       ∷ [])
+
+  -- why a run that is not there yet is refused at a moment, if it is: for the order of runs, or since its date is not settled
+  abbrev pub run_fault : ℤ → RunKey → Option Fault
+  run_fault moment key =
+      option_or (option_map plain_fault (first_met (order_refusals (kinds_on s key.date) key.kind))) (settle_fault moment key.date)
 
   -- the summary of a run that is ordered in this state
   abbrev pub new_summary : RunKey → Summary

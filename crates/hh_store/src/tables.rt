@@ -81,9 +81,9 @@ pub trait Tables {
             rows.items ≡ contracts_in (content self.old) account.now date) }
         ensures same { content self.new ≡ content self.old };
 
-    /// What the Settlement Periods of a day are settled from: the first that has no price, else the first
-    /// in which a unit of the date has no reading, with the first such unit by the bytes of its id, else
-    /// what each is settled from (Section T in shape).
+    /// What the Settlement Periods of a day are settled from: the first that has no price, if there is one;
+    /// the first in which a unit of the date has no reading, if there is one, with the first such unit by
+    /// the bytes of its id; and where neither is missing, what each is settled from (Section T in shape).
     fn day_data(&mut self, day: &Day) -> Result<DayData, StoreFault>
         ensures value { IfOk result (IsDayData (content self.old).registered
             (periods_on day.now.date day.now.count)) }

@@ -6,7 +6,7 @@ use Rattle.hh_runs.specs.DayNets.{differences}
 use Rattle.hh_runs.specs.Postings.{entry_of}
 use Rattle.hh_day.specs.NewRuns.{summary_of, writes_of_run}
 use Rattle.hh_day.specs.RunLimits.{AreTurnoversSmall, FitsFields}
-use Rattle.hh_day.specs.RunParts.{moved_by_row}
+use Rattle.hh_calc.specs.Settled.{moved_by_row}
 use Rattle.hh_day.proofs.FitLaws.{turnover_by_entries}
 use Rattle.hh_day.proofs.NetLaws.{paid_by_entries}
 use Rattle.hh_day.proofs.run.run_change.Goals as goal

@@ -2,7 +2,7 @@ use Rattle.std.proofs.Common.{◌≡◌, take}
 use Rattle.std.specs.Prelude.{filter}
 use Rattle.std.specs.List.{flat_map}
 use Rattle.hh_rows.specs.DateRanges.{holds}
-use Rattle.hh_states.specs.PeriodSettlement.{both_accounts}
+use Rattle.hh_names.specs.PartyAccounts.{both_accounts}
 use Rattle.hh_kept_rows.proofs.kept_register.KeptRegister.accounts_on.Given as goal
 
 -- both accounts of the parties so far whose range holds the date
