@@ -23,7 +23,7 @@ use Rattle.hh_calc.specs.declared.result.CreditRow.{CreditRow}
 use Rattle.hh_calc.specs.declared.result.Figures.{Figures}
 use Rattle.hh_calc.specs.Formulas.{contracted, credits_of, figures, lead_credit, loss_adjusted, net_contracts, net_of, of_account, period_sums, residual, subsidiary_credit, unit_credits, weights}
 use Rattle.hh_calc.specs.Ready.{AreInOrder, AreNamed, AreUnitsDistinct, IsContractNamed}
-use Rattle.hh_calc.specs.Settled.{figures_of, shares_shown, AddsUp, IsSettled, IsUnitCredited, SharesDepartLeast}
+use Rattle.hh_calc.specs.Settled.{figures_of, paid_by, shares_shown, AddsUp, IsSettled, IsUnitCredited, SharesDepartLeast}
 use Rattle.hh_calc.specs.Terms.{PeriodTerms, Settled, BmUnit}
 use Rattle.hh_calc.proofs.OrderLaws.{rises}
 use Rattle.hh_calc.proofs.SpreadLaws.{counted, counts_once, total-IsPermutation, total-flat_map}
@@ -110,7 +110,7 @@ module _ (p : PeriodTerms) (s : Settled) (settled : IsSettled p s) where
   rows_sum f = sym (total-map f figures_of s.accounts) ∙ ap (total f) settled.rows ∙ total-map f (figures p) p.accounts
 
   -- charges and shares together sum to zero, where the shares sum to the residual
-  cash_sum : SumsTo (residual p) (shares_shown s.accounts) → total (λ r. r.charge +ℤ r.share) s.accounts ≡ pos 0
+  cash_sum : SumsTo (residual p) (shares_shown s.accounts) → total paid_by s.accounts ≡ pos 0
   cash_sum shares =
       total-plus (λ (r : AccountRow). r.charge) (λ r. r.share) s.accounts
       ∙ (λ i. rows_sum (λ f. f.charge) i +ℤ (sym (total-map (λ x. x) (λ r. r.share) s.accounts) ∙ shares) i)

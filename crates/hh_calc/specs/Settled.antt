@@ -4,13 +4,14 @@ use Rattle.std.specs.declared.cmp.Ordering.{Ordering}
 use Rattle.std.specs.Ordering.{on, then_cmp}
 use Rattle.std.specs.Str.{bytes_eq}
 use Rattle.hh_num.specs.Totals.{total}
+use Rattle.hh_names.specs.declared.account.Account.{Account}
 use Rattle.hh_names.specs.Accounts.{account_cmp, bytes_cmp}
 use Rattle.hh_share.specs.Shares.{effective}
 use Rattle.hh_share.specs.Departure.{DepartsLeast}
 use Rattle.hh_calc.specs.declared.result.AccountRow.{AccountRow}
 use Rattle.hh_calc.specs.declared.result.CreditRow.{CreditRow}
 use Rattle.hh_calc.specs.declared.result.Figures.{Figures}
-use Rattle.hh_calc.specs.Formulas.{all_figures, credits_of, loss_adjusted, residual, residual_shares, weights, AreSharesRounded}
+use Rattle.hh_calc.specs.Formulas.{all_figures, credits_of, loss_adjusted, of_account, residual, residual_shares, weights, AreSharesRounded}
 use Rattle.hh_calc.specs.Ready.{AreUnitsDistinct}
 use Rattle.hh_calc.specs.Terms.{BmUnit, PeriodTerms, Settled}
 
@@ -21,6 +22,14 @@ credit_cmp = then_cmp (on (λ c. c.unit) bytes_cmp) (on (λ c. c.account) accoun
 -- the figures that an account's row shows
 abbrev pub figures_of : AccountRow → Figures
 figures_of row = record { account = row.account; credited = row.credited; balancing = row.balancing; contracts = row.contracts; imbalance = row.imbalance; charge = row.charge }
+
+-- what an account pays by its row, negative where it is paid: its charge and its share
+abbrev pub paid_by : AccountRow → ℤ
+paid_by row = row.charge +ℤ row.share
+
+-- what a row moves for an account: what is paid by it, where the row is the account's
+abbrev pub moved_by_row : Account → AccountRow → ℤ
+moved_by_row a row = of_account a row.account (paid_by row)
 
 -- the shares that rows show
 abbrev pub shares_shown : List AccountRow → List ℤ
@@ -48,5 +57,5 @@ IsUnitCredited credits u = total (λ c. c.credited) (filter (λ c. bytes_eq c.un
 pub record AddsUp (p : PeriodTerms) (s : Settled) : Type 0 where
   pub contracts : total (λ r. r.contracts) s.accounts ≡ pos 0
   pub credits : AreUnitsDistinct p → All (IsUnitCredited s.credits) p.units
-  pub cash : total (λ r. r.charge +ℤ r.share) s.accounts ≡ pos 0
+  pub cash : total paid_by s.accounts ≡ pos 0
   pub quota : AreSharesRounded p (shares_shown s.accounts)

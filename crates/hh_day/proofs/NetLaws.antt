@@ -15,24 +15,24 @@ use Rattle.hh_names.specs.Accounts.{account_cmp}
 use Rattle.hh_names.proofs.AccountLaws.{account_total, exact_accounts}
 use Rattle.hh_rows.specs.declared.settlement_period.SettlementPeriod.{SettlementPeriod}
 use Rattle.hh_calc.specs.declared.result.AccountRow.{AccountRow}
+use Rattle.hh_calc.specs.Settled.{moved_by_row, paid_by}
 use Rattle.hh_calc.specs.Terms.{Settled}
 use Rattle.hh_runs.specs.DayNets.{DayNets, day_net_of}
 use Rattle.hh_runs.specs.declared.run_key.RunKey.{RunKey}
 use Rattle.hh_states.specs.declared.run_keys.ResultKey.{ResultKey}
 use Rattle.hh_states.specs.Content.{result_entries, result_key}
 use Rattle.hh_states.specs.RunReads.{paid_in, rows_by_period}
-use Rattle.hh_calc.specs.Settled.{moved_by_row}
 use Rattle.hh_day.specs.RunParts.{AddsRow, AreNetsOf}
 
 -- a net put where what it was and what the row moves come to adds the row
-pub adds_row : (nets : DayNets) (row : AccountRow) (net : ℤ) → net ≡ day_net_of nets row.account +ℤ (row.charge +ℤ row.share) → AddsRow row nets (put account_cmp row.account net nets)
+pub adds_row : (nets : DayNets) (row : AccountRow) (net : ℤ) → net ≡ day_net_of nets row.account +ℤ paid_by row → AddsRow row nets (put account_cmp row.account net nets)
 adds_row nets row net is a =
     ap (λ o. unwrap_or o (pos 0)) (find-put account_cmp account_total a row.account net nets)
-    ∙ elim (eq_by_cmp account_cmp a row.account) as (λ t. eq_by_cmp account_cmp a row.account ≡ t → unwrap_or (cond t (Some net) (find account_cmp a nets)) (pos 0) ≡ day_net_of nets a +ℤ cond t (row.charge +ℤ row.share) (pos 0)) [
-      | true ↦ λ same. is ∙ ap (λ b. day_net_of nets b +ℤ (row.charge +ℤ row.share)) (sym (tells_apart exact_accounts a row.account same))
+    ∙ elim (eq_by_cmp account_cmp a row.account) as (λ t. eq_by_cmp account_cmp a row.account ≡ t → unwrap_or (cond t (Some net) (find account_cmp a nets)) (pos 0) ≡ day_net_of nets a +ℤ cond t (paid_by row) (pos 0)) [
+      | true ↦ λ same. is ∙ ap (λ b. day_net_of nets b +ℤ paid_by row) (sym (tells_apart exact_accounts a row.account same))
       | false ↦ λ other. sym (+ℤ_idr (day_net_of nets a))
     ] refl
-    ∙ ap (λ t. day_net_of nets a +ℤ cond t (row.charge +ℤ row.share) (pos 0)) ((eq_by_cmp_equiv account_total).symm a row.account)
+    ∙ ap (λ t. day_net_of nets a +ℤ cond t (paid_by row) (pos 0)) ((eq_by_cmp_equiv account_total).symm a row.account)
 
 -- a sum over one more place of a list
 pub total_next : {X : Type 0} (f : X → ℤ) (xs : List X) (i : ℕ) (x : X) → i < length xs → x ≡ get_or xs i x → total f (take (i + 1) xs) ≡ total f (take i xs) +ℤ f x

@@ -14,7 +14,7 @@ use Rattle.hh_rows.specs.declared.settlement_period.SettlementPeriod.{Settlement
 use Rattle.hh_rules.specs.History.{Registered, registered_in}
 use Rattle.hh_rules.specs.Lateness.{Timetable}
 use Rattle.hh_calc.specs.declared.result.AccountRow.{AccountRow}
-use Rattle.hh_calc.specs.Formulas.{of_account}
+use Rattle.hh_calc.specs.Settled.{moved_by_row}
 use Rattle.hh_calc.specs.Terms.{PeriodTerms, Settled}
 use Rattle.hh_calc.proofs.SpreadLaws.{total-flat_map}
 use Rattle.hh_runs.specs.DayNets.{DayNets, day_net_of, differences}
@@ -50,7 +50,7 @@ of_those_that_pass P test (x ∷ xs) all =
 -- what an account pays by the rows of settled periods is what it pays in the periods
 paid_in_periods : (a : Account) (day : List (SettlementPeriod × Settled)) → paid_in a (rows_by_period day) ≡ day_net day a
 paid_in_periods a day =
-    let amount : ℕ × AccountRow → ℤ = λ e. of_account a e.1.account (e.1.charge +ℤ e.1.share) in
+    let amount : ℕ × AccountRow → ℤ = λ e. moved_by_row a e.1 in
     total-flat_map amount (λ (q : SettlementPeriod × Settled). map (λ (row : AccountRow). (q.0.period, row)) q.1.accounts) day
     ∙ total-same (λ (q : SettlementPeriod × Settled). total amount (map (λ (row : AccountRow). (q.0.period, row)) q.1.accounts)) (λ q. period_net a q.1) day
     (λ q. total-map amount (λ (row : AccountRow). (q.0.period, row)) q.1.accounts)

@@ -1,11 +1,12 @@
 -- What the tables of an office add up to, after whatever requests.
-use Rattle.std.specs.Prelude.{◌≡◌, ℕ, ℤ, ◌+ℤ◌, List, map, pos}
+use Rattle.std.specs.Prelude.{◌≡◌, ℕ, ℤ, List, map, pos}
 use Rattle.std.specs.List.{AllByRecursion, flat_map}
 use Rattle.hh_num.specs.Totals.{total}
 use Rattle.hh_time.specs.Days.{Midnights}
 use Rattle.hh_names.specs.declared.account.Account.{Account}
 use Rattle.hh_rules.specs.History.{Registered}
 use Rattle.hh_calc.specs.declared.result.AccountRow.{AccountRow}
+use Rattle.hh_calc.specs.Settled.{paid_by}
 use Rattle.hh_runs.specs.declared.run_key.RunKey.{RunKey}
 use Rattle.hh_states.specs.Content.{Content, tables_of}
 use Rattle.hh_states.specs.PeriodSettlement.{units_on}
@@ -46,7 +47,7 @@ CreditsExactly midnight s content run =
 pub record Conserves (midnight : Midnights) (s : State) (content : Content) : Type 0 where
   pub accounts : AllByRecursion (SettlesEachAccount midnight s content) s.runs
   pub contracts : (run : RunKey) (period : ℕ) → period_total (λ r. r.contracts) period (results_in content run) ≡ pos 0
-  pub cash : (run : RunKey) (period : ℕ) → period_total (λ r. r.charge +ℤ r.share) period (results_in content run) ≡ pos 0
+  pub cash : (run : RunKey) (period : ℕ) → period_total paid_by period (results_in content run) ≡ pos 0
   pub credits : AllByRecursion (CreditsExactly midnight s content) s.runs
   pub postings : (a : Account) → posted_to a content.postings ≡ paid_in_latest content s.runs a
   pub balanced : (run : RunKey) → posted_by run content.postings ≡ pos 0

@@ -4,13 +4,9 @@ use Rattle.hh_num.specs.Totals.{total}
 use Rattle.hh_names.specs.declared.account.Account.{Account}
 use Rattle.hh_rows.specs.declared.settlement_period.SettlementPeriod.{SettlementPeriod}
 use Rattle.hh_calc.specs.declared.result.AccountRow.{AccountRow}
-use Rattle.hh_calc.specs.Formulas.{of_account}
+use Rattle.hh_calc.specs.Settled.{moved_by_row}
 use Rattle.hh_calc.specs.Terms.{Settled}
 use Rattle.hh_runs.specs.DayNets.{DayNets, day_net_of}
-
--- what a row moves for an account: its charge and its share, where the row is the account's
-abbrev pub moved_by_row : Account → AccountRow → ℤ
-moved_by_row a row = of_account a row.account (row.charge +ℤ row.share)
 
 -- these are the day nets of accounts by these rows, under whatever keys they stand
 abbrev pub AreNetsOf : {K : Type 0} → List (K × AccountRow) → DayNets → Type 0

@@ -2,6 +2,7 @@
 
 ghost use Rattle.std.specs.Prelude.{◌≡◌, ◌+ℤ◌, pos, unwrap_or, IfErr, IfOk, OnOk, SomeIff};
 ghost use Rattle.hh_num.specs.Ranges.{IsBetween};
+ghost use Rattle.hh_calc.specs.Settled.{paid_by};
 ghost use Rattle.hh_runs.specs.DayNets.{day_cash, day_net_of};
 ghost use Rattle.hh_day.specs.RunLimits.{AreTurnoversSmall};
 ghost use Rattle.hh_day.specs.RunParts.{AddsRow, AreNetsOf};
@@ -45,7 +46,7 @@ fn place_behind(nets: &DayNetTable, place: usize, row: &AccountRow) -> usize {
 fn add_row(nets: &mut DayNetTable, place: usize, row: &AccountRow) -> Result<(), StoreFault>
     ensures added { OnOk result (AddsRow row.now nets.old nets.new) }
     ensures memory_alone { IsBetween day_cash.least day_cash.most
-        (day_net_of nets.old row.now.account +ℤ (row.now.charge +ℤ row.now.share))
+        (day_net_of nets.old row.now.account +ℤ paid_by row.now)
         → IfErr result (λ fault. fault ≡ StoreFault.Memory) }
 {
     let Some(net) = net_with(nets.get_near(place, &row.account), row) else {
@@ -58,7 +59,7 @@ fn add_row(nets: &mut DayNetTable, place: usize, row: &AccountRow) -> Result<(),
 /// The net of an account, none standing for 0, with the charge and the share of a row; none exactly where
 /// it lies off the range of day nets.
 fn net_with(net: Option<DayNet>, row: &AccountRow) -> Option<DayNet>
-    ensures { let sum = unwrap_or net (pos 0) +ℤ (row.now.charge +ℤ row.now.share) in
+    ensures { let sum = unwrap_or net (pos 0) +ℤ paid_by row.now in
         SomeIff result (IsBetween day_cash.least day_cash.most sum) sum }
 {
     let before = match net {

@@ -15,7 +15,7 @@ use Rattle.hh_requests.specs.declared.reply.Reply.{Reply}
 use Rattle.hh_requests.specs.declared.reply.Reply.TheVariants as reply
 use Rattle.hh_states.specs.Content.{Content, tables_of}
 use Rattle.hh_states.specs.Reads.{results_in, runs_in}
-use Rattle.hh_states.specs.RunReads.{rows_in_run, HoldsResults, HoldsRuns}
+use Rattle.hh_states.specs.RunReads.{HoldsResults, HoldsRuns, rows_in_run}
 use Rattle.hh_states.specs.Runs.{Run, last_of, latest_run, runs_of_date}
 use Rattle.hh_states.specs.States.{State}
 use Rattle.hh_states.specs.Steps.{kinds_on}

@@ -15,13 +15,13 @@ use Rattle.hh_reports.specs.DayReport.{day_report_text}
 use Rattle.hh_reports.specs.Exports.{balances_text, results_text}
 use Rattle.hh_states.specs.Content.{tables_of}
 use Rattle.hh_states.specs.Reads.{results_in}
-use Rattle.hh_states.specs.RunReads.{HoldsPostings, HoldsResults, HoldsSummaries}
+use Rattle.hh_states.specs.RunReads.{HoldsPostings, HoldsResults, HoldsSummaries, rows_in_run}
 use Rattle.hh_states.specs.Runs.{Run, latest_run, run_key_cmp, summary_after, with_former}
 use Rattle.hh_states.specs.States.{State}
 use Rattle.hh_states.specs.Steps.{IsReached, registered_at, timetable_at}
 use Rattle.hh_states.proofs.KeyLaws.{exact_run_keys}
 use Rattle.hh_store.specs.Outputs.{reported_as}
-use Rattle.hh_office.specs.ReportTexts.{HoldsReports, reported, rows_settled}
+use Rattle.hh_office.specs.ReportTexts.{HoldsReports, reported}
 
 module _ (midnight : Midnights) (s : State) (key : RunKey) (text : ReportedRun → List (ℕ × AccountRow) → List ℕ) where
   -- the rows under the key in the tables
@@ -33,16 +33,16 @@ module _ (midnight : Midnights) (s : State) (key : RunKey) (text : ReportedRun �
   entry r = (r.1.key, summary_after (timetable_at midnight s) s.history r.0 r.1)
 
   -- what is told of the first entry under the key is told of the first run of the key
-  told_of : (earlier runs : List Run) → AllByRecursion (λ r. results_in (tables_of midnight s) r.key ≡ rows_settled midnight s r) runs
+  told_of : (earlier runs : List Run) → AllByRecursion (λ r. results_in (tables_of midnight s) r.key ≡ rows_in_run midnight s r) runs
       → option_map (λ run. text run held) (option_map (reported_as key) (find run_key_cmp key (map entry (with_former earlier runs))))
-      ≡ option_map (λ run. text (reported midnight run) (rows_settled midnight s run)) (words.find (λ r. eq_by_cmp run_key_cmp key r.key) runs)
+      ≡ option_map (λ run. text (reported midnight run) (rows_in_run midnight s run)) (words.find (λ r. eq_by_cmp run_key_cmp key r.key) runs)
   told_of earlier [] all = refl
   told_of earlier (r ∷ runs) all =
       let rest : Option Summary = find run_key_cmp key (map entry (with_former (earlier ++ r ∷ []) runs)) in
       let summary : Summary = summary_after (timetable_at midnight s) s.history (latest_run r.key.date earlier) r in
       elim (eq_by_cmp run_key_cmp key r.key) as (λ b. eq_by_cmp run_key_cmp key r.key ≡ b
       → option_map (λ run. text run held) (option_map (reported_as key) (cond b (Some summary) rest))
-      ≡ option_map (λ run. text (reported midnight run) (rows_settled midnight s run)) (cond b (Some r) (words.find (λ r. eq_by_cmp run_key_cmp key r.key) runs))) [
+      ≡ option_map (λ run. text (reported midnight run) (rows_in_run midnight s run)) (cond b (Some r) (words.find (λ r. eq_by_cmp run_key_cmp key r.key) runs))) [
         | true ↦ λ is.
             let same : key ≡ r.key = tells_apart exact_run_keys key r.key is in
             (λ i. Some (text (reported_as (same i) summary) (results_in (tables_of midnight s) (same i))))
@@ -53,7 +53,7 @@ module _ (midnight : Midnights) (s : State) (key : RunKey) (text : ReportedRun �
   -- so it is of the run that is kept under the key
   told_by_tables : HoldsSummaries → HoldsResults → IsReached midnight s
       → option_map (λ run. text run held) (option_map (reported_as key) (find run_key_cmp key (tables_of midnight s).runs))
-      ≡ option_map (λ run. text (reported midnight run) (rows_settled midnight s run)) (words.find (λ r. eq_by_cmp run_key_cmp key r.key) s.runs)
+      ≡ option_map (λ run. text (reported midnight run) (rows_in_run midnight s run)) (words.find (λ r. eq_by_cmp run_key_cmp key r.key) s.runs)
   told_by_tables summaries results reached =
       ap (λ o. option_map (λ run. text run held) (option_map (reported_as key) o)) (summaries midnight s key)
       ∙ told_of [] s.runs (results midnight s reached)

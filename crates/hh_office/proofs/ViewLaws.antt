@@ -24,7 +24,7 @@ use Rattle.hh_requests.specs.declared.request.Action.TheVariants as ask
 use Rattle.hh_requests.specs.declared.request.Request.{Request}
 use Rattle.hh_states.specs.Content.{tables_of}
 use Rattle.hh_states.specs.Reads.{results_in}
-use Rattle.hh_states.specs.RunReads.{rows_in_run, HoldsPostings, HoldsResults}
+use Rattle.hh_states.specs.RunReads.{HoldsPostings, HoldsResults, rows_in_run}
 use Rattle.hh_states.specs.Runs.{Run, last_of, latest_run, runs_of_date}
 use Rattle.hh_states.specs.States.{State}
 use Rattle.hh_states.specs.Steps.{IsReached, kinds_on, registered_at}

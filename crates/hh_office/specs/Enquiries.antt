@@ -1,5 +1,5 @@
 -- What is asked of accounts and runs, and what the machine replies.
-use Rattle.std.specs.Prelude.{ℕ, ℤ, ◌+ℤ◌, List, [], ◌∷◌, filter, Option, Some, None}
+use Rattle.std.specs.Prelude.{ℕ, ℤ, List, [], ◌∷◌, filter, Option, Some, None}
 use Rattle.hh_num.specs.Totals.{total}
 use Rattle.hh_time.specs.Days.{Midnights}
 use Rattle.hh_names.specs.declared.account.Account.{Account}
@@ -7,19 +7,20 @@ use Rattle.hh_names.specs.declared.fault.Refusal.TheVariants.{NoRun}
 use Rattle.hh_names.specs.Accounts.{is_same_account}
 use Rattle.hh_names.specs.Faults.{plain_fault}
 use Rattle.hh_calc.specs.declared.result.AccountRow.{AccountRow}
+use Rattle.hh_calc.specs.Settled.{paid_by}
 use Rattle.hh_runs.specs.declared.run_key.RunKey.{RunKey}
 use Rattle.hh_requests.specs.declared.reply.Reply.{Reply}
 use Rattle.hh_requests.specs.declared.reply.Reply.TheVariants as reply
 use Rattle.hh_states.specs.Reads.{contracts_of}
-use Rattle.hh_states.specs.RunReads.{rows_by_period}
-use Rattle.hh_states.specs.Runs.{Run, latest_run, settled_by}
+use Rattle.hh_states.specs.RunReads.{rows_in_run}
+use Rattle.hh_states.specs.Runs.{Run, latest_run}
 use Rattle.hh_states.specs.States.{State}
 use Rattle.hh_states.specs.Steps.{kinds_on, registered_at, timetable_at}
 use Rattle.hh_states.specs.Sums.{moved_by_runs}
 
--- what rows of an account come to: the sum of their charges and shares
+-- what rows of an account come to
 abbrev pub net_of_rows : List (ℕ × AccountRow) → ℤ
-net_of_rows rows = total (λ e. e.1.charge +ℤ e.1.share) rows
+net_of_rows rows = total (λ e. paid_by e.1) rows
 
 -- the rows of an account among those of a run
 abbrev pub rows_of_account : Account → List (ℕ × AccountRow) → List (ℕ × AccountRow)
@@ -32,14 +33,10 @@ reply_by_rows a run (row ∷ rows) =
     reply.Account (record { account = a; run = run; net = net_of_rows (row ∷ rows); rows = row ∷ rows })
 
 module _ (midnight : Midnights) (s : State) where
-  -- the rows of a run's accounts, by Settlement Period, then by account
-  abbrev pub rows_in_run : Run → List (ℕ × AccountRow)
-  rows_in_run run = rows_by_period (settled_by (timetable_at midnight s) s.history run)
-
   -- the reply on an account by the latest run of a date: it is refused if there is none, or none of the account's rows in it
   abbrev pub reply_by_run : Account → Option Run → Reply
   reply_by_run a None = reply.Refused (plain_fault NoRun)
-  reply_by_run a (Some run) = reply_by_rows a run.key (rows_of_account a (rows_in_run run))
+  reply_by_run a (Some run) = reply_by_rows a run.key (rows_of_account a (rows_in_run midnight s run))
 
   -- what an account has and pays in the latest run of a date
   abbrev pub account_reply : Account → ℕ → Reply

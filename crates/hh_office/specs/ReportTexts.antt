@@ -2,14 +2,13 @@
 use Rattle.std.specs.Prelude.{◌≡◌, ℕ, List, map, find, Option, option_map}
 use Rattle.std.specs.Ordering.{eq_by_cmp}
 use Rattle.hh_time.specs.Days.{Midnights, period_count}
-use Rattle.hh_calc.specs.declared.result.AccountRow.{AccountRow}
 use Rattle.hh_runs.specs.declared.run_key.RunKey.{RunKey}
 use Rattle.hh_reports.specs.declared.run.ReportedRun.{ReportedRun}
 use Rattle.hh_reports.specs.DayReport.{day_report_text}
 use Rattle.hh_reports.specs.Exports.{balances_text, results_text}
 use Rattle.hh_states.specs.Content.{tables_of}
-use Rattle.hh_states.specs.RunReads.{rows_by_period}
-use Rattle.hh_states.specs.Runs.{Run, run_key_cmp, settled_by}
+use Rattle.hh_states.specs.RunReads.{rows_in_run}
+use Rattle.hh_states.specs.Runs.{Run, run_key_cmp}
 use Rattle.hh_states.specs.States.{State}
 use Rattle.hh_states.specs.Steps.{IsReached, registered_at, timetable_at}
 use Rattle.hh_states.specs.Sums.{moved_by_runs}
@@ -24,17 +23,13 @@ module _ (midnight : Midnights) (s : State) where
   abbrev pub run_at : RunKey → Option Run
   run_at key = find (λ r. eq_by_cmp run_key_cmp key r.key) s.runs
 
-  -- the rows of a run's accounts, by Settlement Period, then by account
-  abbrev pub rows_settled : Run → List (ℕ × AccountRow)
-  rows_settled run = rows_by_period (settled_by (timetable_at midnight s) s.history run)
-
   -- the day report of a run, if the run is there
   abbrev pub day_report_of : RunKey → Option (List ℕ)
-  day_report_of key = option_map (λ run. day_report_text (reported midnight run) (rows_settled run)) (run_at key)
+  day_report_of key = option_map (λ run. day_report_text (reported midnight run) (rows_in_run midnight s run)) (run_at key)
 
   -- the results of a run, if the run is there
   abbrev pub export_of : RunKey → Option (List ℕ)
-  export_of key = option_map (λ run. results_text (reported midnight run) (rows_settled run)) (run_at key)
+  export_of key = option_map (λ run. results_text (reported midnight run) (rows_in_run midnight s run)) (run_at key)
 
   -- the balances of both accounts of every registered party: what the latest runs of all dates move to each
   abbrev pub balances_of : List ℕ

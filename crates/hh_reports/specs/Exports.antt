@@ -3,12 +3,12 @@ use Rattle.std.specs.Prelude.{ℕ, ℤ, List, [], ◌∷◌, ◌++◌, map, code
 use Rattle.std.specs.List.{flat_map}
 use Rattle.hh_time.specs.DateText.{date_text}
 use Rattle.hh_names.specs.declared.account.Account.{Account}
-use Rattle.hh_names.specs.declared.account.Side.TheVariants.{Consumption, Production}
 use Rattle.hh_calc.specs.declared.result.AccountRow.{AccountRow}
 use Rattle.hh_runs.specs.RunKinds.{run_kind_code}
 use Rattle.hh_reports.specs.declared.run.ReportedRun.{ReportedRun}
 use Rattle.hh_reports.specs.Fields.{cash_of, comma_line, energies_of, energy_text, pence_text}
 use Rattle.hh_names.specs.Accounts.{account_text}
+use Rattle.hh_names.specs.PartyAccounts.{both_accounts}
 
 -- the date, the kind, the account, the period, the account's energies and its cash
 unfoldable pub result_line : ReportedRun → ℕ × AccountRow → List ℕ
@@ -21,17 +21,13 @@ unfoldable pub results_text : ReportedRun → List (ℕ × AccountRow) → List 
 results_text run rows =
     codes "date,kind,account,period,credited,balancing,contracts,imbalance,charge,share\n" ++ flat_map (result_line run) rows
 
--- both accounts of a party
-abbrev pub accounts_of_party : List ℕ → List Account
-accounts_of_party party = record { party = party; side = Production } ∷ record { party = party; side = Consumption } ∷ []
-
 -- an account and its balance
 unfoldable pub balance_line : Account → ℤ → List ℕ
 balance_line a pence = comma_line (account_text a ∷ pence_text pence ∷ [])
 
 -- the lines of both accounts of a party
 abbrev pub party_lines : (Account → ℤ) → List ℕ → List ℕ
-party_lines balance party = flat_map (λ a. balance_line a (balance a)) (accounts_of_party party)
+party_lines balance party = flat_map (λ a. balance_line a (balance a)) (both_accounts party)
 
 -- the balances of both accounts of these parties
 unfoldable pub balances_text : List (List ℕ) → (Account → ℤ) → List ℕ

@@ -1,5 +1,5 @@
 -- What amounts come to for accounts.
-use Rattle.std.specs.Prelude.{ℕ, ◌^◌, ℤ, pos, ◌+ℤ◌, List, map, unwrap_or}
+use Rattle.std.specs.Prelude.{ℕ, ◌^◌, ℤ, pos, List, map, unwrap_or}
 use Rattle.std.specs.FinMap.{find}
 use Rattle.hh_num.specs.Totals.{total}
 use Rattle.hh_tables.specs.Tables.{Table, table_of_last}
@@ -7,6 +7,7 @@ use Rattle.hh_names.specs.declared.account.Account.{Account}
 use Rattle.hh_names.specs.Accounts.{account_cmp}
 use Rattle.hh_calc.specs.declared.result.AccountRow.{AccountRow}
 use Rattle.hh_calc.specs.Formulas.{of_account}
+use Rattle.hh_calc.specs.Settled.{paid_by}
 
 -- amounts, each under its account, as they came
 abbrev pub Amounts : Type 0
@@ -28,9 +29,9 @@ sums_of amounts = map (λ e. (e.0, sum_for e.0 amounts)) (table_of_last account_
 abbrev pub sum_in : Table Account ℤ → Account → ℤ
 sum_in sums a = unwrap_or (find account_cmp a sums) (pos 0)
 
--- what a row moves for its account: its charge and its share
+-- what a row moves for its account
 abbrev pub cash_moved : ℕ × AccountRow → Account × ℤ
-cash_moved e = (e.1.account, e.1.charge +ℤ e.1.share)
+cash_moved e = (e.1.account, paid_by e.1)
 
 -- the day net of each account of these rows, in account order: the sum of its charges and shares
 abbrev pub nets_from_rows : List (ℕ × AccountRow) → Table Account ℤ

@@ -3,6 +3,7 @@
 ghost use Rattle.std.specs.Prelude.{◌≡◌, ◌≤◌, ◌*◌, ◌^◌, ◌+ℤ◌, map, unsigned_abs, IfOk, OnOk};
 ghost use Rattle.std.specs.FinMap.{put};
 ghost use Rattle.hh_names.specs.Accounts.{account_cmp};
+ghost use Rattle.hh_calc.specs.Settled.{paid_by};
 ghost use Rattle.hh_reports.specs.Nets.{cash_moved, greatest_amount, nets_from_rows, sum_in, sums_of};
 
 use hh_calc::AccountRow;
@@ -25,7 +26,8 @@ struct Amount {
 impl Model for Amount {
     ghost use Rattle.std.specs.Prelude.{◌≤◌, ℤ, unsigned_abs};
     ghost use Rattle.hh_names.specs.declared.account.Account.{Account};
-    ghost use Rattle.hh_reports.specs.Nets.{greatest_amount};
+    ghost use Rattle.hh_calc.specs.Settled.{paid_by};
+ghost use Rattle.hh_reports.specs.Nets.{greatest_amount};
 
     ghost Value = { Account × ℤ };
 
@@ -76,9 +78,9 @@ fn posted(alloc: Global, postings: &[(Account, Pence)]) -> Result<Vec<Amount>, A
         .collect(alloc)
 }
 
-/// What a row moves for its account: its charge and its share.
+/// What a row moves for its account.
 fn cash_of_row(row: &AccountRow) -> Amount
-    ensures { result ≡ (row.now.account, row.now.charge +ℤ row.now.share) }
+    ensures { result ≡ (row.now.account, paid_by row.now) }
 {
     Amount {
         account: row.account,

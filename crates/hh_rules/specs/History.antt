@@ -1,5 +1,5 @@
 -- The history of accepted rows, and what is registered and in force by looking back over it.
-use Rattle.std.specs.Prelude.{ℕ, ℤ, List, filter, filter_map, Option}
+use Rattle.std.specs.Prelude.{ℕ, ℤ, List, [], filter, filter_map, Option}
 use Rattle.hh_tables.specs.Tables.{Table, table_of_last, table_of_first}
 use Rattle.hh_names.specs.Accounts.{bytes_cmp}
 use Rattle.hh_rows.specs.Keys.{settlement_period_cmp, unit_period_cmp, contract_key_cmp, reallocation_key_cmp}
@@ -29,6 +29,10 @@ pub record Registered : Type 0 where
   pub prices : Table SettlementPeriod ℤ
   pub contracts : Table ContractKey ℤ
   pub reallocations : Table ReallocationKey Reallocation
+
+-- nothing is registered or in force
+abbrev pub nothing_registered : Registered
+nothing_registered = record { parties = []; units = []; references = []; meters = []; prices = []; contracts = []; reallocations = [] }
 
 -- what the rows of a history put into one table, in the order of acceptance
 abbrev pub entries_of : {K V : Type 0} → (Row → Option (K × V)) → History → List (K × V)

@@ -1,5 +1,5 @@
 -- What contracts see of a register in memory, and when a part of one serves for some rows.
-use Rattle.std.specs.Prelude.{◌≡◌, ℕ, ℤ, List, [], ◌∷◌, filter, All, Bool, true, Option, Some, None, Result, Ok, Err, if◌then◌else◌}
+use Rattle.std.specs.Prelude.{◌≡◌, ℕ, ℤ, List, ◌∷◌, filter, All, Bool, true, Option, Some, None, Result, Ok, Err, if◌then◌else◌}
 use Rattle.std.specs.FinMap.{find, put}
 use Rattle.std.specs.Ordering.{eq_by_cmp}
 use Rattle.jiff.specs.declared.tz.timezone.TimeZone.{TimeZone}
@@ -21,7 +21,7 @@ use Rattle.hh_rows.specs.declared.rows.Row.{Row}
 use Rattle.hh_rows.specs.declared.rows.Row.TheVariants as row
 use Rattle.hh_rules.specs.declared.row_done.RowDone.{RowDone}
 use Rattle.hh_rules.specs.Effects.{IsOneMoreRow, fixes_reference, row_done, standing_with, with_row}
-use Rattle.hh_rules.specs.History.{Registered}
+use Rattle.hh_rules.specs.History.{Registered, nothing_registered}
 use Rattle.hh_rules.specs.Lateness.{Timetable, accepted_at, is_in_time, timing_of}
 use Rattle.hh_rules.specs.Refusals.{Standing, passes_hundred, refusals_of}
 
@@ -35,7 +35,7 @@ abbrev pub empty_register : ℕ → RegisterView
 empty_register lead_minutes = record {
   lead_minutes = lead_minutes;
   standing = record {
-    tables = record { parties = []; units = []; references = []; meters = []; prices = []; contracts = []; reallocations = [] };
+    tables = nothing_registered;
     party_count = 0;
     unit_count = 0;
   };

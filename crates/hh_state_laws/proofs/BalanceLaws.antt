@@ -20,6 +20,7 @@ use Rattle.hh_rules.specs.History.{History, Registered}
 use Rattle.hh_rules.specs.Lateness.{Timetable}
 use Rattle.hh_calc.specs.declared.result.AccountRow.{AccountRow}
 use Rattle.hh_calc.specs.Formulas.{figures, residual_shares}
+use Rattle.hh_calc.specs.Settled.{paid_by}
 use Rattle.hh_calc.specs.Terms.{PeriodTerms, Settled}
 use Rattle.hh_calc.proofs.SpreadLaws.{total-IsPermutation, total-flat_map}
 use Rattle.hh_runs.specs.DayNets.{DayNets, day_net_of, differences, is_changed, net_change}
@@ -64,14 +65,14 @@ accounts_shown p (a ∷ accounts) [] same = absurd (omega arith)
 accounts_shown p (a ∷ accounts) (x ∷ shares) same = ap (λ t. a ∷ t) (accounts_shown p accounts shares (omega arith))
 
 -- what the accounts of a settled period pay is what its rows come to
-period_nets_sum : (p : PeriodTerms) → NoneAlike is_same_account p.accounts → total (λ a. period_net a (settled p)) p.accounts ≡ total (λ r. r.charge +ℤ r.share) (settled p).accounts
+period_nets_sum : (p : PeriodTerms) → NoneAlike is_same_account p.accounts → total (λ a. period_net a (settled p)) p.accounts ≡ total paid_by (settled p).accounts
 period_nets_sum p distinct =
     let rows : List AccountRow = (settled p).accounts in
     ap (total (λ a. period_net a (settled p))) (sym (accounts_shown p p.accounts (residual_shares p) (a_share_each p)))
     ∙ total-map (λ a. period_net a (settled p)) (λ (r : AccountRow). r.account) rows
     ∙ each_counts_once (λ (r s : AccountRow). is_same_account r.account s.account)
     (λ r. (eq_by_cmp_equiv account_total).refl r.account) (λ r s. (eq_by_cmp_equiv account_total).symm r.account s.account)
-    (λ r. r.charge +ℤ r.share) rows
+    paid_by rows
     (rows_distinct (figures p) (λ a. refl) p.accounts (residual_shares p) distinct)
 
 module _ (timetable : Timetable) (history : History) where
@@ -99,7 +100,7 @@ module _ (timetable : Timetable) (history : History) where
     pays_nothing a others [] = refl
     pays_nothing a others (n ∷ numbers) =
         let p : PeriodTerms = terms_at seen (period_at n) in
-        λ i. none_counts (λ r. is_same_account r.account a) (λ r. r.charge +ℤ r.share) (settled p).accounts (rows_all (figures p) (λ b. refl) (λ b. is_same_account b a ≡ false) p.accounts (residual_shares p) others) i
+        λ i. none_counts (λ r. is_same_account r.account a) paid_by (settled p).accounts (rows_all (figures p) (λ b. refl) (λ b. is_same_account b a ≡ false) p.accounts (residual_shares p) others) i
         +ℤ pays_nothing a others numbers i
 
     -- what is found for an account is what it pays, if the others that are not there pay nothing

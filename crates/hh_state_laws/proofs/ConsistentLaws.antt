@@ -31,7 +31,7 @@ use Rattle.hh_rules.specs.declared.timing.Timing.{Timing}
 use Rattle.hh_rules.specs.Effects.{with_row}
 use Rattle.hh_rules.specs.Entries.{contract_entry, meter_entry, party_entry, price_entry, reallocation_entry, reference_entry, unit_entry}
 use Rattle.hh_rules.specs.FileRows.{refusal_after}
-use Rattle.hh_rules.specs.History.{nothing_registered, registered_in, History, Registered}
+use Rattle.hh_rules.specs.History.{History, Registered, nothing_registered, registered_in}
 use Rattle.hh_rules.specs.Lateness.{Accepted, Timetable, accepted_at, comes_in_time, is_before_deadline, is_in_time, is_there, lacks_period, timing_by, timing_of}
 use Rattle.hh_rules.specs.Percents.{percent_of_others}
 use Rattle.hh_rules.specs.Refusals.{contract_refusals, is_party_off, is_same_mark, is_unit_moved, is_unit_off, meter_refusals, most_parties, most_units, party_refusals, reallocation_refusals, refusals_of, unit_refusals, whole_standing}

@@ -24,7 +24,8 @@ use Rattle.hh_rules.specs.Entries.{party_entry}
 use Rattle.hh_rules.specs.History.{History, Registered, entries_of, registered_in}
 use Rattle.hh_rules.specs.Lateness.{Timetable}
 use Rattle.hh_calc.specs.declared.result.AccountRow.{AccountRow}
-use Rattle.hh_calc.specs.Formulas.{figures, of_account, residual_shares}
+use Rattle.hh_calc.specs.Formulas.{figures, residual_shares}
+use Rattle.hh_calc.specs.Settled.{moved_by_row}
 use Rattle.hh_calc.specs.Terms.{PeriodTerms, Settled}
 use Rattle.hh_calc.proofs.SpreadLaws.{total-flat_map}
 use Rattle.hh_runs.specs.DayNets.{day_net_of}
@@ -36,7 +37,7 @@ use Rattle.hh_states.specs.DaySettlement.{day_net, from_one_to, period_net, peri
 use Rattle.hh_names.specs.PartyAccounts.{both_accounts}
 use Rattle.hh_states.specs.PeriodSettlement.{account_rows, accounts_on, settled, terms_at}
 use Rattle.hh_states.specs.Reads.{posting_to, results_in}
-use Rattle.hh_states.specs.RunReads.{DayNetsFromResults, HoldsNoOtherResults, HoldsPostings, HoldsResults, paid_in, rows_by_period}
+use Rattle.hh_states.specs.RunReads.{DayNetsFromResults, HoldsNoOtherResults, HoldsPostings, HoldsResults, paid_in, rows_by_period, rows_in_run}
 use Rattle.hh_states.specs.Runs.{Run, nets_of, run_key_cmp, settled_by}
 use Rattle.hh_states.specs.States.{State}
 use Rattle.hh_states.specs.Steps.{timetable_at}
@@ -181,7 +182,7 @@ pub holds_results : HoldsResults
 holds_results midnight s reached =
     let timetable : Timetable = timetable_at midnight s in
     all-weaken (λ r. entries_under midnight s r.key ≡ run_entries midnight s r)
-    (λ r. results_in (tables_of midnight s) r.key ≡ rows_by_period (settled_by timetable s.history r))
+    (λ r. results_in (tables_of midnight s) r.key ≡ rows_in_run midnight s r)
     (λ r are. rows_read midnight s r.key (run_entries midnight s r) are (results_rise r.key timetable (take r.row_count s.history) r.key.date (period_count midnight r.key.date))
     ∙ shown_by_period r.key (settled_by timetable s.history r))
     s.runs (own_entries midnight s (runs_distinct midnight s reached))
@@ -202,7 +203,7 @@ holds_postings midnight s a reached =
 -- what an account pays by the rows of settled periods is what it pays in the periods
 paid_by_period : (a : Account) (day : List (SettlementPeriod × Settled)) → paid_in a (rows_by_period day) ≡ day_net day a
 paid_by_period a day =
-    let amount : ℕ × AccountRow → ℤ = λ e. of_account a e.1.account (e.1.charge +ℤ e.1.share) in
+    let amount : ℕ × AccountRow → ℤ = λ e. moved_by_row a e.1 in
     total-flat_map amount (λ (q : SettlementPeriod × Settled). map (λ (row : AccountRow). (q.0.period, row)) q.1.accounts) day
     ∙ total-same (λ (q : SettlementPeriod × Settled). total amount (map (λ (row : AccountRow). (q.0.period, row)) q.1.accounts)) (λ q. period_net a q.1) day
     (λ q. total-map amount (λ (row : AccountRow). (q.0.period, row)) q.1.accounts)
@@ -211,7 +212,7 @@ paid_by_period a day =
 pub day_nets_from_results : DayNetsFromResults
 day_nets_from_results midnight s a reached =
     let timetable : Timetable = timetable_at midnight s in
-    all-weaken (λ r. results_in (tables_of midnight s) r.key ≡ rows_by_period (settled_by timetable s.history r))
+    all-weaken (λ r. results_in (tables_of midnight s) r.key ≡ rows_in_run midnight s r)
     (λ r. paid_in a (results_in (tables_of midnight s) r.key) ≡ day_net_of (nets_of timetable s.history (Some r)) a)
     (λ r are. ap (paid_in a) are ∙ paid_by_period a (settled_by timetable s.history r) ∙ sym (day_nets_are_sums timetable s.history r a))
     s.runs (holds_results midnight s reached)

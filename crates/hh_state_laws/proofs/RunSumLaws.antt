@@ -13,7 +13,7 @@ use Rattle.hh_rows.specs.declared.settlement_period.SettlementPeriod.{Settlement
 use Rattle.hh_rules.specs.History.{Registered}
 use Rattle.hh_rules.specs.Lateness.{Timetable}
 use Rattle.hh_calc.specs.declared.result.AccountRow.{AccountRow}
-use Rattle.hh_calc.specs.Settled.{AddsUp}
+use Rattle.hh_calc.specs.Settled.{AddsUp, paid_by}
 use Rattle.hh_calc.specs.Terms.{PeriodTerms, Settled}
 use Rattle.hh_calc.proofs.SpreadLaws.{total-IsPermutation, total-flat_map}
 use Rattle.hh_runs.specs.declared.run_key.RunKey.{RunKey}
@@ -140,4 +140,4 @@ contracts_sum_to_zero midnight s run period reached =
 -- so do charges and shares together
 pub cash_sums_to_zero : CashSumsToZero
 cash_sums_to_zero midnight s run period reached =
-    tables_zero (λ r. r.charge +ℤ r.share) run period midnight s reached (each_period (λ r. r.charge +ℤ r.share) (λ p x adds. adds.cash) midnight s reached)
+    tables_zero paid_by run period midnight s reached (each_period paid_by (λ p x adds. adds.cash) midnight s reached)

@@ -27,7 +27,7 @@ use Rattle.hh_calc.specs.declared.result.AccountRow.{AccountRow}
 use Rattle.hh_calc.specs.declared.result.CreditRow.{CreditRow}
 use Rattle.hh_calc.specs.declared.result.Figures.{Figures}
 use Rattle.hh_calc.specs.Formulas.{all_figures, credits_of, figures, lead_credit, period_sums, residual, residual_shares, subsidiary_credit, unit_credits, weights}
-use Rattle.hh_calc.specs.Settled.{credit_cmp, figures_of, shares_shown}
+use Rattle.hh_calc.specs.Settled.{credit_cmp, figures_of, paid_by, shares_shown}
 use Rattle.hh_calc.specs.Terms.{BmUnit, PeriodTerms}
 use Rattle.hh_calc.proofs.PeriodLaws.{adds_up}
 use Rattle.hh_states.specs.PeriodSettlement.{UnitAccount, account_rows, in_credit_order, keyed_credits, settled, unit_account_cmp}
@@ -61,7 +61,7 @@ some_account [] f g differs = absurd (differs refl)
 some_account (a ∷ accounts) f g differs = omega arith
 
 -- charges and shares together come to zero
-pub period_balances : (p : PeriodTerms) → total (λ r. r.charge +ℤ r.share) (settled p).accounts ≡ pos 0
+pub period_balances : (p : PeriodTerms) → total paid_by (settled p).accounts ≡ pos 0
 period_balances p =
     let rows : List AccountRow = (settled p).accounts in
     let charge : Account → ℤ = λ a. (figures p a).charge in

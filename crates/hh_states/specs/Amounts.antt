@@ -1,5 +1,5 @@
 -- How great the amounts and the counts of runs are in the states that the machine reaches: they fit the types that keep them.
-use Rattle.std.specs.Prelude.{ℕ, ◌*◌, ◌≤◌, unsigned_abs, ◌+ℤ◌, List, Some, sum_by}
+use Rattle.std.specs.Prelude.{ℕ, ◌*◌, ◌≤◌, unsigned_abs, List, Some, sum_by}
 use Rattle.std.specs.List.{AllByRecursion}
 use Rattle.hh_num.specs.Quantities.{Measure, either_sign}
 use Rattle.hh_num.specs.Ranges.{IsBetween}
@@ -7,14 +7,14 @@ use Rattle.hh_time.specs.Days.{Midnights}
 use Rattle.hh_names.specs.declared.account.Account.{Account}
 use Rattle.hh_rules.specs.Refusals.{most_parties}
 use Rattle.hh_calc.specs.declared.result.AccountRow.{AccountRow}
-use Rattle.hh_calc.specs.Formulas.{of_account}
 use Rattle.hh_calc.specs.Limits.{greatest_cash}
+use Rattle.hh_calc.specs.Settled.{moved_by_row}
 use Rattle.hh_runs.specs.declared.summary.Summary.{Summary}
 use Rattle.hh_runs.specs.DayNets.{day_cash, day_net_of}
 use Rattle.hh_states.specs.Content.{runs_with_former, tables_of}
 use Rattle.hh_states.specs.Reads.{results_in}
-use Rattle.hh_states.specs.RunReads.{paid_in, rows_by_period}
-use Rattle.hh_states.specs.Runs.{nets_of, settled_by, summary_after}
+use Rattle.hh_states.specs.RunReads.{paid_in, rows_in_run}
+use Rattle.hh_states.specs.Runs.{nets_of, summary_after}
 use Rattle.hh_states.specs.States.{State}
 use Rattle.hh_states.specs.Steps.{IsReached, timetable_at}
 use Rattle.hh_states.specs.Sums.{moved_by_runs}
@@ -37,13 +37,12 @@ balances = either_sign 0 3_700_000_000_000_000_000
 
 -- the turnover of an account by rows, each with the number of its Settlement Period: what it pays by each of its own, in size
 abbrev pub turnover_in : Account → List (ℕ × AccountRow) → ℕ
-turnover_in a rows = sum_by (λ e. unsigned_abs (of_account a e.1.account (e.1.charge +ℤ e.1.share))) rows
+turnover_in a rows = sum_by (λ e. unsigned_abs (moved_by_row a e.1)) rows
 
 -- in each state that the machine reaches, the turnover of each account in each run is at most so great
 abbrev pub TurnoversWithin : Type 0
 TurnoversWithin = (midnight : Midnights) (s : State) (a : Account) → IsReached midnight s
-    → AllByRecursion (λ r. turnover_in a (rows_by_period (settled_by (timetable_at midnight s) s.history r)) ≤ greatest_turnover)
-    s.runs
+    → AllByRecursion (λ r. turnover_in a (rows_in_run midnight s r) ≤ greatest_turnover) s.runs
 
 -- so the day net of each account in each run is at most 10^14 pence in size
 abbrev pub DayNetsWithin : Type 0

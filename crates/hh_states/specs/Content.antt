@@ -8,7 +8,7 @@ use Rattle.hh_time.specs.Days.{Midnights}
 use Rattle.hh_names.specs.Accounts.{account_cmp, bytes_cmp}
 use Rattle.hh_rows.specs.declared.settings.Settings.{Settings}
 use Rattle.hh_rows.specs.declared.settlement_period.SettlementPeriod.{SettlementPeriod}
-use Rattle.hh_rules.specs.History.{Registered, registered_in}
+use Rattle.hh_rules.specs.History.{Registered, nothing_registered, registered_in}
 use Rattle.hh_rules.specs.Lateness.{Timetable}
 use Rattle.hh_calc.specs.declared.result.AccountRow.{AccountRow}
 use Rattle.hh_calc.specs.declared.result.CreditRow.{CreditRow}
@@ -47,10 +47,6 @@ pub record Content : Type 0 where
   pub results : Table ResultKey AccountRow
   pub credits : Table CreditKey ℤ
   pub postings : Table PostingKey ℤ
-
--- nothing is registered or in force
-abbrev pub nothing_registered : Registered
-nothing_registered = record { parties = []; units = []; references = []; meters = []; prices = []; contracts = []; reallocations = [] }
 
 -- the tables of an office with these settings, in which nothing has been accepted
 abbrev pub empty_content : Settings → Content

@@ -6,8 +6,8 @@ use Rattle.hh_names.specs.declared.account.Account.{Account}
 use Rattle.hh_rows.specs.declared.keys.UnitPeriod.{UnitPeriod}
 use Rattle.hh_rows.specs.declared.settlement_period.SettlementPeriod.{SettlementPeriod}
 use Rattle.hh_rules.specs.History.{Registered}
-use Rattle.hh_calc.specs.Formulas.{of_account}
 use Rattle.hh_calc.specs.Limits.{is_within_limits}
+use Rattle.hh_calc.specs.Settled.{moved_by_row}
 use Rattle.hh_calc.specs.Terms.{Settled}
 use Rattle.hh_runs.specs.DayNets.{DayNets}
 use Rattle.hh_states.specs.PeriodSettlement.{price_of, reading_of, settled, terms_at, units_on}
@@ -49,7 +49,7 @@ module _ (tables : Registered) where
 
 -- what an account pays in a settled period in all, negative where it is paid: its charge and its share
 abbrev pub period_net : Account → Settled → ℤ
-period_net a s = total (λ r. of_account a r.account (r.charge +ℤ r.share)) s.accounts
+period_net a s = total (moved_by_row a) s.accounts
 
 -- the day net of an account: what it pays in all the settled periods of a day
 abbrev pub day_net : List (SettlementPeriod × Settled) → Account → ℤ

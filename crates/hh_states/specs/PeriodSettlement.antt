@@ -6,9 +6,9 @@ use Rattle.std.specs.Ordering.{eq_by_cmp, on, then_cmp}
 use Rattle.std.specs.declared.cmp.Ordering.{Ordering}
 use Rattle.hh_tables.specs.Tables.{Table, in_key_order}
 use Rattle.hh_names.specs.declared.account.Account.{Account}
-use Rattle.hh_names.specs.declared.account.Side.TheVariants.{Production, Consumption}
 use Rattle.hh_names.specs.declared.values.Reading.{Reading}
 use Rattle.hh_names.specs.Accounts.{account_cmp, bytes_cmp}
+use Rattle.hh_names.specs.PartyAccounts.{both_accounts}
 use Rattle.hh_rows.specs.declared.keys.ContractKey.{ContractKey}
 use Rattle.hh_rows.specs.declared.keys.UnitPeriod.{UnitPeriod}
 use Rattle.hh_rows.specs.declared.rows.ContractRow.{ContractRow}
@@ -24,10 +24,6 @@ use Rattle.hh_calc.specs.declared.result.CreditRow.{CreditRow}
 use Rattle.hh_calc.specs.declared.result.Figures.{Figures}
 use Rattle.hh_calc.specs.Formulas.{all_figures, credits_of, residual, residual_shares}
 use Rattle.hh_calc.specs.Terms.{BmUnit, PeriodTerms, Settled, bm_unit, period_terms, settled_period}
-
--- both accounts of a party, in their order
-abbrev pub both_accounts : List ℕ → List Account
-both_accounts party = record { party = party; side = Production } ∷ record { party = party; side = Consumption } ∷ []
 
 module _ (tables : Registered) where
   -- the accounts of a date: both accounts of each party whose range holds it, in their order

@@ -1,5 +1,5 @@
 -- What the reading calls answer about the runs of a state, from the tables that stand for it.
-use Rattle.std.specs.Prelude.{◌≡◌, ℕ, ◌==◌, ℤ, ◌+ℤ◌, List, [], map, filter, Some, None}
+use Rattle.std.specs.Prelude.{◌≡◌, ℕ, ◌==◌, ℤ, List, [], map, filter, Some, None}
 use Rattle.std.specs.FinMap.{find}
 use Rattle.std.specs.List.{AllByRecursion, flat_map}
 use Rattle.hh_num.specs.Totals.{total}
@@ -8,7 +8,7 @@ use Rattle.hh_names.specs.declared.account.Account.{Account}
 use Rattle.hh_rows.specs.declared.settlement_period.SettlementPeriod.{SettlementPeriod}
 use Rattle.hh_rules.specs.Lateness.{Timetable}
 use Rattle.hh_calc.specs.declared.result.AccountRow.{AccountRow}
-use Rattle.hh_calc.specs.Formulas.{of_account}
+use Rattle.hh_calc.specs.Settled.{moved_by_row}
 use Rattle.hh_calc.specs.Terms.{Settled}
 use Rattle.hh_runs.specs.declared.run_kind.RunKind.{RunKind}
 use Rattle.hh_runs.specs.declared.summary.Summary.{Summary}
@@ -16,7 +16,7 @@ use Rattle.hh_runs.specs.DayNets.{day_net_of}
 use Rattle.hh_runs.specs.declared.run_key.RunKey.{RunKey}
 use Rattle.hh_states.specs.Content.{runs_with_former, tables_of}
 use Rattle.hh_states.specs.Reads.{postings_in, results_in, runs_in}
-use Rattle.hh_states.specs.Runs.{nets_of, run_key_cmp, settled_by, summary_after}
+use Rattle.hh_states.specs.Runs.{Run, nets_of, run_key_cmp, settled_by, summary_after}
 use Rattle.hh_states.specs.States.{State}
 use Rattle.hh_states.specs.Steps.{IsReached, kept_summary, kinds_on, timetable_at}
 use Rattle.hh_states.specs.Sums.{moved_by_runs}
@@ -46,11 +46,14 @@ HoldsRuns = (midnight : Midnights) (s : State) (date : ℕ) → IsReached midnig
 abbrev pub rows_by_period : List (SettlementPeriod × Settled) → List (ℕ × AccountRow)
 rows_by_period day = flat_map (λ q. map (λ row. (q.0.period, row)) q.1.accounts) day
 
--- the rows of each run in the tables of a reached state are those of the periods that it settles, by period, then by account
+-- the rows of the accounts in a run of a state: those of the periods that it settles, by period, then by account
+abbrev pub rows_in_run : Midnights → State → Run → List (ℕ × AccountRow)
+rows_in_run midnight s run = rows_by_period (settled_by (timetable_at midnight s) s.history run)
+
+-- the rows of each run in the tables of a reached state are those
 abbrev pub HoldsResults : Type 0
 HoldsResults = (midnight : Midnights) (s : State) → IsReached midnight s
-    → AllByRecursion (λ r.
-    results_in (tables_of midnight s) r.key ≡ rows_by_period (settled_by (timetable_at midnight s) s.history r)) s.runs
+    → AllByRecursion (λ r. results_in (tables_of midnight s) r.key ≡ rows_in_run midnight s r) s.runs
 
 -- the tables of a state hold no rows of a run that is not there
 abbrev pub HoldsNoOtherResults : Type 0
@@ -64,7 +67,7 @@ HoldsPostings = (midnight : Midnights) (s : State) (a : Account) → IsReached m
 
 -- what an account pays by these rows: the charges and shares of its own
 abbrev pub paid_in : Account → List (ℕ × AccountRow) → ℤ
-paid_in a rows = total (λ e. of_account a e.1.account (e.1.charge +ℤ e.1.share)) rows
+paid_in a rows = total (λ e. moved_by_row a e.1) rows
 
 -- what an account pays by the rows of a run in the tables of a reached state is its day net in the run
 abbrev pub DayNetsFromResults : Type 0

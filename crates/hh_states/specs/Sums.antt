@@ -1,5 +1,5 @@
 -- What the postings of runs come to, for an account and for a run; and what a settled period holds and adds up to.
-use Rattle.std.specs.Prelude.{◌≡◌, ◌≢◌, ℕ, ◌==◌, ◌&&◌, ℤ, pos, ◌+ℤ◌, ◌*ℤ◌, List, [], ◌∷◌, All, AllPairs, is_some, if◌then◌else◌, Some}
+use Rattle.std.specs.Prelude.{◌≡◌, ◌≢◌, ℕ, ◌==◌, ◌&&◌, ℤ, pos, ◌*ℤ◌, List, [], ◌∷◌, All, AllPairs, is_some, if◌then◌else◌, Some}
 use Rattle.std.specs.List.{AllByRecursion}
 use Rattle.std.specs.Ordering.{eq_by_cmp}
 use Rattle.std.specs.Str.{bytes_eq}
@@ -14,7 +14,7 @@ use Rattle.hh_rules.specs.Lateness.{Timetable}
 use Rattle.hh_calc.specs.declared.result.AccountRow.{AccountRow}
 use Rattle.hh_calc.specs.Formulas.{loss_adjusted, of_account}
 use Rattle.hh_calc.specs.Ready.{AreInOrder, AreNamed, AreUnitsDistinct}
-use Rattle.hh_calc.specs.Settled.{AddsUp, IsSettled}
+use Rattle.hh_calc.specs.Settled.{AddsUp, IsSettled, paid_by}
 use Rattle.hh_calc.specs.Terms.{BmUnit, PeriodTerms}
 use Rattle.hh_runs.specs.DayNets.{day_net_of}
 use Rattle.hh_runs.specs.declared.run_key.RunKey.{RunKey}
@@ -97,10 +97,10 @@ abbrev pub ContractsSumToZero : Type 0
 ContractsSumToZero = (midnight : Midnights) (s : State) (run : RunKey) (period : ℕ) → IsReached midnight s
     → period_total (λ r. r.contracts) period (results_in (tables_of midnight s) run) ≡ pos 0
 
--- and so do charges and shares together
+-- and so does what the accounts pay, charges and shares together
 abbrev pub CashSumsToZero : Type 0
 CashSumsToZero = (midnight : Midnights) (s : State) (run : RunKey) (period : ℕ) → IsReached midnight s
-    → period_total (λ r. r.charge +ℤ r.share) period (results_in (tables_of midnight s) run) ≡ pos 0
+    → period_total paid_by period (results_in (tables_of midnight s) run) ≡ pos 0
 
 -- what is credited from a unit in a Settlement Period of a run
 abbrev pub credited_from : List ℕ → ℕ → RunKey → Table CreditKey ℤ → ℤ

@@ -1,12 +1,12 @@
 use Rattle.std.proofs.Common.{rules, refl, ap, subst, sym, ◌∙◌, ◌≤◌}
 use Rattle.std.specs.Prelude.{map}
 use Rattle.hh_num.specs.Totals.{total}
+use Rattle.hh_calc.specs.Settled.{moved_by_row}
 use Rattle.hh_states.specs.Amounts.{greatest_turnover}
 use Rattle.hh_runs.specs.DayNets.{differences}
 use Rattle.hh_runs.specs.Postings.{entry_of}
 use Rattle.hh_day.specs.NewRuns.{summary_of, writes_of_run}
 use Rattle.hh_day.specs.RunLimits.{AreTurnoversSmall, FitsFields}
-use Rattle.hh_calc.specs.Settled.{moved_by_row}
 use Rattle.hh_day.proofs.FitLaws.{turnover_by_entries}
 use Rattle.hh_day.proofs.NetLaws.{paid_by_entries}
 use Rattle.hh_day.proofs.run.run_change.Goals as goal
