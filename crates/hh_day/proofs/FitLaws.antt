@@ -14,7 +14,8 @@ use Rattle.hh_names.proofs.AccountLaws.{account_total}
 use Rattle.hh_rows.specs.declared.settlement_period.SettlementPeriod.{SettlementPeriod}
 use Rattle.hh_calc.specs.declared.result.AccountRow.{AccountRow}
 use Rattle.hh_calc.specs.Ready.{IsReady}
-use Rattle.hh_calc.specs.Terms.{Settled}
+use Rattle.hh_calc.specs.Settled.{moved_by_row, paid_by}
+use Rattle.hh_calc.specs.Terms.{PeriodTerms, Settled}
 use Rattle.hh_runs.specs.declared.summary.Summary.{Summary}
 use Rattle.hh_runs.specs.DayNets.{DayNets, day_cash, day_net_of}
 use Rattle.hh_runs.specs.declared.run_key.RunKey.{RunKey}
@@ -30,9 +31,9 @@ use Rattle.hh_states.specs.States.{State}
 use Rattle.hh_states.specs.Steps.{IsReached, CanRun, after_run, by_run, new_run, new_summary, registered_at, timetable_at}
 use Rattle.hh_state_laws.proofs.RunLaws.{with_former-append}
 use Rattle.hh_state_laws.proofs.TurnoverLaws.{is_day_net, sum_by-made, total_by_sizes}
+use Rattle.hh_store.specs.DayReads.{ArePeriodsOf}
 use Rattle.hh_day.specs.NewRuns.{WritesTheRun}
 use Rattle.hh_day.specs.RunLimits.{AreTurnoversSmall, FitsFields, RunsFit, TermsReady}
-use Rattle.hh_calc.specs.Settled.{moved_by_row}
 use Rattle.hh_day.specs.RunParts.{AreNetsOf}
 use Rattle.hh_day.proofs.NetLaws.{total_next}
 use Rattle.hh_day.proofs.WriteLaws.{of_the_last, of_those_that_pass, settles_the_day}
@@ -49,12 +50,12 @@ module _ {K : Type 0} (rows : List (K × AccountRow)) (small : AreTurnoversSmall
 
   -- so is the net of an account by the rows so far with what the next row moves for it
   pub next_fits : (i : ℕ) (e : K × AccountRow) (nets : DayNets) → i < length rows → e ≡ get_or rows i e → AreNetsOf (take i rows) nets
-      → IsBetween day_cash.least day_cash.most (day_net_of nets e.1.account +ℤ (e.1.charge +ℤ e.1.share))
+      → IsBetween day_cash.least day_cash.most (day_net_of nets e.1.account +ℤ paid_by e.1)
   next_fits i e nets inside is so_far =
       let a : Account = e.1.account in
       subst (IsBetween day_cash.least day_cash.most)
       (total_next (λ (x : K × AccountRow). moved_by_row a x.1) rows i e inside is
-      ∙ (λ j. sym (so_far a) j +ℤ cond ((eq_by_cmp_equiv account_total).refl a j) (e.1.charge +ℤ e.1.share) (pos 0)))
+      ∙ (λ j. sym (so_far a) j +ℤ cond ((eq_by_cmp_equiv account_total).refl a j) (paid_by e.1) (pos 0)))
       (first_fit a (i + 1))
 
 -- an account's turnover by the rows of settled periods, under whichever of two kinds of keys they stand
@@ -126,9 +127,10 @@ runs_fit turnovers summaries held writes_the_run midnight s moment key reached c
 
 -- what periods are settled from may be settled
 pub terms_ready : PeriodsReady → TermsReady
-terms_ready ready midnight s periods terms reached same =
-    subst (All IsReady) (sym same) (All-from_recursion IsReady (map (terms_at (registered_at midnight s)) periods) (each periods))
+terms_ready ready midnight s periods terms reached are = All-from_recursion IsReady terms (each periods terms are)
   where
-    each : (ats : List SettlementPeriod) → AllByRecursion IsReady (map (terms_at (registered_at midnight s)) ats)
-    each [] = tt
-    each (at ∷ ats) = ((ready midnight s at reached).ready, each ats)
+    each : (ats : List SettlementPeriod) (ps : List PeriodTerms) → ArePeriodsOf (registered_at midnight s) ats ps → AllByRecursion IsReady ps
+    each [] [] all = tt
+    each [] (p ∷ ps) all = absurd all
+    each (at ∷ ats) [] all = absurd all
+    each (at ∷ ats) (p ∷ ps) all = (subst IsReady (sym all.0) (ready midnight s at reached).ready, each ats ps all.1)

@@ -1,5 +1,5 @@
 -- When what is written for a new run fits the types that keep it.
-use Rattle.std.specs.Prelude.{◌≡◌, ℕ, ◌^◌, ◌≤◌, ◌<◌, unsigned_abs, ℤ, List, map, sum_by, All}
+use Rattle.std.specs.Prelude.{◌≡◌, ℕ, ◌^◌, ◌≤◌, ◌<◌, unsigned_abs, ℤ, List, sum_by, All}
 use Rattle.hh_num.specs.Quantities.{amounts_of_cash}
 use Rattle.hh_num.specs.Ranges.{IsBetween}
 use Rattle.hh_time.specs.Days.{Midnights}
@@ -7,17 +7,17 @@ use Rattle.hh_names.specs.declared.account.Account.{Account}
 use Rattle.hh_rows.specs.declared.settlement_period.SettlementPeriod.{SettlementPeriod}
 use Rattle.hh_calc.specs.declared.result.AccountRow.{AccountRow}
 use Rattle.hh_calc.specs.Ready.{IsReady}
+use Rattle.hh_calc.specs.Settled.{moved_by_row}
 use Rattle.hh_calc.specs.Terms.{PeriodTerms, Settled}
 use Rattle.hh_runs.specs.declared.summary.Summary.{Summary}
 use Rattle.hh_runs.specs.declared.run_key.RunKey.{RunKey}
 use Rattle.hh_states.specs.Amounts.{greatest_turnover}
 use Rattle.hh_states.specs.Changes.{RunWrites}
-use Rattle.hh_states.specs.PeriodSettlement.{terms_at}
 use Rattle.hh_states.specs.RunReads.{rows_by_period}
 use Rattle.hh_states.specs.States.{State}
 use Rattle.hh_states.specs.Steps.{CanRun, IsReached, registered_at}
+use Rattle.hh_store.specs.DayReads.{ArePeriodsOf}
 use Rattle.hh_day.specs.NewRuns.{IsWrittenFor, day_in, former_rows}
-use Rattle.hh_calc.specs.Settled.{moved_by_row}
 
 -- each account's turnover by rows, under whatever keys they stand, is at most that of a run: so is what any of the rows come to
 abbrev pub AreTurnoversSmall : {K : Type 0} → List (K × AccountRow) → Type 0
@@ -40,7 +40,7 @@ pub record FitsRun (run : RunKey) (day : List (SettlementPeriod × Settled)) (fo
 -- in each state that the machine reaches, what each Settlement Period is settled from may be settled
 abbrev pub TermsReady : Type 0
 TermsReady = (midnight : Midnights) (s : State) (periods : List SettlementPeriod) (terms : List PeriodTerms) → IsReached midnight s
-    → terms ≡ map (terms_at (registered_at midnight s)) periods → All IsReady terms
+    → ArePeriodsOf (registered_at midnight s) periods terms → All IsReady terms
 
 -- and what is written for each run that is not there and not refused there fits
 abbrev pub RunsFit : Type 0
