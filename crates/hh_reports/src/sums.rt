@@ -26,8 +26,7 @@ struct Amount {
 impl Model for Amount {
     ghost use Rattle.std.specs.Prelude.{◌≤◌, ℤ, unsigned_abs};
     ghost use Rattle.hh_names.specs.declared.account.Account.{Account};
-    ghost use Rattle.hh_calc.specs.Settled.{paid_by};
-ghost use Rattle.hh_reports.specs.Nets.{greatest_amount};
+    ghost use Rattle.hh_reports.specs.Nets.{greatest_amount};
 
     ghost Value = { Account × ℤ };
 
