@@ -1,6 +1,6 @@
 -- What is written for a run that the machine makes fits the types that keep it.
 use Rattle.std.proofs.Common.{◌≡◌, ℕ, ◌+◌, ◌≤◌, ◌<◌, List, [], ◌∷◌, ◌++◌, map, length, take, get_or, refl, sym, ap, subst, ◌∙◌, cond, Option, Some, None, arith}
-use Rattle.std.specs.Prelude.{ℤ, pos, ◌+ℤ◌, ◌==◌, All, drop, sum_by, unsigned_abs}
+use Rattle.std.specs.Prelude.{ℤ, pos, ◌+ℤ◌, ◌==◌, drop, sum_by, unsigned_abs}
 use Rattle.std.specs.Cmp.{eq_by_cmp_equiv}
 use Rattle.std.specs.List.{AllByRecursion}
 use Rattle.std.proofs.lemmas.Int.{ints}
@@ -22,7 +22,6 @@ use Rattle.hh_runs.specs.declared.run_key.RunKey.{RunKey}
 use Rattle.hh_states.specs.declared.run_keys.ResultKey.{ResultKey}
 use Rattle.hh_states.specs.Amounts.{IsSummaryWithin, SummariesWithin, TurnoversWithin, greatest_turnover, turnover_in}
 use Rattle.hh_states.specs.Content.{result_entries, result_key, tables_of}
-use Rattle.hh_states.specs.PeriodSettlement.{terms_at}
 use Rattle.hh_states.specs.Readiness.{PeriodsReady}
 use Rattle.hh_states.specs.Reads.{results_in}
 use Rattle.hh_states.specs.RunReads.{HoldsResults, rows_by_period}

@@ -1,6 +1,6 @@
 -- The Settlement Periods of a day, settled one after the other.
 use Rattle.std.proofs.Common.{◌≡◌, ℕ, zero, suc, ◌+◌, ◌<◌, List, [], ◌∷◌, ◌++◌, length, take, get_or, refl, sym, ap, subst, ◌∙◌, Bool, true, false, cond, Some, None, arith}
-use Rattle.std.specs.Prelude.{IsFalse, IsTrue, Option, find, min, not}
+use Rattle.std.specs.Prelude.{IsTrue, Option, find, min, not}
 use Rattle.std.specs.List.{AllZip}
 use Rattle.std.specs.Option.{option_or}
 use Rattle.std.proofs.Math.Nat.{min-eq_left}
@@ -56,11 +56,6 @@ pub settles_within : SettledInOneWay → (at : SettlementPeriod) (p : PeriodTerm
 settles_within one_way at p s within is tables is_of consistent =
     ap (λ x. Some (at, x)) (one_way (terms_at tables at) s consistent (subst (λ q. IsSettled q s) is_of is))
     ∙ sym (ap (λ b. kept_where b (settled_at tables at)) (sym (ap is_within_limits is_of) ∙ within))
-
--- what a period comes to that passes a limit
-pub settles_beyond : (at : SettlementPeriod) (p : PeriodTerms) → IsFalse (is_within_limits p) → SettlesPeriod at p None
-settles_beyond at p beyond tables is_of consistent =
-    sym (ap (λ b. kept_where b (settled_at tables at)) (sym (ap is_within_limits is_of) ∙ beyond))
 
 -- a period of which there is a settlement is within the limits, and that is its settlement
 kept : (b : Bool) (x y : SettlementPeriod × Settled) → Some x ≡ kept_where b y → (b ≡ true) × (x ≡ y)

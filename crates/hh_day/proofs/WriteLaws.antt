@@ -1,6 +1,6 @@
 -- What is written for a new run is what the machine writes for it.
 use Rattle.std.proofs.Common.{◌≡◌, ℕ, zero, suc, ◌+◌, ◌<◌, List, [], ◌∷◌, ◌++◌, length, map, refl, sym, ap, ◌∙◌, Bool, true, false, cond, Option, Some, None, arith}
-use Rattle.std.specs.Prelude.{ℤ, pos, ◌+ℤ◌, ◌-ℤ◌, ◌*◌, ◌==◌, ◌&&◌, filter, int_le, is_some, unwrap_or}
+use Rattle.std.specs.Prelude.{ℤ, pos, ◌-ℤ◌, ◌*◌, ◌==◌, ◌&&◌, filter, int_le, is_some, unwrap_or}
 use Rattle.std.specs.List.{AllByRecursion}
 use Rattle.std.specs.Option.{option_or}
 use Rattle.std.specs.Ordering.{int_eq}

@@ -1,5 +1,5 @@
 -- When what is written for a new run fits the types that keep it.
-use Rattle.std.specs.Prelude.{◌≡◌, ℕ, ◌^◌, ◌≤◌, ◌<◌, unsigned_abs, ℤ, List, sum_by, All}
+use Rattle.std.specs.Prelude.{ℕ, ◌^◌, ◌≤◌, ◌<◌, unsigned_abs, ℤ, List, sum_by, All}
 use Rattle.hh_num.specs.Quantities.{amounts_of_cash}
 use Rattle.hh_num.specs.Ranges.{IsBetween}
 use Rattle.hh_time.specs.Days.{Midnights}

@@ -1,12 +1,11 @@
 -- The rows of a run's accounts are read by Settlement Period, then by account; so its day nets are found in them.
-use Rattle.std.proofs.Common.{◌≡◌, ℕ, zero, suc, ◌≤◌, List, [], ◌∷◌, ◌++◌, map, refl, sym, ap, subst, ◌∙◌, Bool, true, false, cond, Some, None, arith}
-use Rattle.std.specs.Prelude.{ℤ, pos, ◌+ℤ◌, filter, filter_map, take}
+use Rattle.std.proofs.Common.{◌≡◌, ℕ, zero, suc, ◌≤◌, List, [], ◌∷◌, ◌++◌, map, refl, sym, ap, subst, ◌∙◌, Bool, false, Some, arith}
+use Rattle.std.specs.Prelude.{ℤ, filter, take}
 use Rattle.std.specs.Cmp.{eq_by_cmp_equiv, nat_cmp_total}
-use Rattle.std.specs.List.{AllByRecursion, cons_option}
+use Rattle.std.specs.List.{AllByRecursion}
 use Rattle.std.specs.Ordering.{eq_by_cmp, nat_cmp, on, ordering_then, then_cmp}
 use Rattle.std.specs.declared.cmp.Ordering.{Ordering}
 use Rattle.std.specs.declared.cmp.Ordering.TheVariants.{Less}
-use Rattle.std.proofs.Math.IntN.{+ℤ_idl}
 use Rattle.std.proofs.lemmas.Cmp.{tied_itself}
 use Rattle.std.proofs.lemmas.List.{map-append}
 use Rattle.hh_num.specs.Totals.{total}
@@ -15,7 +14,7 @@ use Rattle.hh_tables.specs.Tables.{Table, in_key_order, latest}
 use Rattle.hh_tables.proofs.TableLaws.{is_sorted-in_key_order}
 use Rattle.hh_time.specs.Days.{Midnights, period_count}
 use Rattle.hh_names.specs.declared.account.Account.{Account}
-use Rattle.hh_names.specs.Accounts.{account_cmp, bytes_cmp, is_same_account, side_cmp}
+use Rattle.hh_names.specs.Accounts.{account_cmp, bytes_cmp, side_cmp}
 use Rattle.hh_names.proofs.AccountLaws.{bytes_total}
 use Rattle.hh_rows.specs.DateRanges.{holds}
 use Rattle.hh_rows.specs.declared.rows.PartyRegistration.{PartyRegistration}
@@ -30,18 +29,16 @@ use Rattle.hh_calc.specs.Terms.{PeriodTerms, Settled}
 use Rattle.hh_calc.proofs.SpreadLaws.{total-flat_map}
 use Rattle.hh_runs.specs.DayNets.{day_net_of}
 use Rattle.hh_runs.specs.declared.run_key.RunKey.{RunKey}
-use Rattle.hh_states.specs.declared.run_keys.PostingKey.{PostingKey}
 use Rattle.hh_states.specs.declared.run_keys.ResultKey.{ResultKey}
 use Rattle.hh_states.specs.Content.{all_postings, all_results, posting_key_cmp, result_entries, result_key, result_key_cmp, tables_of}
 use Rattle.hh_states.specs.DaySettlement.{day_net, from_one_to, period_net, periods_on, settled_at, settled_day}
 use Rattle.hh_names.specs.PartyAccounts.{both_accounts}
 use Rattle.hh_states.specs.PeriodSettlement.{account_rows, accounts_on, settled, terms_at}
-use Rattle.hh_states.specs.Reads.{posting_to, results_in}
+use Rattle.hh_states.specs.Reads.{results_in}
 use Rattle.hh_states.specs.RunReads.{DayNetsFromResults, HoldsNoOtherResults, HoldsPostings, HoldsResults, paid_in, rows_by_period, rows_in_run}
 use Rattle.hh_states.specs.Runs.{Run, nets_of, run_key_cmp, settled_by}
 use Rattle.hh_states.specs.States.{State}
 use Rattle.hh_states.specs.Steps.{timetable_at}
-use Rattle.hh_states.specs.Sums.{posted_to}
 use Rattle.hh_states.proofs.KeyLaws.{exact_result_keys, result_key_total, run_key_total}
 use Rattle.hh_states.proofs.ReadLaws.{postings_read}
 use Rattle.hh_state_laws.proofs.ApartLaws.{NoneAlike, all-map, all-weaken, distinct-append, distinct-filter, distinct-map, distinct_blocks}

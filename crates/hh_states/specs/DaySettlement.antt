@@ -1,5 +1,5 @@
 -- A Settlement Day: the settlement of its periods by what is registered and in force, what is missing for it, and day nets.
-use Rattle.std.specs.Prelude.{ℕ, zero, suc, List, [], ◌∷◌, ◌++◌, map, find, is_none, not, ◌+ℤ◌, ℤ, Option}
+use Rattle.std.specs.Prelude.{ℕ, zero, suc, List, [], ◌∷◌, ◌++◌, map, find, is_none, not, ℤ, Option}
 use Rattle.std.specs.List.{flat_map}
 use Rattle.hh_num.specs.Totals.{total}
 use Rattle.hh_names.specs.declared.account.Account.{Account}

@@ -1,5 +1,5 @@
 -- A Settlement Period: what it is settled from, by what is registered and in force, and its settlement.
-use Rattle.std.specs.Prelude.{ℕ, ℤ, pos, List, [], ◌∷◌, map, filter, filter_map, zip, Option, option_map, unwrap_or}
+use Rattle.std.specs.Prelude.{ℕ, ℤ, pos, List, map, filter, filter_map, zip, Option, option_map, unwrap_or}
 use Rattle.std.specs.FinMap.{find}
 use Rattle.std.specs.List.{flat_map}
 use Rattle.std.specs.Ordering.{eq_by_cmp, on, then_cmp}

@@ -1,4 +1,4 @@
-use Rattle.hh_day.proofs.SettleLaws.{settles_beyond, settles_within}
+use Rattle.hh_day.proofs.SettleLaws.{settles_within}
 use Rattle.hh_day.proofs.settle.settle_at.Goals as goal
 
 pub settle_period-requires-clause-named : goal.settle_period-requires-clause-named
