@@ -1,4 +1,4 @@
-//! Devices, files, ports, dates, names, rows and the rule of rows tried from outside: tests of what no clause of theirs
+//! Devices, files, ports, tables, dates, names, rows and the rule of rows tried from outside: tests of what no clause of theirs
 //! says. Lines of scripts are tested through `settle`.
 //!
 //! They stand in a crate of their own, since the tests of a crate are proved with all of it once more.
@@ -16,5 +16,7 @@ mod rows_tests;
 mod rules_tests;
 #[cfg(test)]
 mod sockets_tests;
+#[cfg(test)]
+mod tables_tests;
 #[cfg(test)]
 mod time_tests;

@@ -1,8 +1,8 @@
 //! Tables in memory, kept as lists of rows in the order of their keys.
 
-ghost use Rattle.std.specs.Prelude.{◌≡◌, ◌<◌, ◌≤◌, ◌++◌, [], length, true, IfOk, IfSome, OnErr, OnOk, Some};
+ghost use Rattle.std.specs.Prelude.{◌≡◌, ◌<◌, ◌≤◌, ◌++◌, [], length, true, IfOk, IfSome, IsSome, OnErr, OnOk, Some};
 ghost use Rattle.std.specs.Option.{option_copied};
-ghost use Rattle.std.specs.FinMap.{find, put};
+ghost use Rattle.std.specs.FinMap.{find, is_sorted, put};
 ghost use Rattle.std.specs.List.{prefix_len, HoldsAt};
 ghost use Rattle.std.specs.declared.cmp.Ordering.TheVariants.{Equal};
 ghost use Rattle.std.specs.List.Sorted.{IsSortedByKey, IsStableByKey};
@@ -68,6 +68,19 @@ impl<K: Ord + Copy, V> ListTable<K, V> {
 }
 
 impl<K: Ord + Copy, V: Drop> ListTable<K, V> {
+    /// The table of these rows, handed on without a copy, if their keys rise. It takes one comparison a row.
+    pub fn of_rows(rows: Vec<(K, V)>) -> Option<Self>
+        ensures value { IfSome result (λ table. table ≡ rows.items) }
+        ensures rises { IsSome result → IsTable K.cmp rows.items }
+        ensures rising { IsTable K.cmp rows.items → IsSome result }
+    {
+        if are_rising(&rows) {
+            Some(ListTable { rows })
+        } else {
+            None
+        }
+    }
+
     /// Puts a row into the table, in the place of the one under its key if there is one. `Err` only where
     /// memory is refused: the table is then as it was.
     pub fn put_row(&mut self, key: K, value: V) -> Result<(), AllocError>
@@ -144,6 +157,18 @@ impl<K: Ord + Copy, V: Copy> ListTable<K, V> {
         let rows = merged(alloc, &self.rows, &sorted)?;
         Ok(ListTable { rows })
     }
+}
+
+/// Whether the keys of rows rise, so that none stands twice.
+fn are_rising<K: Ord, V>(rows: &[(K, V)]) -> bool
+    ensures { result ≡ is_sorted K.cmp rows.now }
+{
+    for place in 1..rows.len() {
+        if !rows[place - 1].0.cmp(&rows[place].0).is_lt() {
+            return false;
+        }
+    }
+    true
 }
 
 /// Rows in the order of their keys, those of one key in the order in which they came.
