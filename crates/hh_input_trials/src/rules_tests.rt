@@ -195,6 +195,7 @@ fn finds_all(register: &Register) -> Option<(bool, u32, u32)> {
         && register.reference(&Reference::read(b"C1")?).is_some()
         && register.reading(&unit_period(b"G1", day, 1)?).is_some()
         && register.price(&settlement_period(day, 1)?).is_some()
+        && register.contract(&contract_key(b"C1", day, 1)?).is_some()
         && register
             .reallocation(&reallocation_key(b"SUPCO-P")?)
             .is_some();
@@ -228,12 +229,9 @@ fn day_of_an_odd_zone(rt: HostRuntime) -> Result<(), Fail> {
     Ok(())
 }
 
-/// Whether each of these rows is held.
+/// Whether what stands in the tables of what is registered and in force for each of these rows is held.
 fn holds(register: &mut Register, rows: &[Option<Row>]) -> bool {
-    rows.iter().all(|row| match row {
-        Some(row) => register.hold_row(*row).is_ok(),
-        None => false,
-    })
+    rows.iter().all(|row| held(register, *row) == Some(0))
 }
 
 /// Whether a contract's reference and counterparties are held.
@@ -246,19 +244,33 @@ fn holds_reference(register: &mut Register) -> Option<bool> {
     Some(held.is_ok())
 }
 
-/// What a row that is held comes to: 0, or the number of its refusal.
+/// What holding a row of the tables comes to: 0, or the number of its refusal.
 fn held(register: &mut Register, row: Option<Row>) -> Option<u8> {
-    match register.hold_row(row?) {
+    let done = match row? {
+        Row::Party(row) => register.hold_party(row.party, row.registration).is_ok(),
+        Row::Unit(row) => register.hold_unit(row.unit, row.registration).is_ok(),
+        Row::Meter(row) => register.hold_reading(row.key, row.reading).is_ok(),
+        Row::Price(row) => register.hold_price(row.at, row.price).is_ok(),
+        Row::Contract(row) => register.hold_contract(row.key, row.contract.volume).is_ok(),
+        Row::Reallocation(row) => return held_reallocation(register, row),
+    };
+    if done { Some(0) } else { None }
+}
+
+/// What holding a reallocation comes to: 0, or the number of its refusal.
+fn held_reallocation(register: &mut Register, row: ReallocationRow) -> Option<u8> {
+    match register.hold_reallocation(row.key, row.reallocation) {
         Ok(()) => Some(0),
         Err(fault) => Some(fault.refusal.number()),
     }
 }
 
-/// A reading, a price and a reallocation of 60 percent.
-fn values() -> [Option<Row>; 3] {
+/// A reading, a price, a contract and a reallocation of 60 percent.
+fn values() -> [Option<Row>; 4] {
     [
         meter_row(b"G1", b"2024-07-01", 1),
         price_row(b"2024-07-01", 1, 5_000_000),
+        contract_row(b"C1", b"GENCO-P", b"SUPCO-C", 99_000),
         reallocation_row(b"SUPCO-P", 6_000_000),
     ]
 }

@@ -1,5 +1,6 @@
 mod ContractLaws
 mod DayLaws
+mod DayRowLaws
 mod NamedLaws
 mod OutputLaws
 mod PartLaws

@@ -23,7 +23,7 @@ use Rattle.hh_rows.specs.declared.rows.Row.{Row}
 use Rattle.hh_rows.specs.declared.rows.Row.TheVariants as row
 use Rattle.hh_rows.proofs.KeyLaws.{exact_unit_periods, reallocation_key_total}
 use Rattle.hh_rules.specs.History.{Registered}
-use Rattle.hh_rules.specs.RegisterView.{AgreesOn, RegisterView, ServesFor, holding, reallocations_at, tables_in}
+use Rattle.hh_rules.specs.RegisterView.{AgreesOn, RegisterView, ServesFor, holding_reallocation, reallocations_at, tables_in}
 use Rattle.hh_kept_rows.specs.Parts.{AgreesOnNames, Grows, IsNamedIn, IsPartOf, is_named_in, whole_of, with_reallocations}
 use Rattle.hh_kept_rows.proofs.PartLaws.{names_grown}
 
@@ -170,9 +170,9 @@ module _ (named : BTreeSet UnitPeriod) where
         (put_all reallocation_key_cmp (filter (is_named_in named) (take i es)) (tables_in first).reallocations)
     one_more = held_more named es i e (subst (λ l. i < length l) same inside) (subst (λ l. e ≡ get_or l i e) same is) (tables_in first).reallocations
 
-    pub holds_more : is_named_in named e ≡ true → new ≡ holding (row.Reallocation (record { key = e.0; reallocation = e.1 })) old → new ≡ with_named (take (i + 1) es) first
+    pub holds_more : is_named_in named e ≡ true → new ≡ holding_reallocation old e.0 e.1 → new ≡ with_named (take (i + 1) es) first
     holds_more here became =
-        became ∙ ap (holding (row.Reallocation (record { key = e.0; reallocation = e.1 }))) so_far
+        became ∙ ap (λ part. holding_reallocation part e.0 e.1) so_far
         ∙ sym (ap (λ rows. with_reallocations rows first) (one_more ∙ ap (λ b. cond b (put reallocation_key_cmp e.0 e.1 (put_all reallocation_key_cmp (filter (is_named_in named) (take i es)) (tables_in first).reallocations))
         (put_all reallocation_key_cmp (filter (is_named_in named) (take i es)) (tables_in first).reallocations)) here))
 

@@ -1,31 +1,28 @@
 -- A part of a register grows by what the whole has, and then serves for the rows that name it.
-use Rattle.std.proofs.Common.{◌≡◌, ℕ, List, length, refl, sym, ap, subst, ◌∙◌, true, false, cond, Some, None, Ordering, inl, inr}
-use Rattle.std.specs.Prelude.{◌⊎◌, is_some, OnOk, Result, Ok, Err}
+use Rattle.std.proofs.Common.{◌≡◌, ℕ, List, length, refl, sym, ap, ◌∙◌, true, false, cond, Some, None, Ordering, inl, inr}
+use Rattle.std.specs.Prelude.{◌⊎◌, ℤ, OnOk, Result, Ok, Err}
 use Rattle.std.specs.Cmp.{IsTotalOrder, Equal-is, eq_by_cmp_equiv}
 use Rattle.std.specs.FinMap.{find, put}
 use Rattle.std.specs.FinMap.Entries.{find-put}
 use Rattle.std.specs.Ordering.{eq_by_cmp}
 use Rattle.std.specs.declared.cmp.Ordering.TheVariants.{Equal}
 use Rattle.std.proofs.lemmas.Map.Lookups.{exact_bytes}
-use Rattle.std.proofs.lemmas.Result.{on_ok_weaker}
 use Rattle.hh_tables.specs.Tables.{Table}
 use Rattle.hh_names.specs.declared.values.Counterparties.{Counterparties}
+use Rattle.hh_names.specs.declared.values.Reading.{Reading}
 use Rattle.hh_names.specs.Accounts.{bytes_cmp}
 use Rattle.hh_names.proofs.AccountLaws.{bytes_total}
 use Rattle.hh_rows.specs.declared.rows.Row.{Row}
 use Rattle.hh_rows.specs.declared.rows.Row.TheVariants as row
-use Rattle.hh_rows.specs.declared.rows.ContractRow.{ContractRow}
-use Rattle.hh_rows.specs.declared.rows.MeterRow.{MeterRow}
-use Rattle.hh_rows.specs.declared.rows.PartyRow.{PartyRow}
-use Rattle.hh_rows.specs.declared.rows.PriceRow.{PriceRow}
-use Rattle.hh_rows.specs.declared.rows.UnitRow.{UnitRow}
+use Rattle.hh_rows.specs.declared.rows.PartyRegistration.{PartyRegistration}
+use Rattle.hh_rows.specs.declared.rows.UnitRegistration.{UnitRegistration}
 use Rattle.hh_rows.specs.Keys.{contract_key_cmp, settlement_period_cmp, unit_period_cmp}
+use Rattle.hh_rows.specs.declared.keys.ContractKey.{ContractKey}
 use Rattle.hh_rows.specs.declared.keys.UnitPeriod.{UnitPeriod}
 use Rattle.hh_rows.specs.declared.settlement_period.SettlementPeriod.{SettlementPeriod}
 use Rattle.hh_rows.proofs.KeyLaws.{contract_key_total, exact_contract_keys, exact_settlement_periods, exact_unit_periods, settlement_period_total, unit_period_total}
-use Rattle.hh_rules.specs.Effects.{put_new}
 use Rattle.hh_rules.specs.History.{Registered}
-use Rattle.hh_rules.specs.RegisterView.{AgreesOnParty, AgreesOnReference, AgreesOnUnit, RegisterView, empty_part, holding, holding_reference, tables_in}
+use Rattle.hh_rules.specs.RegisterView.{AgreesOnParty, AgreesOnReference, AgreesOnUnit, RegisterView, empty_part, holding_contract, holding_party, holding_price, holding_reading, holding_reference, holding_unit, tables_in}
 use Rattle.hh_kept_rows.specs.Parts.{AgreesOnNames, Grows, GrowsTable, IsPartOf, IsPartOfTable, whole_of}
 
 module _ {K V : Type 0} {R : K → K → Ordering} (o : IsTotalOrder R) (exact : (x y : K) → R x y ≡ Equal → x ≡ y) (whole old : Table K V) (k : K) (v : V) (has : find R k whole ≡ Some v) where
@@ -38,12 +35,6 @@ module _ {K V : Type 0} {R : K → K → Ordering} (o : IsTotalOrder R) (exact :
 
   agrees-put : find R k (put R k v old) ≡ find R k whole
   agrees-put = find-put R o k k v old ∙ ap (λ b. cond b (Some v) (find R k old)) ((eq_by_cmp_equiv o).refl k) ∙ sym has
-
-  grows-put_new : GrowsTable R whole old (put_new R (Some (k, v)) old)
-  grows-put_new = elim (is_some (find R k old)) as (λ b. GrowsTable R whole old (cond b old (put R k v old))) [
-    | true ↦ λ q. inl refl
-    | false ↦ grows-put
-  ]
 
 module _ {K V : Type 0} (R : K → K → Ordering) (whole : Table K V) (k : K) where
   -- where the whole has nothing, the part has nothing
@@ -137,12 +128,12 @@ module _ (whole : Registered) where
 
   module _ (old : RegisterView) where
     -- rows and references of the whole that the part gets
-    pub grows_party : (r : PartyRow) → find bytes_cmp r.party whole.parties ≡ Some r.registration → Grows whole old (holding (row.Party r) old)
-    grows_party r has = record {
+    pub grows_party : (party : List ℕ) (p : PartyRegistration) → find bytes_cmp party whole.parties ≡ Some p → Grows whole old (holding_party old party p)
+    grows_party party p has = record {
       lead_minutes = refl;
       party_count = refl;
       unit_count = refl;
-      parties = grows-put bytes_total exact_bytes whole.parties (tables_in old).parties r.party r.registration has;
+      parties = grows-put bytes_total exact_bytes whole.parties (tables_in old).parties party p has;
       units = λ k. inl refl;
       references = λ k. inl refl;
       meters = λ k. inl refl;
@@ -151,16 +142,16 @@ module _ (whole : Registered) where
       reallocations = refl;
     }
 
-    pub agrees_party : (r : PartyRow) → find bytes_cmp r.party whole.parties ≡ Some r.registration → AgreesOnParty whole (tables_in (holding (row.Party r) old)) r.party
-    agrees_party r has = agrees-put bytes_total exact_bytes whole.parties (tables_in old).parties r.party r.registration has
+    pub agrees_party : (party : List ℕ) (p : PartyRegistration) → find bytes_cmp party whole.parties ≡ Some p → AgreesOnParty whole (tables_in (holding_party old party p)) party
+    agrees_party party p has = agrees-put bytes_total exact_bytes whole.parties (tables_in old).parties party p has
 
-    pub grows_unit : (r : UnitRow) → find bytes_cmp r.unit whole.units ≡ Some r.registration → Grows whole old (holding (row.Unit r) old)
-    grows_unit r has = record {
+    pub grows_unit : (unit : List ℕ) (u : UnitRegistration) → find bytes_cmp unit whole.units ≡ Some u → Grows whole old (holding_unit old unit u)
+    grows_unit unit u has = record {
       lead_minutes = refl;
       party_count = refl;
       unit_count = refl;
       parties = λ k. inl refl;
-      units = grows-put bytes_total exact_bytes whole.units (tables_in old).units r.unit r.registration has;
+      units = grows-put bytes_total exact_bytes whole.units (tables_in old).units unit u has;
       references = λ k. inl refl;
       meters = λ k. inl refl;
       prices = λ k. inl refl;
@@ -168,10 +159,10 @@ module _ (whole : Registered) where
       reallocations = refl;
     }
 
-    pub agrees_unit : (r : UnitRow) → find bytes_cmp r.unit whole.units ≡ Some r.registration → AgreesOnUnit whole (tables_in (holding (row.Unit r) old)) r.unit
-    agrees_unit r has = agrees-put bytes_total exact_bytes whole.units (tables_in old).units r.unit r.registration has
+    pub agrees_unit : (unit : List ℕ) (u : UnitRegistration) → find bytes_cmp unit whole.units ≡ Some u → AgreesOnUnit whole (tables_in (holding_unit old unit u)) unit
+    agrees_unit unit u has = agrees-put bytes_total exact_bytes whole.units (tables_in old).units unit u has
 
-    pub grows_reference : (reference : List ℕ) (c : Counterparties) → find bytes_cmp reference whole.references ≡ Some c → Grows whole old (holding_reference reference c old)
+    pub grows_reference : (reference : List ℕ) (c : Counterparties) → find bytes_cmp reference whole.references ≡ Some c → Grows whole old (holding_reference old reference c)
     grows_reference reference c has = record {
       lead_minutes = refl;
       party_count = refl;
@@ -185,29 +176,29 @@ module _ (whole : Registered) where
       reallocations = refl;
     }
 
-    pub agrees_reference : (reference : List ℕ) (c : Counterparties) → find bytes_cmp reference whole.references ≡ Some c → AgreesOnReference whole (tables_in (holding_reference reference c old)) reference
+    pub agrees_reference : (reference : List ℕ) (c : Counterparties) → find bytes_cmp reference whole.references ≡ Some c → AgreesOnReference whole (tables_in (holding_reference old reference c)) reference
     agrees_reference reference c has = agrees-put bytes_total exact_bytes whole.references (tables_in old).references reference c has
 
-    pub grows_reading : (r : MeterRow) → find unit_period_cmp r.key whole.meters ≡ Some r.reading → Grows whole old (holding (row.Meter r) old)
-    grows_reading r has = record {
+    pub grows_reading : (key : UnitPeriod) (reading : Reading) → find unit_period_cmp key whole.meters ≡ Some reading → Grows whole old (holding_reading old key reading)
+    grows_reading key reading has = record {
       lead_minutes = refl;
       party_count = refl;
       unit_count = refl;
       parties = λ k. inl refl;
       units = λ k. inl refl;
       references = λ k. inl refl;
-      meters = grows-put unit_period_total exact_unit_periods whole.meters (tables_in old).meters r.key r.reading has;
+      meters = grows-put unit_period_total exact_unit_periods whole.meters (tables_in old).meters key reading has;
       prices = λ k. inl refl;
       contracts = λ k. inl refl;
       reallocations = refl;
     }
 
-    pub agrees_reading : (r : MeterRow) → find unit_period_cmp r.key whole.meters ≡ Some r.reading
-        → find unit_period_cmp r.key (tables_in (holding (row.Meter r) old)).meters ≡ find unit_period_cmp r.key whole.meters
-    agrees_reading r has = agrees-put unit_period_total exact_unit_periods whole.meters (tables_in old).meters r.key r.reading has
+    pub agrees_reading : (key : UnitPeriod) (reading : Reading) → find unit_period_cmp key whole.meters ≡ Some reading
+        → find unit_period_cmp key (tables_in (holding_reading old key reading)).meters ≡ find unit_period_cmp key whole.meters
+    agrees_reading key reading has = agrees-put unit_period_total exact_unit_periods whole.meters (tables_in old).meters key reading has
 
-    pub grows_price : (r : PriceRow) → find settlement_period_cmp r.at whole.prices ≡ Some r.price → Grows whole old (holding (row.Price r) old)
-    grows_price r has = record {
+    pub grows_price : (at : SettlementPeriod) (price : ℤ) → find settlement_period_cmp at whole.prices ≡ Some price → Grows whole old (holding_price old at price)
+    grows_price at price has = record {
       lead_minutes = refl;
       party_count = refl;
       unit_count = refl;
@@ -215,33 +206,32 @@ module _ (whole : Registered) where
       units = λ k. inl refl;
       references = λ k. inl refl;
       meters = λ k. inl refl;
-      prices = grows-put settlement_period_total exact_settlement_periods whole.prices (tables_in old).prices r.at r.price has;
+      prices = grows-put settlement_period_total exact_settlement_periods whole.prices (tables_in old).prices at price has;
       contracts = λ k. inl refl;
       reallocations = refl;
     }
 
-    pub agrees_price : (r : PriceRow) → find settlement_period_cmp r.at whole.prices ≡ Some r.price
-        → find settlement_period_cmp r.at (tables_in (holding (row.Price r) old)).prices ≡ find settlement_period_cmp r.at whole.prices
-    agrees_price r has = agrees-put settlement_period_total exact_settlement_periods whole.prices (tables_in old).prices r.at r.price has
+    pub agrees_price : (at : SettlementPeriod) (price : ℤ) → find settlement_period_cmp at whole.prices ≡ Some price
+        → find settlement_period_cmp at (tables_in (holding_price old at price)).prices ≡ find settlement_period_cmp at whole.prices
+    agrees_price at price has = agrees-put settlement_period_total exact_settlement_periods whole.prices (tables_in old).prices at price has
 
-    pub grows_contract : (r : ContractRow) → find bytes_cmp r.key.reference whole.references ≡ Some r.contract.counterparties → find contract_key_cmp r.key whole.contracts ≡ Some r.contract.volume
-        → Grows whole old (holding (row.Contract r) old)
-    grows_contract r fixed has = record {
+    pub grows_contract : (key : ContractKey) (volume : ℤ) → find contract_key_cmp key whole.contracts ≡ Some volume → Grows whole old (holding_contract old key volume)
+    grows_contract key volume has = record {
       lead_minutes = refl;
       party_count = refl;
       unit_count = refl;
       parties = λ k. inl refl;
       units = λ k. inl refl;
-      references = grows-put_new bytes_total exact_bytes whole.references (tables_in old).references r.key.reference r.contract.counterparties fixed;
+      references = λ k. inl refl;
       meters = λ k. inl refl;
       prices = λ k. inl refl;
-      contracts = grows-put contract_key_total exact_contract_keys whole.contracts (tables_in old).contracts r.key r.contract.volume has;
+      contracts = grows-put contract_key_total exact_contract_keys whole.contracts (tables_in old).contracts key volume has;
       reallocations = refl;
     }
 
-    pub agrees_contract : (r : ContractRow) → find contract_key_cmp r.key whole.contracts ≡ Some r.contract.volume
-        → find contract_key_cmp r.key (tables_in (holding (row.Contract r) old)).contracts ≡ find contract_key_cmp r.key whole.contracts
-    agrees_contract r has = agrees-put contract_key_total exact_contract_keys whole.contracts (tables_in old).contracts r.key r.contract.volume has
+    pub agrees_contract : (key : ContractKey) (volume : ℤ) → find contract_key_cmp key whole.contracts ≡ Some volume
+        → find contract_key_cmp key (tables_in (holding_contract old key volume)).contracts ≡ find contract_key_cmp key whole.contracts
+    agrees_contract key volume has = agrees-put contract_key_total exact_contract_keys whole.contracts (tables_in old).contracts key volume has
 
   -- what the whole doesn't have, the part doesn't have
   module _ (lead_minutes : ℕ) (part : RegisterView) (is : IsPartOf (whole_of lead_minutes whole) part) where
@@ -257,9 +247,8 @@ module _ (whole : Registered) where
     pub no_price : (at : SettlementPeriod) → find settlement_period_cmp at whole.prices ≡ None → find settlement_period_cmp at (tables_in part).prices ≡ find settlement_period_cmp at whole.prices
     no_price at none = agrees-none settlement_period_cmp whole.prices at (tables_in part).prices is.prices none
 
--- what holds of the part with one more row holds after the call that holds it
-pub once_held : {X E : Type 0} (P : RegisterView → Type 0) (held new : RegisterView) (r : Result X E) → OnOk r (new ≡ held) → P held → OnOk r (P new)
-once_held P held new r is p = on_ok_weaker r (λ e. subst P (sym e) p) is
+    pub no_contract : (key : ContractKey) → find contract_key_cmp key whole.contracts ≡ None → find contract_key_cmp key (tables_in part).contracts ≡ find contract_key_cmp key whole.contracts
+    no_contract key none = agrees-none contract_key_cmp whole.contracts key (tables_in part).contracts is.contracts none
 
 -- what follows of two things that hold where a call succeeds
 pub where_both : {X E P Q S : Type 0} (r : Result X E) → (P → Q → S) → OnOk r P → OnOk r Q → OnOk r S

@@ -1,30 +1,26 @@
--- Where what is registered and in force is sound, a part of it passes nothing: the reference of a contract is fixed, and no
--- unit has more than 100 percent.
+-- Where what is registered and in force is sound, a part of it passes nothing: no unit has more than 100 percent.
 use Rattle.std.proofs.Common.{◌≡◌, ℕ, zero, suc, ◌<◌, [], ◌∷◌, length, take, get_or, sym, ap, subst, ◌∙◌, Bool, true, false, cond, arith}
-use Rattle.std.specs.Prelude.{ℤ, pos, ◌+ℤ◌, ◌≤ℤ◌, filter, not, ◌&&◌, is_ok, int_lt, is_some, None, Some, Result, Ok, Err, IsOk}
+use Rattle.std.specs.Prelude.{ℤ, pos, ◌+ℤ◌, ◌≤ℤ◌, filter, not, ◌&&◌, is_ok, int_lt, Result, Ok, Err, IsOk}
 use Rattle.std.specs.BTreeSet.{BTreeSet}
 use Rattle.std.specs.Cmp.{eq_by_cmp_equiv}
-use Rattle.std.specs.FinMap.{find}
 use Rattle.std.specs.List.{AllByRecursion}
 use Rattle.std.specs.Ordering.{eq_by_cmp}
 use Rattle.std.proofs.lemmas.Int.{ints}
 use Rattle.hh_num.specs.Totals.{total}
 use Rattle.hh_num.specs.Quantities.{hundred_percent}
 use Rattle.hh_tables.specs.Tables.{IsTable, Table, put_all}
-use Rattle.hh_names.specs.Accounts.{bytes_cmp, is_same_account}
+use Rattle.hh_names.specs.Accounts.{is_same_account}
 use Rattle.hh_names.specs.Faults.{plain_fault}
 use Rattle.hh_names.specs.declared.fault.Fault.{Fault}
 use Rattle.hh_names.specs.declared.fault.Refusal.TheVariants.{OverHundred}
 use Rattle.hh_names.specs.declared.values.Reallocation.{Reallocation}
-use Rattle.hh_rows.specs.Keys.{contract_key_cmp, reallocation_key_cmp, unit_period_cmp}
-use Rattle.hh_rows.specs.declared.keys.ContractKey.{ContractKey}
+use Rattle.hh_rows.specs.Keys.{reallocation_key_cmp, unit_period_cmp}
 use Rattle.hh_rows.specs.declared.keys.ReallocationKey.{ReallocationKey}
 use Rattle.hh_rows.specs.declared.keys.UnitPeriod.{UnitPeriod}
-use Rattle.hh_rows.specs.declared.rows.Row.TheVariants as row
 use Rattle.hh_rows.proofs.KeyLaws.{unit_period_total}
 use Rattle.hh_rules.specs.History.{Registered}
 use Rattle.hh_rules.specs.Percents.{is_of_other, percent_of_others}
-use Rattle.hh_rules.specs.RegisterView.{RegisterView, held_row, tables_in}
+use Rattle.hh_rules.specs.RegisterView.{RegisterView, held_reallocation, tables_in}
 use Rattle.hh_states.specs.Soundness.{AreSound, NoneNegative}
 use Rattle.hh_kept_rows.specs.Parts.{is_named_in, with_reallocations}
 use Rattle.hh_kept_rows.proofs.NamedLaws.{put_so_far}
@@ -80,12 +76,6 @@ under : (a b : ℤ) → b ≤ℤ a → int_lt a b ≡ false
 under a b h = grind (arith, ints)
 
 module _ (tables : Registered) (sound : AreSound tables) where
-  -- a contract in force has a fixed reference
-  pub never_unfixed : (key : ContractKey) (volume : ℤ) → find contract_key_cmp key tables.contracts ≡ Some volume → find bytes_cmp key.reference tables.references ≡ None → ⊥
-  never_unfixed key volume found none =
-      let fixed : true ≡ false = sym (sound.fixed key (ap is_some found)) ∙ ap is_some none in
-      cc
-
   module _ (positive : NoneNegative tables.reallocations) (test : ReallocationKey × Reallocation → Bool) (i : ℕ) (e : ReallocationKey × Reallocation) (inside : i < length tables.reallocations) (is : e ≡ get_or tables.reallocations i e) where
     -- with a reallocation, those of other accounts before it are at most 100 percent of its unit
     at_most_hundred : (percent_of_others e.0 (filter test (take i tables.reallocations)) +ℤ e.1.percent) ≤ℤ hundred_percent
@@ -100,7 +90,7 @@ pub takes_more : (tables : Registered) → AreSound tables → IsTable reallocat
     → (named : BTreeSet UnitPeriod) (lent : Table ReallocationKey Reallocation) → lent ≡ tables.reallocations
     → (i : ℕ) (e : ReallocationKey × Reallocation) → i < length lent → e ≡ get_or lent i e → (first old : RegisterView) → (tables_in first).reallocations ≡ []
     → old ≡ with_reallocations (put_all reallocation_key_cmp (filter (is_named_in named) (take i tables.reallocations)) (tables_in first).reallocations) first
-    → IsOk (held_row (row.Reallocation (record { key = e.0; reallocation = e.1 })) old)
+    → IsOk (held_reallocation old e.0 e.1)
 takes_more tables sound rising positive named lent same i e inside is first old none so_far =
     let answer : Bool → Result (Unit {0}) Fault = λ b. cond b (Err (plain_fault OverHundred)) (Ok tt) in
     let held : (tables_in old).reallocations ≡ filter (is_named_in named) (take i tables.reallocations) =

@@ -1,4 +1,5 @@
 pub mod DayRolls
+pub mod DayRows
 pub mod KeptContracts
 pub mod KeptReallocations
 pub mod Parts

@@ -78,7 +78,7 @@ impl KeptRegister {
         let mut places = Vec::with_capacity(alloc, roll.units.len())?;
         if let (Some(first), Some(last)) = (periods.first(), periods.last()) {
             for unit in roll.units.as_slice() {
-                let lead = place_of_lead(&roll.accounts, &unit.1.lead);
+                let lead = place_of_lead(&roll.accounts, &self.lead_on(unit, first.date));
                 let (first, last) = (unit_period(&unit.0, first), unit_period(&unit.0, last));
                 places.push(self.places_between(lead, &first, &last))?;
             }

@@ -1,6 +1,7 @@
 //! What a Settlement Day is settled from.
 
 ghost use Rattle.std.specs.Prelude.{◌≡◌, All, find, filter, filter_map, map, pos, unwrap_or, IfOk, is_none};
+ghost use Rattle.hh_rules.specs.Leads.{lead_on};
 ghost use Rattle.hh_rules.specs.RegisterView.{reallocations_at};
 ghost use Rattle.hh_states.specs.DaySettlement.{missing_meter, missing_price, periods_on, unit_periods_at};
 ghost use Rattle.hh_states.specs.PeriodSettlement.{accounts_on, price_of, reading_of, subsidiaries_of, unit_at, units_on};
@@ -270,12 +271,19 @@ impl KeptRegister {
         let subsidiaries = self.subsidiaries_of(alloc, places, &key)?;
         let data = UnitData::new(
             unit.0,
-            unit.1.lead,
+            self.lead_on(unit, at.date),
             unit.1.interconnector,
             reading,
             subsidiaries,
         );
         Ok(Some(data.with_lead_near(places.lead)))
+    }
+
+    /// The account that leads a unit on a date.
+    pub(crate) fn lead_on(&self, unit: &(UnitId, UnitRegistration), date: SettlementDate) -> Account
+        ensures { result ≡ lead_on self.now unit.now.0 unit.now.1 date }
+    {
+        unit.1.lead
     }
 
     /// The subsidiaries of a unit in a Settlement Period, in account order.

@@ -4,16 +4,13 @@ ghost use Rattle.std.specs.Prelude.{◌≡◌, ◌≤◌, ℕ, [], false, filter
 ghost use Rattle.std.specs.FinMap.{find};
 ghost use Rattle.hh_tables.specs.Tables.{IsTable, put_all};
 ghost use Rattle.hh_rows.specs.Keys.{contract_key_cmp, reallocation_key_cmp, settlement_period_cmp, unit_period_cmp};
-ghost use Rattle.hh_rules.specs.RegisterView.{held_row, holding, tables_in, AgreesOnParty, AgreesOnReference, AgreesOnUnit, ServesFor};
+ghost use Rattle.hh_rules.specs.RegisterView.{held_reallocation, holding_reallocation, tables_in, AgreesOnParty, AgreesOnReference, AgreesOnUnit, ServesFor};
 ghost use Rattle.hh_states.specs.Soundness.{AreSound, NoneNegative};
 ghost use Rattle.hh_kept_rows.specs.Parts.{is_after, is_named_in, whole_of, with_reallocations, AgreesOnNames, AreUntil, Grows, IsNamedIn, IsPartOf};
 
 use crate::kept_register::KeptRegister;
-use hh_names::{Contract, PartyId, Reading, Reallocation, Reference, Refusal, UnitId};
-use hh_rows::{
-    ContractKey, ContractRow, LeadMinutes, MeterRow, PartyRow, PriceRow, ReallocationKey,
-    ReallocationRow, Row, SettlementPeriod, UnitPeriod, UnitRow,
-};
+use hh_names::{PartyId, Reading, Reallocation, Reference, Refusal, UnitId};
+use hh_rows::{ContractKey, LeadMinutes, ReallocationKey, Row, SettlementPeriod, UnitPeriod};
 use hh_rules::Register;
 use hh_store::StoreFault;
 use std::alloc::{AllocError, Global};
@@ -76,8 +73,7 @@ impl KeptRegister {
     }
 
     /// Holds what a row names, and the row in force of its key if it isn't a reallocation. No reading
-    /// counts after `last`, if that is a Settlement Period. `Store` where no row has fixed the reference
-    /// of a contract in force.
+    /// counts after `last`, if that is a Settlement Period.
     fn hold_names(
         &self,
         part: &mut Register,
@@ -88,8 +84,7 @@ impl KeptRegister {
         ensures grows { OnOk result (Grows self.now part.old part.new) }
         ensures agrees { (lead_minutes : ℕ) → IsPartOf (whole_of lead_minutes self.now) part.old
             → OnOk result (AgreesOnNames self.now (tables_in part.new) row.now) }
-        ensures memory_alone { AreSound self.now
-            → IfErr result (λ fault. fault ≡ StoreFault.Memory) }
+        ensures memory_alone { IfErr result (λ fault. fault ≡ StoreFault.Memory) }
     {
         match row {
             Row::Party(row) => self.hold_party(part, &row.party),
@@ -126,13 +121,7 @@ impl KeptRegister {
             return Ok(());
         }
         match self.party(party) {
-            Some(registration) => hold(
-                part,
-                Row::Party(PartyRow {
-                    party: *party,
-                    registration,
-                }),
-            ),
+            Some(registration) => Ok(part.hold_party(*party, registration)?),
             None => Ok(()),
         }
     }
@@ -148,13 +137,7 @@ impl KeptRegister {
             return Ok(());
         }
         match self.unit(unit) {
-            Some(registration) => hold(
-                part,
-                Row::Unit(UnitRow {
-                    unit: *unit,
-                    registration,
-                }),
-            ),
+            Some(registration) => Ok(part.hold_unit(*unit, registration)?),
             None => Ok(()),
         }
     }
@@ -187,7 +170,7 @@ impl KeptRegister {
         ensures memory_alone { IfErr result (λ fault. fault ≡ StoreFault.Memory) }
     {
         match self.reading_until(last, key) {
-            Some(reading) => hold(part, Row::Meter(MeterRow { key: *key, reading })),
+            Some(reading) => Ok(part.hold_reading(*key, reading)?),
             None => Ok(()),
         }
     }
@@ -213,33 +196,23 @@ impl KeptRegister {
         ensures memory_alone { IfErr result (λ fault. fault ≡ StoreFault.Memory) }
     {
         match self.prices.get(at) {
-            Some(price) => hold(part, Row::Price(PriceRow { at: *at, price })),
+            Some(price) => Ok(part.hold_price(*at, price)?),
             None => Ok(()),
         }
     }
 
-    /// Holds the volume in force of a reference in a Settlement Period, if a row is in force. `Store`
-    /// where no row has fixed the reference.
+    /// Holds the volume in force of a reference in a Settlement Period, if a row is in force.
     fn hold_contract(&self, part: &mut Register, key: &ContractKey) -> Result<(), StoreFault>
         ensures grows { OnOk result (Grows self.now part.old part.new) }
         ensures agrees { (lead_minutes : ℕ) → IsPartOf (whole_of lead_minutes self.now) part.old
             → OnOk result (find contract_key_cmp key.now (tables_in part.new).contracts
             ≡ find contract_key_cmp key.now self.now.contracts) }
-        ensures memory_alone { AreSound self.now
-            → IfErr result (λ fault. fault ≡ StoreFault.Memory) }
+        ensures memory_alone { IfErr result (λ fault. fault ≡ StoreFault.Memory) }
     {
-        let Some(volume) = self.contracts.get(key) else {
-            return Ok(());
-        };
-        let Some(counterparties) = self.reference(&key.reference) else {
-            return Err(StoreFault::Store);
-        };
-        let contract = Contract {
-            counterparties,
-            volume,
-        };
-        let key = *key;
-        hold(part, Row::Contract(ContractRow { key, contract }))
+        match self.contracts.get(key) {
+            Some(volume) => Ok(part.hold_contract(*key, volume)?),
+            None => Ok(()),
+        }
     }
 
     /// Holds all reallocations in force of the units in the Settlement Periods that are named. `Store`
@@ -260,11 +233,7 @@ impl KeptRegister {
         none_negative(rows);
         for (key, reallocation) in rows {
             if named.contains(&key.unit_period) {
-                let row = ReallocationRow {
-                    key: *key,
-                    reallocation: *reallocation,
-                };
-                hold(part, Row::Reallocation(row))?;
+                hold_reallocation(part, *key, *reallocation)?;
             }
         }
         Ok(())
@@ -318,13 +287,17 @@ fn count(rows: usize) -> Result<u32, StoreFault>
     }
 }
 
-/// Holds a row; `Store` where more than 100 percent of a unit would be in force.
-fn hold(part: &mut Register, row: Row) -> Result<(), StoreFault>
-    ensures held { OnOk result (part.new ≡ holding row part.old) }
-    ensures memory_alone { IsOk (held_row row part.old)
+/// Holds a reallocation; `Store` where more than 100 percent of a unit would be in force.
+fn hold_reallocation(
+    part: &mut Register,
+    key: ReallocationKey,
+    reallocation: Reallocation,
+) -> Result<(), StoreFault>
+    ensures held { OnOk result (part.new ≡ holding_reallocation part.old key reallocation) }
+    ensures memory_alone { IsOk (held_reallocation part.old key reallocation)
         → IfErr result (λ fault. fault ≡ StoreFault.Memory) }
 {
-    match part.hold_row(row) {
+    match part.hold_reallocation(key, reallocation) {
         Ok(()) => Ok(()),
         Err(fault) => {
             if fault.refusal == Refusal::Memory {

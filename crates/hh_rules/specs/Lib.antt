@@ -3,6 +3,7 @@ pub mod Entries
 pub mod FileRows
 pub mod History
 pub mod Lateness
+pub mod Leads
 pub mod Percents
 pub mod Refusals
 pub mod RegisterView

@@ -19,6 +19,7 @@ use Rattle.hh_rows.specs.declared.rows.UnitRegistration.{UnitRegistration}
 use Rattle.hh_rules.specs.declared.timing.Timing.{Timing}
 use Rattle.hh_rules.specs.History.{Registered}
 use Rattle.hh_rules.specs.Lateness.{comes_in_time, lacks_period}
+use Rattle.hh_rules.specs.Leads.{lead_on}
 use Rattle.hh_rules.specs.Percents.{percent_of_others}
 
 -- what a row is judged by: what is registered and in force, and how many parties and units there are in all
@@ -126,7 +127,7 @@ module _ (standing : Standing) where
       ∷ (refusal.UnknownUnit, is_none (registered_unit unit))
       ∷ (refusal.NotEffective, is_unit_off unit date || is_party_off party date)
       ∷ (refusal.NoSuchPeriod, lacks_period timing)
-      ∷ (refusal.OwnLead, is_some_that (λ u. is_same_account u.lead r.key.account) (registered_unit unit))
+      ∷ (refusal.OwnLead, is_some_that (λ u. is_same_account (lead_on standing.tables unit u date) r.key.account) (registered_unit unit))
       ∷ (refusal.OverHundred, comes_in_time timing && passes_hundred r)
       ∷ []
 

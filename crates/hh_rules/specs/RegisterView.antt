@@ -13,14 +13,19 @@ use Rattle.hh_names.specs.declared.fault.Fault.{Fault}
 use Rattle.hh_names.specs.declared.fault.Refusal.{Refusal}
 use Rattle.hh_names.specs.declared.fault.Refusal.TheVariants.{OverHundred}
 use Rattle.hh_rows.specs.Keys.{contract_key_cmp, reallocation_key_cmp, settlement_period_cmp, unit_period_cmp}
+use Rattle.hh_rows.specs.declared.keys.ContractKey.{ContractKey}
 use Rattle.hh_rows.specs.declared.keys.UnitPeriod.{UnitPeriod}
 use Rattle.hh_rows.specs.declared.keys.ReallocationKey.{ReallocationKey}
+use Rattle.hh_rows.specs.declared.settlement_period.SettlementPeriod.{SettlementPeriod}
+use Rattle.hh_rows.specs.declared.rows.PartyRegistration.{PartyRegistration}
+use Rattle.hh_rows.specs.declared.rows.UnitRegistration.{UnitRegistration}
 use Rattle.hh_names.specs.declared.values.Counterparties.{Counterparties}
+use Rattle.hh_names.specs.declared.values.Reading.{Reading}
 use Rattle.hh_names.specs.declared.values.Reallocation.{Reallocation}
 use Rattle.hh_rows.specs.declared.rows.Row.{Row}
 use Rattle.hh_rows.specs.declared.rows.Row.TheVariants as row
 use Rattle.hh_rules.specs.declared.row_done.RowDone.{RowDone}
-use Rattle.hh_rules.specs.Effects.{IsOneMoreRow, fixes_reference, row_done, standing_with, with_row}
+use Rattle.hh_rules.specs.Effects.{IsOneMoreRow, fixes_reference, row_done, standing_with}
 use Rattle.hh_rules.specs.History.{Registered, nothing_registered}
 use Rattle.hh_rules.specs.Lateness.{Timetable, accepted_at, is_in_time, timing_of}
 use Rattle.hh_rules.specs.Refusals.{Standing, passes_hundred, refusals_of}
@@ -78,20 +83,40 @@ after_row in_time r register = record register { standing = standing_with in_tim
 abbrev pub with_tables : Registered → RegisterView → RegisterView
 with_tables tables register = record register { standing = record register.standing { tables = tables } }
 
--- the register with a row that it holds
-abbrev pub holding : Row → RegisterView → RegisterView
-holding r register = with_tables (with_row true r (tables_in register)) register
+-- what a register holds of a key stands in the place of what it held, and counts no party or unit
+module _ (register : RegisterView) where
+  abbrev pub holding_party : List ℕ → PartyRegistration → RegisterView
+  holding_party party registration =
+      with_tables (record (tables_in register) { parties = put bytes_cmp party registration (tables_in register).parties }) register
 
--- the register with a reference that it holds
-abbrev pub holding_reference : List ℕ → Counterparties → RegisterView → RegisterView
-holding_reference reference counterparties register =
-    with_tables (record (tables_in register) { references = put bytes_cmp reference counterparties (tables_in register).references }) register
+  abbrev pub holding_unit : List ℕ → UnitRegistration → RegisterView
+  holding_unit unit registration =
+      with_tables (record (tables_in register) { units = put bytes_cmp unit registration (tables_in register).units }) register
 
--- the answer to a row that a register is to hold: more than 100 percent of a unit can't be in force
-abbrev pub held_row : Row → RegisterView → Result (Unit {0}) Fault
-held_row (row.Reallocation r) register =
-    if passes_hundred register.standing r then Err (plain_fault OverHundred) else Ok tt
-held_row _ register = Ok tt
+  abbrev pub holding_reference : List ℕ → Counterparties → RegisterView
+  holding_reference reference counterparties =
+      with_tables (record (tables_in register) { references = put bytes_cmp reference counterparties (tables_in register).references }) register
+
+  abbrev pub holding_reading : UnitPeriod → Reading → RegisterView
+  holding_reading key reading =
+      with_tables (record (tables_in register) { meters = put unit_period_cmp key reading (tables_in register).meters }) register
+
+  abbrev pub holding_price : SettlementPeriod → ℤ → RegisterView
+  holding_price at price =
+      with_tables (record (tables_in register) { prices = put settlement_period_cmp at price (tables_in register).prices }) register
+
+  abbrev pub holding_contract : ContractKey → ℤ → RegisterView
+  holding_contract key volume =
+      with_tables (record (tables_in register) { contracts = put contract_key_cmp key volume (tables_in register).contracts }) register
+
+  abbrev pub holding_reallocation : ReallocationKey → Reallocation → RegisterView
+  holding_reallocation key reallocation =
+      with_tables (record (tables_in register) { reallocations = put reallocation_key_cmp key reallocation (tables_in register).reallocations }) register
+
+  -- the answer to a reallocation that it is to hold: more than 100 percent of a unit can't be in force
+  abbrev pub held_reallocation : ReallocationKey → Reallocation → Result (Unit {0}) Fault
+  held_reallocation key reallocation =
+      if passes_hundred register.standing (record { key = key; reallocation = reallocation }) then Err (plain_fault OverHundred) else Ok tt
 
 -- of a row that comes to a register at a moment
 module _ (zone : TimeZone) (register : RegisterView) (moment : ℤ) (r : Row) where

@@ -1,36 +1,103 @@
-//! Rows that a register of a part holds.
+//! What the register of a part holds: rows of the tables of what is registered and in force.
 
 ghost use Rattle.std.specs.Prelude.{◌≡◌, OnOk, OnErr};
 ghost use Rattle.hh_names.specs.Faults.{faults, Gives};
-ghost use Rattle.hh_rules.specs.RegisterView.{held_row, holding};
+ghost use Rattle.hh_rules.specs.RegisterView.{held_reallocation, holding_contract, holding_party, holding_price, holding_reading, holding_reallocation, holding_reference, holding_unit};
 
 use crate::register::Register;
-use hh_names::{Fault, Refusal};
-use hh_rows::Row;
+use hh_names::{Counterparties, Fault, PartyId, Reading, Reallocation, Reference, Refusal, UnitId};
+use hh_num::{Kwh, Price};
+use hh_rows::{
+    ContractKey, PartyRegistration, ReallocationKey, ReallocationRow, SettlementPeriod, UnitPeriod,
+    UnitRegistration,
+};
+use std::alloc::AllocError;
 
 impl Register {
-    /// Holds a row that is registered or in force, in the place of its key's if there is one; it counts
-    /// no party or unit. A row of contracts fixes its reference where that isn't held. Refused is 38,
-    /// where more than 100 percent of a unit would be in force, or 90 if memory runs out; the register is
-    /// then as it was.
-    pub fn hold_row(&mut self, row: Row) -> Result<(), Fault>
-        ensures answer { Gives faults (λ _. tt) result (held_row row self.old) }
-        ensures ok { OnOk result (self.new ≡ holding row self.old) }
+    /// Holds what is registered of a party, in the place of what it held of it; it counts no party. `Err`
+    /// only where memory is refused: the register is then as it was.
+    pub fn hold_party(
+        &mut self,
+        party: PartyId,
+        registration: PartyRegistration,
+    ) -> Result<(), AllocError>
+        ensures ok { OnOk result (self.new ≡ holding_party self.old party registration) }
         ensures err { OnErr result (self.new ≡ self.old) }
     {
-        match row {
-            Row::Party(row) => self.hold_party(row)?,
-            Row::Unit(row) => self.hold_unit(row)?,
-            Row::Meter(row) => self.put_meter(row)?,
-            Row::Price(row) => self.put_price(row)?,
-            Row::Contract(row) => self.put_contract(true, row)?,
-            Row::Reallocation(row) => {
-                if self.passes_hundred(&row) {
-                    return Err(Fault::of(Refusal::OverHundred));
-                }
-                self.put_reallocation(true, row)?;
-            }
+        self.parties.put(party, registration)
+    }
+
+    /// Holds what is registered of a unit, in the place of what it held of it; it counts no unit. `Err`
+    /// only where memory is refused: the register is then as it was.
+    pub fn hold_unit(
+        &mut self,
+        unit: UnitId,
+        registration: UnitRegistration,
+    ) -> Result<(), AllocError>
+        ensures ok { OnOk result (self.new ≡ holding_unit self.old unit registration) }
+        ensures err { OnErr result (self.new ≡ self.old) }
+    {
+        self.units.put(unit, registration)
+    }
+
+    /// Holds the seller and the buyer of a reference, in the place of those that it held. `Err` only
+    /// where memory is refused: the register is then as it was.
+    pub fn hold_reference(
+        &mut self,
+        reference: Reference,
+        counterparties: Counterparties,
+    ) -> Result<(), AllocError>
+        ensures ok { OnOk result (self.new ≡ holding_reference self.old reference counterparties) }
+        ensures err { OnErr result (self.new ≡ self.old) }
+    {
+        self.references.put(reference, counterparties)
+    }
+
+    /// Holds the reading that counts for a unit in a Settlement Period, in the place of the one that it
+    /// held. `Err` only where memory is refused: the register is then as it was.
+    pub fn hold_reading(&mut self, key: UnitPeriod, reading: Reading) -> Result<(), AllocError>
+        ensures ok { OnOk result (self.new ≡ holding_reading self.old key reading) }
+        ensures err { OnErr result (self.new ≡ self.old) }
+    {
+        self.meters.put(key, reading)
+    }
+
+    /// Holds the price that counts for a Settlement Period, in the place of the one that it held. `Err`
+    /// only where memory is refused: the register is then as it was.
+    pub fn hold_price(&mut self, at: SettlementPeriod, price: Price) -> Result<(), AllocError>
+        ensures ok { OnOk result (self.new ≡ holding_price self.old at price) }
+        ensures err { OnErr result (self.new ≡ self.old) }
+    {
+        self.prices.put(at, price)
+    }
+
+    /// Holds the volume in force of a reference in a Settlement Period, in the place of the one that it
+    /// held; the reference's seller and buyer are held apart. `Err` only where memory is refused: the
+    /// register is then as it was.
+    pub fn hold_contract(&mut self, key: ContractKey, volume: Kwh) -> Result<(), AllocError>
+        ensures ok { OnOk result (self.new ≡ holding_contract self.old key volume) }
+        ensures err { OnErr result (self.new ≡ self.old) }
+    {
+        self.contracts.put(key, volume)
+    }
+
+    /// Holds a reallocation in force, in the place of the one of its key that it held. Refused is 38,
+    /// where more than 100 percent of a unit would be in force, or 90 if memory runs out; the register is
+    /// then as it was.
+    pub fn hold_reallocation(
+        &mut self,
+        key: ReallocationKey,
+        reallocation: Reallocation,
+    ) -> Result<(), Fault>
+        ensures answer { Gives faults (λ _. tt) result (held_reallocation self.old key reallocation) }
+        ensures ok { OnOk result (self.new ≡ holding_reallocation self.old key reallocation) }
+        ensures err { OnErr result (self.new ≡ self.old) }
+    {
+        let row = ReallocationRow { key, reallocation };
+        if self.passes_hundred(&row) {
+            return Err(Fault::of(Refusal::OverHundred));
         }
+        self.put_reallocation(true, row)?;
         Ok(())
     }
 }

@@ -5,14 +5,15 @@ ghost use Rattle.hh_names.specs.declared.fault.Refusal.TheVariants.{ShrinksRange
 ghost use Rattle.hh_names.specs.Faults.{first_met};
 ghost use Rattle.hh_rows.specs.DateRanges.{is_inside};
 ghost use Rattle.hh_rules.specs.Effects.{HasRoomFor};
-ghost use Rattle.hh_rules.specs.RegisterView.{judged_at, refusal_at, IsKeptIn, IsLeastFault, IsLeastRefusal, IsRefusedFor, JudgesAsWhole, TellsInTime};
+ghost use Rattle.hh_rules.specs.Leads.{lead_on};
+ghost use Rattle.hh_rules.specs.RegisterView.{judged_at, refusal_at, tables_in, IsKeptIn, IsLeastFault, IsLeastRefusal, IsRefusedFor, JudgesAsWhole, TellsInTime};
 ghost use Rattle.hh_rules.specs.Refusals.{contract_refusals, is_unit_moved, meter_refusals, party_refusals, passes_hundred, price_refusals, reallocation_refusals, refusals_of, unit_refusals};
 
 use crate::register::Register;
 use crate::timing::Timing;
-use hh_names::{Fault, Refusal};
+use hh_names::{Account, Fault, Refusal, UnitId};
 use hh_rows::{ContractRow, MeterRow, PartyRow, ReallocationRow, Row, UnitRegistration, UnitRow};
-use hh_time::Day;
+use hh_time::{Day, SettlementDate};
 use jiff::tz::TimeZone;
 
 /// How many parties there may be.
@@ -160,13 +161,25 @@ impl Register {
         if timing.lacks_period() {
             return Some(Refusal::NoSuchPeriod);
         }
-        if unit.lead == row.key.account {
+        if self.lead_on(&row.key.unit_period.unit, &unit, date) == row.key.account {
             return Some(Refusal::OwnLead);
         }
         if timing.comes_in_time() && self.passes_hundred(row) {
             return Some(Refusal::OverHundred);
         }
         None
+    }
+
+    /// The account that leads a unit with this registration on a date.
+    fn lead_on(
+        &self,
+        unit: &UnitId,
+        registration: &UnitRegistration,
+        date: SettlementDate,
+    ) -> Account
+        ensures { result ≡ lead_on (tables_in self.now) unit.now registration.now date }
+    {
+        registration.lead
     }
 
     /// Whether with the row more than 100 percent would be in force.

@@ -10,7 +10,7 @@ ghost use Rattle.hh_names.specs.Accounts.{bytes_cmp};
 ghost use Rattle.hh_names.specs.Faults.{faults, Gives};
 ghost use Rattle.hh_rules.specs.Effects.{HasRoomFor, fixes_reference, row_done};
 ghost use Rattle.hh_rules.specs.Percents.{percent_in, percent_of_others};
-ghost use Rattle.hh_rules.specs.RegisterView.{after_row, done_at, empty_part, empty_register, holding, holding_reference, judged_at, register_after, tables_in, AddsOneRow, IsLeastFault, JudgesAsWhole, ServesAfter};
+ghost use Rattle.hh_rules.specs.RegisterView.{after_row, done_at, empty_part, empty_register, judged_at, register_after, tables_in, AddsOneRow, IsLeastFault, JudgesAsWhole, ServesAfter};
 
 use crate::row_done::RowDone;
 use hh_names::{Counterparties, Fault, PartyId, Reading, Reallocation, Reference, UnitId};
@@ -31,12 +31,12 @@ pub struct Register {
     lead_minutes: LeadMinutes,
     party_count: u32,
     unit_count: u32,
-    parties: TreeTable<PartyId, PartyRegistration>,
-    units: TreeTable<UnitId, UnitRegistration>,
-    references: TreeTable<Reference, Counterparties>,
-    meters: TreeTable<UnitPeriod, Reading>,
-    prices: TreeTable<SettlementPeriod, Price>,
-    contracts: TreeTable<ContractKey, Kwh>,
+    pub(crate) parties: TreeTable<PartyId, PartyRegistration>,
+    pub(crate) units: TreeTable<UnitId, UnitRegistration>,
+    pub(crate) references: TreeTable<Reference, Counterparties>,
+    pub(crate) meters: TreeTable<UnitPeriod, Reading>,
+    pub(crate) prices: TreeTable<SettlementPeriod, Price>,
+    pub(crate) contracts: TreeTable<ContractKey, Kwh>,
     reallocations: TreeTable<ReallocationKey, Reallocation>,
     /// The percentages in force, added up, so that no row needs a walk over the others.
     percents: TreeTable<UnitPeriod, Percent>,
@@ -276,35 +276,6 @@ impl Register {
             self.unit_count += 1;
         }
         Ok(())
-    }
-
-    /// Holds a party, without counting it.
-    pub(crate) fn hold_party(&mut self, row: PartyRow) -> Result<(), AllocError>
-        ensures ok { OnOk result (self.new ≡ holding (rows.Party row) self.old) }
-        ensures err { OnErr result (self.new ≡ self.old) }
-    {
-        self.parties.put(row.party, row.registration)
-    }
-
-    /// Holds a unit, without counting it.
-    pub(crate) fn hold_unit(&mut self, row: UnitRow) -> Result<(), AllocError>
-        ensures ok { OnOk result (self.new ≡ holding (rows.Unit row) self.old) }
-        ensures err { OnErr result (self.new ≡ self.old) }
-    {
-        self.units.put(row.unit, row.registration)
-    }
-
-    /// Holds the seller and the buyer of a reference, in the place of those that it held. `Err` only
-    /// where memory is refused: the register is then as it was.
-    pub fn hold_reference(
-        &mut self,
-        reference: Reference,
-        counterparties: Counterparties,
-    ) -> Result<(), AllocError>
-        ensures ok { OnOk result (self.new ≡ holding_reference reference counterparties self.old) }
-        ensures err { OnErr result (self.new ≡ self.old) }
-    {
-        self.references.put(reference, counterparties)
     }
 
     /// Takes a reading in the place of its key's.

@@ -17,6 +17,7 @@ use Rattle.hh_rows.specs.declared.settlement_period.SettlementPeriod.{Settlement
 use Rattle.hh_rows.specs.DateRanges.{holds}
 use Rattle.hh_rows.specs.Keys.{settlement_period_cmp, unit_period_cmp}
 use Rattle.hh_rules.specs.History.{Registered}
+use Rattle.hh_rules.specs.Leads.{lead_on}
 use Rattle.hh_rules.specs.RegisterView.{reallocations_at}
 use Rattle.hh_calc.specs.declared.data.Subsidiary.{Subsidiary}
 use Rattle.hh_calc.specs.declared.result.AccountRow.{AccountRow}
@@ -59,7 +60,8 @@ module _ (tables : Registered) where
 
     -- what a unit is settled from, with this reading
     abbrev pub unit_with : List ℕ × UnitRegistration → Reading → BmUnit
-    unit_with e reading = bm_unit e.0 e.1.lead e.1.interconnector reading (subsidiaries_of (record { unit = e.0; at = at }))
+    unit_with e reading =
+        bm_unit e.0 (lead_on tables e.0 e.1 at.date) e.1.interconnector reading (subsidiaries_of (record { unit = e.0; at = at }))
 
     -- what a unit is settled from, if it has a reading
     abbrev pub unit_at : List ℕ × UnitRegistration → Option BmUnit

@@ -16,6 +16,7 @@ use Rattle.hh_rows.specs.declared.keys.UnitPeriod.{UnitPeriod}
 use Rattle.hh_rows.specs.declared.rows.PartyRegistration.{PartyRegistration}
 use Rattle.hh_rows.specs.declared.rows.UnitRegistration.{UnitRegistration}
 use Rattle.hh_rules.specs.History.{Registered}
+use Rattle.hh_rules.specs.Leads.{lead_on}
 use Rattle.hh_rules.specs.Percents.{percent_at}
 use Rattle.hh_rules.specs.Refusals.{most_parties, most_units}
 use Rattle.hh_states.specs.Runs.{seen_by}
@@ -65,7 +66,7 @@ pub record HasCounterparties (tables : Registered) (key : ContractKey) : Type 0 
 pub record IsToSubsidiary (tables : Registered) (key : ReallocationKey) : Type 0 where
   pub unit : IsUnitEffective tables key.unit_period.unit key.unit_period.at.date
   pub party : IsPartyEffective tables key.account.party key.unit_period.at.date
-  pub not_lead : unit.registration.lead ≢ key.account
+  pub not_lead : lead_on tables key.unit_period.unit unit.registration key.unit_period.at.date ≢ key.account
 
 -- the keys of each of the seven tables rise, so that none stands twice
 pub record AreTables (tables : Registered) : Type 0 where

@@ -1,16 +1,18 @@
-use Rattle.std.proofs.Common.{sym}
+use Rattle.std.proofs.Common.{subst, sym}
 use Rattle.hh_rules.specs.RegisterView.{AgreesOnUnit, tables_in}
 use Rattle.hh_kept_rows.specs.Parts.{Grows}
-use Rattle.hh_kept_rows.proofs.PartLaws.{agrees_unit, grows_unit, grows_none, no_unit, once_held}
+use Rattle.hh_kept_rows.proofs.PartLaws.{agrees_unit, grows_unit, grows_none, no_unit}
 use Rattle.hh_kept_rows.proofs.kept_register.KeptRegister.hold_unit.Goals as goal
 
-pub returns-in-Some-clause-grows : goal.returns-in-Some-clause-grows
-returns-in-Some-clause-grows c =
-    once_held (Grows c.args.self.now c.args.part.now) _ _ c.hold.result c.hold.ensures.held (grows_unit c.args.self.now c.args.part.now (record { unit = c.args.unit.now; registration = c.in-Some.registration }) (sym c.in-Some.ensures))
+pub returns-in_ok-hold_unit-in-Some-clause-grows : goal.returns-in_ok-hold_unit-in-Some-clause-grows
+returns-in_ok-hold_unit-in-Some-clause-grows c =
+    subst (Grows c.args.self.now c.args.part.now) (sym c.in_ok-hold_unit-in-Some.ensures.ok)
+    (grows_unit c.args.self.now c.args.part.now c.args.unit.now c.in-Some.registration (sym c.in-Some.ensures))
 
-pub returns-in-Some-clause-agrees : goal.returns-in-Some-clause-agrees
-returns-in-Some-clause-agrees c lead_minutes part =
-    once_held (λ n. AgreesOnUnit c.args.self.now (tables_in n) c.args.unit.now) _ _ c.hold.result c.hold.ensures.held (agrees_unit c.args.self.now c.args.part.now (record { unit = c.args.unit.now; registration = c.in-Some.registration }) (sym c.in-Some.ensures))
+pub returns-in_ok-hold_unit-in-Some-clause-agrees : goal.returns-in_ok-hold_unit-in-Some-clause-agrees
+returns-in_ok-hold_unit-in-Some-clause-agrees c lead_minutes part =
+    subst (λ n. AgreesOnUnit c.args.self.now (tables_in n) c.args.unit.now) (sym c.in_ok-hold_unit-in-Some.ensures.ok)
+    (agrees_unit c.args.self.now c.args.part.now c.args.unit.now c.in-Some.registration (sym c.in-Some.ensures))
 
 pub returns-in-None-clause-grows : goal.returns-in-None-clause-grows
 returns-in-None-clause-grows c = grows_none c.args.self.now c.args.part.now

@@ -1,0 +1,252 @@
+-- A Settlement Day by its own rows: what is found among all rows is found among those of the date.
+use Rattle.std.proofs.Common.{◌≡◌, ℕ, List, [], ◌∷◌, ◌++◌, map, refl, sym, ap, subst, ◌∙◌, Bool, true, false, cond, Option, Some, Ordering, arith}
+use Rattle.std.specs.Prelude.{ℤ, pos, ◌==◌, ◌&&◌, ◌||◌, filter, filter_map, find, is_none, option_map, unwrap_or}
+use Rattle.std.specs.Cmp.{Equal-is}
+use Rattle.std.specs.FinMap.{find as entry_at}
+use Rattle.std.specs.List.{AllByRecursion, cons_option, flat_map, list_any}
+use Rattle.std.specs.Ordering.{eq_by_cmp}
+use Rattle.std.proofs.lemmas.List.Elements.{recursion_from_All, All-from_recursion}
+use Rattle.hh_tables.specs.Tables.{Table}
+use Rattle.hh_names.specs.declared.values.Reading.{Reading}
+use Rattle.hh_names.specs.Accounts.{bytes_cmp}
+use Rattle.hh_rows.proofs.KeyLaws.{exact_settlement_periods, exact_unit_periods}
+use Rattle.hh_rows.specs.DateRanges.{holds}
+use Rattle.hh_rows.specs.Keys.{settlement_period_cmp, unit_period_cmp}
+use Rattle.hh_rows.specs.declared.keys.ContractKey.{ContractKey}
+use Rattle.hh_rows.specs.declared.keys.UnitPeriod.{UnitPeriod}
+use Rattle.hh_rows.specs.declared.rows.UnitRegistration.{UnitRegistration}
+use Rattle.hh_rows.specs.declared.settlement_period.SettlementPeriod.{SettlementPeriod}
+use Rattle.hh_rules.specs.History.{Registered}
+use Rattle.hh_rules.specs.Leads.{lead_on}
+use Rattle.hh_rules.specs.RegisterView.{AgreesOn}
+use Rattle.hh_rows.specs.declared.rows.Row.{Row}
+use Rattle.hh_rows.specs.declared.rows.Row.TheVariants as row
+use Rattle.hh_calc.specs.Terms.{bm_unit, period_terms}
+use Rattle.hh_states.specs.DaySettlement.{from_one_to, missing_meter, missing_price, periods_on, unit_periods_at}
+use Rattle.hh_states.specs.PeriodSettlement.{accounts_on, both_accounts, price_of, reading_of, row_in_force, rows_in_force, terms_at, unit_at, units_on}
+use Rattle.hh_states.specs.Reads.{names_account}
+use Rattle.hh_kept_rows.specs.DayRows.{AgreesOnUnitAt, ContractsByTheirRows, HasContractsOn, HasRowsOn, PartsOfParts, RowsOfADate, SettledByItsRows, is_reference_on, rows_on, volumes_at}
+
+-- two tests that agree on each element find the same
+find_alike : {X : Type 0} (f g : X → Bool) (xs : List X) → AllByRecursion (λ x. f x ≡ g x) xs → find f xs ≡ find g xs
+find_alike f g [] h = refl
+find_alike f g (x ∷ xs) h = (λ i. cond (h.0 i) (Some x) (find_alike f g xs h.1 i))
+
+-- two functions that agree on each element give the same
+filter_map_alike : {X Y : Type 0} (f g : X → Option Y) (xs : List X) → AllByRecursion (λ x. f x ≡ g x) xs → filter_map f xs ≡ filter_map g xs
+filter_map_alike f g [] h = refl
+filter_map_alike f g (x ∷ xs) h = (λ i. cons_option (h.0 i) (filter_map_alike f g xs h.1 i))
+
+flat_map_alike : {X Y : Type 0} (f g : X → List Y) (xs : List X) → AllByRecursion (λ x. f x ≡ g x) xs → flat_map f xs ≡ flat_map g xs
+flat_map_alike f g [] h = refl
+flat_map_alike f g (x ∷ xs) h = (λ i. h.0 i ++ flat_map_alike f g xs h.1 i)
+
+all_append : {X : Type 0} (P : X → Type 0) (xs ys : List X) → AllByRecursion P xs → AllByRecursion P ys → AllByRecursion P (xs ++ ys)
+all_append P [] ys h k = k
+all_append P (x ∷ xs) ys h k = (h.0, all_append P xs ys h.1 k)
+
+all_map : {X Y : Type 0} (P : Y → Type 0) (f : X → Y) (xs : List X) → AllByRecursion (λ x. P (f x)) xs → AllByRecursion P (map f xs)
+all_map P f [] h = tt
+all_map P f (x ∷ xs) h = (h.0, all_map P f xs h.1)
+
+all_weaker : {X : Type 0} (P Q : X → Type 0) → ((x : X) → P x → Q x) → (xs : List X) → AllByRecursion P xs → AllByRecursion Q xs
+all_weaker P Q weaker [] h = tt
+all_weaker P Q weaker (x ∷ xs) h = (weaker x h.0, all_weaker P Q weaker xs h.1)
+
+-- what holds of the elements that pass a test holds of those that a stronger one passes
+all_filter : {X : Type 0} (P : X → Type 0) (test : X → Bool) (xs : List X) → AllByRecursion (λ x. test x ≡ true → P x) xs → AllByRecursion P (filter test xs)
+all_filter P test [] h = tt
+all_filter P test (x ∷ xs) h = elim (test x) as (λ b. test x ≡ b → AllByRecursion P (cond b (x ∷ filter test xs) (filter test xs))) [
+  | true ↦ λ passes. (h.0 passes, all_filter P test xs h.1)
+  | false ↦ λ fails. all_filter P test xs h.1
+] refl
+
+-- a date's row is of the date
+same_date : (a b : SettlementPeriod) → eq_by_cmp settlement_period_cmp a b ≡ true → a.date ≡ b.date
+same_date a b same = ap (λ (p : SettlementPeriod). p.date) (exact_settlement_periods a b ((Equal-is (settlement_period_cmp a b)).0 same))
+
+module _ (date : ℕ) (whole part : Registered) (has : HasContractsOn date whole part) (at : SettlementPeriod) (on : at.date ≡ date) where
+  is_here : ContractKey × ℤ → Bool
+  is_here e = eq_by_cmp settlement_period_cmp e.0.at at
+
+  row_alike : (e : ContractKey × ℤ) → (e.0.at.date ≡ date → entry_at bytes_cmp e.0.reference part.references ≡ entry_at bytes_cmp e.0.reference whole.references)
+      → eq_by_cmp settlement_period_cmp e.0.at at ≡ true → row_in_force part e ≡ row_in_force whole e
+  row_alike e alike here =
+      ap (option_map (λ c. record { key = e.0; contract = record { counterparties = c; volume = e.1 } })) (alike (same_date e.0.at at here ∙ on))
+
+  pub rows_alike : rows_in_force part at ≡ rows_in_force whole at
+  rows_alike =
+      ap (filter_map (row_in_force part)) (has.volumes at on)
+      ∙ filter_map_alike (row_in_force part) (row_in_force whole) (volumes_at whole at)
+      (all_filter (λ e. row_in_force part e ≡ row_in_force whole e) (λ e. eq_by_cmp settlement_period_cmp e.0.at at) whole.contracts
+      (all_weaker (λ e. e.0.at.date ≡ date → entry_at bytes_cmp e.0.reference part.references ≡ entry_at bytes_cmp e.0.reference whole.references)
+      (λ e. eq_by_cmp settlement_period_cmp e.0.at at ≡ true → row_in_force part e ≡ row_in_force whole e) row_alike whole.contracts (recursion_from_All _ whole.contracts has.references)))
+
+-- each of some Settlement Periods of a date is of it
+each_on : (date : ℕ) (numbers : List ℕ) → AllByRecursion (λ (at : SettlementPeriod). at.date ≡ date) (map (λ p. record { date = date; period = p }) numbers)
+each_on date [] = tt
+each_on date (p ∷ numbers) = (refl, each_on date numbers)
+
+pub contracts_alike : ContractsByTheirRows
+contracts_alike date whole part has account =
+    ap (filter (names_account account))
+    (flat_map_alike (rows_in_force part) (rows_in_force whole) (periods_on date 50)
+    (all_weaker (λ (at : SettlementPeriod). at.date ≡ date) (λ at. rows_in_force part at ≡ rows_in_force whole at) (rows_alike date whole part has) (periods_on date 50) (each_on date (from_one_to 50))))
+
+module _ (date : ℕ) (whole part : Registered) (has : HasRowsOn date whole part) where
+  lack_alike : (periods : List SettlementPeriod) → AllByRecursion (λ at. at.date ≡ date) periods → missing_price part periods ≡ missing_price whole periods
+  lack_alike periods on =
+      find_alike (λ at. is_none (price_of part at)) (λ at. is_none (price_of whole at)) periods
+      (all_weaker (λ at. at.date ≡ date) (λ at. is_none (price_of part at) ≡ is_none (price_of whole at)) (λ at is. ap is_none (has.prices at is)) periods on)
+
+  module _ (at : SettlementPeriod) (on : at.date ≡ date) where
+    -- what agrees of each unit of the date agrees of each unit of the period
+    units_agree : AllByRecursion (λ u. AgreesOnUnitAt whole part u.0 at) (units_on whole at.date)
+    units_agree = subst (λ d. AllByRecursion (λ u. AgreesOnUnitAt whole part u.0 at) (units_on whole d)) (sym on) (recursion_from_All _ (units_on whole date) (has.of_units at on))
+
+    here : List ℕ × UnitRegistration → UnitPeriod
+    here u = record { unit = u.0; at = at }
+
+    keys_alike : AllByRecursion (λ key. is_none (reading_of part key) ≡ is_none (reading_of whole key)) (unit_periods_at whole at)
+    keys_alike =
+        all_map (λ key. is_none (reading_of part key) ≡ is_none (reading_of whole key)) (λ u. record { unit = u.0; at = at }) (units_on whole at.date)
+        (all_weaker (λ u. AgreesOnUnitAt whole part u.0 at) (λ u. is_none (reading_of part (record { unit = u.0; at = at })) ≡ is_none (reading_of whole (record { unit = u.0; at = at })))
+        (λ u agrees. ap is_none agrees.reading) (units_on whole at.date) units_agree)
+
+    unit_alike : (u : List ℕ × UnitRegistration) → AgreesOnUnitAt whole part u.0 at → unit_at part at u ≡ unit_at whole at u
+    unit_alike u agrees =
+        λ i. option_map (λ (reading : Reading). bm_unit u.0 (lead_on whole u.0 u.1 at.date) u.1.interconnector reading (map (λ e. record { account = e.0.account; reallocation = e.1 }) (agrees.reallocations i))) (agrees.reading i)
+
+    terms_alike : terms_at part at ≡ terms_at whole at
+    terms_alike =
+        (λ i. period_terms (flat_map (λ e. both_accounts e.0) (filter (λ e. holds e.1.range at.date) (has.parties i))) (filter_map (unit_at part at) (filter (λ e. holds e.1.range at.date) (has.units i)))
+        (map (λ r. r.contract) (rows_alike date whole part has.contracts at on i)) (unwrap_or (has.prices at on i) (pos 0)))
+        ∙ ap (λ units. period_terms (accounts_on whole at.date) units (map (λ r. r.contract) (rows_in_force whole at)) (unwrap_or (price_of whole at) (pos 0)))
+        (filter_map_alike (unit_at part at) (unit_at whole at) (units_on whole at.date)
+        (all_weaker (λ u. AgreesOnUnitAt whole part u.0 at) (λ u. unit_at part at u ≡ unit_at whole at u) unit_alike (units_on whole at.date) units_agree))
+
+  keys_alike_in : (periods : List SettlementPeriod) → AllByRecursion (λ at. at.date ≡ date) periods
+      → AllByRecursion (λ key. is_none (reading_of part key) ≡ is_none (reading_of whole key)) (flat_map (unit_periods_at whole) periods)
+  keys_alike_in [] on = tt
+  keys_alike_in (at ∷ periods) on = all_append _ (unit_periods_at whole at) (flat_map (unit_periods_at whole) periods) (keys_alike at on.0) (keys_alike_in periods on.1)
+
+  meters_alike : (periods : List SettlementPeriod) → AllByRecursion (λ at. at.date ≡ date) periods → missing_meter part periods ≡ missing_meter whole periods
+  meters_alike periods on =
+      (λ i. find (λ key. is_none (reading_of part key)) (flat_map (λ at. map (λ e. record { unit = e.0; at = at }) (filter (λ e. holds e.1.range at.date) (has.units i))) periods))
+      ∙ find_alike (λ key. is_none (reading_of part key)) (λ key. is_none (reading_of whole key)) (flat_map (unit_periods_at whole) periods) (keys_alike_in periods on)
+
+pub settled_alike : SettledByItsRows
+settled_alike date whole part has = record {
+  missing_price = λ periods on. lack_alike date whole part has periods (recursion_from_All _ periods on);
+  missing_meter = λ periods on. meters_alike date whole part has periods (recursion_from_All _ periods on);
+  terms = terms_alike date whole part has;
+}
+
+true_is_not_false : true ≡ false → ⊥
+true_is_not_false e = cc
+
+-- a key is found among the rows that are kept where its row is kept
+find_kept : {K V : Type 0} (R : K → K → Ordering) (keeps : K → Bool) (es : Table K V) (k : K) → ((q : K) → eq_by_cmp R k q ≡ true → keeps q ≡ true)
+    → entry_at R k (filter (λ e. keeps e.0) es) ≡ entry_at R k es
+find_kept R keeps [] k kept = refl
+find_kept R keeps (e ∷ es) k kept =
+    let rest = find_kept R keeps es k kept in
+    elim (keeps e.0) as (λ b. keeps e.0 ≡ b → entry_at R k (cond b (e ∷ filter (λ x. keeps x.0) es) (filter (λ x. keeps x.0) es)) ≡ cond (eq_by_cmp R k e.0) (Some e.1) (entry_at R k es)) [
+      | true ↦ λ stays. ap (cond (eq_by_cmp R k e.0) (Some e.1)) rest
+      | false ↦ λ goes. elim (eq_by_cmp R k e.0) as (λ t. eq_by_cmp R k e.0 ≡ t → entry_at R k (filter (λ x. keeps x.0) es) ≡ cond t (Some e.1) (entry_at R k es)) [
+        | true ↦ λ same. absurd (true_is_not_false (sym (kept e.0 same) ∙ goes))
+        | false ↦ λ apart. rest
+      ] refl
+    ] refl
+
+-- the rows that pass a test are among those that are kept where each of them is kept
+filter_kept : {X : Type 0} (keeps test : X → Bool) (xs : List X) → ((x : X) → test x ≡ true → keeps x ≡ true) → filter test (filter keeps xs) ≡ filter test xs
+filter_kept keeps test [] kept = refl
+filter_kept keeps test (x ∷ xs) kept =
+    let rest = filter_kept keeps test xs kept in
+    elim (keeps x) as (λ b. keeps x ≡ b → filter test (cond b (x ∷ filter keeps xs) (filter keeps xs)) ≡ cond (test x) (x ∷ filter test xs) (filter test xs)) [
+      | true ↦ λ stays. ap (λ l. cond (test x) (x ∷ l) l) rest
+      | false ↦ λ goes. elim (test x) as (λ t. test x ≡ t → filter test (filter keeps xs) ≡ cond t (x ∷ filter test xs) (filter test xs)) [
+        | true ↦ λ passes. absurd (true_is_not_false (sym (kept x passes) ∙ goes))
+        | false ↦ λ fails. rest
+      ] refl
+    ] refl
+
+or_true : (b : Bool) → (b || true) ≡ true
+or_true true = refl
+or_true false = refl
+
+true_or : (a b : Bool) → a ≡ true → (a || b) ≡ true
+true_or a b is = ap (λ x. x || b) is
+
+-- each element is one of those that a test of it finds
+each_found : {X : Type 0} (xs : List X) → AllByRecursion (λ x. (test : X → Bool) → test x ≡ true → list_any test xs ≡ true) xs
+each_found [] = tt
+each_found {X = X} (x ∷ xs) = (
+  λ test is. true_or (test x) (list_any test xs) is,
+  all_weaker (λ y. (test : X → Bool) → test y ≡ true → list_any test xs ≡ true) (λ y. (test : X → Bool) → test y ≡ true → list_any test (x ∷ xs) ≡ true)
+      (λ y found test is. ap (λ b. test x || b) (found test is) ∙ or_true (test x)) xs (each_found xs),
+)
+
+is_on : (a date : ℕ) → a ≡ date → (a == date) ≡ true
+is_on a date on = grind (arith)
+
+module _ (date : ℕ) (whole : Registered) where
+  unit_kept : (unit : List ℕ) (at : SettlementPeriod) → at.date ≡ date → AgreesOnUnitAt whole (rows_on date whole) unit at
+  unit_kept unit at on =
+      let key : UnitPeriod = record { unit = unit; at = at } in
+      record {
+        reading = find_kept unit_period_cmp (λ q. q.at.date == date) whole.meters key
+            (λ q same. is_on q.at.date date (ap (λ (u : UnitPeriod). u.at.date) (sym (exact_unit_periods key q ((Equal-is (unit_period_cmp key q)).0 same))) ∙ on));
+        reallocations = filter_kept (λ e. e.0.unit_period.at.date == date) (λ e. eq_by_cmp unit_period_cmp e.0.unit_period key) whole.reallocations
+            (λ e same. is_on e.0.unit_period.at.date date (ap (λ (u : UnitPeriod). u.at.date) (exact_unit_periods e.0.unit_period key ((Equal-is (unit_period_cmp e.0.unit_period key)).0 same)) ∙ on));
+      }
+
+  units_kept : (at : SettlementPeriod) → at.date ≡ date → (us : Table (List ℕ) UnitRegistration) → AllByRecursion (λ u. AgreesOnUnitAt whole (rows_on date whole) u.0 at) us
+  units_kept at on [] = tt
+  units_kept at on (u ∷ us) = (unit_kept u.0 at on, units_kept at on us)
+
+  reference_kept : (e : ContractKey × ℤ) → ((test : ContractKey × ℤ → Bool) → test e ≡ true → list_any test whole.contracts ≡ true)
+      → e.0.at.date ≡ date → entry_at bytes_cmp e.0.reference (rows_on date whole).references ≡ entry_at bytes_cmp e.0.reference whole.references
+  reference_kept e found on =
+      find_kept bytes_cmp (is_reference_on whole date) whole.references e.0.reference
+      (λ q same. found (λ c. (c.0.at.date == date) && eq_by_cmp bytes_cmp c.0.reference q) (λ i. is_on e.0.at.date date on i && same i))
+
+  contracts_kept : HasContractsOn date whole (rows_on date whole)
+  contracts_kept = record {
+    volumes = λ at on. filter_kept (λ e. e.0.at.date == date) (λ e. eq_by_cmp settlement_period_cmp e.0.at at) whole.contracts
+        (λ e same. is_on e.0.at.date date (same_date e.0.at at same ∙ on));
+    references = All-from_recursion _ whole.contracts
+        (all_weaker (λ e. (test : ContractKey × ℤ → Bool) → test e ≡ true → list_any test whole.contracts ≡ true)
+        (λ e. e.0.at.date ≡ date → entry_at bytes_cmp e.0.reference (rows_on date whole).references ≡ entry_at bytes_cmp e.0.reference whole.references)
+        reference_kept whole.contracts (each_found whole.contracts));
+  }
+
+pub rows_kept : RowsOfADate
+rows_kept date whole = record {
+  parties = refl;
+  units = refl;
+  prices = λ at on. find_kept settlement_period_cmp (λ q. q.date == date) whole.prices at (λ q same. is_on q.date date (sym (same_date at q same) ∙ on));
+  of_units = λ at on. All-from_recursion _ (units_on whole date) (units_kept date whole at on (units_on whole date));
+  contracts = contracts_kept date whole;
+}
+
+-- what two agree on, and the second with a third, the first and the third agree on
+agrees_through : (whole middle part : Registered) (r : Row) → AgreesOn whole middle r → AgreesOn middle part r → AgreesOn whole part r
+agrees_through whole middle part (row.Party r) a b = b ∙ a
+agrees_through whole middle part (row.Unit r) (party, unit) (party', unit') = (party' ∙ party, unit' ∙ unit)
+agrees_through whole middle part (row.Meter r) (unit, reading) (unit', reading') = (unit' ∙ unit, reading' ∙ reading)
+agrees_through whole middle part (row.Price r) a b = b ∙ a
+agrees_through whole middle part (row.Contract r) (seller, buyer, reference, volume) (seller', buyer', reference', volume') =
+    (seller' ∙ seller, buyer' ∙ buyer, reference' ∙ reference, volume' ∙ volume)
+agrees_through whole middle part (row.Reallocation r) (party, unit, rows) (party', unit', rows') = (party' ∙ party, unit' ∙ unit, rows' ∙ rows)
+
+pub parts_of_parts : PartsOfParts
+parts_of_parts rows whole middle part a b = record {
+  rising = a.rising;
+  part_rising = b.part_rising;
+  lead_minutes = b.lead_minutes ∙ a.lead_minutes;
+  parties = b.parties ∙ a.parties;
+  units = b.units ∙ a.units;
+  agrees = λ k d below. agrees_through whole.standing.tables middle.standing.tables part.standing.tables _ (a.agrees k d below) (b.agrees k d below);
+}

@@ -1,0 +1,88 @@
+-- The rows of a Settlement Day among all that is registered and in force: what a part must have of the whole so that the day is
+-- settled from it as from the whole.
+use Rattle.std.specs.Prelude.{◌≡◌, ℕ, ◌==◌, ◌&&◌, ℤ, List, filter, All, Bool}
+use Rattle.std.specs.FinMap.{find}
+use Rattle.std.specs.List.{list_any}
+use Rattle.std.specs.Ordering.{eq_by_cmp}
+use Rattle.hh_tables.specs.Tables.{Table}
+use Rattle.hh_names.specs.declared.account.Account.{Account}
+use Rattle.hh_names.specs.Accounts.{bytes_cmp}
+use Rattle.hh_rows.specs.Keys.{settlement_period_cmp}
+use Rattle.hh_rows.specs.declared.keys.ContractKey.{ContractKey}
+use Rattle.hh_rows.specs.declared.rows.Row.{Row}
+use Rattle.hh_rows.specs.declared.settlement_period.SettlementPeriod.{SettlementPeriod}
+use Rattle.hh_rules.specs.History.{Registered}
+use Rattle.hh_rules.specs.RegisterView.{RegisterView, ServesFor, reallocations_at}
+use Rattle.hh_states.specs.DaySettlement.{missing_meter, missing_price}
+use Rattle.hh_states.specs.PeriodSettlement.{price_of, reading_of, terms_at, units_on}
+use Rattle.hh_states.specs.Reads.{contracts_of}
+
+-- the volumes in force in a Settlement Period
+abbrev pub volumes_at : Registered → SettlementPeriod → Table ContractKey ℤ
+volumes_at tables at = filter (λ e. eq_by_cmp settlement_period_cmp e.0.at at) tables.contracts
+
+-- both have the same of a unit in a Settlement Period
+pub record AgreesOnUnitAt (whole part : Registered) (unit : List ℕ) (at : SettlementPeriod) : Type 0 where
+  pub reading : reading_of part (record { unit = unit; at = at }) ≡ reading_of whole (record { unit = unit; at = at })
+  pub reallocations : reallocations_at part (record { unit = unit; at = at })
+      ≡ reallocations_at whole (record { unit = unit; at = at })
+
+-- the part has of the whole the contracts of a date, with the sellers and buyers of their references
+pub record HasContractsOn (date : ℕ) (whole part : Registered) : Type 0 where
+  pub volumes : (at : SettlementPeriod) → at.date ≡ date → volumes_at part at ≡ volumes_at whole at
+  pub references : All (λ e. e.0.at.date ≡ date
+      → find bytes_cmp e.0.reference part.references ≡ find bytes_cmp e.0.reference whole.references) whole.contracts
+
+-- the part has of the whole all parties and units, and what is of a date: prices, readings and reallocations of the units that
+-- are effective on it, and contracts
+pub record HasRowsOn (date : ℕ) (whole part : Registered) : Type 0 where
+  pub parties : part.parties ≡ whole.parties
+  pub units : part.units ≡ whole.units
+  pub prices : (at : SettlementPeriod) → at.date ≡ date → price_of part at ≡ price_of whole at
+  pub of_units : (at : SettlementPeriod) → at.date ≡ date
+      → All (λ u. AgreesOnUnitAt whole part u.0 at) (units_on whole date)
+  pub contracts : HasContractsOn date whole part
+
+-- from the part the Settlement Periods of a date are settled as from the whole, and the same is missing for them
+pub record SettlesAlike (date : ℕ) (whole part : Registered) : Type 0 where
+  pub missing_price : (periods : List SettlementPeriod) → All (λ at. at.date ≡ date) periods
+      → missing_price part periods ≡ missing_price whole periods
+  pub missing_meter : (periods : List SettlementPeriod) → All (λ at. at.date ≡ date) periods
+      → missing_meter part periods ≡ missing_meter whole periods
+  pub terms : (at : SettlementPeriod) → at.date ≡ date → terms_at part at ≡ terms_at whole at
+
+-- whether a contract of a date has this reference
+abbrev pub is_reference_on : Registered → ℕ → List ℕ → Bool
+is_reference_on tables date reference =
+    list_any (λ e. (e.0.at.date == date) && eq_by_cmp bytes_cmp e.0.reference reference) tables.contracts
+
+-- the rows of a date: all parties and units, the prices, readings, contracts and reallocations of the date, and the references
+-- of its contracts
+abbrev pub rows_on : ℕ → Registered → Registered
+rows_on date tables = record {
+  parties = tables.parties;
+  units = tables.units;
+  references = filter (λ e. is_reference_on tables date e.0) tables.references;
+  meters = filter (λ e. e.0.at.date == date) tables.meters;
+  prices = filter (λ e. e.0.date == date) tables.prices;
+  contracts = filter (λ e. e.0.at.date == date) tables.contracts;
+  reallocations = filter (λ e. e.0.unit_period.at.date == date) tables.reallocations;
+}
+
+-- a date is settled alike from all rows and from those of the date
+abbrev pub SettledByItsRows : Type 0
+SettledByItsRows = (date : ℕ) (whole part : Registered) → HasRowsOn date whole part → SettlesAlike date whole part
+
+-- and its contracts are the same
+abbrev pub ContractsByTheirRows : Type 0
+ContractsByTheirRows = (date : ℕ) (whole part : Registered) → HasContractsOn date whole part
+    → (account : Account) → contracts_of account date part ≡ contracts_of account date whole
+
+-- the rows of a date are such a part
+abbrev pub RowsOfADate : Type 0
+RowsOfADate = (date : ℕ) (whole : Registered) → HasRowsOn date whole (rows_on date whole)
+
+-- a part of a part that serves for some rows serves for them
+abbrev pub PartsOfParts : Type 0
+PartsOfParts = (rows : List Row) (whole middle part : RegisterView) → ServesFor rows whole middle → ServesFor rows middle part
+    → ServesFor rows whole part
