@@ -8,6 +8,7 @@ use Rattle.std.specs.Ordering.{eq_by_cmp}
 use Rattle.std.proofs.lemmas.List.Elements.{recursion_from_All, All-from_recursion}
 use Rattle.hh_tables.specs.Tables.{Table}
 use Rattle.hh_names.specs.declared.values.Reading.{Reading}
+use Rattle.hh_names.specs.PartyAccounts.{both_accounts}
 use Rattle.hh_names.specs.Accounts.{bytes_cmp}
 use Rattle.hh_rows.proofs.KeyLaws.{exact_settlement_periods, exact_unit_periods}
 use Rattle.hh_rows.specs.DateRanges.{holds}
@@ -21,11 +22,12 @@ use Rattle.hh_rules.specs.Leads.{lead_on}
 use Rattle.hh_rules.specs.RegisterView.{AgreesOn}
 use Rattle.hh_rows.specs.declared.rows.Row.{Row}
 use Rattle.hh_rows.specs.declared.rows.Row.TheVariants as row
-use Rattle.hh_calc.specs.Terms.{bm_unit, period_terms}
+use Rattle.hh_calc.specs.Terms.{PeriodTerms, bm_unit, period_terms}
 use Rattle.hh_states.specs.DaySettlement.{from_one_to, missing_meter, missing_price, periods_on, unit_periods_at}
-use Rattle.hh_states.specs.PeriodSettlement.{accounts_on, both_accounts, price_of, reading_of, row_in_force, rows_in_force, terms_at, unit_at, units_on}
+use Rattle.hh_states.specs.PeriodSettlement.{accounts_on, price_of, reading_of, row_in_force, rows_in_force, terms_at, unit_at, units_on}
 use Rattle.hh_states.specs.Reads.{names_account}
-use Rattle.hh_kept_rows.specs.DayRows.{AgreesOnUnitAt, ContractsByTheirRows, HasContractsOn, HasRowsOn, PartsOfParts, RowsOfADate, SettledByItsRows, is_reference_on, rows_on, volumes_at}
+use Rattle.hh_store.specs.DayReads.{ArePeriodsOf}
+use Rattle.hh_kept_rows.specs.DayRows.{AgreesOnUnitAt, ContractsByTheirRows, HasContractsOn, HasRowsOn, PartsOfParts, ReadByItsRows, RowsOfADate, SettledByItsRows, is_reference_on, rows_on, volumes_at}
 
 -- two tests that agree on each element find the same
 find_alike : {X : Type 0} (f g : X → Bool) (xs : List X) → AllByRecursion (λ x. f x ≡ g x) xs → find f xs ≡ find g xs
@@ -141,6 +143,26 @@ settled_alike date whole part has = record {
   missing_meter = λ periods on. meters_alike date whole part has periods (recursion_from_All _ periods on);
   terms = terms_alike date whole part has;
 }
+
+-- what each of some Settlement Periods of the date is settled from in the part, it is settled from in the whole
+module _ (date : ℕ) (whole part : Registered) (has : HasRowsOn date whole part) where
+  periods_alike : (periods : List SettlementPeriod) (terms : List PeriodTerms) → AllByRecursion (λ (at : SettlementPeriod). at.date ≡ date) periods
+      → ArePeriodsOf part periods terms → ArePeriodsOf whole periods terms
+  periods_alike [] [] on are = are
+  periods_alike [] (t ∷ terms) on are = are
+  periods_alike (at ∷ periods) [] on are = are
+  periods_alike (at ∷ periods) (t ∷ terms) on are = (are.0 ∙ terms_alike date whole part has at on.0, periods_alike periods terms on.1 are.1)
+
+pub read_alike : ReadByItsRows
+read_alike date whole part has periods on day is =
+    let of_date = recursion_from_All _ periods on in
+    let prices = lack_alike date whole part has periods of_date in
+    let meters = meters_alike date whole part has periods of_date in
+    record {
+      price = is.price ∙ prices;
+      meter = is.meter ∙ meters;
+      terms = λ no_price no_meter. periods_alike date whole part has periods day.periods.items of_date (is.terms (prices ∙ no_price) (meters ∙ no_meter));
+    }
 
 true_is_not_false : true ≡ false → ⊥
 true_is_not_false e = cc

@@ -16,6 +16,8 @@ use Rattle.hh_rules.specs.RegisterView.{RegisterView, ServesFor, reallocations_a
 use Rattle.hh_states.specs.DaySettlement.{missing_meter, missing_price}
 use Rattle.hh_states.specs.PeriodSettlement.{price_of, reading_of, terms_at, units_on}
 use Rattle.hh_states.specs.Reads.{contracts_of}
+use Rattle.hh_store.specs.declared.day_data.DayData.{DayData}
+use Rattle.hh_store.specs.DayReads.{IsDayData}
 
 -- the volumes in force in a Settlement Period
 abbrev pub volumes_at : Registered → SettlementPeriod → Table ContractKey ℤ
@@ -72,6 +74,12 @@ rows_on date tables = record {
 -- a date is settled alike from all rows and from those of the date
 abbrev pub SettledByItsRows : Type 0
 SettledByItsRows = (date : ℕ) (whole part : Registered) → HasRowsOn date whole part → SettlesAlike date whole part
+
+-- what is read of its Settlement Periods from the rows of the date is what is read of them
+abbrev pub ReadByItsRows : Type 0
+ReadByItsRows = (date : ℕ) (whole part : Registered) → HasRowsOn date whole part
+    → (periods : List SettlementPeriod) → All (λ at. at.date ≡ date) periods
+    → (day : DayData) → IsDayData part periods day → IsDayData whole periods day
 
 -- and its contracts are the same
 abbrev pub ContractsByTheirRows : Type 0

@@ -1,11 +1,17 @@
 //! Laws on parts of what is registered and in force, each the contract of a function that does nothing.
 
-ghost use Rattle.hh_kept_rows.specs.DayRows.{ContractsByTheirRows, PartsOfParts, RowsOfADate, SettledByItsRows};
+ghost use Rattle.hh_kept_rows.specs.DayRows.{ContractsByTheirRows, PartsOfParts, ReadByItsRows, RowsOfADate, SettledByItsRows};
 
 /// A Settlement Day is settled alike from all that is registered and in force and from a part that has
 /// the rows of its date.
 pub fn settled_by_its_rows()
     ensures { SettledByItsRows }
+{}
+
+/// What is read of a Settlement Day from a part that has the rows of its date is what is read of it from
+/// all that is registered and in force.
+pub fn read_by_its_rows()
+    ensures { ReadByItsRows }
 {}
 
 /// The contracts of an account on a date are the same of all that is in force and of a part that has the

@@ -14,6 +14,8 @@ mod reports;
 mod run_rows;
 
 pub use kept_register::KeptRegister;
-pub use laws::{contracts_by_their_rows, parts_of_parts, rows_of_a_date, settled_by_its_rows};
+pub use laws::{
+    contracts_by_their_rows, parts_of_parts, read_by_its_rows, rows_of_a_date, settled_by_its_rows,
+};
 pub use reports::{write_balances_of, write_day_report_of, write_results_of};
 pub use run_rows::{postings_to, results_of, runs_on};
