@@ -3,7 +3,9 @@ pub mod EnquiryLaws
 pub mod HandleLaws
 pub mod ListLaws
 pub mod OnceLaws
+pub mod RefusalLaws
 pub mod ReportLaws
+pub mod ReportStopLaws
 pub mod RunLaws
 pub mod StepLaws
 pub mod ViewLaws

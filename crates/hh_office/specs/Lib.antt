@@ -5,6 +5,7 @@ pub mod PartyViews
 pub mod Promises
 pub mod Reads
 pub mod Reports
+pub mod Refusals
 pub mod ReportTexts
 pub mod Runs
 pub mod Settling

@@ -73,9 +73,9 @@ abbrev pub is_refused : Reply → Bool
 is_refused (reply.Refused fault) = true
 is_refused _ = false
 
--- a refusal changes nothing in an office that stands for some state
+-- a refusal changes nothing
 abbrev pub RefusalLeaves : OfficeView → OfficeView → Reply → Type 0
-RefusalLeaves old new given = (s : State) → Stands old s → IsTrue (is_refused given) → new ≡ old
+RefusalLeaves old new given = IsTrue (is_refused given) → new ≡ old
 
 -- ---- lists of requests
 

@@ -1,4 +1,5 @@
 -- What contracts see of an office.
+use Rattle.std.specs.Prelude.{Bool, IsTrue}
 use Rattle.jiff.specs.declared.tz.timezone.TimeZone.{TimeZone}
 use Rattle.jiff.specs.Words.{plain_zone}
 use Rattle.hh_time.specs.Days.{Midnights}
@@ -9,6 +10,16 @@ use Rattle.hh_states.specs.Content.{Content}
 pub record OfficeView : Type 0 where
   pub zone : TimeZone
   pub content : Content
+
+-- An office as contracts see it: what it promises of, and the tables themselves, of which a store tells more.
+pub record Kept (T : Type 0) : Type 0 where
+  pub seen : OfficeView
+  pub tables : T
+
+-- The premise of all that an office promises: up to here its tables stand, by what a store says of that. Tables in memory always do;
+-- those of a file do if the disk returned what was written, nobody else wrote it, and no fault has shut it.
+abbrev pub IsSure : {T : Type 0} → (T → Bool) → Kept T → Type 0
+IsSure is_open office = IsTrue (is_open office.tables)
 
 -- when local midnights fall in an office's zone
 abbrev pub midnight_of : OfficeView → Midnights

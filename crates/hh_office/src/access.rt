@@ -1,8 +1,11 @@
 //! Who may ask for what.
 
 ghost use Rattle.std.specs.Prelude.{◌≡◌, ◌||◌, IfOk};
+ghost use Rattle.hh_store.specs.Reached.{AreReached};
+ghost use Rattle.hh_store.specs.StoreFaults.{CountsRefusal};
 ghost use Rattle.hh_office.specs.Machine.{is_holder, is_operator, is_party_key, may};
 ghost use Rattle.hh_office.specs.Promises.{TellsTruly};
+ghost use Rattle.hh_office.specs.Views.{IsSure};
 
 use crate::office::Office;
 use hh_names::Account;
@@ -12,9 +15,13 @@ use hh_store::{StoreFault, Tables};
 impl<'z, T: Tables> Office<'z, T> {
     /// Whether the key of a request allows what it asks.
     pub(crate) fn may(&mut self, request: &Request) -> Result<bool, StoreFault>
-        ensures allowed { IfOk result (λ allowed. TellsTruly self.old allowed
+        ensures allowed { IsSure T.is_open self.new
+            → IfOk result (λ allowed. TellsTruly self.old.seen allowed
             (λ midnight s. may midnight s request.now.key request.now.action)) }
-        ensures same { self.new ≡ self.old }
+        ensures same { IsSure T.is_open self.new → self.new.seen ≡ self.old.seen }
+        ensures tallied { IsSure T.is_open self.new → AreReached self.old.seen.content
+            → CountsRefusal result (T.refusals self.old.tables) (T.refusals self.new.tables) }
+        ensures sure { IsSure T.is_open self.new → IsSure T.is_open self.old }
     {
         let key = request.key.as_slice();
         match &request.action {
@@ -28,27 +35,39 @@ impl<'z, T: Tables> Office<'z, T> {
 
     /// Whether a key is the operator's or that of an account's party.
     fn may_see(&mut self, account: &Account, key: &[u8]) -> Result<bool, StoreFault>
-        ensures told { IfOk result (λ told. TellsTruly self.old told
+        ensures told { IsSure T.is_open self.new
+            → IfOk result (λ told. TellsTruly self.old.seen told
             (λ midnight s. is_operator midnight s key.now || is_holder midnight s account.now key.now)) }
-        ensures same { self.new ≡ self.old }
+        ensures same { IsSure T.is_open self.new → self.new.seen ≡ self.old.seen }
+        ensures tallied { IsSure T.is_open self.new → AreReached self.old.seen.content
+            → CountsRefusal result (T.refusals self.old.tables) (T.refusals self.new.tables) }
+        ensures sure { IsSure T.is_open self.new → IsSure T.is_open self.old }
     {
         Ok(self.is_operator(key)? || self.is_holder(account, key)?)
     }
 
     /// Whether a key is that of a registered party.
     fn is_party_key(&mut self, key: &[u8]) -> Result<bool, StoreFault>
-        ensures told { IfOk result (λ told. TellsTruly self.old told
+        ensures told { IsSure T.is_open self.new
+            → IfOk result (λ told. TellsTruly self.old.seen told
             (λ midnight s. is_party_key midnight s key.now)) }
-        ensures same { self.new ≡ self.old }
+        ensures same { IsSure T.is_open self.new → self.new.seen ≡ self.old.seen }
+        ensures tallied { IsSure T.is_open self.new → AreReached self.old.seen.content
+            → CountsRefusal result (T.refusals self.old.tables) (T.refusals self.new.tables) }
+        ensures sure { IsSure T.is_open self.new → IsSure T.is_open self.old }
     {
         self.tables.key_known(key)
     }
 
     /// Whether a key is the operator's.
     pub(crate) fn is_operator(&mut self, key: &[u8]) -> Result<bool, StoreFault>
-        ensures told { IfOk result (λ told. TellsTruly self.old told
+        ensures told { IsSure T.is_open self.new
+            → IfOk result (λ told. TellsTruly self.old.seen told
             (λ midnight s. is_operator midnight s key.now)) }
-        ensures same { self.new ≡ self.old }
+        ensures same { IsSure T.is_open self.new → self.new.seen ≡ self.old.seen }
+        ensures tallied { IsSure T.is_open self.new → AreReached self.old.seen.content
+            → CountsRefusal result (T.refusals self.old.tables) (T.refusals self.new.tables) }
+        ensures sure { IsSure T.is_open self.new → IsSure T.is_open self.old }
     {
         let settings = self.tables.settings()?;
         Ok(settings.operator_key.as_bytes() == key)
@@ -56,9 +75,13 @@ impl<'z, T: Tables> Office<'z, T> {
 
     /// Whether a key is that of an account's party.
     fn is_holder(&mut self, account: &Account, key: &[u8]) -> Result<bool, StoreFault>
-        ensures told { IfOk result (λ told. TellsTruly self.old told
+        ensures told { IsSure T.is_open self.new
+            → IfOk result (λ told. TellsTruly self.old.seen told
             (λ midnight s. is_holder midnight s account.now key.now)) }
-        ensures same { self.new ≡ self.old }
+        ensures same { IsSure T.is_open self.new → self.new.seen ≡ self.old.seen }
+        ensures tallied { IsSure T.is_open self.new → AreReached self.old.seen.content
+            → CountsRefusal result (T.refusals self.old.tables) (T.refusals self.new.tables) }
+        ensures sure { IsSure T.is_open self.new → IsSure T.is_open self.old }
     {
         match self.tables.party(&account.party)? {
             Some(party) => Ok(party.key.as_bytes() == key),

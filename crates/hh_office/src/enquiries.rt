@@ -6,9 +6,13 @@ ghost use Rattle.hh_num.specs.Ranges.{IsBetween};
 ghost use Rattle.hh_num.specs.Totals.{total};
 ghost use Rattle.hh_runs.specs.DayNets.{day_cash};
 ghost use Rattle.hh_states.specs.Reads.{results_in, runs_in};
+ghost use Rattle.hh_store.specs.Reached.{AreReached};
+ghost use Rattle.hh_store.specs.StoreFaults.{CountsRefusal};
+ghost use Rattle.hh_office.specs.Refusals.{CountsAnswer};
 ghost use Rattle.hh_office.specs.Enquiries.{account_reply, balance_reply, contracts_reply, net_of_rows, reply_by_rows, rows_of_account, runs_reply};
 ghost use Rattle.hh_office.specs.Promises.{RepliesAs, TellsInEachState};
 ghost use Rattle.hh_office.specs.Reads.{latest_key};
+ghost use Rattle.hh_office.specs.Views.{IsSure};
 
 use crate::office::Office;
 use hh_calc::AccountRow;
@@ -28,8 +32,11 @@ impl<'z, T: Tables> Office<'z, T> {
         account: &Account,
         date: SettlementDate,
     ) -> Result<Reply, Fault>
-        ensures { TellsInEachState self.old self.new result (λ midnight s.
+        ensures makes { IsSure T.is_open self.new
+            → TellsInEachState self.old.seen self.new.seen result (λ midnight s.
             account_reply midnight s account.now date) }
+        ensures same { IsSure T.is_open self.new → self.new.seen ≡ self.old.seen }
+        ensures sure { IsSure T.is_open self.new → IsSure T.is_open self.old }
     {
         // Does nothing, but carries a law for the proof: the tables hold the machine's runs.
         kept_kinds_of_dates();
@@ -46,9 +53,13 @@ impl<'z, T: Tables> Office<'z, T> {
         date: SettlementDate,
         run: RunKey,
     ) -> Result<Reply, Fault>
-        requires { Some run ≡ latest_key date (runs_in self.old.content date) }
-        ensures { TellsInEachState self.old self.new result (λ midnight s.
+        requires { IsSure T.is_open self.old
+            → Some run ≡ latest_key date (runs_in self.old.seen.content date) }
+        ensures makes { IsSure T.is_open self.new
+            → TellsInEachState self.old.seen self.new.seen result (λ midnight s.
             account_reply midnight s account.now date) }
+        ensures same { IsSure T.is_open self.new → self.new.seen ≡ self.old.seen }
+        ensures sure { IsSure T.is_open self.new → IsSure T.is_open self.old }
     {
         // Do nothing, but carry laws for the proof: the tables hold the machine's runs and their rows.
         kept_kinds_of_dates();
@@ -59,9 +70,12 @@ impl<'z, T: Tables> Office<'z, T> {
 
     /// The latest run of a date, if it has one.
     fn latest_run(&mut self, date: SettlementDate) -> Result<Option<RunKey>, StoreFault>
-        ensures value { IfOk result (λ latest.
-            latest ≡ latest_key date (runs_in self.old.content date)) }
-        ensures same { self.new ≡ self.old }
+        ensures value { IsSure T.is_open self.new → IfOk result (λ latest.
+            latest ≡ latest_key date (runs_in self.old.seen.content date)) }
+        ensures same { IsSure T.is_open self.new → self.new.seen ≡ self.old.seen }
+        ensures tallied { IsSure T.is_open self.new → AreReached self.old.seen.content
+            → CountsRefusal result (T.refusals self.old.tables) (T.refusals self.new.tables) }
+        ensures sure { IsSure T.is_open self.new → IsSure T.is_open self.old }
     {
         let runs = self.tables.runs(date)?;
         Ok(latest_of(date, &runs))
@@ -72,16 +86,23 @@ impl<'z, T: Tables> Office<'z, T> {
         &mut self,
         run: &RunKey,
     ) -> Result<Vec<(PeriodNumber, AccountRow)>, StoreFault>
-        ensures value { IfOk result (λ rows. rows.items ≡ results_in self.old.content run.now) }
-        ensures same { self.new ≡ self.old }
+        ensures value { IsSure T.is_open self.new
+            → IfOk result (λ rows. rows.items ≡ results_in self.old.seen.content run.now) }
+        ensures same { IsSure T.is_open self.new → self.new.seen ≡ self.old.seen }
+        ensures tallied { IsSure T.is_open self.new → AreReached self.old.seen.content
+            → CountsRefusal result (T.refusals self.old.tables) (T.refusals self.new.tables) }
+        ensures sure { IsSure T.is_open self.new → IsSure T.is_open self.old }
     {
         self.tables.results(run)
     }
 
     /// What the runs of all dates have moved to an account.
     pub(crate) fn balance(&mut self, account: &Account) -> Result<Reply, Fault>
-        ensures { TellsInEachState self.old self.new result (λ midnight s.
+        ensures makes { IsSure T.is_open self.new
+            → TellsInEachState self.old.seen self.new.seen result (λ midnight s.
             balance_reply midnight s account.now) }
+        ensures same { IsSure T.is_open self.new → self.new.seen ≡ self.old.seen }
+        ensures sure { IsSure T.is_open self.new → IsSure T.is_open self.old }
     {
         // Does nothing, but carries a law for the proof: postings come to what the latest runs move.
         kept_postings();
@@ -101,8 +122,13 @@ impl<'z, T: Tables> Office<'z, T> {
         account: &Account,
         date: SettlementDate,
     ) -> Result<Reply, Fault>
-        ensures { TellsInEachState self.old self.new result (λ midnight s.
+        ensures makes { IsSure T.is_open self.new
+            → TellsInEachState self.old.seen self.new.seen result (λ midnight s.
             contracts_reply midnight s account.now date) }
+        ensures same { IsSure T.is_open self.new → self.new.seen ≡ self.old.seen }
+        ensures sure { IsSure T.is_open self.new → IsSure T.is_open self.old }
+        ensures tallied { IsSure T.is_open self.new → AreReached self.old.seen.content
+            → CountsAnswer result (T.refusals self.old.tables) (T.refusals self.new.tables) }
     {
         let contracts = self.tables.contracts(account, date)?;
         Ok(Reply::Contracts(ContractsReply::new(*account, date, contracts)))
@@ -110,8 +136,13 @@ impl<'z, T: Tables> Office<'z, T> {
 
     /// The runs of a date.
     pub(crate) fn runs(&mut self, date: SettlementDate) -> Result<Reply, Fault>
-        ensures { TellsInEachState self.old self.new result (λ midnight s.
+        ensures makes { IsSure T.is_open self.new
+            → TellsInEachState self.old.seen self.new.seen result (λ midnight s.
             runs_reply midnight s date) }
+        ensures same { IsSure T.is_open self.new → self.new.seen ≡ self.old.seen }
+        ensures sure { IsSure T.is_open self.new → IsSure T.is_open self.old }
+        ensures tallied { IsSure T.is_open self.new → AreReached self.old.seen.content
+            → CountsAnswer result (T.refusals self.old.tables) (T.refusals self.new.tables) }
     {
         // Does nothing, but carries a law for the proof: the tables hold the machine's runs.
         kept_kinds_of_dates();

@@ -4,9 +4,13 @@ ghost use Rattle.std.specs.Prelude.{◌≡◌, ◌≤◌, length, None, IfOk, On
 ghost use Rattle.hh_rules.specs.RegisterView.{ServesFor};
 ghost use Rattle.hh_texts.specs.Rows.{most_rows};
 ghost use Rattle.hh_states.specs.Reads.{file_in, whole_register};
+ghost use Rattle.hh_store.specs.Reached.{AreReached};
+ghost use Rattle.hh_store.specs.StoreFaults.{CountsRefusal};
+ghost use Rattle.hh_office.specs.Refusals.{CountsAnswer};
 ghost use Rattle.hh_office.specs.Loads.{Accepts, Judges, WritesLoad, writes_of};
 ghost use Rattle.hh_office.specs.Machine.{load, load_new, loaded_reply, repeat_reply};
-ghost use Rattle.hh_office.specs.Promises.{MakesInEachState, reply_of};
+ghost use Rattle.hh_office.specs.Promises.{MakesInEachState, RefusalLeaves, reply_of};
+ghost use Rattle.hh_office.specs.Views.{IsSure};
 
 use crate::office::Office;
 use hh_names::{Fault, Refusal};
@@ -21,8 +25,12 @@ use std::alloc::{AllocError, Global};
 impl<'z, T: Tables> Office<'z, T> {
     /// What becomes of a file that is sent.
     pub(crate) fn load(&mut self, moment: i64, upload: &Upload) -> Result<Reply, Fault>
-        ensures { MakesInEachState self.old self.new result (λ midnight s.
+        ensures makes { IsSure T.is_open self.new
+            → MakesInEachState self.old.seen self.new.seen result (λ midnight s.
             load midnight s moment upload.now) }
+        ensures untouched { IsSure T.is_open self.new
+            → RefusalLeaves self.old.seen self.new.seen (reply_of result) }
+        ensures sure { IsSure T.is_open self.new → IsSure T.is_open self.old }
     {
         if upload.body.as_slice().len() > MOST_BYTES {
             return Err(Fault::of(Refusal::FileTooLarge));
@@ -37,18 +45,26 @@ impl<'z, T: Tables> Office<'z, T> {
 
     /// What is kept under the kind and name of a file.
     fn kept_under(&mut self, upload: &Upload) -> Result<Option<KeptFile>, StoreFault>
-        ensures value { IfOk result (λ found.
-            found ≡ file_in self.old.content upload.now.kind upload.now.name) }
-        ensures same { self.new ≡ self.old }
+        ensures value { IsSure T.is_open self.new → IfOk result (λ found.
+            found ≡ file_in self.old.seen.content upload.now.kind upload.now.name) }
+        ensures same { IsSure T.is_open self.new → self.new.seen ≡ self.old.seen }
+        ensures tallied { IsSure T.is_open self.new → AreReached self.old.seen.content
+            → CountsRefusal result (T.refusals self.old.tables) (T.refusals self.new.tables) }
+        ensures sure { IsSure T.is_open self.new → IsSure T.is_open self.old }
     {
         self.tables.file(upload.kind, &upload.name)
     }
 
     /// What becomes of a file under whose kind and name none is kept.
     fn load_new(&mut self, moment: i64, upload: &Upload) -> Result<Reply, Fault>
-        requires { file_in self.old.content upload.now.kind upload.now.name ≡ None }
-        ensures { MakesInEachState self.old self.new result (λ midnight s.
+        requires { IsSure T.is_open self.old
+            → file_in self.old.seen.content upload.now.kind upload.now.name ≡ None }
+        ensures makes { IsSure T.is_open self.new
+            → MakesInEachState self.old.seen self.new.seen result (λ midnight s.
             load_new midnight s moment upload.now) }
+        ensures untouched { IsSure T.is_open self.new
+            → RefusalLeaves self.old.seen self.new.seen (reply_of result) }
+        ensures sure { IsSure T.is_open self.new → IsSure T.is_open self.old }
     {
         // Does nothing, but carries a law for the proof: the tables hold the files that were accepted.
         kept_files();
@@ -58,9 +74,10 @@ impl<'z, T: Tables> Office<'z, T> {
 
     /// What the rows of a file come to, or the first fault in it.
     fn judge(&mut self, moment: i64, upload: &Upload) -> Result<FileRows, Fault>
-        ensures judged { Judges self.old moment upload.now result }
+        ensures judged { IsSure T.is_open self.new → Judges self.old.seen moment upload.now result }
         ensures few { IfOk result (λ judged. length judged.rows ≤ most_rows) }
-        ensures same { self.new ≡ self.old }
+        ensures same { IsSure T.is_open self.new → self.new.seen ≡ self.old.seen }
+        ensures sure { IsSure T.is_open self.new → IsSure T.is_open self.old }
     {
         let rows = read_file(self.alloc, upload.kind, upload.body.as_slice())?;
         let register = self.register_for(&rows)?;
@@ -69,8 +86,12 @@ impl<'z, T: Tables> Office<'z, T> {
 
     /// A register that serves for these rows.
     fn register_for(&mut self, rows: &[Row]) -> Result<Register, StoreFault>
-        ensures serves { IfOk result (ServesFor rows.now (whole_register self.old.content)) }
-        ensures same { self.new ≡ self.old }
+        ensures serves { IsSure T.is_open self.new
+            → IfOk result (ServesFor rows.now (whole_register self.old.seen.content)) }
+        ensures same { IsSure T.is_open self.new → self.new.seen ≡ self.old.seen }
+        ensures tallied { IsSure T.is_open self.new → AreReached self.old.seen.content
+            → CountsRefusal result (T.refusals self.old.tables) (T.refusals self.new.tables) }
+        ensures sure { IsSure T.is_open self.new → IsSure T.is_open self.old }
     {
         self.tables.register(rows)
     }
@@ -78,7 +99,13 @@ impl<'z, T: Tables> Office<'z, T> {
     /// Writes what an accepted file's rows come to into the tables, once the reply is made.
     fn accept(&mut self, upload: &Upload, judged: FileRows) -> Result<Reply, Fault>
         requires { length judged.rows ≤ most_rows }
-        ensures { Accepts self.old self.new (writes_of upload.now judged) (reply_of result) }
+        ensures makes { IsSure T.is_open self.new
+            → Accepts self.old.seen self.new.seen (writes_of upload.now judged) (reply_of result) }
+        ensures untouched { IsSure T.is_open self.new
+            → RefusalLeaves self.old.seen self.new.seen (reply_of result) }
+        ensures sure { IsSure T.is_open self.new → IsSure T.is_open self.old }
+        ensures tallied { IsSure T.is_open self.new → AreReached self.old.seen.content
+            → CountsAnswer result (T.refusals self.old.tables) (T.refusals self.new.tables) }
     {
         let change = change_of(self.alloc, upload, judged)?;
         let reply = loaded_reply(change.file());
@@ -88,8 +115,12 @@ impl<'z, T: Tables> Office<'z, T> {
 
     /// Writes a change into the tables: the last call of the store that a request makes.
     fn commit(&mut self, change: LoadChange) -> Result<(), StoreFault>
-        ensures written { OnOk result (WritesLoad self.old self.new change) }
-        ensures same { OnErr result (self.new ≡ self.old) }
+        ensures written { IsSure T.is_open self.new
+            → OnOk result (WritesLoad self.old.seen self.new.seen change) }
+        ensures same { IsSure T.is_open self.new → OnErr result (self.new.seen ≡ self.old.seen) }
+        ensures sure { IsSure T.is_open self.new → IsSure T.is_open self.old }
+        ensures tallied { IsSure T.is_open self.new → AreReached self.old.seen.content
+            → CountsRefusal result (T.refusals self.old.tables) (T.refusals self.new.tables) }
     {
         // Does nothing, but carries a law for the proof: the change makes the machine's tables.
         load_effect();

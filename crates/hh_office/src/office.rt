@@ -3,7 +3,8 @@
 ghost use Rattle.std.specs.Prelude.{◌≡◌, IfOk, OnErr};
 ghost use Rattle.hh_office.specs.Machine.{step};
 ghost use Rattle.hh_office.specs.PartyViews.{ForbidsOthers, ShowsByView};
-ghost use Rattle.hh_office.specs.Promises.{ConservesAfter, ConservesAfterAll, MakesInEachState, HandleStep, RefusalLeaves, RepeatsOnce, RunAllStep, StandsAfter, StandsAfterAll};
+ghost use Rattle.hh_office.specs.Promises.{ConservesAfter, ConservesAfterAll, MakesInEachState, HandleStep, RefusalLeaves, RepeatsOnce, RunAllStep, StandsAfter, StandsAfterAll, reply_of};
+ghost use Rattle.hh_office.specs.Views.{IsSure};
 
 use hh_day::reached_conserve;
 use hh_names::{Fault, Refusal};
@@ -15,7 +16,8 @@ use std::alloc::{AllocError, Global};
 use std::marker::Model;
 
 /// The settlement agent's office over its tables, in the zone whose local midnights begin its
-/// Settlement Days (profile). Contracts see the zone and what the tables contain.
+/// Settlement Days (profile). Contracts see the zone and what the tables contain, and beside that the
+/// tables.
 #[derive(Drop)]
 pub struct Office<'z, T: Tables> {
     pub(crate) alloc: Global,
@@ -24,17 +26,21 @@ pub struct Office<'z, T: Tables> {
 }
 
 impl<'z, T: Tables> Model for Office<'z, T> {
-    ghost use Rattle.hh_office.specs.Views.{OfficeView};
+    ghost use Rattle.hh_office.specs.Views.{Kept, OfficeView};
 
-    ghost Value = { OfficeView };
+    ghost Value = { Kept T };
 
-    ghost view = { λ o. record { zone = o.zone; content = T.content o.tables } };
+    ghost view = { λ o. record {
+      seen = record { zone = o.zone; content = T.content o.tables };
+      tables = o.tables;
+    } };
 }
 
 impl<'z, T: Tables> Office<'z, T> {
     /// An office over these tables, in this zone (profile).
     pub fn new(alloc: Global, tables: T, zone: TimeZone<'z>) -> Office<'z, T>
-        ensures { result ≡ record { zone = zone.entry; content = T.content tables } }
+        ensures seen { result.seen ≡ record { zone = zone.entry; content = T.content tables } }
+        ensures tables { result.tables ≡ tables }
     {
         Office {
             alloc,
@@ -47,13 +53,20 @@ impl<'z, T: Tables> Office<'z, T> {
     /// earlier than the one before (profile). A refused request changes nothing. Refusals 90, where
     /// memory is refused, and 91, where the store refuses, may stand in the place of any reply.
     pub fn handle(&mut self, moment: i64, request: &Request) -> Reply
-        ensures step { HandleStep self.old self.new moment request.now result }
-        ensures stands { StandsAfter self.old self.new moment request.now result }
-        ensures untouched { RefusalLeaves self.old self.new result }
-        ensures once { RepeatsOnce self.old self.new request.now result }
-        ensures sums { ConservesAfter self.old self.new moment request.now result }
-        ensures view { ShowsByView self.old request.now result }
-        ensures foreign { ForbidsOthers self.old request.now result }
+        ensures step { IsSure T.is_open self.new
+            → HandleStep self.old.seen self.new.seen moment request.now result }
+        ensures stands { IsSure T.is_open self.new
+            → StandsAfter self.old.seen self.new.seen moment request.now result }
+        ensures untouched { IsSure T.is_open self.new
+            → RefusalLeaves self.old.seen self.new.seen result }
+        ensures once { IsSure T.is_open self.new
+            → RepeatsOnce self.old.seen self.new.seen request.now result }
+        ensures sums { IsSure T.is_open self.new
+            → ConservesAfter self.old.seen self.new.seen moment request.now result }
+        ensures view { IsSure T.is_open self.new → ShowsByView self.old.seen request.now result }
+        ensures foreign { IsSure T.is_open self.new
+            → ForbidsOthers self.old.seen request.now result }
+        ensures sure { IsSure T.is_open self.new → IsSure T.is_open self.old }
     {
         // Do nothing, but carry laws for the proof: the tables hold the machine's runs with their rows and
         // postings, what is written makes the machine's tables, and these add up.
@@ -76,13 +89,14 @@ impl<'z, T: Tables> Office<'z, T> {
     ///
     /// Memory was refused for the replies, and nothing has run.
     pub fn run_all(&mut self, requests: &[(i64, Request)]) -> Result<Vec<Reply>, AllocError>
-        ensures run { IfOk result (λ replies.
-            RunAllStep self.old self.new requests.now replies.items) }
-        ensures stands { IfOk result (λ replies.
-            StandsAfterAll self.old self.new requests.now replies.items) }
-        ensures sums { IfOk result (λ replies.
-            ConservesAfterAll self.old self.new requests.now replies.items) }
-        ensures none { OnErr result (self.new ≡ self.old) }
+        ensures run { IsSure T.is_open self.new → IfOk result (λ replies.
+            RunAllStep self.old.seen self.new.seen requests.now replies.items) }
+        ensures stands { IsSure T.is_open self.new → IfOk result (λ replies.
+            StandsAfterAll self.old.seen self.new.seen requests.now replies.items) }
+        ensures sums { IsSure T.is_open self.new → IfOk result (λ replies.
+            ConservesAfterAll self.old.seen self.new.seen requests.now replies.items) }
+        ensures none { IsSure T.is_open self.new → OnErr result (self.new.seen ≡ self.old.seen) }
+        ensures sure { IsSure T.is_open self.new → IsSure T.is_open self.old }
     {
         // Does nothing, but carries a law for the proof: the tables of the machine's states add up.
         reached_conserve();
@@ -96,15 +110,21 @@ impl<'z, T: Tables> Office<'z, T> {
 
     /// Answers a request at its moment.
     fn handle_timed(&mut self, request: &(i64, Request)) -> Reply
-        ensures { HandleStep self.old self.new request.now.0 request.now.1 result }
+        ensures makes { IsSure T.is_open self.new
+            → HandleStep self.old.seen self.new.seen request.now.0 request.now.1 result }
+        ensures sure { IsSure T.is_open self.new → IsSure T.is_open self.old }
     {
         self.handle(request.0, &request.1)
     }
 
     /// What becomes of a request.
     fn act(&mut self, moment: i64, request: &Request) -> Result<Reply, Fault>
-        ensures { MakesInEachState self.old self.new result (λ midnight s.
+        ensures makes { IsSure T.is_open self.new
+            → MakesInEachState self.old.seen self.new.seen result (λ midnight s.
             step midnight s moment request.now) }
+        ensures untouched { IsSure T.is_open self.new
+            → RefusalLeaves self.old.seen self.new.seen (reply_of result) }
+        ensures sure { IsSure T.is_open self.new → IsSure T.is_open self.old }
     {
         if !self.may(request)? {
             return Err(Fault::of(Refusal::Forbidden));

@@ -4,8 +4,12 @@ ghost use Rattle.std.specs.Prelude.{◌≡◌, IfOk};
 ghost use Rattle.std.specs.FinMap.{find};
 ghost use Rattle.hh_states.specs.Runs.{run_key_cmp};
 ghost use Rattle.hh_store.specs.Outputs.{balances_in, day_report_in, export_in};
+ghost use Rattle.hh_store.specs.Reached.{AreReached};
+ghost use Rattle.hh_store.specs.StoreFaults.{CountsRefusal};
+ghost use Rattle.hh_office.specs.Refusals.{CountsStop};
 ghost use Rattle.hh_office.specs.Reports.{CountsReport, Reports, ReportsAs, WritesReport, or_no_run};
 ghost use Rattle.hh_office.specs.declared.report.Report.TheVariants.{Balances, Day, Results};
+ghost use Rattle.hh_office.specs.Views.{IsSure};
 
 use crate::office::Office;
 use crate::report::{Report, ReportStop};
@@ -33,10 +37,13 @@ impl<'z, T: Tables> Office<'z, T> {
         report: &Report,
         out: &mut S,
     ) -> Result<(), ReportStop>
-        ensures reports { Reports (S.taken out.old) (S.taken out.new)
-            (S.failures out.old) (S.failures out.new) self.old key.now report.now result }
+        ensures reports { IsSure T.is_open self.new → Reports (S.taken out.old) (S.taken out.new)
+            (S.failures out.old) (S.failures out.new) self.old.seen key.now report.now result }
         ensures counted { CountsReport result (S.failures out.old) (S.failures out.new) }
-        ensures same { self.new ≡ self.old }
+        ensures same { IsSure T.is_open self.new → self.new.seen ≡ self.old.seen }
+        ensures tallied { IsSure T.is_open self.new → AreReached self.old.seen.content
+            → CountsStop result (T.refusals self.old.tables) (T.refusals self.new.tables) }
+        ensures sure { IsSure T.is_open self.new → IsSure T.is_open self.old }
     {
         // Does nothing, but carries a law for the proof: the reports that the tables give are the machine's.
         kept_reports();
@@ -62,11 +69,14 @@ impl<'z, T: Tables> Office<'z, T> {
         kind: RunKind,
         out: &mut S,
     ) -> Result<(), ReportStop>
-        ensures reports { Reports (S.taken out.old) (S.taken out.new)
-            (S.failures out.old) (S.failures out.new) self.old key.now
+        ensures reports { IsSure T.is_open self.new → Reports (S.taken out.old) (S.taken out.new)
+            (S.failures out.old) (S.failures out.new) self.old.seen key.now
             (Day (record { date = date; kind = kind })) result }
         ensures counted { CountsReport result (S.failures out.old) (S.failures out.new) }
-        ensures same { self.new ≡ self.old }
+        ensures same { IsSure T.is_open self.new → self.new.seen ≡ self.old.seen }
+        ensures tallied { IsSure T.is_open self.new → AreReached self.old.seen.content
+            → CountsStop result (T.refusals self.old.tables) (T.refusals self.new.tables) }
+        ensures sure { IsSure T.is_open self.new → IsSure T.is_open self.old }
     {
         self.report(key, &Report::Day(RunKey { date, kind }), out)
     }
@@ -83,11 +93,14 @@ impl<'z, T: Tables> Office<'z, T> {
         kind: RunKind,
         out: &mut S,
     ) -> Result<(), ReportStop>
-        ensures reports { Reports (S.taken out.old) (S.taken out.new)
-            (S.failures out.old) (S.failures out.new) self.old key.now
+        ensures reports { IsSure T.is_open self.new → Reports (S.taken out.old) (S.taken out.new)
+            (S.failures out.old) (S.failures out.new) self.old.seen key.now
             (Results (record { date = date; kind = kind })) result }
         ensures counted { CountsReport result (S.failures out.old) (S.failures out.new) }
-        ensures same { self.new ≡ self.old }
+        ensures same { IsSure T.is_open self.new → self.new.seen ≡ self.old.seen }
+        ensures tallied { IsSure T.is_open self.new → AreReached self.old.seen.content
+            → CountsStop result (T.refusals self.old.tables) (T.refusals self.new.tables) }
+        ensures sure { IsSure T.is_open self.new → IsSure T.is_open self.old }
     {
         self.report(key, &Report::Results(RunKey { date, kind }), out)
     }
@@ -98,21 +111,27 @@ impl<'z, T: Tables> Office<'z, T> {
     ///
     /// As of `report`, but never refusal 63.
     pub fn report_balances<S: Sink>(&mut self, key: &[u8], out: &mut S) -> Result<(), ReportStop>
-        ensures reports { Reports (S.taken out.old) (S.taken out.new)
-            (S.failures out.old) (S.failures out.new) self.old key.now Balances result }
+        ensures reports { IsSure T.is_open self.new → Reports (S.taken out.old) (S.taken out.new)
+            (S.failures out.old) (S.failures out.new) self.old.seen key.now Balances result }
         ensures counted { CountsReport result (S.failures out.old) (S.failures out.new) }
-        ensures same { self.new ≡ self.old }
+        ensures same { IsSure T.is_open self.new → self.new.seen ≡ self.old.seen }
+        ensures tallied { IsSure T.is_open self.new → AreReached self.old.seen.content
+            → CountsStop result (T.refusals self.old.tables) (T.refusals self.new.tables) }
+        ensures sure { IsSure T.is_open self.new → IsSure T.is_open self.old }
     {
         self.report(key, &Report::Balances, out)
     }
 
     /// Writes the day report of a run that is there.
     fn write_day_report<S: Sink>(&mut self, run: &RunKey, out: &mut S) -> Result<(), ReportStop>
-        ensures reports { ReportsAs (S.taken out.old) (S.taken out.new)
+        ensures reports { IsSure T.is_open self.new → ReportsAs (S.taken out.old) (S.taken out.new)
             (S.failures out.old) (S.failures out.new)
-            (or_no_run (day_report_in self.old.content run.now)) result }
+            (or_no_run (day_report_in self.old.seen.content run.now)) result }
         ensures counted { CountsReport result (S.failures out.old) (S.failures out.new) }
-        ensures same { self.new ≡ self.old }
+        ensures same { IsSure T.is_open self.new → self.new.seen ≡ self.old.seen }
+        ensures tallied { IsSure T.is_open self.new → AreReached self.old.seen.content
+            → CountsStop result (T.refusals self.old.tables) (T.refusals self.new.tables) }
+        ensures sure { IsSure T.is_open self.new → IsSure T.is_open self.old }
     {
         if self.kept_run(run)?.is_none() {
             return Err(ReportStop::of(Refusal::NoRun));
@@ -122,11 +141,14 @@ impl<'z, T: Tables> Office<'z, T> {
 
     /// Writes the results of a run that is there.
     fn write_results<S: Sink>(&mut self, run: &RunKey, out: &mut S) -> Result<(), ReportStop>
-        ensures reports { ReportsAs (S.taken out.old) (S.taken out.new)
+        ensures reports { IsSure T.is_open self.new → ReportsAs (S.taken out.old) (S.taken out.new)
             (S.failures out.old) (S.failures out.new)
-            (or_no_run (export_in self.old.content run.now)) result }
+            (or_no_run (export_in self.old.seen.content run.now)) result }
         ensures counted { CountsReport result (S.failures out.old) (S.failures out.new) }
-        ensures same { self.new ≡ self.old }
+        ensures same { IsSure T.is_open self.new → self.new.seen ≡ self.old.seen }
+        ensures tallied { IsSure T.is_open self.new → AreReached self.old.seen.content
+            → CountsStop result (T.refusals self.old.tables) (T.refusals self.new.tables) }
+        ensures sure { IsSure T.is_open self.new → IsSure T.is_open self.old }
     {
         if self.kept_run(run)?.is_none() {
             return Err(ReportStop::of(Refusal::NoRun));
@@ -136,19 +158,26 @@ impl<'z, T: Tables> Office<'z, T> {
 
     /// Writes the balances of both accounts of every registered party.
     fn write_balances<S: Sink>(&mut self, out: &mut S) -> Result<(), ReportStop>
-        ensures writes { WritesReport (S.taken out.old) (S.taken out.new)
-            (S.failures out.old) (S.failures out.new) (balances_in self.old.content) result }
+        ensures writes { IsSure T.is_open self.new
+            → WritesReport (S.taken out.old) (S.taken out.new)
+            (S.failures out.old) (S.failures out.new) (balances_in self.old.seen.content) result }
         ensures counted { CountsReport result (S.failures out.old) (S.failures out.new) }
-        ensures same { self.new ≡ self.old }
+        ensures same { IsSure T.is_open self.new → self.new.seen ≡ self.old.seen }
+        ensures tallied { IsSure T.is_open self.new → AreReached self.old.seen.content
+            → CountsStop result (T.refusals self.old.tables) (T.refusals self.new.tables) }
+        ensures sure { IsSure T.is_open self.new → IsSure T.is_open self.old }
     {
         Ok(self.tables.balances(out)?)
     }
 
     /// What is kept of a run, if it is there.
     fn kept_run(&mut self, run: &RunKey) -> Result<Option<Summary>, StoreFault>
-        ensures value { IfOk result (λ found.
-            found ≡ find run_key_cmp run.now self.old.content.runs) }
-        ensures same { self.new ≡ self.old }
+        ensures value { IsSure T.is_open self.new → IfOk result (λ found.
+            found ≡ find run_key_cmp run.now self.old.seen.content.runs) }
+        ensures same { IsSure T.is_open self.new → self.new.seen ≡ self.old.seen }
+        ensures tallied { IsSure T.is_open self.new → AreReached self.old.seen.content
+            → CountsRefusal result (T.refusals self.old.tables) (T.refusals self.new.tables) }
+        ensures sure { IsSure T.is_open self.new → IsSure T.is_open self.old }
     {
         let runs = self.runs_of(run.date)?;
         Ok(summary_of(&runs, run.kind))

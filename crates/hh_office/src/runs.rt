@@ -9,17 +9,20 @@ ghost use Rattle.hh_requests.specs.declared.reply.Reply.TheVariants.{Ran};
 ghost use Rattle.hh_states.specs.DaySettlement.{periods_on};
 ghost use Rattle.hh_states.specs.Reads.{runs_in};
 ghost use Rattle.hh_states.specs.Steps.{missing_meter_fault, period_fault};
-ghost use Rattle.hh_office.specs.Promises.{MakesInEachState};
+ghost use Rattle.hh_store.specs.Reached.{AreReached};
+ghost use Rattle.hh_store.specs.StoreFaults.{CountsRefusal};
+ghost use Rattle.hh_office.specs.Refusals.{CountsAnswer};
+ghost use Rattle.hh_office.specs.Promises.{MakesInEachState, RefusalLeaves, reply_of};
 ghost use Rattle.hh_office.specs.Reads.{latest_key};
 ghost use Rattle.hh_office.specs.Runs.{run};
 ghost use Rattle.hh_office.specs.Settling.{AreTermsOf, IsEarly, IsNext, IsOverDay, Lacks, IsRunMade, RefusesIn, SettlesIn, TellsOrder, WritesRun, rows_before};
-ghost use Rattle.hh_office.specs.Views.{midnight_of};
+ghost use Rattle.hh_office.specs.Views.{IsSure, midnight_of};
 ghost use Rattle.jiff.specs.Words.{plain_zone};
 
 use crate::enquiries::{kinds_of, latest_of};
 use crate::office::Office;
 use hh_calc::{AccountRow, PeriodData};
-use hh_day::{SettledDay, SettledPeriod, run_change, settle_day, writes_the_run};
+use hh_day::{SettledDay, SettledPeriod, run_change, settle_day, terms_ready, writes_the_run};
 use hh_names::{Fault, PeriodNumber, Refusal};
 use hh_requests::Reply;
 use hh_rows::{SettlementPeriod, UnitPeriod};
@@ -33,8 +36,12 @@ use std::alloc::Global;
 impl<'z, T: Tables> Office<'z, T> {
     /// What becomes of a run that is ordered.
     pub(crate) fn run(&mut self, moment: i64, key: RunKey) -> Result<Reply, Fault>
-        ensures { MakesInEachState self.old self.new result (λ midnight s.
+        ensures makes { IsSure T.is_open self.new
+            → MakesInEachState self.old.seen self.new.seen result (λ midnight s.
             run midnight s moment key) }
+        ensures untouched { IsSure T.is_open self.new
+            → RefusalLeaves self.old.seen self.new.seen (reply_of result) }
+        ensures sure { IsSure T.is_open self.new → IsSure T.is_open self.old }
     {
         // Do nothing, but carry laws for the proof: the tables hold the machine's runs.
         kept_summaries();
@@ -51,8 +58,12 @@ impl<'z, T: Tables> Office<'z, T> {
         &mut self,
         date: SettlementDate,
     ) -> Result<Vec<(RunKind, Summary)>, StoreFault>
-        ensures value { IfOk result (λ runs. runs.items ≡ runs_in self.old.content date) }
-        ensures same { self.new ≡ self.old }
+        ensures value { IsSure T.is_open self.new
+            → IfOk result (λ runs. runs.items ≡ runs_in self.old.seen.content date) }
+        ensures same { IsSure T.is_open self.new → self.new.seen ≡ self.old.seen }
+        ensures tallied { IsSure T.is_open self.new → AreReached self.old.seen.content
+            → CountsRefusal result (T.refusals self.old.tables) (T.refusals self.new.tables) }
+        ensures sure { IsSure T.is_open self.new → IsSure T.is_open self.old }
     {
         self.tables.runs(date)
     }
@@ -60,10 +71,15 @@ impl<'z, T: Tables> Office<'z, T> {
     /// What becomes of a run that is not there and may come next on its date, where this is the date's
     /// latest run.
     fn new_run(&mut self, moment: i64, key: RunKey, former: Option<RunKey>) -> Result<Reply, Fault>
-        requires next { IsNext self.old.content key }
-        requires former { former ≡ latest_key key.date (runs_in self.old.content key.date) }
-        ensures { MakesInEachState self.old self.new result (λ midnight s.
+        requires next { IsSure T.is_open self.old → IsNext self.old.seen.content key }
+        requires former { IsSure T.is_open self.old
+            → former ≡ latest_key key.date (runs_in self.old.seen.content key.date) }
+        ensures makes { IsSure T.is_open self.new
+            → MakesInEachState self.old.seen self.new.seen result (λ midnight s.
             run midnight s moment key) }
+        ensures untouched { IsSure T.is_open self.new
+            → RefusalLeaves self.old.seen self.new.seen (reply_of result) }
+        ensures sure { IsSure T.is_open self.new → IsSure T.is_open self.old }
     {
         // Do nothing, but carry laws for the proof: the tables hold the machine's runs, and what is written
         // for a run is what the machine writes.
@@ -82,8 +98,10 @@ impl<'z, T: Tables> Office<'z, T> {
         day: &[SettledPeriod],
         former: Option<RunKey>,
     ) -> Result<Reply, StoreFault>
-        ensures made { IfOk result (IsRunMade self.old self.new key day.now former) }
-        ensures same { OnErr result (self.new ≡ self.old) }
+        ensures made { IsSure T.is_open self.new
+            → IfOk result (IsRunMade self.old.seen self.new.seen key day.now former) }
+        ensures same { IsSure T.is_open self.new → OnErr result (self.new.seen ≡ self.old.seen) }
+        ensures sure { IsSure T.is_open self.new → IsSure T.is_open self.old }
     {
         let rows = self.rows_before(former)?;
         let change = run_change(self.alloc, key, day, &rows)?;
@@ -95,12 +113,19 @@ impl<'z, T: Tables> Office<'z, T> {
     /// The Settlement Periods of a date, settled from what is in force, where the date is over and
     /// nothing is missing.
     fn settle(&mut self, moment: i64, date: SettlementDate) -> Result<Vec<SettledPeriod>, Fault>
-        ensures settled { IfOk result (λ day. SettlesIn self.old moment date day.items) }
-        ensures refused { IfErr result (RefusesIn self.old moment date) }
-        ensures same { self.new ≡ self.old }
+        ensures settled { IsSure T.is_open self.new
+            → IfOk result (λ day. SettlesIn self.old.seen moment date day.items) }
+        ensures refused { IsSure T.is_open self.new
+            → IfErr result (RefusesIn self.old.seen moment date) }
+        ensures same { IsSure T.is_open self.new → self.new.seen ≡ self.old.seen }
+        ensures sure { IsSure T.is_open self.new → IsSure T.is_open self.old }
+        ensures tallied { IsSure T.is_open self.new → AreReached self.old.seen.content
+            → CountsAnswer result (T.refusals self.old.tables) (T.refusals self.new.tables) }
     {
-        // Does nothing, but carries a law for the proof: what each period is settled from fits together.
+        // Do nothing, but carry laws for the proof: what each period is settled from fits together, and may
+        // be settled.
         periods_ready();
+        terms_ready();
         let day = day_over(&self.zone, moment, date)?;
         let terms = self.terms_of(&day)?;
         match settle_day(self.alloc, &day, &terms)? {
@@ -111,11 +136,16 @@ impl<'z, T: Tables> Office<'z, T> {
 
     /// What each Settlement Period of a day is settled from.
     fn terms_of(&mut self, day: &Day) -> Result<Vec<PeriodData>, Fault>
-        ensures terms { IfOk result (λ terms. AreTermsOf self.old.content.registered
+        ensures terms { IsSure T.is_open self.new
+            → IfOk result (λ terms. AreTermsOf self.old.seen.content.registered
             (periods_on day.now.date day.now.count) terms.items) }
-        ensures lacking { IfErr result (Lacks self.old.content.registered
+        ensures lacking { IsSure T.is_open self.new
+            → IfErr result (Lacks self.old.seen.content.registered
             (periods_on day.now.date day.now.count)) }
-        ensures same { self.new ≡ self.old }
+        ensures same { IsSure T.is_open self.new → self.new.seen ≡ self.old.seen }
+        ensures sure { IsSure T.is_open self.new → IsSure T.is_open self.old }
+        ensures tallied { IsSure T.is_open self.new → AreReached self.old.seen.content
+            → CountsAnswer result (T.refusals self.old.tables) (T.refusals self.new.tables) }
     {
         let found = self.tables.day_data(day)?;
         match (found.missing_price, found.missing_meter) {
@@ -130,8 +160,12 @@ impl<'z, T: Tables> Office<'z, T> {
         &mut self,
         run: Option<RunKey>,
     ) -> Result<Vec<(PeriodNumber, AccountRow)>, StoreFault>
-        ensures value { IfOk result (λ rows. rows.items ≡ rows_before self.old.content run) }
-        ensures same { self.new ≡ self.old }
+        ensures value { IsSure T.is_open self.new
+            → IfOk result (λ rows. rows.items ≡ rows_before self.old.seen.content run) }
+        ensures same { IsSure T.is_open self.new → self.new.seen ≡ self.old.seen }
+        ensures tallied { IsSure T.is_open self.new → AreReached self.old.seen.content
+            → CountsRefusal result (T.refusals self.old.tables) (T.refusals self.new.tables) }
+        ensures sure { IsSure T.is_open self.new → IsSure T.is_open self.old }
     {
         match run {
             Some(run) => self.rows_of_run(&run),
@@ -141,8 +175,12 @@ impl<'z, T: Tables> Office<'z, T> {
 
     /// Writes a run into the tables: the last call of the store that a request makes.
     fn commit_run(&mut self, change: RunChange) -> Result<(), StoreFault>
-        ensures written { OnOk result (WritesRun self.old self.new change) }
-        ensures same { OnErr result (self.new ≡ self.old) }
+        ensures written { IsSure T.is_open self.new
+            → OnOk result (WritesRun self.old.seen self.new.seen change) }
+        ensures same { IsSure T.is_open self.new → OnErr result (self.new.seen ≡ self.old.seen) }
+        ensures sure { IsSure T.is_open self.new → IsSure T.is_open self.old }
+        ensures tallied { IsSure T.is_open self.new → AreReached self.old.seen.content
+            → CountsRefusal result (T.refusals self.old.tables) (T.refusals self.new.tables) }
     {
         // Does nothing, but carries a law for the proof: the change makes the machine's tables.
         run_effect();

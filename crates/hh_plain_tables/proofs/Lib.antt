@@ -1,1 +1,2 @@
 mod KeptLaws
+mod RefusalLaws

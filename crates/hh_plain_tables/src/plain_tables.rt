@@ -1,6 +1,6 @@
 //! The tables of an office, kept in memory.
 
-ghost use Rattle.std.specs.Prelude.{◌≡◌, ◌≢◌, IfErr, IfOk, IfSome, IsOk, OnErr, OnOk};
+ghost use Rattle.std.specs.Prelude.{◌≡◌, ◌≢◌, IfErr, IfOk, IfSome, IsOk, OnErr, OnOk, true};
 ghost use Rattle.hh_time.specs.Days.{Midnights};
 ghost use Rattle.hh_rules.specs.RegisterView.{ServesFor};
 ghost use Rattle.hh_states.specs.Changes.{IsLoadFrom, IsRunFrom, effect_of_load, effect_of_run};
@@ -10,7 +10,9 @@ ghost use Rattle.hh_states.specs.Reads.{contracts_in, file_in, is_key_known, par
 ghost use Rattle.hh_states.specs.Soundness.{AreSound};
 ghost use Rattle.hh_states.specs.States.{empty_state};
 ghost use Rattle.hh_store.specs.DayReads.{IsDayData};
-ghost use Rattle.hh_store.specs.Outputs.{Outputs, balances_in, day_report_in, export_in};
+ghost use Rattle.hh_store.specs.Outputs.{CountsOutcome, Outputs, balances_in, day_report_in, export_in};
+ghost use Rattle.hh_store.specs.Reached.{AreReached};
+ghost use Rattle.hh_store.specs.StoreFaults.{CountsRefusal};
 
 use crate::changed_tables::{changed_by, take_over};
 use crate::kept_runs::KeptRuns;
@@ -22,6 +24,7 @@ use hh_num::Pence;
 use hh_rows::{ContractRow, FileKind, PartyRegistration, Row, Settings, UnitRegistration};
 use hh_rules::Register;
 use hh_runs::{RunKey, RunKind, Summary};
+use hh_state_laws::sound_states;
 use hh_states::FileKey;
 use hh_store::{DayData, KeptFile, LoadChange, OutputFault, RunChange, StoreFault, Tables};
 use hh_tables::ListTable;
@@ -77,6 +80,10 @@ impl PlainTables {
 
 impl Tables for PlainTables {
     ghost content = { λ tables. tables };
+
+    ghost is_open = { λ _. true };
+
+    ghost refusals = { λ _. 0 };
 
     fn settings(&mut self) -> Result<Settings, StoreFault>
         ensures value { IfOk result (λ settings. settings ≡ self.old.settings) }
@@ -134,8 +141,11 @@ impl Tables for PlainTables {
         ensures serves { IfOk result (ServesFor rows.now (whole_register self.old)) }
         ensures memory_alone { AreSound self.old.registered
             → IfErr result (λ fault. fault ≡ StoreFault.Memory) }
+        ensures tallied { AreReached self.old → CountsRefusal result 0 0 }
         ensures same { self.new ≡ self.old }
     {
+        // Does nothing, but carries a law for the proof: what is registered in a reached state is sound.
+        sound_states();
         self.register
             .register_for(self.alloc, self.settings.lead_minutes, rows)
     }
@@ -189,6 +199,7 @@ impl Tables for PlainTables {
         ensures writes { IfSome (export_in self.old run.now) (λ text.
             Outputs (S.taken out.old) (S.taken out.new)
             (S.failures out.old) (S.failures out.new) text result) }
+        ensures counted { CountsOutcome result (S.failures out.old) (S.failures out.new) }
         ensures never_store { IfErr result (λ fault. fault ≢ OutputFault.Store) }
         ensures same { self.new ≡ self.old }
     {
@@ -203,6 +214,7 @@ impl Tables for PlainTables {
         ensures writes { IfSome (day_report_in self.old run.now) (λ text.
             Outputs (S.taken out.old) (S.taken out.new)
             (S.failures out.old) (S.failures out.new) text result) }
+        ensures counted { CountsOutcome result (S.failures out.old) (S.failures out.new) }
         ensures never_store { IfErr result (λ fault. fault ≢ OutputFault.Store) }
         ensures same { self.new ≡ self.old }
     {
@@ -216,6 +228,7 @@ impl Tables for PlainTables {
     fn balances<S: Sink>(&mut self, out: &mut S) -> Result<(), OutputFault>
         ensures writes { Outputs (S.taken out.old) (S.taken out.new)
             (S.failures out.old) (S.failures out.new) (balances_in self.old) result }
+        ensures counted { CountsOutcome result (S.failures out.old) (S.failures out.new) }
         ensures never_store { IfErr result (λ fault. fault ≢ OutputFault.Store) }
         ensures same { self.new ≡ self.old }
     {

@@ -1,5 +1,6 @@
 //! Connections that are served: a request is read, the office handles it, and one reply is written.
 
+ghost use Rattle.hh_office.specs.Views.{IsSure};
 ghost use Rattle.hh_serve.specs.Serves.{CountsReading, CountsWriting, Serves, StandsAfterOne};
 
 use hh_devices::{Sink, Source};
@@ -59,9 +60,12 @@ pub fn serve_one<T: Tables, I: Source, O: Sink>(
     source: &mut I,
     sink: &mut O,
 ) -> Result<Served, ServeFault>
-    ensures served { Serves (I.remaining source.old) office.old office.new moment
+    ensures served { IsSure T.is_open office.new
+        → Serves (I.remaining source.old) office.old.seen office.new.seen moment
         (O.taken sink.old) (O.taken sink.new) result }
-    ensures stands { StandsAfterOne office.old office.new moment }
+    ensures stands { IsSure T.is_open office.new
+        → StandsAfterOne office.old.seen office.new.seen moment }
+    ensures sure { IsSure T.is_open office.new → IsSure T.is_open office.old }
     ensures read { CountsReading result (I.failures source.old) (I.failures source.new) }
     ensures written { CountsWriting result (O.failures sink.old) (O.failures sink.new) }
 {

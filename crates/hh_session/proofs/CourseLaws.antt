@@ -118,14 +118,14 @@ module _ (old new : OfficeView) (before after : Option (List ℕ)) (told : Told)
       → (text : List ℕ) × (t : State) × IsLineOf (λ given. does s given t) text × Appends before after text × StandsNow old new t
   line_done (inl went) s stands = let (t, done, now) = comes s stands in (told_line told, t, (told, done, refl), went, now)
   line_done (inr (refusal, went)) s stands =
-      let same : new ≡ old = leaves s stands refusal in
+      let same : new ≡ old = leaves refusal in
       (told_line no_memory, s, (no_memory, up s, refl), went, (subst (λ o. Stands o s) (sym same) stands, ap (λ (o : OfficeView). o.zone) same))
 
   pub line_cut : BeginsLine before after told → (s : State) → Stands old s
       → (text : List ℕ) × (t : State) × IsLineOf (λ given. does s given t) text × AppendsFront before after text × StandsNow old new t
   line_cut (inl went) s stands = let (t, done, now) = comes s stands in (told_line told, t, (told, done, refl), went, now)
   line_cut (inr (refusal, went)) s stands =
-      let same : new ≡ old = leaves s stands refusal in
+      let same : new ≡ old = leaves refusal in
       (told_line no_memory, s, (no_memory, up s, refl), went, (subst (λ o. Stands o s) (sym same) stands, ap (λ (o : OfficeView). o.zone) same))
 
 -- a line for which memory is refused before anything is done

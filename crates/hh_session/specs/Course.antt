@@ -103,7 +103,7 @@ MakesRun old new run told = (s : State) → Stands old s → (t : State) × RunD
 
 -- what is refused leaves the office as it is
 abbrev pub LeavesRefused : OfficeView → OfficeView → Told → Type 0
-LeavesRefused old new told = (s : State) → Stands old s → IsRefusal told → new ≡ old
+LeavesRefused old new told = IsRefusal told → new ≡ old
 
 -- An output had these bytes before and has those after.
 module _ (reads : List ℕ → Option (List ℕ) → Type 0) (refuses : ℕ → Type 0) (old new : OfficeView) (before after : Option (List ℕ)) where

@@ -4,6 +4,7 @@ ghost use Rattle.std.specs.Prelude.{◌≡◌, IsTrue, OnErr, OnOk};
 ghost use Rattle.hh_devices.specs.Devices.{Failed};
 ghost use Rattle.hh_time.specs.Days.{is_accepted};
 ghost use Rattle.hh_office.specs.Reports.{CountsReport, Reports};
+ghost use Rattle.hh_office.specs.Views.{IsSure};
 ghost use Rattle.hh_script.specs.Reports.{IsOfAcceptedDate, report_of};
 ghost use Rattle.hh_session.specs.Reporting.{BeginsReport, RunsReport, report_asked};
 
@@ -23,13 +24,16 @@ pub(crate) fn write_report<T: Tables, O: Sink>(
     out: &mut O,
 ) -> Result<(), DeviceFailed>
     requires { IsOfAcceptedDate line.now.report }
-    ensures done { OnOk result (RunsReport office.old (O.taken out.old) (O.taken out.new)
+    ensures done { IsSure T.is_open office.new
+        → OnOk result (RunsReport office.old.seen (O.taken out.old) (O.taken out.new)
         (report_of line.now)) }
     ensures well { OnOk result (O.failures out.new ≡ O.failures out.old) }
-    ensures cut { OnErr result (BeginsReport office.old (O.taken out.old) (O.taken out.new)
+    ensures cut { IsSure T.is_open office.new
+        → OnErr result (BeginsReport office.old.seen (O.taken out.old) (O.taken out.new)
         (report_of line.now)) }
     ensures failed { OnErr result (Failed (O.failures out.old) (O.failures out.new)) }
-    ensures same { office.new ≡ office.old }
+    ensures same { IsSure T.is_open office.new → office.new.seen ≡ office.old.seen }
+    ensures sure { IsSure T.is_open office.new → IsSure T.is_open office.old }
 {
     match ask(office, line.key, line.report, out) {
         Ok(()) => Ok(()),
@@ -46,10 +50,12 @@ fn ask<T: Tables, O: Sink>(
     out: &mut O,
 ) -> Result<(), ReportStop>
     requires { IsOfAcceptedDate asked }
-    ensures reports { Reports (O.taken out.old) (O.taken out.new)
-        (O.failures out.old) (O.failures out.new) office.old key.now (report_asked asked) result }
+    ensures reports { IsSure T.is_open office.new → Reports (O.taken out.old) (O.taken out.new)
+        (O.failures out.old) (O.failures out.new) office.old.seen key.now
+        (report_asked asked) result }
     ensures counted { CountsReport result (O.failures out.old) (O.failures out.new) }
-    ensures same { office.new ≡ office.old }
+    ensures same { IsSure T.is_open office.new → office.new.seen ≡ office.old.seen }
+    ensures sure { IsSure T.is_open office.new → IsSure T.is_open office.old }
 {
     match asked {
         AskedReport::Day { date, kind } => office.report_day(key, accepted(date), kind, out),

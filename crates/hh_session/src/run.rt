@@ -2,6 +2,7 @@
 
 ghost use Rattle.std.specs.Prelude.{◌≡◌, ℕ, List, Some, None, map, take, All, IfOk, IsErrOf, OnErr, OnOk};
 ghost use Rattle.hh_devices.specs.Devices.{Failed};
+ghost use Rattle.hh_office.specs.Views.{IsSure};
 ghost use Rattle.hh_script.specs.Steps.{IsWellNamed, LoadFile, MakeRun, load_of, run_of, step_of};
 ghost use Rattle.hh_session.specs.Course.{LeavesRefused, MakesRun, RunsLoad, RunsScript, RunsStep, StopsScript, StopsStep, request_for, request_of};
 
@@ -45,12 +46,17 @@ pub fn run_lines<T: Tables, I: Inputs, L: Loopback, O: Sink>(
     out: &mut O,
 ) -> Result<(), DeviceFailed>
     requires { All (λ line. IsWellNamed (step_of line)) lines.now }
-    ensures done { OnOk result (RunsScript (I.reads_as inputs.now) (L.may_refuse loopback.now)
-        office.old office.new (O.taken out.old) (O.taken out.new) (map step_of lines.now)) }
+    ensures done { IsSure T.is_open office.new
+        → OnOk result (RunsScript (I.reads_as inputs.now) (L.may_refuse loopback.now)
+        office.old.seen office.new.seen (O.taken out.old) (O.taken out.new)
+        (map step_of lines.now)) }
     ensures well { OnOk result (O.failures out.new ≡ O.failures out.old) }
-    ensures cut { OnErr result (StopsScript (I.reads_as inputs.now) (L.may_refuse loopback.now)
-        office.old office.new (O.taken out.old) (O.taken out.new) (map step_of lines.now)) }
+    ensures cut { IsSure T.is_open office.new
+        → OnErr result (StopsScript (I.reads_as inputs.now) (L.may_refuse loopback.now)
+        office.old.seen office.new.seen (O.taken out.old) (O.taken out.new)
+        (map step_of lines.now)) }
     ensures failed { OnErr result (Failed (O.failures out.old) (O.failures out.new)) }
+    ensures sure { IsSure T.is_open office.new → IsSure T.is_open office.old }
 {
     for line in lines.iter() {
         run_line(alloc, office, inputs, loopback, line, out)?;
@@ -68,12 +74,15 @@ fn run_line<T: Tables, I: Inputs, L: Loopback, O: Sink>(
     out: &mut O,
 ) -> Result<(), DeviceFailed>
     requires { IsWellNamed (step_of line.now) }
-    ensures done { OnOk result (RunsStep (I.reads_as inputs.now) (L.may_refuse loopback.now)
-        office.old office.new (O.taken out.old) (O.taken out.new) (step_of line.now)) }
+    ensures done { IsSure T.is_open office.new
+        → OnOk result (RunsStep (I.reads_as inputs.now) (L.may_refuse loopback.now)
+        office.old.seen office.new.seen (O.taken out.old) (O.taken out.new) (step_of line.now)) }
     ensures well { OnOk result (O.failures out.new ≡ O.failures out.old) }
-    ensures cut { OnErr result (StopsStep (I.reads_as inputs.now) (L.may_refuse loopback.now)
-        office.old office.new (O.taken out.old) (O.taken out.new) (step_of line.now)) }
+    ensures cut { IsSure T.is_open office.new
+        → OnErr result (StopsStep (I.reads_as inputs.now) (L.may_refuse loopback.now)
+        office.old.seen office.new.seen (O.taken out.old) (O.taken out.new) (step_of line.now)) }
     ensures failed { OnErr result (Failed (O.failures out.old) (O.failures out.new)) }
+    ensures sure { IsSure T.is_open office.new → IsSure T.is_open office.old }
 {
     // Room for the line of what is done, taken before the office acts.
     let Ok(room) = Vec::with_capacity(alloc, LINE_ROOM) else {
@@ -96,8 +105,11 @@ fn run_line<T: Tables, I: Inputs, L: Loopback, O: Sink>(
 /// What a run comes to.
 fn make_run<T: Tables>(alloc: Global, office: &mut Office<'_, T>, run: &RunLine<'_>) -> Told
     requires { IsWellNamed (MakeRun (run_of run.now)) }
-    ensures runs { MakesRun office.old office.new (run_of run.now) result }
-    ensures untouched { LeavesRefused office.old office.new result }
+    ensures runs { IsSure T.is_open office.new
+        → MakesRun office.old.seen office.new.seen (run_of run.now) result }
+    ensures untouched { IsSure T.is_open office.new
+        → LeavesRefused office.old.seen office.new.seen result }
+    ensures sure { IsSure T.is_open office.new → IsSure T.is_open office.old }
 {
     match run_request(alloc, run) {
         Ok(request) => Told::Replied(office.handle(run.moment, &request)),
@@ -131,9 +143,12 @@ fn run_load<T: Tables, I: Inputs>(
     load: &LoadLine<'_>,
 ) -> Told
     requires { IsWellNamed (LoadFile (load_of load.now)) }
-    ensures runs { RunsLoad (I.reads_as inputs.now) office.old office.new
+    ensures runs { IsSure T.is_open office.new
+        → RunsLoad (I.reads_as inputs.now) office.old.seen office.new.seen
         (load_of load.now) result }
-    ensures untouched { LeavesRefused office.old office.new result }
+    ensures untouched { IsSure T.is_open office.new
+        → LeavesRefused office.old.seen office.new.seen result }
+    ensures sure { IsSure T.is_open office.new → IsSure T.is_open office.old }
 {
     match read_request(alloc, inputs, load) {
         Ok(request) => Told::Replied(office.handle(load.moment, &request)),

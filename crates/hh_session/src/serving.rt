@@ -4,6 +4,7 @@ ghost use Rattle.std.specs.Prelude.{◌≡◌, ◌≤◌, [], vec_capacity, OnEr
 ghost use Rattle.std.specs.Io.KnownBytes.{Appends};
 ghost use Rattle.hh_devices.specs.Devices.{AppendsFront, Failed};
 ghost use Rattle.hh_serve.specs.Serves.{StandsAfterOne};
+ghost use Rattle.hh_office.specs.Views.{IsSure};
 ghost use Rattle.hh_session.specs.Serving.{RunsServing, ServesUpTo, StopsServing, listening_line};
 
 use crate::lines::push_listening;
@@ -27,12 +28,15 @@ pub(crate) fn serve_connections<T: Tables, L: Loopback, O: Sink>(
 ) -> Result<(), DeviceFailed>
     requires empty { room.items ≡ [] }
     requires ample { 217 ≤ vec_capacity room }
-    ensures done { OnOk result (RunsServing (L.may_refuse loopback.now) office.old office.new
+    ensures done { IsSure T.is_open office.new
+        → OnOk result (RunsServing (L.may_refuse loopback.now) office.old.seen office.new.seen
         (O.taken out.old) (O.taken out.new) line.now) }
     ensures well { OnOk result (O.failures out.new ≡ O.failures out.old) }
-    ensures cut { OnErr result (StopsServing (L.may_refuse loopback.now) office.old office.new
+    ensures cut { IsSure T.is_open office.new
+        → OnErr result (StopsServing (L.may_refuse loopback.now) office.old.seen office.new.seen
         (O.taken out.old) (O.taken out.new) line.now) }
     ensures failed { OnErr result (Failed (O.failures out.old) (O.failures out.new)) }
+    ensures sure { IsSure T.is_open office.new → IsSure T.is_open office.old }
 {
     match loopback.listen(line.port) {
         Ok(listener) => {
@@ -67,7 +71,9 @@ fn serve_each<T: Tables, L: Listener>(
     moment: i64,
     count: u32,
 )
-    ensures { ServesUpTo office.old office.new moment count }
+    ensures serves { IsSure T.is_open office.new
+        → ServesUpTo office.old.seen office.new.seen moment count }
+    ensures sure { IsSure T.is_open office.new → IsSure T.is_open office.old }
 {
     for _ in 0..count {
         serve_next(alloc, office, listener, moment);
@@ -81,7 +87,9 @@ fn serve_next<T: Tables, L: Listener>(
     listener: &L,
     moment: i64,
 )
-    ensures { StandsAfterOne office.old office.new moment }
+    ensures stands { IsSure T.is_open office.new
+        → StandsAfterOne office.old.seen office.new.seen moment }
+    ensures sure { IsSure T.is_open office.new → IsSure T.is_open office.old }
 {
     if let Ok(mut connection) = listener.accept() {
         let _ = serve_one(

@@ -1,3 +1,4 @@
 pub mod DayReads
 pub mod Outputs
+pub mod Reached
 pub mod StoreFaults

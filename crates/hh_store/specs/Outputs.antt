@@ -47,6 +47,11 @@ CountsOutput Memory old new = new ≡ old
 CountsOutput Store old new = new ≡ old
 CountsOutput Write old new = Failed old new
 
+-- a sink counts one failure where a call ended for it, and none elsewhere
+abbrev pub CountsOutcome : {A : Type 0} → Result A OutputFault → ℕ → ℕ → Type 0
+CountsOutcome (Ok x) old new = new ≡ old
+CountsOutcome (Err fault) old new = CountsOutput fault old new
+
 -- A sink had taken these bytes before and has taken those after, and had counted so many failures and counts so many.
 module _ (before after : Option (List ℕ)) (counted counts : ℕ) where
   -- the text went out and nothing else, and the sink did not fail; or a beginning of the text went out

@@ -1,4 +1,6 @@
--- The refusals that stand for the faults of a store, and how a store tells the faults of reports.
+-- The refusals that stand for the faults of a store, how a store tells the faults of reports, and how often it has refused.
+use Rattle.std.specs.Prelude.{◌≡◌, ◌≤◌, ℕ, Result, Ok, Err}
+use Rattle.hh_devices.specs.Devices.{Failed}
 use Rattle.hh_names.specs.declared.fault.Fault.{Fault}
 use Rattle.hh_names.specs.declared.fault.Refusal.TheVariants as refusal
 use Rattle.hh_names.specs.Faults.{memory_fault, plain_fault}
@@ -18,3 +20,20 @@ store_fault Store = plain_fault refusal.Store
 abbrev pub output_fault : ReportFault → OutputFault
 output_fault report.Memory = output.Memory
 output_fault report.Write = output.Write
+
+-- one more refusal was counted; at the greatest count it is said alone that the count did not fall
+abbrev pub CountsOneMore : ℕ → ℕ → Type 0
+CountsOneMore old new = (old ≤ new) × Failed old new
+
+-- a store counts one refusal where a call failed for another cause than memory, and none elsewhere
+abbrev pub CountsRefusal : {A : Type 0} → Result A StoreFault → ℕ → ℕ → Type 0
+CountsRefusal (Ok x) old new = new ≡ old
+CountsRefusal (Err Memory) old new = new ≡ old
+CountsRefusal (Err Store) old new = CountsOneMore old new
+
+-- the same where a report was to be written, which the output may stop, too
+abbrev pub CountsReportRefusal : {A : Type 0} → Result A OutputFault → ℕ → ℕ → Type 0
+CountsReportRefusal (Ok x) old new = new ≡ old
+CountsReportRefusal (Err output.Memory) old new = new ≡ old
+CountsReportRefusal (Err output.Store) old new = CountsOneMore old new
+CountsReportRefusal (Err output.Write) old new = new ≡ old

@@ -1,6 +1,6 @@
 //! The tables of an office, however they are kept.
 
-ghost use Rattle.std.specs.Prelude.{◌≡◌, IfOk, IfSome, OnOk, OnErr};
+ghost use Rattle.std.specs.Prelude.{◌≡◌, ℕ, Bool, IfOk, IfSome, IsTrue, OnOk, OnErr};
 ghost use Rattle.hh_time.specs.Days.{Midnights};
 ghost use Rattle.hh_rules.specs.RegisterView.{ServesFor};
 ghost use Rattle.hh_states.specs.Changes.{IsLoadFrom, IsRunFrom, effect_of_load, effect_of_run};
@@ -8,7 +8,9 @@ ghost use Rattle.hh_states.specs.Content.{Content};
 ghost use Rattle.hh_states.specs.DaySettlement.{periods_on};
 ghost use Rattle.hh_states.specs.Reads.{contracts_in, file_in, is_key_known, party_in, postings_in, reference_in, results_in, runs_in, unit_in, whole_register};
 ghost use Rattle.hh_store.specs.DayReads.{IsDayData};
-ghost use Rattle.hh_store.specs.Outputs.{Outputs, balances_in, day_report_in, export_in};
+ghost use Rattle.hh_store.specs.Outputs.{CountsOutcome, Outputs, balances_in, day_report_in, export_in};
+ghost use Rattle.hh_store.specs.Reached.{AreReached};
+ghost use Rattle.hh_store.specs.StoreFaults.{CountsRefusal, CountsReportRefusal};
 
 use crate::day_data::DayData;
 use crate::kept_file::KeptFile;
@@ -32,43 +34,78 @@ pub trait Tables {
     /// What the tables contain.
     ghost content: { Self → Content };
 
+    /// They stand: no fault of a disk has shut them, and no wrong answer of it was taken as true. Once they
+    /// do not they never do again, and no call can tell it.
+    ghost is_open: { Self → Bool };
+
+    /// How often they have refused for another cause than memory. The count never falls, and at its
+    /// greatest nothing more is said of it.
+    ghost refusals: { Self → ℕ };
+
     /// The settings that the office was made with.
     fn settings(&mut self) -> Result<Settings, StoreFault>
-        ensures value { IfOk result (λ settings. settings ≡ (content self.old).settings) }
-        ensures same { content self.new ≡ content self.old };
+        ensures value { IsTrue (is_open self.new) → IfOk result (λ settings.
+            settings ≡ (content self.old).settings) }
+        ensures same { IsTrue (is_open self.new) → content self.new ≡ content self.old }
+        ensures stood { IsTrue (is_open self.new) → IsTrue (is_open self.old) }
+        ensures tallied { IsTrue (is_open self.new) → AreReached (content self.old)
+            → CountsRefusal result (refusals self.old) (refusals self.new) };
 
     /// What is registered of a party, if it is registered (profile).
     fn party(&mut self, party: &PartyId) -> Result<Option<PartyRegistration>, StoreFault>
-        ensures value { IfOk result (λ found. found ≡ party_in (content self.old) party.now) }
-        ensures same { content self.new ≡ content self.old };
+        ensures value { IsTrue (is_open self.new) → IfOk result (λ found.
+            found ≡ party_in (content self.old) party.now) }
+        ensures same { IsTrue (is_open self.new) → content self.new ≡ content self.old }
+        ensures stood { IsTrue (is_open self.new) → IsTrue (is_open self.old) }
+        ensures tallied { IsTrue (is_open self.new) → AreReached (content self.old)
+            → CountsRefusal result (refusals self.old) (refusals self.new) };
 
     /// What is registered of a unit, if it is registered (profile).
     fn unit(&mut self, unit: &UnitId) -> Result<Option<UnitRegistration>, StoreFault>
-        ensures value { IfOk result (λ found. found ≡ unit_in (content self.old) unit.now) }
-        ensures same { content self.new ≡ content self.old };
+        ensures value { IsTrue (is_open self.new) → IfOk result (λ found.
+            found ≡ unit_in (content self.old) unit.now) }
+        ensures same { IsTrue (is_open self.new) → content self.new ≡ content self.old }
+        ensures stood { IsTrue (is_open self.new) → IsTrue (is_open self.old) }
+        ensures tallied { IsTrue (is_open self.new) → AreReached (content self.old)
+            → CountsRefusal result (refusals self.old) (refusals self.new) };
 
     /// The seller and the buyer of a reference, which its first accepted row fixed, if there was
     /// one (Section P in shape).
     fn reference(&mut self, reference: &Reference) -> Result<Option<Counterparties>, StoreFault>
-        ensures value { IfOk result (λ found.
+        ensures value { IsTrue (is_open self.new) → IfOk result (λ found.
             found ≡ reference_in (content self.old) reference.now) }
-        ensures same { content self.new ≡ content self.old };
+        ensures same { IsTrue (is_open self.new) → content self.new ≡ content self.old }
+        ensures stood { IsTrue (is_open self.new) → IsTrue (is_open self.old) }
+        ensures tallied { IsTrue (is_open self.new) → AreReached (content self.old)
+            → CountsRefusal result (refusals self.old) (refusals self.new) };
 
     /// Whether a registered party has the key (profile).
     fn key_known(&mut self, key: &[u8]) -> Result<bool, StoreFault>
-        ensures value { IfOk result (λ known. known ≡ is_key_known (content self.old) key.now) }
-        ensures same { content self.new ≡ content self.old };
+        ensures value { IsTrue (is_open self.new) → IfOk result (λ known.
+            known ≡ is_key_known (content self.old) key.now) }
+        ensures same { IsTrue (is_open self.new) → content self.new ≡ content self.old }
+        ensures stood { IsTrue (is_open self.new) → IsTrue (is_open self.old) }
+        ensures tallied { IsTrue (is_open self.new) → AreReached (content self.old)
+            → CountsRefusal result (refusals self.old) (refusals self.new) };
 
     /// The accepted file of a kind and name, if there is one (profile).
     fn file(&mut self, kind: FileKind, name: &FileName) -> Result<Option<KeptFile>, StoreFault>
-        ensures value { IfOk result (λ found. found ≡ file_in (content self.old) kind name.now) }
-        ensures same { content self.new ≡ content self.old };
+        ensures value { IsTrue (is_open self.new) → IfOk result (λ found.
+            found ≡ file_in (content self.old) kind name.now) }
+        ensures same { IsTrue (is_open self.new) → content self.new ≡ content self.old }
+        ensures stood { IsTrue (is_open self.new) → IsTrue (is_open self.old) }
+        ensures tallied { IsTrue (is_open self.new) → AreReached (content self.old)
+            → CountsRefusal result (refusals self.old) (refusals self.new) };
 
     /// A register that judges these rows, and is changed by them, as one of everything that is
     /// registered and in force would (profile).
     fn register(&mut self, rows: &[Row]) -> Result<Register, StoreFault>
-        ensures serves { IfOk result (ServesFor rows.now (whole_register (content self.old))) }
-        ensures same { content self.new ≡ content self.old };
+        ensures serves { IsTrue (is_open self.new)
+            → IfOk result (ServesFor rows.now (whole_register (content self.old))) }
+        ensures same { IsTrue (is_open self.new) → content self.new ≡ content self.old }
+        ensures stood { IsTrue (is_open self.new) → IsTrue (is_open self.old) }
+        ensures tallied { IsTrue (is_open self.new) → AreReached (content self.old)
+            → CountsRefusal result (refusals self.old) (refusals self.new) };
 
     /// The rows of contracts that are in force on a date and name an account, by Settlement Period,
     /// then by the bytes of their references (Section P in shape).
@@ -77,35 +114,53 @@ pub trait Tables {
         account: &Account,
         date: SettlementDate,
     ) -> Result<Vec<ContractRow>, StoreFault>
-        ensures value { IfOk result (λ rows.
+        ensures value { IsTrue (is_open self.new) → IfOk result (λ rows.
             rows.items ≡ contracts_in (content self.old) account.now date) }
-        ensures same { content self.new ≡ content self.old };
+        ensures same { IsTrue (is_open self.new) → content self.new ≡ content self.old }
+        ensures stood { IsTrue (is_open self.new) → IsTrue (is_open self.old) }
+        ensures tallied { IsTrue (is_open self.new) → AreReached (content self.old)
+            → CountsRefusal result (refusals self.old) (refusals self.new) };
 
     /// What the Settlement Periods of a day are settled from: the first that has no price, if there is one;
     /// the first in which a unit of the date has no reading, if there is one, with the first such unit by
     /// the bytes of its id; and where neither is missing, what each is settled from (Section T in shape).
     fn day_data(&mut self, day: &Day) -> Result<DayData, StoreFault>
-        ensures value { IfOk result (IsDayData (content self.old).registered
+        ensures value { IsTrue (is_open self.new)
+            → IfOk result (IsDayData (content self.old).registered
             (periods_on day.now.date day.now.count)) }
-        ensures same { content self.new ≡ content self.old };
+        ensures same { IsTrue (is_open self.new) → content self.new ≡ content self.old }
+        ensures stood { IsTrue (is_open self.new) → IsTrue (is_open self.old) }
+        ensures tallied { IsTrue (is_open self.new) → AreReached (content self.old)
+            → CountsRefusal result (refusals self.old) (refusals self.new) };
 
     /// The runs of a date with their summaries, in the order of their kinds (profile).
     fn runs(&mut self, date: SettlementDate) -> Result<Vec<(RunKind, Summary)>, StoreFault>
-        ensures value { IfOk result (λ runs. runs.items ≡ runs_in (content self.old) date) }
-        ensures same { content self.new ≡ content self.old };
+        ensures value { IsTrue (is_open self.new) → IfOk result (λ runs.
+            runs.items ≡ runs_in (content self.old) date) }
+        ensures same { IsTrue (is_open self.new) → content self.new ≡ content self.old }
+        ensures stood { IsTrue (is_open self.new) → IsTrue (is_open self.old) }
+        ensures tallied { IsTrue (is_open self.new) → AreReached (content self.old)
+            → CountsRefusal result (refusals self.old) (refusals self.new) };
 
     /// The rows of a run's accounts, by Settlement Period, then by account; none where the run is not
     /// there (profile).
     fn results(&mut self, run: &RunKey) -> Result<Vec<(PeriodNumber, AccountRow)>, StoreFault>
-        ensures value { IfOk result (λ rows. rows.items ≡ results_in (content self.old) run.now) }
-        ensures same { content self.new ≡ content self.old };
+        ensures value { IsTrue (is_open self.new) → IfOk result (λ rows.
+            rows.items ≡ results_in (content self.old) run.now) }
+        ensures same { IsTrue (is_open self.new) → content self.new ≡ content self.old }
+        ensures stood { IsTrue (is_open self.new) → IsTrue (is_open self.old) }
+        ensures tallied { IsTrue (is_open self.new) → AreReached (content self.old)
+            → CountsRefusal result (refusals self.old) (refusals self.new) };
 
     /// What the runs have posted to an account, in pence, by the dates of the runs, then by their kinds
     /// (profile).
     fn postings(&mut self, account: &Account) -> Result<Vec<(RunKey, Pence)>, StoreFault>
-        ensures value { IfOk result (λ rows.
+        ensures value { IsTrue (is_open self.new) → IfOk result (λ rows.
             rows.items ≡ postings_in (content self.old) account.now) }
-        ensures same { content self.new ≡ content self.old };
+        ensures same { IsTrue (is_open self.new) → content self.new ≡ content self.old }
+        ensures stood { IsTrue (is_open self.new) → IsTrue (is_open self.old) }
+        ensures tallied { IsTrue (is_open self.new) → AreReached (content self.old)
+            → CountsRefusal result (refusals self.old) (refusals self.new) };
 
     /// Writes the results of a run as comma-separated values: its rows as the tables hold them, in the
     /// order of `results`, and nothing else; or a beginning of that. Of a run that is not there no more is
@@ -116,10 +171,15 @@ pub trait Tables {
     /// `Memory` where memory was refused, `Store` where the store refuses for another cause or holds what
     /// no office wrote, `Write` only where the output failed or took nothing in this call.
     fn export<S: Sink>(&mut self, run: &RunKey, out: &mut S) -> Result<(), OutputFault>
-        ensures writes { IfSome (export_in (content self.old) run.now) (λ text.
+        ensures writes { IsTrue (is_open self.new)
+            → IfSome (export_in (content self.old) run.now) (λ text.
             Outputs (S.taken out.old) (S.taken out.new)
             (S.failures out.old) (S.failures out.new) text result) }
-        ensures same { content self.new ≡ content self.old };
+        ensures counted { CountsOutcome result (S.failures out.old) (S.failures out.new) }
+        ensures same { IsTrue (is_open self.new) → content self.new ≡ content self.old }
+        ensures stood { IsTrue (is_open self.new) → IsTrue (is_open self.old) }
+        ensures tallied { IsTrue (is_open self.new) → AreReached (content self.old)
+            → CountsReportRefusal result (refusals self.old) (refusals self.new) };
 
     /// Writes the day report of a run, from its rows as the tables hold them, and nothing else; or a
     /// beginning of it. Of a run that is not there no more is promised than that the tables stay (profile).
@@ -128,10 +188,15 @@ pub trait Tables {
     ///
     /// As of `export`.
     fn day_report<S: Sink>(&mut self, run: &RunKey, out: &mut S) -> Result<(), OutputFault>
-        ensures writes { IfSome (day_report_in (content self.old) run.now) (λ text.
+        ensures writes { IsTrue (is_open self.new)
+            → IfSome (day_report_in (content self.old) run.now) (λ text.
             Outputs (S.taken out.old) (S.taken out.new)
             (S.failures out.old) (S.failures out.new) text result) }
-        ensures same { content self.new ≡ content self.old };
+        ensures counted { CountsOutcome result (S.failures out.old) (S.failures out.new) }
+        ensures same { IsTrue (is_open self.new) → content self.new ≡ content self.old }
+        ensures stood { IsTrue (is_open self.new) → IsTrue (is_open self.old) }
+        ensures tallied { IsTrue (is_open self.new) → AreReached (content self.old)
+            → CountsReportRefusal result (refusals self.old) (refusals self.new) };
 
     /// Writes the balances of both accounts of each registered party, in order, as comma-separated values,
     /// and nothing else; or a beginning of that. A balance is the sum of all that runs have posted to the
@@ -141,21 +206,35 @@ pub trait Tables {
     ///
     /// As of `export`.
     fn balances<S: Sink>(&mut self, out: &mut S) -> Result<(), OutputFault>
-        ensures writes { Outputs (S.taken out.old) (S.taken out.new)
+        ensures writes { IsTrue (is_open self.new) → Outputs (S.taken out.old) (S.taken out.new)
             (S.failures out.old) (S.failures out.new) (balances_in (content self.old)) result }
-        ensures same { content self.new ≡ content self.old };
+        ensures counted { CountsOutcome result (S.failures out.old) (S.failures out.new) }
+        ensures same { IsTrue (is_open self.new) → content self.new ≡ content self.old }
+        ensures stood { IsTrue (is_open self.new) → IsTrue (is_open self.old) }
+        ensures tallied { IsTrue (is_open self.new) → AreReached (content self.old)
+            → CountsReportRefusal result (refusals self.old) (refusals self.new) };
 
     /// Writes what an accepted file changes, whole or not at all. Of a change that the machine does
     /// not make, no more is promised than that a failure leaves the tables as they were (profile).
     fn apply_load(&mut self, change: LoadChange) -> Result<(), StoreFault>
-        ensures ok { (midnight : Midnights) → IsLoadFrom midnight (content self.old) change
+        ensures ok { IsTrue (is_open self.new)
+            → (midnight : Midnights) → IsLoadFrom midnight (content self.old) change
             → OnOk result (content self.new ≡ effect_of_load change (content self.old)) }
-        ensures err { OnErr result (content self.new ≡ content self.old) };
+        ensures err { IsTrue (is_open self.new)
+            → OnErr result (content self.new ≡ content self.old) }
+        ensures stood { IsTrue (is_open self.new) → IsTrue (is_open self.old) }
+        ensures tallied { IsTrue (is_open self.new) → AreReached (content self.old)
+            → CountsRefusal result (refusals self.old) (refusals self.new) };
 
     /// Writes what a new run changes, whole or not at all. Of a change that the machine does not make,
     /// no more is promised than that a failure leaves the tables as they were (profile).
     fn apply_run(&mut self, change: RunChange) -> Result<(), StoreFault>
-        ensures ok { (midnight : Midnights) → IsRunFrom midnight (content self.old) change
+        ensures ok { IsTrue (is_open self.new)
+            → (midnight : Midnights) → IsRunFrom midnight (content self.old) change
             → OnOk result (content self.new ≡ effect_of_run change (content self.old)) }
-        ensures err { OnErr result (content self.new ≡ content self.old) };
+        ensures err { IsTrue (is_open self.new)
+            → OnErr result (content self.new ≡ content self.old) }
+        ensures stood { IsTrue (is_open self.new) → IsTrue (is_open self.old) }
+        ensures tallied { IsTrue (is_open self.new) → AreReached (content self.old)
+            → CountsRefusal result (refusals self.old) (refusals self.new) };
 }

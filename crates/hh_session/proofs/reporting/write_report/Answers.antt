@@ -8,7 +8,7 @@ use Rattle.hh_session.proofs.ReportingLaws.{begun_report, cut_report, told_repor
 use Rattle.hh_session.proofs.reporting.write_report.Goals as goal
 
 pub returns-in-Err-Refused-clause-done : goal.returns-in-Err-Refused-clause-done
-returns-in-Err-Refused-clause-done g c =
+returns-in-Err-Refused-clause-done g c sure =
     let taken = g.O.Sink.taken in
     let failures = g.O.Sink.failures in
     let old = c.args.out.now in
@@ -16,13 +16,13 @@ returns-in-Err-Refused-clause-done g c =
     let fault = c.in-Err-Refused.fault in
     OnOk-map c.tell_refused.result _ _
     (λ told s stands.
-    let report = report_for (midnight_of c.args.office.now) s c.args.line.now.key.now (report_asked c.args.line.now.report) in
+    let report = report_for (midnight_of c.args.office.now.seen) s c.args.line.now.key.now (report_asked c.args.line.now.report) in
     told_report (taken old) (taken mid) (taken c.tell_refused.new.out) (failures old) (failures mid) fault report
     (subst (λ stop. ReportsAs (taken old) (taken mid) (failures old) (failures mid) {A = Unit {0}} report (Err stop))
-    c.in-Err-Refused.field-0-is (c.in-Err-Refused.ensures.reports s stands)) told) c.tell_refused.ensures.told
+    c.in-Err-Refused.field-0-is (c.in-Err-Refused.ensures.reports sure s stands)) told) c.tell_refused.ensures.told
 
 pub returns-in-Err-Refused-clause-cut : goal.returns-in-Err-Refused-clause-cut
-returns-in-Err-Refused-clause-cut g c =
+returns-in-Err-Refused-clause-cut g c sure =
     let taken = g.O.Sink.taken in
     let failures = g.O.Sink.failures in
     let old = c.args.out.now in
@@ -30,19 +30,19 @@ returns-in-Err-Refused-clause-cut g c =
     let fault = c.in-Err-Refused.fault in
     OnErr-map c.tell_refused.result _ _
     (λ told s stands.
-    let report = report_for (midnight_of c.args.office.now) s c.args.line.now.key.now (report_asked c.args.line.now.report) in
+    let report = report_for (midnight_of c.args.office.now.seen) s c.args.line.now.key.now (report_asked c.args.line.now.report) in
     begun_report (taken old) (taken mid) (taken c.tell_refused.new.out) (failures old) (failures mid) fault report
     (subst (λ stop. ReportsAs (taken old) (taken mid) (failures old) (failures mid) {A = Unit {0}} report (Err stop))
-    c.in-Err-Refused.field-0-is (c.in-Err-Refused.ensures.reports s stands)) told) c.tell_refused.ensures.cut
+    c.in-Err-Refused.field-0-is (c.in-Err-Refused.ensures.reports sure s stands)) told) c.tell_refused.ensures.cut
 
 pub returns-in-Err-Write-clause-cut : goal.returns-in-Err-Write-clause-cut
-returns-in-Err-Write-clause-cut g c =
+returns-in-Err-Write-clause-cut g c sure =
     let taken = g.O.Sink.taken in
     let failures = g.O.Sink.failures in
     let old = c.args.out.now in
     let mid = c.ask.new.out in
     λ s stands.
-    let report = report_for (midnight_of c.args.office.now) s c.args.line.now.key.now (report_asked c.args.line.now.report) in
+    let report = report_for (midnight_of c.args.office.now.seen) s c.args.line.now.key.now (report_asked c.args.line.now.report) in
     cut_report (taken old) (taken mid) (taken mid) (failures old) (failures mid) report
     (subst (λ stop. ReportsAs (taken old) (taken mid) (failures old) (failures mid) {A = Unit {0}} report (Err stop))
-    c.in-Err-Write.field-0-is (c.in-Err-Write.ensures.reports s stands))
+    c.in-Err-Write.field-0-is (c.in-Err-Write.ensures.reports sure s stands))

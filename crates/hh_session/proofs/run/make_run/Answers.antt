@@ -6,11 +6,11 @@ use Rattle.hh_session.proofs.CourseLaws.{run_answered}
 use Rattle.hh_session.proofs.run.make_run.Goals as goal
 
 pub returns-in-Ok-clause-runs : goal.returns-in-Ok-clause-runs
-returns-in-Ok-clause-runs g c =
-    let old = c.args.office.now in
-    let new = c.handle.new.self in
+returns-in-Ok-clause-runs g c sure =
+    let old = c.args.office.now.seen in
+    let new = c.handle.new.self.seen in
     let run = run_of c.args.run.now in
     let fits : SFits w64 run.moment = search rules in
     run_answered old new run c.in-Ok.request c.in-Ok.ensures c.handle.result
-    (subst (λ m. HandleStep old new m c.in-Ok.request c.handle.result) (to_z-of_z w64 run.moment fits) c.handle.ensures.step)
-    (subst (λ m. StandsAfter old new m c.in-Ok.request c.handle.result) (to_z-of_z w64 run.moment fits) c.handle.ensures.stands)
+    (subst (λ m. HandleStep old new m c.in-Ok.request c.handle.result) (to_z-of_z w64 run.moment fits) (c.handle.ensures.step sure))
+    (subst (λ m. StandsAfter old new m c.in-Ok.request c.handle.result) (to_z-of_z w64 run.moment fits) (c.handle.ensures.stands sure))

@@ -6,12 +6,12 @@ use Rattle.hh_session.proofs.CourseLaws.{load_answered}
 use Rattle.hh_session.proofs.run.run_load.Goals as goal
 
 pub returns-in-Ok-clause-runs : goal.returns-in-Ok-clause-runs
-returns-in-Ok-clause-runs g c =
-    let old = c.args.office.now in
-    let new = c.handle.new.self in
+returns-in-Ok-clause-runs g c sure =
+    let old = c.args.office.now.seen in
+    let new = c.handle.new.self.seen in
     let load = load_of c.args.load.now in
     let fits : SFits w64 load.moment = search rules in
     let (all, read, is) = c.in-Ok.ensures.request in
     load_answered (g.I.Inputs.reads_as c.args.inputs.now) old new load all 1048577 (omega arith) read c.in-Ok.request is c.handle.result
-    (subst (λ m. HandleStep old new m c.in-Ok.request c.handle.result) (to_z-of_z w64 load.moment fits) c.handle.ensures.step)
-    (subst (λ m. StandsAfter old new m c.in-Ok.request c.handle.result) (to_z-of_z w64 load.moment fits) c.handle.ensures.stands)
+    (subst (λ m. HandleStep old new m c.in-Ok.request c.handle.result) (to_z-of_z w64 load.moment fits) (c.handle.ensures.step sure))
+    (subst (λ m. StandsAfter old new m c.in-Ok.request c.handle.result) (to_z-of_z w64 load.moment fits) (c.handle.ensures.stands sure))

@@ -1,6 +1,10 @@
+use Rattle.hh_office.specs.Views.{IsSure}
 use Rattle.hh_session.specs.Serving.{ServesUpTo}
 use Rattle.hh_session.proofs.serving.serve_each.Given as goal
 
 -- so many connections were served
 abbrev pub invariant-loop : goal.invariant-loop
-invariant-loop g l = ServesUpTo l.fn.office l.office l.moment l.counter
+invariant-loop g l = record {
+  serves : IsSure g.T.Tables.is_open l.office → ServesUpTo l.fn.office.seen l.office.seen l.moment l.counter;
+  sure : IsSure g.T.Tables.is_open l.office → IsSure g.T.Tables.is_open l.fn.office;
+}

@@ -13,18 +13,18 @@ use Rattle.hh_office.proofs.StepLaws.{comes_same}
 use Rattle.hh_office.proofs.office.Office.account.Goals as goal
 
 pub account_in-requires : goal.account_in-requires
-account_in-requires g c =
-    sym c.in-Some.is ∙ c.in_ok-run.ensures.value ∙ ap (λ (o : OfficeView). latest_key c.args.date (runs_in o.content c.args.date)) (sym c.in_ok-run.ensures.same)
+account_in-requires g c sure =
+    sym c.in-Some.is ∙ c.in_ok-run.ensures.value sure ∙ ap (λ (o : OfficeView). latest_key c.args.date (runs_in o.content c.args.date)) (sym (c.in_ok-run.ensures.same sure))
 
-pub returns-in-Some : goal.returns-in-Some
-returns-in-Some g c s stands =
-    subst (λ o. TellsInEachState o c.account_in.new.self c.account_in.result (λ midnight s. account_reply midnight s c.args.account.now c.args.date)) c.in_ok-run.ensures.same
-    c.account_in.ensures s stands
+pub returns-in-Some-clause-makes : goal.returns-in-Some-clause-makes
+returns-in-Some-clause-makes g c sure s stands =
+    subst (λ o. TellsInEachState o c.account_in.new.self.seen c.account_in.result (λ midnight s. account_reply midnight s c.args.account.now c.args.date)) (c.in_ok-run.ensures.same (c.account_in.ensures.sure sure))
+    (c.account_in.ensures.makes sure) s stands
 
-pub returns-in-None : goal.returns-in-None
-returns-in-None g c s stands =
-    let office = c.args.self.now in
+pub returns-in-None-clause-makes : goal.returns-in-None-clause-makes
+returns-in-None-clause-makes g c sure s stands =
+    let office = c.args.self.now.seen in
     let transition = unchanged s (account_reply (midnight_of office) s c.args.account.now c.args.date) in
-    subst (λ f. MakesTransition office c.latest_run.new.self (reply.Refused f) transition) (sym c.of.ensures)
-    (comes_same office c.latest_run.new.self (reply.Refused (plain_fault NoRun)) transition c.in_ok-run.ensures.same
-    (account_none office s stands c.kept_kinds_of_dates.ensures c.args.account.now c.args.date (sym c.in-None.is ∙ c.in_ok-run.ensures.value)))
+    subst (λ f. MakesTransition office c.latest_run.new.self.seen (reply.Refused f) transition) (sym c.of.ensures)
+    (comes_same office c.latest_run.new.self.seen (reply.Refused (plain_fault NoRun)) transition (c.in_ok-run.ensures.same sure)
+    (account_none office s stands c.kept_kinds_of_dates.ensures c.args.account.now c.args.date (sym c.in-None.is ∙ c.in_ok-run.ensures.value sure)))

@@ -2,19 +2,19 @@ use Rattle.std.proofs.Common.{subst, sym, ap, ◌∙◌, w64, to_z, of_z}
 use Rattle.std.proofs.lemmas.Int.{to_z-of_z}
 use Rattle.hh_rules.specs.FileRows.{JudgesFile}
 use Rattle.hh_texts.specs.Files.{file_rows}
-use Rattle.hh_office.specs.Views.{OfficeView}
+use Rattle.hh_office.specs.Views.{Kept, OfficeView}
 use Rattle.hh_office.proofs.StepLaws.{judges_upload}
 use Rattle.hh_office.proofs.office.Office.judge.Goals as goal
 
 pub returns-clause-judged : goal.returns-clause-judged
-returns-clause-judged g c s stands =
+returns-clause-judged g c sure s stands =
     let rows = c.in_ok-rows.rows.items in
     let register = c.in_ok-register.register in
     let result = c.judge_file.result in
     let reads = ap (file_rows c.args.upload.now.kind) (sym c.as_slice.ensures) ∙ c.in_ok-rows.ensures.rows in
-    let zone = ap (λ (o : OfficeView). o.zone) (c.self-2.view_is ∙ c.in_ok-register.ensures.same) in
+    let zone = ap (λ (o : OfficeView). o.zone) (ap (λ (k : Kept _). k.seen) c.self-2.view_is ∙ c.in_ok-register.ensures.same sure) in
     let passed = to_z-of_z w64 c.args.moment c.ranges.moment in
-    judges_upload c.args.self.now s c.args.moment rows register stands (rw c.deref.ensures.value at c.in_ok-register.ensures.serves) c.args.upload.now reads result
+    judges_upload c.args.self.now.seen s c.args.moment rows register stands (rw c.deref.ensures.value at (c.in_ok-register.ensures.serves sure)) c.args.upload.now reads result
     (subst (λ z. JudgesFile z register c.args.moment rows result) zone
     (subst (λ m. JudgesFile c.self-2.inside.zone register m rows result) passed
     (subst (λ rs. JudgesFile c.self-2.inside.zone register (to_z w64 (of_z w64 c.args.moment)) rs result) c.deref-2.ensures.value c.judge_file.ensures.judged)))

@@ -6,7 +6,7 @@ use Rattle.hh_office.proofs.RunLaws.{kept_of}
 use Rattle.hh_office.proofs.office.Office.kept_run.Goals as goal
 
 pub returns-clause-value : goal.returns-clause-value
-returns-clause-value g c =
+returns-clause-value g c sure =
     c.summary_of.ensures
-    ∙ ap (λ runs. option_map (λ r. r.1) (find (λ r. eq_by_cmp run_kind_cmp c.args.run.now.kind r.0) runs)) (c.deref.ensures.value ∙ c.in_ok-runs.ensures.value)
-    ∙ kept_of c.args.run.now c.args.self.now.content.runs
+    ∙ ap (λ runs. option_map (λ r. r.1) (find (λ r. eq_by_cmp run_kind_cmp c.args.run.now.kind r.0) runs)) (c.deref.ensures.value ∙ c.in_ok-runs.ensures.value sure)
+    ∙ kept_of c.args.run.now c.args.self.now.seen.content.runs

@@ -9,23 +9,24 @@ use Rattle.hh_office.specs.Views.{midnight_of}
 use Rattle.hh_office.proofs.StepLaws.{comes_by_kept, comes_same, comes_unchanged}
 use Rattle.hh_office.proofs.office.Office.load.Goals as goal
 
-pub returns-in-Some : goal.returns-in-Some
-returns-in-Some g c s stands =
-    let office = c.args.self.now in
+pub returns-in-Some-clause-makes : goal.returns-in-Some-clause-makes
+returns-in-Some-clause-makes g c sure s stands =
+    let office = c.args.self.now.seen in
     let upload = c.args.upload.now in
     let file = c.in-Some.file in
     let small = le-ltb most_bytes (length upload.body) (subst (λ b. length b ≤ most_bytes) c.as_slice.ensures c.if-as_slice-gt-MOST_BYTES.false) in
-    let new = c.kept_under.new.self in
-    comes_by_kept office s c.args.moment upload stands c.kept_files.ensures (Some file) (sym c.in-Some.is ∙ c.in_ok-file.ensures.value) small new (reply_of (Ok c.repeated.result))
+    let new = c.kept_under.new.self.seen in
+    comes_by_kept office s c.args.moment upload stands c.kept_files.ensures (Some file) (sym c.in-Some.is ∙ c.in_ok-file.ensures.value sure) small new (reply_of (Ok c.repeated.result))
     (subst (λ given. MakesTransition office new given (load_beside (midnight_of office) s (Some file) c.args.moment upload)) (sym c.repeated.ensures)
-    (comes_same office new (repeat_reply file upload.body) (unchanged s (repeat_reply file upload.body)) c.in_ok-file.ensures.same (comes_unchanged office s (repeat_reply file upload.body) stands)))
+    (comes_same office new (repeat_reply file upload.body) (unchanged s (repeat_reply file upload.body)) (c.in_ok-file.ensures.same sure) (comes_unchanged office s (repeat_reply file upload.body) stands)))
 
-pub returns-in-None : goal.returns-in-None
-returns-in-None g c s stands =
-    let office = c.args.self.now in
+pub returns-in-None-clause-makes : goal.returns-in-None-clause-makes
+returns-in-None-clause-makes g c sure s stands =
+    let office = c.args.self.now.seen in
     let upload = c.args.upload.now in
-    let new = c.load_new.new.self in
+    let new = c.load_new.new.self.seen in
+    let before = c.load_new.ensures.sure sure in
     let small = le-ltb most_bytes (length upload.body) (subst (λ b. length b ≤ most_bytes) c.as_slice.ensures c.if-as_slice-gt-MOST_BYTES.false) in
-    let does = subst (λ o. MakesInEachState o new c.load_new.result (λ midnight s. load_new midnight s (to_z w64 (of_z w64 c.args.moment)) upload)) c.in_ok-file.ensures.same c.load_new.ensures in
-    comes_by_kept office s c.args.moment upload stands c.kept_files.ensures None (sym c.in-None.is ∙ c.in_ok-file.ensures.value) small new (reply_of c.load_new.result)
+    let does = subst (λ o. MakesInEachState o new c.load_new.result (λ midnight s. load_new midnight s (to_z w64 (of_z w64 c.args.moment)) upload)) (c.in_ok-file.ensures.same before) (c.load_new.ensures.makes sure) in
+    comes_by_kept office s c.args.moment upload stands c.kept_files.ensures None (sym c.in-None.is ∙ c.in_ok-file.ensures.value before) small new (reply_of c.load_new.result)
     (subst (λ m. MakesTransition office new (reply_of c.load_new.result) (load_new (midnight_of office) s m upload)) (to_z-of_z w64 c.args.moment c.ranges.moment) (does s stands))

@@ -8,19 +8,20 @@ use Rattle.hh_office.specs.Views.{midnight_of}
 use Rattle.hh_office.proofs.StepLaws.{comes_same, load_accepted, load_refused, passed_reply}
 use Rattle.hh_office.proofs.office.Office.load_new.Goals as goal
 
-pub returns-in_err-judged : goal.returns-in_err-judged
-returns-in_err-judged g c s stands =
-    let office = c.args.self.now in
+pub returns-in_err-judged-clause-makes : goal.returns-in_err-judged-clause-makes
+returns-in_err-judged-clause-makes g c sure s stands =
+    let office = c.args.self.now.seen in
     let transition = load_new (midnight_of office) s c.args.moment c.args.upload.now in
     let fault = c.in_err-judged.field-0.0 in
-    let judged = subst (λ m. Judges office m c.args.upload.now (Err fault)) (to_z-of_z w64 c.args.moment c.ranges.moment) c.in_err-judged.ensures.judged in
-    subst (λ given. MakesTransition office c.judge.new.self given transition) (passed_reply c.from_residual.result fault c.from_residual.ensures)
-    (comes_same office c.judge.new.self (reply.Refused fault) transition c.in_err-judged.ensures.same
+    let judged = subst (λ m. Judges office m c.args.upload.now (Err fault)) (to_z-of_z w64 c.args.moment c.ranges.moment) (c.in_err-judged.ensures.judged sure) in
+    subst (λ given. MakesTransition office c.judge.new.self.seen given transition) (passed_reply c.from_residual.result fault c.from_residual.ensures)
+    (comes_same office c.judge.new.self.seen (reply.Refused fault) transition (c.in_err-judged.ensures.same sure)
     (load_refused office s c.args.moment c.args.upload.now stands fault (judged s stands)))
 
-pub returns : goal.returns
-returns g c s stands =
-    let judged = subst (λ m. Judges c.args.self.now m c.args.upload.now (Ok c.in_ok-judged.judged)) (to_z-of_z w64 c.args.moment c.ranges.moment) c.in_ok-judged.ensures.judged in
-    load_accepted c.args.self.now s c.args.moment c.args.upload.now stands c.accept.new.self c.in_ok-judged.judged (reply_of c.accept.result) c.kept_files.ensures c.requires
-    (subst (λ o. Accepts o c.accept.new.self (writes_of c.args.upload.now c.in_ok-judged.judged) (reply_of c.accept.result)) c.in_ok-judged.ensures.same c.accept.ensures)
+pub returns-clause-makes : goal.returns-clause-makes
+returns-clause-makes g c sure s stands =
+    let before = c.accept.ensures.sure sure in
+    let judged = subst (λ m. Judges c.args.self.now.seen m c.args.upload.now (Ok c.in_ok-judged.judged)) (to_z-of_z w64 c.args.moment c.ranges.moment) (c.in_ok-judged.ensures.judged before) in
+    load_accepted c.args.self.now.seen s c.args.moment c.args.upload.now stands c.accept.new.self.seen c.in_ok-judged.judged (reply_of c.accept.result) c.kept_files.ensures (c.requires (c.in_ok-judged.ensures.sure before))
+    (subst (λ o. Accepts o c.accept.new.self.seen (writes_of c.args.upload.now c.in_ok-judged.judged) (reply_of c.accept.result)) (c.in_ok-judged.ensures.same before) (c.accept.ensures.makes sure))
     (judged s stands)

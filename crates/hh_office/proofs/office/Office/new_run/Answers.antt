@@ -9,27 +9,29 @@ use Rattle.hh_office.proofs.RunLaws.{comes_given_up, run_made, run_unsettled}
 use Rattle.hh_office.proofs.StepLaws.{comes_same, passed_reply}
 use Rattle.hh_office.proofs.office.Office.new_run.Goals as goal
 
-pub returns-in_err-settled : goal.returns-in_err-settled
-returns-in_err-settled g c s stands =
-    let office = c.args.self.now in
+pub returns-in_err-settled-clause-makes : goal.returns-in_err-settled-clause-makes
+returns-in_err-settled-clause-makes g c sure s stands =
+    let office = c.args.self.now.seen in
     let transition = run (midnight_of office) s c.args.moment c.args.key in
     let fault = c.in_err-settled.field-0.0 in
-    let refuses = subst (λ m. RefusesIn office m c.args.key.date fault) (to_z-of_z w64 c.args.moment c.ranges.moment) c.in_err-settled.ensures.refused in
-    subst (λ given. MakesTransition office c.settle.new.self given transition) (passed_reply c.from_residual.result fault c.from_residual.ensures)
-    (comes_same office c.settle.new.self (reply.Refused fault) transition c.in_err-settled.ensures.same
-    (run_unsettled office s stands c.kept_summaries.ensures c.kept_kinds_of_dates.ensures c.args.key c.args.moment c.requires.next fault refuses))
+    let refuses = subst (λ m. RefusesIn office m c.args.key.date fault) (to_z-of_z w64 c.args.moment c.ranges.moment) (c.in_err-settled.ensures.refused sure) in
+    subst (λ given. MakesTransition office c.settle.new.self.seen given transition) (passed_reply c.from_residual.result fault c.from_residual.ensures)
+    (comes_same office c.settle.new.self.seen (reply.Refused fault) transition (c.in_err-settled.ensures.same sure)
+    (run_unsettled office s stands c.kept_summaries.ensures c.kept_kinds_of_dates.ensures c.args.key c.args.moment (c.requires.next (c.in_err-settled.ensures.sure sure)) fault refuses))
 
-pub returns-in_err-make_run : goal.returns-in_err-make_run
-returns-in_err-make_run g c s stands =
-    let office = c.args.self.now in
-    comes_given_up office c.make_run.new.self c.from_residual-in_err-make_run.result c.in_err-make_run.field-0.0 (run (midnight_of office) s c.args.moment c.args.key)
-    c.from_residual-in_err-make_run.ensures (c.in_err-make_run.ensures.same ∙ c.in_ok-settled.ensures.same)
+pub returns-in_err-make_run-clause-makes : goal.returns-in_err-make_run-clause-makes
+returns-in_err-make_run-clause-makes g c sure s stands =
+    let office = c.args.self.now.seen in
+    comes_given_up office c.make_run.new.self.seen c.from_residual-in_err-make_run.result c.in_err-make_run.field-0.0 (run (midnight_of office) s c.args.moment c.args.key)
+    c.from_residual-in_err-make_run.ensures (c.in_err-make_run.ensures.same sure ∙ c.in_ok-settled.ensures.same (c.in_err-make_run.ensures.sure sure))
 
-pub returns : goal.returns
-returns g c s stands =
-    let office = c.args.self.now in
-    let settles = subst (λ m. SettlesIn office m c.args.key.date c.in_ok-settled.settled.items) (to_z-of_z w64 c.args.moment c.ranges.moment) c.in_ok-settled.ensures.settled in
-    let makes = subst (λ o. IsRunMade o c.make_run.new.self c.args.key c.in_ok-settled.settled.items c.args.former c.in_ok-make_run.field-0) c.in_ok-settled.ensures.same
-    (subst (λ day. IsRunMade c.settle.new.self c.make_run.new.self c.args.key day c.args.former c.in_ok-make_run.field-0) c.deref.ensures.value c.in_ok-make_run.ensures.made) in
-    run_made office s stands c.kept_summaries.ensures c.kept_kinds_of_dates.ensures c.args.key c.args.moment c.requires.next c.writes_the_run.ensures
-    c.make_run.new.self c.in_ok-settled.settled.items c.args.former c.in_ok-make_run.field-0 settles c.requires.former makes
+pub returns-clause-makes : goal.returns-clause-makes
+returns-clause-makes g c sure s stands =
+    let before = c.in_ok-make_run.ensures.sure sure in
+    let first = c.in_ok-settled.ensures.sure before in
+    let office = c.args.self.now.seen in
+    let settles = subst (λ m. SettlesIn office m c.args.key.date c.in_ok-settled.settled.items) (to_z-of_z w64 c.args.moment c.ranges.moment) (c.in_ok-settled.ensures.settled before) in
+    let makes = subst (λ o. IsRunMade o c.make_run.new.self.seen c.args.key c.in_ok-settled.settled.items c.args.former c.in_ok-make_run.field-0) (c.in_ok-settled.ensures.same before)
+    (subst (λ day. IsRunMade c.settle.new.self.seen c.make_run.new.self.seen c.args.key day c.args.former c.in_ok-make_run.field-0) c.deref.ensures.value (c.in_ok-make_run.ensures.made sure)) in
+    run_made office s stands c.kept_summaries.ensures c.kept_kinds_of_dates.ensures c.args.key c.args.moment (c.requires.next first) c.writes_the_run.ensures
+    c.make_run.new.self.seen c.in_ok-settled.settled.items c.args.former c.in_ok-make_run.field-0 settles (c.requires.former first) makes

@@ -11,37 +11,40 @@ use Rattle.hh_office.proofs.RunLaws.{run_kept, run_out_of_order}
 use Rattle.hh_office.proofs.StepLaws.{comes_same, passed_reply}
 use Rattle.hh_office.proofs.office.Office.run.Goals as goal
 
-pub returns-in_err-summary : goal.returns-in_err-summary
-returns-in_err-summary g c s stands =
-    let office = c.args.self.now in
+pub returns-in_err-summary-clause-makes : goal.returns-in_err-summary-clause-makes
+returns-in_err-summary-clause-makes g c sure s stands =
+    let at = sure in
+    let office = c.args.self.now.seen in
     let transition = run (midnight_of office) s c.args.moment c.args.key in
     let fault = c.in_err-summary.field-0.0 in
-    let told = subst (λ runs. TellsOrder runs c.args.key.kind (Err fault)) (c.deref.ensures.value ∙ c.in_ok-runs.ensures.value) c.in_err-summary.ensures in
-    subst (λ given. MakesTransition office c.runs_of.new.self given transition) (passed_reply c.from_residual-in_err-summary.result fault c.from_residual-in_err-summary.ensures)
-    (comes_same office c.runs_of.new.self (reply.Refused fault) transition c.in_ok-runs.ensures.same
+    let told = subst (λ runs. TellsOrder runs c.args.key.kind (Err fault)) (c.deref.ensures.value ∙ c.in_ok-runs.ensures.value at) c.in_err-summary.ensures in
+    subst (λ given. MakesTransition office c.runs_of.new.self.seen given transition) (passed_reply c.from_residual-in_err-summary.result fault c.from_residual-in_err-summary.ensures)
+    (comes_same office c.runs_of.new.self.seen (reply.Refused fault) transition (c.in_ok-runs.ensures.same at)
     (run_out_of_order office s stands c.kept_summaries.ensures c.kept_kinds_of_dates.ensures c.args.key c.args.moment fault told))
 
-pub returns-in-Some : goal.returns-in-Some
-returns-in-Some g c s stands =
-    let office = c.args.self.now in
-    let told = subst (λ runs. TellsOrder runs c.args.key.kind (Ok c.in_ok-summary.field-0)) (c.deref.ensures.value ∙ c.in_ok-runs.ensures.value) c.in_ok-summary.ensures in
-    comes_same office c.runs_of.new.self (reply.Ran c.args.key c.in-Some.summary) (run (midnight_of office) s c.args.moment c.args.key) c.in_ok-runs.ensures.same
+pub returns-in-Some-clause-makes : goal.returns-in-Some-clause-makes
+returns-in-Some-clause-makes g c sure s stands =
+    let at = sure in
+    let office = c.args.self.now.seen in
+    let told = subst (λ runs. TellsOrder runs c.args.key.kind (Ok c.in_ok-summary.field-0)) (c.deref.ensures.value ∙ c.in_ok-runs.ensures.value at) c.in_ok-summary.ensures in
+    comes_same office c.runs_of.new.self.seen (reply.Ran c.args.key c.in-Some.summary) (run (midnight_of office) s c.args.moment c.args.key) (c.in_ok-runs.ensures.same at)
     (run_kept office s stands c.kept_summaries.ensures c.kept_kinds_of_dates.ensures c.args.key c.args.moment c.in-Some.summary (sym c.in-Some.is ∙ told.0))
 
 pub new_run-requires-clause-next : goal.new_run-requires-clause-next
-new_run-requires-clause-next g c =
-    let office = c.args.self.now in
-    let told = subst (λ runs. TellsOrder runs c.args.key.kind (Ok c.in_ok-summary.field-0)) (c.deref.ensures.value ∙ c.in_ok-runs.ensures.value) c.in_ok-summary.ensures in
-    subst (λ (o : OfficeView). IsNext o.content c.args.key) (sym c.in_ok-runs.ensures.same) (sym told.0 ∙ c.in-None.is, told.1 c.in-None.is)
+new_run-requires-clause-next g c at =
+    let office = c.args.self.now.seen in
+    let told = subst (λ runs. TellsOrder runs c.args.key.kind (Ok c.in_ok-summary.field-0)) (c.deref.ensures.value ∙ c.in_ok-runs.ensures.value at) c.in_ok-summary.ensures in
+    subst (λ (o : OfficeView). IsNext o.content c.args.key) (sym (c.in_ok-runs.ensures.same at)) (sym told.0 ∙ c.in-None.is, told.1 c.in-None.is)
 
 pub new_run-requires-clause-former : goal.new_run-requires-clause-former
-new_run-requires-clause-former g c =
-    c.latest_of.ensures ∙ ap (latest_key c.args.key.date) (c.deref-in-None.ensures.value ∙ c.in_ok-runs.ensures.value)
-    ∙ ap (λ (o : OfficeView). latest_key c.args.key.date (runs_in o.content c.args.key.date)) (sym c.in_ok-runs.ensures.same)
+new_run-requires-clause-former g c at =
+    c.latest_of.ensures ∙ ap (latest_key c.args.key.date) (c.deref-in-None.ensures.value ∙ c.in_ok-runs.ensures.value at)
+    ∙ ap (λ (o : OfficeView). latest_key c.args.key.date (runs_in o.content c.args.key.date)) (sym (c.in_ok-runs.ensures.same at))
 
-pub returns : goal.returns
-returns g c s stands =
-    let office = c.args.self.now in
-    let new = c.new_run.new.self in
-    let does = subst (λ o. MakesInEachState o new c.new_run.result (λ midnight s. run midnight s (to_z w64 (of_z w64 c.args.moment)) c.args.key)) c.in_ok-runs.ensures.same c.new_run.ensures in
+pub returns-clause-makes : goal.returns-clause-makes
+returns-clause-makes g c sure s stands =
+    let at = c.new_run.ensures.sure sure in
+    let office = c.args.self.now.seen in
+    let new = c.new_run.new.self.seen in
+    let does = subst (λ o. MakesInEachState o new c.new_run.result (λ midnight s. run midnight s (to_z w64 (of_z w64 c.args.moment)) c.args.key)) (c.in_ok-runs.ensures.same at) (c.new_run.ensures.makes sure) in
     subst (λ m. MakesTransition office new (reply_of c.new_run.result) (run (midnight_of office) s m c.args.key)) (to_z-of_z w64 c.args.moment c.ranges.moment) (does s stands)

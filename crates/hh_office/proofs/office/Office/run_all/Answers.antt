@@ -7,7 +7,7 @@ use Rattle.hh_office.proofs.office.Office.run_all.Goals as goal
 
 pub loop-request-preserved : goal.loop-request-preserved
 loop-request-preserved g c =
-    let old = c.args.self.now in
+    let old = c.args.self.now.seen in
     let i = c.loop-request.request-index in
     let requests = c.args.requests.now in
     let t = c.request-item.result in
@@ -17,25 +17,26 @@ loop-request-preserved g c =
     let room = c.loop-request.invariant.room in
     let kept = c.push-pushed.ensures.capacity in
     record {
-      run = subst (λ ts. RunAllStep old c.handle_timed.new.self ts c.push-pushed.new.self.items) (sym front)
-          (subst (RunAllStep old c.handle_timed.new.self (take i requests ++ t ∷ [])) (sym pushed)
-          (run_more old c.loop-request.self c.handle_timed.new.self (take i requests) before t c.handle_timed.result c.loop-request.invariant.run c.handle_timed.ensures));
+      run = λ sure. subst (λ ts. RunAllStep old c.handle_timed.new.self.seen ts c.push-pushed.new.self.items) (sym front)
+          (subst (RunAllStep old c.handle_timed.new.self.seen (take i requests ++ t ∷ [])) (sym pushed)
+          (run_more old c.loop-request.self.seen c.handle_timed.new.self.seen (take i requests) before t c.handle_timed.result (c.loop-request.invariant.run (c.handle_timed.ensures.sure sure)) (c.handle_timed.ensures.makes sure)));
+      sure = λ sure. c.loop-request.invariant.sure (c.handle_timed.ensures.sure sure);
       count = ap length pushed ∙ length-append before (c.handle_timed.result ∷ []) ∙ ap (λ n. n + 1) c.loop-request.invariant.count;
       room = omega arith;
     }
 
 pub returns-clause-stands : goal.returns-clause-stands
-returns-clause-stands g c =
+returns-clause-stands g c sure =
     let i = c.loop-request.request-index in
     let end : i ≡ length c.args.requests.now = omega arith in
-    let run : RunAllStep c.args.self.now c.loop-request.self c.args.requests.now c.loop-request.replies.items =
-    run_to_the_end c.args.self.now c.loop-request.self c.args.requests.now c.loop-request.replies.items i end c.loop-request.invariant.run in
-    stands_after_all c.args.self.now c.loop-request.self c.args.requests.now c.loop-request.replies.items run
+    let run : RunAllStep c.args.self.now.seen c.loop-request.self.seen c.args.requests.now c.loop-request.replies.items =
+    run_to_the_end c.args.self.now.seen c.loop-request.self.seen c.args.requests.now c.loop-request.replies.items i end (c.loop-request.invariant.run sure) in
+    stands_after_all c.args.self.now.seen c.loop-request.self.seen c.args.requests.now c.loop-request.replies.items run
 
 pub returns-clause-sums : goal.returns-clause-sums
-returns-clause-sums g c =
+returns-clause-sums g c sure =
     let i = c.loop-request.request-index in
     let end : i ≡ length c.args.requests.now = omega arith in
-    let run : RunAllStep c.args.self.now c.loop-request.self c.args.requests.now c.loop-request.replies.items =
-    run_to_the_end c.args.self.now c.loop-request.self c.args.requests.now c.loop-request.replies.items i end c.loop-request.invariant.run in
-    conserves_after_all c.reached_conserve.ensures c.args.self.now c.loop-request.self c.args.requests.now c.loop-request.replies.items run
+    let run : RunAllStep c.args.self.now.seen c.loop-request.self.seen c.args.requests.now c.loop-request.replies.items =
+    run_to_the_end c.args.self.now.seen c.loop-request.self.seen c.args.requests.now c.loop-request.replies.items i end (c.loop-request.invariant.run sure) in
+    conserves_after_all c.reached_conserve.ensures c.args.self.now.seen c.loop-request.self.seen c.args.requests.now c.loop-request.replies.items run

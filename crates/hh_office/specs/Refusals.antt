@@ -1,0 +1,35 @@
+-- How often a store has refused, as the office's answers tell it.
+use Rattle.std.specs.Prelude.{◌≡◌, ℕ, Bool, true, false, MatchBool, Result, Ok, Err}
+use Rattle.hh_names.specs.declared.fault.Fault.{Fault}
+use Rattle.hh_names.specs.declared.fault.Refusal.{Refusal}
+use Rattle.hh_names.specs.declared.fault.Refusal.TheVariants.{Store}
+use Rattle.hh_requests.specs.declared.reply.Reply.{Reply}
+use Rattle.hh_requests.specs.declared.reply.Reply.TheVariants as reply
+use Rattle.hh_store.specs.StoreFaults.{CountsOneMore}
+use Rattle.hh_office.specs.declared.report.ReportStop.{ReportStop}
+use Rattle.hh_office.specs.declared.report.ReportStop.TheVariants as stop
+
+-- the refusal of what a store refused for another cause than memory
+abbrev pub is_of_store : Refusal → Bool
+is_of_store Store = true
+is_of_store _ = false
+
+-- the store counts one refusal where a fault tells one, and none elsewhere
+abbrev pub CountsFault : Fault → ℕ → ℕ → Type 0
+CountsFault fault old new = MatchBool (is_of_store fault.refusal) (CountsOneMore old new) (new ≡ old)
+
+-- the same of a part of a request
+abbrev pub CountsAnswer : {A : Type 0} → Result A Fault → ℕ → ℕ → Type 0
+CountsAnswer (Ok x) old new = new ≡ old
+CountsAnswer (Err fault) old new = CountsFault fault old new
+
+-- the same of a reply
+abbrev pub CountsReply : Reply → ℕ → ℕ → Type 0
+CountsReply (reply.Refused fault) old new = CountsFault fault old new
+CountsReply _ old new = new ≡ old
+
+-- the same of a report
+abbrev pub CountsStop : {A : Type 0} → Result A ReportStop → ℕ → ℕ → Type 0
+CountsStop (Ok x) old new = new ≡ old
+CountsStop (Err (stop.Refused fault)) old new = CountsFault fault old new
+CountsStop (Err stop.Write) old new = new ≡ old

@@ -1,0 +1,37 @@
+-- What tables in memory refuse for: memory alone. So they count no refusal.
+use Rattle.std.proofs.Common.{◌≡◌, ℕ, List, Option, Result, Ok, Err, refl, sym, ap, subst}
+use Rattle.std.specs.Prelude.{◌≢◌, IfErr, IsErrAnd, IsOk}
+use Rattle.hh_reports.specs.declared.fault.ReportFault.{ReportFault}
+use Rattle.hh_reports.specs.declared.fault.ReportFault.TheVariants as report
+use Rattle.hh_states.specs.Content.{Content}
+use Rattle.hh_states.specs.Soundness.{AreSound, SoundStates}
+use Rattle.hh_store.specs.Outputs.{CountsOutcome, Outputs}
+use Rattle.hh_store.specs.Reached.{AreReached}
+use Rattle.hh_store.specs.StoreFaults.{CountsRefusal, CountsReportRefusal, output_fault}
+use Rattle.hh_store.specs.declared.output_fault.OutputFault.{OutputFault}
+use Rattle.hh_store.specs.declared.output_fault.OutputFault.TheVariants as output
+use Rattle.hh_store.specs.declared.store_fault.StoreFault.{StoreFault}
+use Rattle.hh_store.specs.declared.store_fault.StoreFault.TheVariants.{Memory, Store}
+
+-- a call that fails for memory alone counts no refusal
+pub memory_alone_counts : {A : Type 0} (n : ℕ) (result : Result A StoreFault) → IfErr result (λ fault. fault ≡ Memory) → CountsRefusal result n n
+memory_alone_counts n (Ok x) alone = refl
+memory_alone_counts {A} n (Err fault) alone = subst (λ (f : StoreFault). CountsRefusal {A = A} (Err f) n n) (sym alone) refl
+
+-- so does one that answers no fault of the store
+pub never_store_counts : {A : Type 0} (n : ℕ) (result : Result A OutputFault) → IfErr result (λ fault. fault ≢ output.Store) → CountsReportRefusal result n n
+never_store_counts n (Ok x) never = refl
+never_store_counts n (Err output.Memory) never = refl
+never_store_counts n (Err output.Store) never = absurd (never refl)
+never_store_counts n (Err output.Write) never = refl
+
+-- what is registered and in force in the tables of a reached state is sound
+pub reached_sound : SoundStates → (content : Content) → AreReached content → AreSound content.registered
+reached_sound law content (midnight, s, stands) =
+    subst (λ (c : Content). AreSound c.registered) (sym stands.1) (law midnight s stands.0)
+
+-- what a sink counts where a report is written from rows
+pub outputs_count : {A : Type 0} (before after : Option (List ℕ)) (counted counts : ℕ) (text : List ℕ) (result : Result A OutputFault)
+    → Outputs before after counted counts text result → CountsOutcome result counted counts
+outputs_count before after counted counts text (Ok x) went = went.1
+outputs_count before after counted counts text (Err fault) went = went.1
