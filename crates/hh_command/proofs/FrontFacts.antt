@@ -8,7 +8,8 @@ use Rattle.hh_names.specs.Faults.{plain_fault}
 use Rattle.hh_num.specs.Quantities.{price_value}
 use Rattle.hh_texts.specs.PeriodFiles.{period_contract_form, period_meter_form}
 use Rattle.hh_texts.specs.Records.{records_of}
-use Rattle.hh_texts.specs.Rows.{FileForm, most_bytes, rows_of, rows_under}
+use Rattle.hh_rows.specs.RowKinds.{most_bytes}
+use Rattle.hh_texts.specs.Rows.{FileForm, rows_of, rows_under}
 use Rattle.hh_texts.specs.declared.period_contracts.PeriodContractRow.{PeriodContractRow}
 use Rattle.hh_texts.specs.declared.period_meters.PeriodMeterRow.{PeriodMeterRow}
 use Rattle.hh_period.specs.declared.rejection.Input.TheVariants.{Contracts, Meter}

@@ -4,7 +4,7 @@ use Rattle.std.specs.Result.{IsErrAnd}
 use Rattle.hh_names.specs.declared.fault.Refusal.{Refusal}
 use Rattle.hh_names.specs.declared.fault.Refusal.TheVariants as refusal
 use Rattle.hh_names.specs.Faults.{ByRefusal, Refuses}
-use Rattle.hh_texts.specs.Rows.{most_bytes}
+use Rattle.hh_rows.specs.RowKinds.{most_bytes}
 use Rattle.hh_period.specs.declared.inputs.PeriodFault.{PeriodFault}
 use Rattle.hh_period.specs.declared.inputs.PeriodFault.TheVariants.{Refused, Write}
 use Rattle.hh_period.specs.declared.rejection.Rejection.{Rejection}

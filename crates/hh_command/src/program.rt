@@ -4,7 +4,7 @@ ghost use Rattle.std.specs.Prelude.{◌≡◌, ◌≢◌, ◌≤◌, ◌<◌, If
 ghost use Rattle.std.specs.Io.KnownBytes.{Appends};
 ghost use Rattle.clap.specs.Words.{Text};
 ghost use Rattle.hh_devices.specs.Devices.{Failed};
-ghost use Rattle.hh_texts.specs.Rows.{most_bytes};
+ghost use Rattle.hh_rows.specs.RowKinds.{most_bytes};
 ghost use Rattle.hh_period.specs.Outcome.{memory_rejection};
 ghost use Rattle.hh_words.specs.Lines.{line_of};
 ghost use Rattle.hh_command.specs.Stops.{change, AreWrong, Does, DoesPeriod, DoesWords, HasStatusOne, IsOffAndTold, IsTold, Stops, StopsLine, StopsPeriod, Tells, stop_line, stop_status};

@@ -31,7 +31,23 @@ is_letter_or_digit = is_ascii_alphanumeric
 abbrev pub is_file_name_byte : ℕ → Bool
 is_file_name_byte b = is_ascii_alphanumeric b || b == 46 || b == 95 || b == 45
 
--- the ids, references, keys and names that texts are
+-- the texts that are the id of a party or of a unit, a reference, an access key or the name of a file
+abbrev pub is_party_id : List ℕ → Bool
+is_party_id = is_word is_capital_or_digit 1 10
+
+abbrev pub is_unit_id : List ℕ → Bool
+is_unit_id = is_word is_unit_byte 1 16
+
+abbrev pub is_reference : List ℕ → Bool
+is_reference = is_word is_reference_byte 1 20
+
+abbrev pub is_access_key : List ℕ → Bool
+is_access_key = is_word is_letter_or_digit 8 64
+
+abbrev pub is_file_name : List ℕ → Bool
+is_file_name = is_word is_file_name_byte 1 64
+
+-- the ids, references and keys that texts are
 abbrev pub party_value : List ℕ → Option (List ℕ)
 party_value = word_value is_capital_or_digit 1 10
 

@@ -1,7 +1,7 @@
 //! The key of the operator.
 
-ghost use Rattle.std.specs.Prelude.{◌≡◌};
-ghost use Rattle.hh_names.specs.Words.{operator_key_value};
+ghost use Rattle.std.specs.Prelude.{◌≡◌, IsTrue};
+ghost use Rattle.hh_names.specs.Words.{is_operator_key, operator_key_value};
 
 use crate::word::{AccessKeyAlphabet, ReferenceAlphabet, Word, is_word_of};
 use std::marker::Model;
@@ -42,9 +42,10 @@ impl OperatorKey {
         }
     }
 
-    /// The bytes of the key.
+    /// The bytes of the key: `op-` and 8 to 61 letters or digits.
     pub fn as_bytes(&self) -> &[u8]
-        ensures { result.now ≡ self.now }
+        ensures bytes { result.now ≡ self.now }
+        ensures operator { IsTrue (is_operator_key self.now) }
     {
         self.text.as_bytes()
     }

@@ -53,15 +53,8 @@ impl<A: Alphabet, const LEAST: usize, const MOST: usize> Model for Word<A, LEAST
 }
 
 impl<A: Alphabet, const LEAST: usize, const MOST: usize> Word<A, LEAST, MOST> {
-    /// The bytes of the word.
+    /// The bytes of the word: `LEAST` to `MOST`, each of its alphabet.
     pub fn as_bytes(&self) -> &[u8]
-        ensures { result.now ≡ self.now }
-    {
-        self.spelled()
-    }
-
-    /// The bytes of the word, some of its alphabet.
-    fn spelled(&self) -> &[u8]
         ensures bytes { result.now ≡ self.now }
         ensures word { is_word A.allows LEAST MOST self.now ≡ true }
     {
@@ -73,7 +66,7 @@ impl<A: Alphabet, const LEAST: usize, const MOST: usize> Word<A, LEAST, MOST> {
     pub fn as_str(&self) -> &str
         ensures { result.now ≡ self.now }
     {
-        match str::from_utf8(self.spelled()) {
+        match str::from_utf8(self.as_bytes()) {
             Ok(text) => text,
             Err(_) => unreachable!(),
         }

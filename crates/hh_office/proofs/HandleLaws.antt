@@ -7,10 +7,11 @@ use Rattle.hh_requests.specs.declared.reply.Reply.{Reply}
 use Rattle.hh_states.specs.Content.{tables_of, Content}
 use Rattle.hh_states.specs.States.{State}
 use Rattle.hh_states.specs.Steps.{IsReached}
+use Rattle.hh_office.specs.Loads.{IsNamed}
 use Rattle.hh_office.specs.Machine.{answer, next, Timed, state_after}
 use Rattle.hh_office.specs.Promises.{HandleStep, Stands, StandsAfter, is_given_up, ConservesAfter, ConservesAfterAll, RunAllStep, RunsAs, StandsAfterAll, served}
 use Rattle.hh_office.specs.Views.{OfficeView, midnight_of}
-use Rattle.hh_office.proofs.OnceLaws.{all_reached, next_reached}
+use Rattle.hh_office.proofs.OnceLaws.{AreNamed, next_reached, served_reached}
 use Rattle.jiff.specs.Words.{plain_zone}
 use Rattle.hh_time.specs.Zone.{midnight_in}
 use Rattle.hh_day.specs.Headline.{Conserves, ReachedConserve}
@@ -22,10 +23,11 @@ stands_by true old new s t P stands reached same = subst (λ o. Stands o s) (sym
 stands_by false old new s t P stands reached comes = subst (λ o. Stands o t) (sym comes.1) (reached, refl)
 
 -- an office that steps as the machine stands for its state
-pub stands_after : (old new : OfficeView) (moment : ℤ) (request : Request) (given : Reply) → HandleStep old new moment request given → StandsAfter old new moment request given
-stands_after old new moment request given steps s stands =
+pub stands_after : (old new : OfficeView) (moment : ℤ) (request : Request) (given : Reply) → IsNamed request.action → HandleStep old new moment request given
+    → StandsAfter old new moment request given
+stands_after old new moment request given named steps s stands =
     let t : State = next (midnight_of old) s moment request in
-    stands_by (is_given_up given) old new s t (given ≡ answer (midnight_of old) s moment request) stands (next_reached (midnight_of old) s moment request stands.0) (steps s stands)
+    stands_by (is_given_up given) old new s t (given ≡ answer (midnight_of old) s moment request) stands (next_reached (midnight_of old) s moment request named stands.0) (steps s stands)
 
 -- an office that stands for a state has tables that add up
 stands_conserves : ReachedConserve → (office : OfficeView) (midnight : Midnights) (s : State) → midnight ≡ midnight_of office → Stands office s
@@ -39,26 +41,26 @@ zone_by true old new P content same = ap (λ o. o.zone) same
 zone_by false old new P content comes = ap (λ (o : OfficeView). o.zone) comes.1
 
 -- an office that steps as the machine has tables that add up afterwards
-pub conserves_after : ReachedConserve → (old new : OfficeView) (moment : ℤ) (request : Request) (given : Reply) → HandleStep old new moment request given
+pub conserves_after : ReachedConserve → (old new : OfficeView) (moment : ℤ) (request : Request) (given : Reply) → IsNamed request.action → HandleStep old new moment request given
     → ConservesAfter old new moment request given
-conserves_after law old new moment request given steps s stands =
+conserves_after law old new moment request given named steps s stands =
     let t : State = next (midnight_of old) s moment request in
     let zone : new.zone ≡ old.zone = zone_by (is_given_up given) old new (given ≡ answer (midnight_of old) s moment request) (tables_of (midnight_of old) t) (steps s stands) in
-    stands_conserves law new (midnight_of old) (cond (is_given_up given) s t) (ap (λ z. midnight_in (plain_zone z)) (sym zone)) (stands_after old new moment request given steps s stands)
+    stands_conserves law new (midnight_of old) (cond (is_given_up given) s t) (ap (λ z. midnight_in (plain_zone z)) (sym zone)) (stands_after old new moment request given named steps s stands)
 
 -- an office that runs as the machine stands for its state
-pub stands_after_all : (old new : OfficeView) (requests : List Timed) (given : List Reply) → RunAllStep old new requests given
+pub stands_after_all : (old new : OfficeView) (requests : List Timed) (given : List Reply) → AreNamed requests → RunAllStep old new requests given
     → StandsAfterAll old new requests given
-stands_after_all old new requests given runs s stands =
+stands_after_all old new requests given named runs s stands =
     let ran : RunsAs old new s requests given = runs s stands in
     let done : List Timed = map (λ (r : Timed × Reply). r.0) (served requests given) in
-    subst (λ (o : OfficeView). Stands o (state_after (midnight_of old) s done)) (sym ran.tables) (all_reached (midnight_of old) s done stands.0, refl)
+    subst (λ (o : OfficeView). Stands o (state_after (midnight_of old) s done)) (sym ran.tables) (served_reached (midnight_of old) s requests given named stands.0, refl)
 
 -- an office that runs as the machine has tables that add up afterwards
-pub conserves_after_all : ReachedConserve → (old new : OfficeView) (requests : List Timed) (given : List Reply) → RunAllStep old new requests given
+pub conserves_after_all : ReachedConserve → (old new : OfficeView) (requests : List Timed) (given : List Reply) → AreNamed requests → RunAllStep old new requests given
     → ConservesAfterAll old new requests given
-conserves_after_all law old new requests given runs s stands =
+conserves_after_all law old new requests given named runs s stands =
     let ran : RunsAs old new s requests given = runs s stands in
     let done : List Timed = map (λ (r : Timed × Reply). r.0) (served requests given) in
     subst (λ (o : OfficeView). Conserves (midnight_of old) (state_after (midnight_of old) s done) o.content) (sym ran.tables)
-    (law (midnight_of old) (state_after (midnight_of old) s done) (all_reached (midnight_of old) s done stands.0))
+    (law (midnight_of old) (state_after (midnight_of old) s done) (served_reached (midnight_of old) s requests given named stands.0))

@@ -12,7 +12,7 @@ use Rattle.hh_states.specs.Steps.{IsReached}
 use Rattle.hh_office.specs.Machine.{Timed, answer, next, replies_to, state_after, step}
 use Rattle.hh_office.specs.Promises.{MakesTransition, HandleStep, RunAllStep, RunsAs, is_given_up, served}
 use Rattle.hh_office.specs.Views.{OfficeView, midnight_of}
-use Rattle.hh_office.proofs.OnceLaws.{all_reached}
+use Rattle.hh_office.proofs.OnceLaws.{AreNamed, served_reached}
 
 -- one more on either side is one more pair
 zip_more : {X Y : Type 0} (xs : List X) (ys : List Y) (x : X) (y : Y) → length ys ≡ length xs → zip (xs ++ x ∷ []) (ys ++ y ∷ []) ≡ zip xs ys ++ (x, y) ∷ []
@@ -73,11 +73,11 @@ module _ (old : OfficeView) (s : State) where
 
 -- what the office did with requests and does with one more, it does with all of them
 pub run_more : (old now new : OfficeView) (ts : List Timed) (rs : List Reply) (t : Timed) (r : Reply)
-    → RunAllStep old now ts rs → HandleStep now new t.0 t.1 r → RunAllStep old new (ts ++ t ∷ []) (rs ++ r ∷ [])
-run_more old now new ts rs t r before steps s stands =
+    → AreNamed ts → RunAllStep old now ts rs → HandleStep now new t.0 t.1 r → RunAllStep old new (ts ++ t ∷ []) (rs ++ r ∷ [])
+run_more old now new ts rs t r named before steps s stands =
     let ran : RunsAs old now s ts rs = before s stands in
     let done : List (Timed × Reply) = served ts rs in
-    let reached : IsReached (midnight_of old) (so_far old s done) = all_reached (midnight_of old) s (map (λ x. x.0) done) stands.0 in
+    let reached : IsReached (midnight_of old) (so_far old s done) = served_reached (midnight_of old) s ts rs named stands.0 in
     let comes : MakesTransition (record old { content = tables_of (midnight_of old) (so_far old s done) }) new r (step (midnight_of old) (so_far old s done) t.0 t.1) =
     subst (λ o. HandleStep o new t.0 t.1 r) ran.tables steps (so_far old s done) (reached, refl) in
     let more : Served old s (served (ts ++ t ∷ []) (rs ++ r ∷ [])) new =
@@ -92,3 +92,7 @@ run_more old now new ts rs t r before steps s stands =
 pub run_to_the_end : (old new : OfficeView) (ts : List Timed) (rs : List Reply) (count : ℕ) → count ≡ length ts
     → RunAllStep old new (take count ts) rs → RunAllStep old new ts rs
 run_to_the_end old new ts rs count end run = subst (λ done. RunAllStep old new done rs) (ap (λ n. take n ts) end ∙ take-length ts) run
+
+-- what is named up to the end is named
+pub all_named : (ts : List Timed) (count : ℕ) → count ≡ length ts → AreNamed (take count ts) → AreNamed ts
+all_named ts count end = subst AreNamed (ap (λ n. take n ts) end ∙ take-length ts)

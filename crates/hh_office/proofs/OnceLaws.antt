@@ -1,6 +1,7 @@
 -- A file that was accepted stays, and gets the same reply when it comes again.
 use Rattle.std.proofs.Common.{◌≡◌, ℕ, ℤ, List, [], ◌∷◌, ◌++◌, length, refl, sym, ap, subst, ◌∙◌, Bool, true, false, cond, Option, Some, None, Result, Ok, Err, Ordering}
-use Rattle.std.specs.Prelude.{IsFalse, MatchBool, nat_lt}
+use Rattle.std.specs.Prelude.{IsFalse, IsTrue, MatchBool, map, nat_lt, not}
+use Rattle.std.specs.List.{AllByRecursion}
 use Rattle.std.specs.Cmp.{eq_by_cmp_equiv, Equal-is}
 use Rattle.std.specs.FinMap.{find}
 use Rattle.std.specs.Option.{option_or}
@@ -24,46 +25,86 @@ use Rattle.hh_requests.specs.declared.request.Upload.{Upload}
 use Rattle.hh_requests.specs.declared.reply.Reply.{Reply}
 use Rattle.hh_requests.specs.declared.reply.Reply.TheVariants as reply
 use Rattle.hh_texts.specs.Files.{file_rows}
-use Rattle.hh_texts.specs.Rows.{most_bytes}
+use Rattle.hh_texts.proofs.FileLaws.{file_reads}
+use Rattle.hh_names.specs.Words.{is_file_name}
+use Rattle.hh_rows.specs.RowKinds.{IsFileOf, most_bytes}
 use Rattle.hh_states.specs.Content.{tables_of, Content}
 use Rattle.hh_states.specs.declared.file_key.FileKey.{FileKey}
 use Rattle.hh_states.specs.States.{AcceptedFile, State, file_key_cmp}
 use Rattle.hh_states.specs.Steps.{CanLoad, IsReached, Load, after_load, by_load, kept_file, timetable_at, CanRun, after_run, by_run, kept_summary, new_summary, run_fault}
+use Rattle.hh_states.specs.Ranges.{IsKeptFile, ReachedFiles}
 use Rattle.hh_states.specs.RunReads.{HoldsSummaries}
 use Rattle.hh_states.specs.Changes.{LoadEffect, RunEffect}
 use Rattle.hh_states.specs.Runs.{run_key_cmp}
 use Rattle.hh_states.proofs.KeyLaws.{file_key_total, exact_run_keys, run_key_total}
+use Rattle.hh_office.specs.Loads.{IsNamed}
 use Rattle.hh_office.specs.Machine.{Timed, act, is_operator, key_of, load, load_beside, load_new, load_read_as, loaded, loaded_reply, may, next, repeat_reply, state_after, step, answer}
 use Rattle.hh_office.specs.Transitions.{Transition, refused, refused_for, unchanged}
-use Rattle.hh_office.specs.Promises.{MakesTransition, HandleStep, RepeatsOnce, is_given_up, is_refused, Stands}
+use Rattle.hh_office.specs.Promises.{MakesTransition, HandleStep, RepeatsOnce, is_given_up, is_refused, served, Stands}
 use Rattle.hh_office.specs.Views.{OfficeView, midnight_of}
 use Rattle.hh_office.specs.Runs.{made_or_refused, run, run_beside}
 use Rattle.std.proofs.lemmas.Option.{none-some}
 use Rattle.std.specs.FinMap.Entries.{find-put}
 
--- what holds of a state, of each state after an accepted load and of each state after a run that is made holds of the state after
--- any request
-module _ (midnight : Midnights) (s : State) (P : State → Type 0) (same : P s)
-    (more : (load : Load) → CanLoad midnight s load → P (after_load midnight s load))
+-- this holds of the name of a file that is sent
+abbrev pub Passes : (List ℕ → Type 0) → Action → Type 0
+Passes N (ask.Load upload) = N upload.name
+Passes N _ = Unit {0}
+
+-- a name in the grammar of files' names
+abbrev pub IsFileName : List ℕ → Type 0
+IsFileName name = IsTrue (is_file_name name)
+
+named_passes : (action : Action) → IsNamed action → Passes IsFileName action
+named_passes (ask.Load upload) named = named
+named_passes (ask.Run key) named = tt
+named_passes (ask.Account account date) named = tt
+named_passes (ask.Balance account) named = tt
+named_passes (ask.Contracts account date) named = tt
+named_passes (ask.Runs date) named = tt
+
+-- nothing is asked of the name
+any_passes : (action : Action) → Passes (λ _. Unit {0}) action
+any_passes (ask.Load upload) = tt
+any_passes (ask.Run key) = tt
+any_passes (ask.Account account date) = tt
+any_passes (ask.Balance account) = tt
+any_passes (ask.Contracts account date) = tt
+any_passes (ask.Runs date) = tt
+
+-- a load can be made if its name is in its grammar
+pub record MayLoad (midnight : Midnights) (s : State) (load : Load) : Type 0 where
+  pub new : find file_key_cmp load.key s.files ≡ None
+  pub file : IsFileOf load.key.kind load.body load.rows
+  pub accepted : first_fault (timetable_at midnight s) s.history 1 (coming_at load.moment load.rows) ≡ None
+
+can_load : (midnight : Midnights) (s : State) (load : Load) → IsFileName load.key.name → MayLoad midnight s load → CanLoad midnight s load
+can_load midnight s load named may = record { new = may.new; named = named; file = may.file; accepted = may.accepted }
+
+-- what holds of a state, of each state after an accepted load whose name passes and of each state after a run that is made holds of
+-- the state after any request whose name passes
+module _ (midnight : Midnights) (s : State) (N : List ℕ → Type 0) (P : State → Type 0) (same : P s)
+    (more : (load : Load) → N load.key.name → MayLoad midnight s load → P (after_load midnight s load))
     (more_run : (moment : ℤ) (key : RunKey) → CanRun midnight s moment key → P (after_run s key)) where
-  by_loaded : (load : Load) → find file_key_cmp load.key s.files ≡ None → P (loaded midnight s load).state
-  by_loaded load new =
+  by_loaded : (load : Load) → N load.key.name → find file_key_cmp load.key s.files ≡ None → IsFileOf load.key.kind load.body load.rows → P (loaded midnight s load).state
+  by_loaded load named new file =
       elim (first_fault (timetable_at midnight s) s.history 1 (coming_at load.moment load.rows)) as (λ o.
       first_fault (timetable_at midnight s) s.history 1 (coming_at load.moment load.rows) ≡ o
       → P (elim o as (λ _. Transition) [
         | Some fault ↦ refused s fault
         | None ↦ record { reply = loaded_reply (kept_file (timetable_at midnight s) load); state = after_load midnight s load }
-      ]).state) [ None ↦ λ none. more load (new, none) | Some fault ↦ λ _. same ] refl
+      ]).state) [ None ↦ λ none. more load named (record { new = new; file = file; accepted = none }) | Some fault ↦ λ _. same ] refl
 
-  by_new : (moment : ℤ) (upload : Upload) → find file_key_cmp (key_of upload) s.files ≡ None → P (load_new midnight s moment upload).state
-  by_new moment upload new =
+  by_new : (moment : ℤ) (upload : Upload) → N upload.name → find file_key_cmp (key_of upload) s.files ≡ None → P (load_new midnight s moment upload).state
+  by_new moment upload named new =
       elim (file_rows upload.kind upload.body) as (λ (found : Result (List Row) Fault).
-      P (elim found as (λ _. Transition) [ Err fault ↦ refused s fault | Ok rows ↦ loaded midnight s (load_read_as moment upload rows) ]).state)
-      [ Err fault ↦ same | Ok rows ↦ by_loaded (load_read_as moment upload rows) new ]
+      file_rows upload.kind upload.body ≡ found
+      → P (elim found as (λ _. Transition) [ Err fault ↦ refused s fault | Ok rows ↦ loaded midnight s (load_read_as moment upload rows) ]).state)
+      [ Err fault ↦ λ _. same | Ok rows ↦ λ reads. by_loaded (load_read_as moment upload rows) named new (file_reads upload.kind upload.body rows reads) ] refl
 
-  by_beside : (moment : ℤ) (upload : Upload) (found : Option AcceptedFile) → find file_key_cmp (key_of upload) s.files ≡ found → P (load_beside midnight s found moment upload).state
-  by_beside moment upload None is = by_new moment upload is
-  by_beside moment upload (Some file) is = same
+  by_beside : (moment : ℤ) (upload : Upload) (found : Option AcceptedFile) → N upload.name → find file_key_cmp (key_of upload) s.files ≡ found → P (load_beside midnight s found moment upload).state
+  by_beside moment upload None named is = by_new moment upload named is
+  by_beside moment upload (Some file) named is = same
 
   by_new_run : (moment : ℤ) (key : RunKey) → kept_summary midnight s key ≡ None → P (made_or_refused midnight s moment key).state
   by_new_run moment key new =
@@ -79,21 +120,21 @@ module _ (midnight : Midnights) (s : State) (P : State → Type 0) (same : P s)
   by_run_beside moment key None is = by_new_run moment key is
   by_run_beside moment key (Some summary) is = same
 
-  by_act : (moment : ℤ) (action : Action) → P (act midnight s moment action).state
-  by_act moment (ask.Load upload) =
+  by_act : (moment : ℤ) (action : Action) → Passes N action → P (act midnight s moment action).state
+  by_act moment (ask.Load upload) named =
       let found : Option AcceptedFile = find file_key_cmp (key_of upload) s.files in
       elim (nat_lt most_bytes (length upload.body)) as (λ b. P (cond b (refused_for s FileTooLarge) (load_beside midnight s found moment upload)).state)
-      [ true ↦ same | false ↦ by_beside moment upload found refl ]
-  by_act moment (ask.Run key) = by_run_beside moment key (kept_summary midnight s key) refl
-  by_act moment (ask.Account account date) = same
-  by_act moment (ask.Balance account) = same
-  by_act moment (ask.Contracts account date) = same
-  by_act moment (ask.Runs date) = same
+      [ true ↦ same | false ↦ by_beside moment upload found named refl ]
+  by_act moment (ask.Run key) named = by_run_beside moment key (kept_summary midnight s key) refl
+  by_act moment (ask.Account account date) named = same
+  by_act moment (ask.Balance account) named = same
+  by_act moment (ask.Contracts account date) named = same
+  by_act moment (ask.Runs date) named = same
 
-  pub next_by : (moment : ℤ) (request : Request) → P (next midnight s moment request)
-  next_by moment request =
+  pub next_by : (moment : ℤ) (request : Request) → Passes N request.action → P (next midnight s moment request)
+  next_by moment request named =
       elim (may midnight s request.key request.action) as (λ b. P (cond b (act midnight s moment request.action) (refused_for s Forbidden)).state)
-      [ true ↦ by_act moment request.action | false ↦ same ]
+      [ true ↦ by_act moment request.action named | false ↦ same ]
 
 -- what each request keeps, a list of requests keeps
 pub after_by : (midnight : Midnights) (P : State → Type 0) → ((s : State) (moment : ℤ) (request : Request) → P s → P (next midnight s moment request))
@@ -102,17 +143,42 @@ after_by midnight P keeps s [] holds = holds
 after_by midnight P keeps s (t ∷ ts) holds = after_by midnight P keeps (next midnight s t.0 t.1) ts (keeps s t.0 t.1 holds)
 
 -- the machine reaches the state after each request
-pub next_reached : (midnight : Midnights) (s : State) (moment : ℤ) (request : Request) → IsReached midnight s → IsReached midnight (next midnight s moment request)
-next_reached midnight s moment request reached =
-    next_by midnight s (IsReached midnight) reached (λ load can. by_load s load reached can) (λ at key can. by_run s at key reached can) moment request
+pub next_reached : (midnight : Midnights) (s : State) (moment : ℤ) (request : Request) → IsNamed request.action → IsReached midnight s
+    → IsReached midnight (next midnight s moment request)
+next_reached midnight s moment request named reached =
+    next_by midnight s IsFileName (IsReached midnight) reached (λ load name may. by_load s load reached (can_load midnight s load name may)) (λ at key can. by_run s at key reached can)
+    moment request (named_passes request.action named)
+
+-- each file that requests send has a name in its grammar
+abbrev pub AreNamed : List Timed → Type 0
+AreNamed ts = AllByRecursion (λ t. IsNamed t.1.action) ts
 
 -- the machine reaches the state after a list of requests
-pub all_reached : (midnight : Midnights) (s : State) (ts : List Timed) → IsReached midnight s → IsReached midnight (state_after midnight s ts)
-all_reached midnight s ts reached = after_by midnight (IsReached midnight) (λ u m q. next_reached midnight u m q) s ts reached
+pub all_reached : (midnight : Midnights) (s : State) (ts : List Timed) → AreNamed ts → IsReached midnight s → IsReached midnight (state_after midnight s ts)
+all_reached midnight s [] named reached = reached
+all_reached midnight s (t ∷ ts) named reached = all_reached midnight (next midnight s t.0 t.1) ts named.1 (next_reached midnight s t.0 t.1 named.0 reached)
+
+-- so are those of them that were served
+named_served : (ts : List Timed) (rs : List Reply) → AreNamed ts → AreNamed (map (λ (x : Timed × Reply). x.0) (served ts rs))
+named_served [] rs named = tt
+named_served (t ∷ ts) [] named = tt
+named_served (t ∷ ts) (r ∷ rs) named =
+    elim (not (is_given_up r)) as (λ b. AreNamed (map (λ (x : Timed × Reply). x.0) (cond b ((t, r) ∷ served ts rs) (served ts rs))))
+    [ true ↦ (named.0, named_served ts rs named.1) | false ↦ named_served ts rs named.1 ]
+
+-- the machine reaches the state after those of a list of requests that were served
+pub served_reached : (midnight : Midnights) (s : State) (ts : List Timed) (rs : List Reply) → AreNamed ts → IsReached midnight s
+    → IsReached midnight (state_after midnight s (map (λ (x : Timed × Reply). x.0) (served ts rs)))
+served_reached midnight s ts rs named reached = all_reached midnight s (map (λ (x : Timed × Reply). x.0) (served ts rs)) (named_served ts rs named) reached
+
+-- one more is named too
+pub named_more : (ts : List Timed) (t : Timed) → AreNamed ts → IsNamed t.1.action → AreNamed (ts ++ t ∷ [])
+named_more [] t named one = (one, tt)
+named_more (u ∷ ts) t named one = (named.0, named_more ts t named.1 one)
 
 -- the settings stay
 same_settings : (midnight : Midnights) (s : State) (moment : ℤ) (request : Request) (settings : Settings) → s.settings ≡ settings → (next midnight s moment request).settings ≡ settings
-same_settings midnight s moment request settings is = next_by midnight s (λ t. t.settings ≡ settings) is (λ load can. is) (λ at key can. is) moment request
+same_settings midnight s moment request settings is = next_by midnight s (λ _. Unit {0}) (λ t. t.settings ≡ settings) is (λ load _ may. is) (λ at key can. is) moment request (any_passes request.action)
 
 -- what is found in a list with one more entry
 find-push : {K V : Type 0} (R : K → K → Ordering) (q : K) (es : List (K × V)) (e : K × V) → find R q (es ++ e ∷ []) ≡ option_or (find R q es) (find R q (e ∷ []))
@@ -128,9 +194,9 @@ IsKept key file s = find file_key_cmp key s.files ≡ Some file
 -- a file that is kept stays
 stays : (midnight : Midnights) (key : FileKey) (file : AcceptedFile) (s : State) (moment : ℤ) (request : Request) → IsKept key file s → IsKept key file (next midnight s moment request)
 stays midnight key file s moment request kept =
-    next_by midnight s (IsKept key file) kept
-    (λ load can. find-push file_key_cmp key s.files (load.key, kept_file (timetable_at midnight s) load)
-    ∙ ap (λ o. option_or o (find file_key_cmp key ((load.key, kept_file (timetable_at midnight s) load) ∷ []))) kept) (λ at run can. kept) moment request
+    next_by midnight s (λ _. Unit {0}) (IsKept key file) kept
+    (λ load _ may. find-push file_key_cmp key s.files (load.key, kept_file (timetable_at midnight s) load)
+    ∙ ap (λ o. option_or o (find file_key_cmp key ((load.key, kept_file (timetable_at midnight s) load) ∷ []))) kept) (λ at run can. kept) moment request (any_passes request.action)
 
 -- a file that is accepted is kept, with its reply
 abbrev Keeps : Upload → Transition → Type 0
@@ -227,6 +293,20 @@ repeats_upload key upload old new moment given steps s earlier between reached l
     subst (λ r. MatchBool (is_given_up given) (Unit {0}) (given ≡ r) × (new ≡ old)) same
     (unchanged_by (is_given_up given) old new t (given ≡ repeat_reply file upload.body) stands.1 comes)
 
+-- files have names in their grammar
+abbrev HaveNames : List (FileKey × AcceptedFile) → Type 0
+HaveNames files = AllByRecursion (λ f. IsFileName f.0.name) files
+
+-- where they have with one more, they and that one have
+named_files : (files : List (FileKey × AcceptedFile)) (f : FileKey × AcceptedFile) → HaveNames (files ++ f ∷ []) → HaveNames files × IsFileName f.0.name
+named_files [] f named = (tt, named.0)
+named_files (e ∷ files) f named = let parts = named_files files f named.1 in ((named.0, parts.0), parts.1)
+
+-- the files of a reached state have
+reached_names : (files : List (FileKey × AcceptedFile)) → AllByRecursion (λ f. IsKeptFile f.0 f.1) files → HaveNames files
+reached_names [] all = tt
+reached_names (f ∷ files) all = (all.0.named, reached_names files all.1)
+
 -- A run is ordered with a key.
 module _ (midnight : Midnights) (shown : List ℕ) (key : RunKey) where
   abbrev ordered : Request
@@ -235,6 +315,10 @@ module _ (midnight : Midnights) (shown : List ℕ) (key : RunKey) where
   -- the run is there with this summary, in a state that the machine reaches
   abbrev IsMade : Summary → State → Type 0
   IsMade summary s = IsReached midnight s × (kept_summary midnight s key ≡ Some summary)
+
+  -- the same, if all files have names in their grammar
+  abbrev IsMadeIfNamed : Summary → State → Type 0
+  IsMadeIfNamed summary s = HaveNames s.files → IsMade summary s
 
   -- where it is made, it is there with its reply
   abbrev WasMadeHere : State → Transition → Type 0
@@ -254,7 +338,7 @@ module _ (midnight : Midnights) (shown : List ℕ) (key : RunKey) where
       ap (λ b. cond b (run midnight s moment key) (refused_for s Forbidden)) operator ∙ ap (λ found. run_beside midnight s found moment key) kept
 
   -- The tables hold the summaries of a state's runs, and what a load and a run write makes those of the state after it.
-  module _ (holds : HoldsSummaries) (loads : LoadEffect) (runs : RunEffect) where
+  module _ (holds : HoldsSummaries) (loads : LoadEffect) (runs : RunEffect) (files : ReachedFiles) where
     -- a summary is that of the tables
     kept_in : (t : State) (summary : Option Summary) → find run_key_cmp key (tables_of midnight t).runs ≡ summary → kept_summary midnight t key ≡ summary
     kept_in t summary found = sym (holds midnight t key) ∙ found
@@ -266,6 +350,12 @@ module _ (midnight : Midnights) (shown : List ℕ) (key : RunKey) where
       kept_in (after_load midnight s load) (Some summary)
           (ap (λ (c : Content). find run_key_cmp key c.runs) (loads midnight s load reached can) ∙ holds midnight s key ∙ kept),
     )
+
+    -- so it does where the load's name is known from the files in the state after it
+    stays_if_named : (summary : Summary) (s : State) (load : Load) → MayLoad midnight s load → IsMadeIfNamed summary s → IsMadeIfNamed summary (after_load midnight s load)
+    stays_if_named summary s load may made = λ names.
+        let parts = named_files s.files (load.key, kept_file (timetable_at midnight s) load) names in
+        stays_with_load summary s load (can_load midnight s load parts.1 may) (made parts.0)
 
     -- what is found under the key once a run is made
     found_after : (s : State) (moment : ℤ) (made : RunKey) → CanRun midnight s moment made
@@ -294,10 +384,10 @@ module _ (midnight : Midnights) (shown : List ℕ) (key : RunKey) where
     )
 
     -- a run that is there stays
-    stays_made : (summary : Summary) (s : State) (moment : ℤ) (request : Request) → IsMade summary s → IsMade summary (next midnight s moment request)
+    stays_made : (summary : Summary) (s : State) (moment : ℤ) (request : Request) → IsMadeIfNamed summary s → IsMadeIfNamed summary (next midnight s moment request)
     stays_made summary s moment request made =
-        next_by midnight s (IsMade summary) made (λ load can. stays_with_load summary s load can made)
-        (λ at other can. stays_with_run summary s at other can made) moment request
+        next_by midnight s (λ _. Unit {0}) (IsMadeIfNamed summary) made (λ load _ may. stays_if_named summary s load may made)
+        (λ at other can names. stays_with_run summary s at other can (made names)) moment request (any_passes request.action)
 
     -- a run that is made is there
     made_new : (s : State) (moment : ℤ) → IsReached midnight s → kept_summary midnight s key ≡ None → WasMadeHere s (made_or_refused midnight s moment key)
@@ -340,7 +430,8 @@ module _ (midnight : Midnights) (shown : List ℕ) (key : RunKey) where
         let (operator, (summary, made, same)) = was_made s earlier reached fine in
         let after : State = next midnight s earlier ordered in
         let t : State = state_after midnight after between in
-        let made_now : IsMade summary t = after_by midnight (IsMade summary) (stays_made summary) after between made in
+        let made_now : IsMade summary t =
+        after_by midnight (IsMadeIfNamed summary) (stays_made summary) after between (λ names. made) (reached_names t.files (files midnight t (subst (λ m. IsReached m t) (sym zone) stands.0))) in
         let settings : t.settings ≡ s.settings =
         after_by midnight (λ u. u.settings ≡ s.settings) (λ u m r. same_settings midnight u m r s.settings) after between (same_settings midnight s earlier ordered s.settings refl) in
         let operator_now : is_operator midnight t shown ≡ true = ap (λ (c : Settings). bytes_eq c.operator_key shown) settings ∙ operator in
@@ -350,13 +441,13 @@ module _ (midnight : Midnights) (shown : List ℕ) (key : RunKey) where
         (unchanged_by (is_given_up given) old new t (given ≡ reply.Ran key summary) stands.1 comes)
 
 -- the same of any request
-pub repeats : (holds : HoldsSummaries) (loads : LoadEffect) (runs : RunEffect) (old new : OfficeView) (moment : ℤ) (request : Request) (given : Reply)
+pub repeats : (holds : HoldsSummaries) (loads : LoadEffect) (runs : RunEffect) (files : ReachedFiles) (old new : OfficeView) (moment : ℤ) (request : Request) (given : Reply)
     → HandleStep old new moment request given → RepeatsOnce old new request given
-repeats holds loads runs old new moment request given steps =
+repeats holds loads runs files old new moment request given steps =
     elim request.action as (λ a. HandleStep old new moment (record { key = request.key; action = a }) given → RepeatsOnce old new (record { key = request.key; action = a }) given) [
       | ask.Load upload ↦ repeats_upload request.key upload old new moment given
       | ask.Run key ↦ λ does s earlier between reached changes fine stands.
-          repeats_run (midnight_of old) request.key key holds loads runs old new moment given refl does s earlier between reached fine stands
+          repeats_run (midnight_of old) request.key key holds loads runs files old new moment given refl does s earlier between reached fine stands
       | ask.Account account date ↦ λ _ s earlier between reached changes. not_refused (sym changes)
       | ask.Balance account ↦ λ _ s earlier between reached changes. not_refused (sym changes)
       | ask.Contracts account date ↦ λ _ s earlier between reached changes. not_refused (sym changes)

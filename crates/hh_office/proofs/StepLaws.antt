@@ -1,6 +1,6 @@
 -- What the steps of the office come to, by what is read from its tables and judged.
 use Rattle.std.proofs.Common.{◌≡◌, List, refl, sym, ap, subst, ◌∙◌, Bool, true, false, cond, Option, Some, None, Result, Ok, Err}
-use Rattle.std.specs.Prelude.{ℤ, MatchBool, OnOk, length, nat_lt}
+use Rattle.std.specs.Prelude.{ℤ, MatchBool, OnOk, length, nat_lt, IsTrue}
 use Rattle.std.specs.Result.{IsErr, IsErrAnd}
 use Rattle.std.specs.FinMap.{find}
 use Rattle.hh_tables.proofs.TableLaws.{false_is_not_true}
@@ -18,7 +18,9 @@ use Rattle.hh_requests.specs.declared.reply.Reply.TheVariants as reply
 use Rattle.hh_requests.specs.declared.request.Request.{Request}
 use Rattle.hh_requests.specs.declared.request.Upload.{Upload}
 use Rattle.hh_texts.specs.Files.{file_rows}
-use Rattle.hh_texts.specs.Rows.{most_bytes}
+use Rattle.hh_texts.proofs.FileLaws.{file_reads}
+use Rattle.hh_names.specs.Words.{is_file_name}
+use Rattle.hh_rows.specs.RowKinds.{most_bytes}
 use Rattle.hh_states.specs.Changes.{IsLoadFrom, LoadEffect, LoadWrites, effect_of_load}
 use Rattle.hh_states.specs.Content.{tables_of}
 use Rattle.hh_states.specs.Reads.{HoldsFiles, file_in, whole_register}
@@ -150,22 +152,24 @@ module _ (office : OfficeView) (s : State) (moment : ℤ) (upload : Upload) (sta
       (by_failure (gives_up fault) _ _ (Unit {0}) tt (by_judged (file_rows upload.kind upload.body) fault) judges)
 
   module _ (new : OfficeView) (judged : FileRowsView) (given : Reply) (holds : HoldsFiles) (free : file_in office.content upload.kind upload.name ≡ None)
-      (accepts : Accepts office new (writes_of upload judged) given) where
+      (named : IsTrue (is_file_name upload.name)) (accepts : Accepts office new (writes_of upload judged) given) where
     new_key : find file_key_cmp (key_of upload) s.files ≡ None
     new_key = sym (holds (midnight_of office) s (key_of upload)) ∙ sym (ap (λ c. file_in c upload.kind upload.name) stands.1) ∙ free
 
-    accepted_by : (found : Result (List Row) Fault) → judged_of found ≡ Ok judged → MakesTransition office new given (transition_of found)
-    accepted_by (Err e) is = absurd (err_is_not_ok is)
-    accepted_by (Ok rows) is =
+    accepted_by : (found : Result (List Row) Fault) → file_rows upload.kind upload.body ≡ found → judged_of found ≡ Ok judged
+        → MakesTransition office new given (transition_of found)
+    accepted_by (Err e) reads is = absurd (err_is_not_ok is)
+    accepted_by (Ok rows) reads is =
         let none : fault_in rows ≡ None = subst (IsFault (fault_in rows)) is (fault_by (fault_in rows) (view_in rows)) in
         let view : judged ≡ view_in rows = sym (subst (IsView (view_in rows)) is (view_by (fault_in rows) (view_in rows))) in
         subst (λ o. MakesTransition office new given (transition_by rows o)) (sym none)
         (subst (λ v. MakesTransition office new given (accepted office s (load_read_as moment upload rows) (writes_of upload v))) view
-        (accepts s (load_read_as moment upload rows) stands (new_key, none) (ap (writes_of upload) view)))
+        (accepts s (load_read_as moment upload rows) stands
+        (record { new = new_key; named = named; file = file_reads upload.kind upload.body rows reads; accepted = none }) (ap (writes_of upload) view)))
 
     -- a file that is accepted
     pub load_accepted : judged_upload (midnight_of office) s moment upload ≡ Ok judged → MakesTransition office new given (load_new (midnight_of office) s moment upload)
-    load_accepted = accepted_by (file_rows upload.kind upload.body)
+    load_accepted = accepted_by (file_rows upload.kind upload.body) refl
 
 -- an error that is passed on is the reply that refuses for it
 pub passed_reply : (result : Result Reply Fault) (fault : Fault) → IsErr result × IsErrAnd result (λ f. f ≡ fault) → reply.Refused fault ≡ reply_of result

@@ -1,8 +1,8 @@
 -- What a party sees of an office, and that it sees no more.
-use Rattle.std.proofs.Common.{◌≡◌, ℕ, ℤ, List, [], ◌∷◌, refl, sym, ap, ◌∙◌, Bool, true, false, cond, Option, Some, None, IsTrue}
+use Rattle.std.proofs.Common.{◌≡◌, ◌≢◌, ℕ, ℤ, List, [], ◌∷◌, refl, sym, ap, ◌∙◌, Bool, true, false, cond, Option, Some, None, IsTrue}
 use Rattle.std.specs.Prelude.{◌==◌, IfSome, MatchBool, ◌||◌, not, option_map}
 use Rattle.std.specs.FinMap.{find}
-use Rattle.std.specs.List.{list_any}
+use Rattle.std.specs.List.{AllByRecursion, list_any}
 use Rattle.std.specs.Ordering.{eq_by_cmp}
 use Rattle.std.specs.Str.{bytes_eq}
 use Rattle.std.proofs.lemmas.Option.{none-some}
@@ -23,13 +23,14 @@ use Rattle.hh_requests.specs.declared.request.Action.{Action}
 use Rattle.hh_requests.specs.declared.request.Action.TheVariants as ask
 use Rattle.hh_requests.specs.declared.request.Request.{Request}
 use Rattle.hh_states.specs.Content.{tables_of}
+use Rattle.hh_states.specs.Ranges.{KeysNeverMeet}
 use Rattle.hh_states.specs.Reads.{results_in}
 use Rattle.hh_states.specs.RunReads.{HoldsPostings, HoldsResults, rows_in_run}
 use Rattle.hh_states.specs.Runs.{Run, last_of, latest_run, runs_of_date}
 use Rattle.hh_states.specs.States.{State}
 use Rattle.hh_states.specs.Steps.{IsReached, kinds_on, registered_at}
 use Rattle.hh_office.specs.Enquiries.{account_reply, balance_reply, reply_by_rows, reply_by_run, rows_of_account}
-use Rattle.hh_office.specs.Machine.{act, answer, is_holder, is_key_of, is_operator, is_party_key, may}
+use Rattle.hh_office.specs.Machine.{act, answer, is_holder, is_key_of, is_operator, is_others, is_party_key, may}
 use Rattle.hh_office.specs.PartyViews.{ForbidsOthers, LooksAlike, ShowsByView, is_foreign, is_own, key_in}
 use Rattle.hh_office.specs.Promises.{HandleStep, is_given_up}
 use Rattle.hh_office.specs.Transitions.{refused_for}
@@ -197,9 +198,33 @@ shows_by_view results postings old new moment request given steps s t later part
     given_by (is_given_up given) _ _ given (answer (midnight_of old) s moment request) (answer (midnight_of old) t later request)
     (answers_by_view results postings (midnight_of old) s t moment later party request stands.0 other alike is own) (steps s stands)
 
+-- one of two, where the first doesn't hold
+or_second_of : (a b : Bool) → (not a || b) ≡ true → a ≡ true → b ≡ true
+or_second_of true b either is = either
+or_second_of false b either is = absurd (false_is_not_true is)
+
+-- a key that a party of a list has
+known_has : (operator key : List ℕ) (parties : List (List ℕ × PartyRegistration)) → AllByRecursion (λ p. p.1.key ≢ operator) parties
+    → list_any (λ e. bytes_eq e.1.key key) parties ≡ true → operator ≢ key
+known_has operator key [] apart known = absurd (false_is_not_true known)
+known_has operator key (e ∷ parties) apart known =
+    elim (bytes_eq e.1.key key) as (λ b. bytes_eq e.1.key key ≡ b → (b || list_any (λ e. bytes_eq e.1.key key) parties) ≡ true → operator ≢ key) [
+      | true ↦ λ is _ same. apart.0 ((bytes_eq-Decides e.1.key key).0 is ∙ sym same)
+      | false ↦ λ is later. known_has operator key parties apart.1 later
+    ] refl known
+
+-- in a reached state a key of others is not the operator's
+others_not : KeysNeverMeet → (midnight : Midnights) (s : State) (key : List ℕ) → IsReached midnight s → is_others midnight s key ≡ true → is_operator midnight s key ≡ false
+others_not apart midnight s key reached others =
+    elim (is_operator midnight s key) as (λ b. is_operator midnight s key ≡ b → b ≡ false) [
+      | false ↦ λ _. refl
+      | true ↦ λ is. absurd (known_has s.settings.operator_key key (registered_at midnight s).parties (apart midnight s reached)
+          (or_second_of (is_operator midnight s key) (is_party_key midnight s key) others is) ((bytes_eq-Decides s.settings.operator_key key).0 is))
+    ] refl
+
 -- an office that steps as the machine forbids others what is not theirs
-pub forbids_others : (old new : OfficeView) (moment : ℤ) (request : Request) (given : Reply)
+pub forbids_others : KeysNeverMeet → (old new : OfficeView) (moment : ℤ) (request : Request) (given : Reply)
     → HandleStep old new moment request given → ForbidsOthers old request given
-forbids_others old new moment request given steps s stands other foreign =
+forbids_others apart old new moment request given steps s stands others foreign =
     given_by (is_given_up given) _ _ given (answer (midnight_of old) s moment request) (reply.Refused (plain_fault Forbidden))
-    (not_allowed (midnight_of old) s moment request (foreign_not (midnight_of old) s request.key request.action other foreign)) (steps s stands)
+    (not_allowed (midnight_of old) s moment request (foreign_not (midnight_of old) s request.key request.action (others_not apart (midnight_of old) s request.key stands.0 others) foreign)) (steps s stands)

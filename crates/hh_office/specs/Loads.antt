@@ -1,9 +1,12 @@
 -- What the office writes for a file that it accepts, and what that comes to.
-use Rattle.std.specs.Prelude.{◌≡◌, ℤ, length, Result, Ok, Err}
+use Rattle.std.specs.Prelude.{◌≡◌, ℤ, length, IsTrue, Result, Ok, Err}
 use Rattle.hh_time.specs.Days.{Midnights}
 use Rattle.hh_names.specs.declared.fault.Fault.{Fault}
+use Rattle.hh_names.specs.Words.{is_file_name}
 use Rattle.hh_rules.specs.FileRows.{FileRowsView, coming_at, judged_file}
 use Rattle.hh_requests.specs.declared.reply.Reply.{Reply}
+use Rattle.hh_requests.specs.declared.request.Action.{Action}
+use Rattle.hh_requests.specs.declared.request.Action.TheVariants as ask
 use Rattle.hh_requests.specs.declared.request.Upload.{Upload}
 use Rattle.hh_texts.specs.Files.{file_rows}
 use Rattle.hh_states.specs.Changes.{LoadWrites, load_writes}
@@ -14,6 +17,11 @@ use Rattle.hh_office.specs.Machine.{key_of, loaded_reply}
 use Rattle.hh_office.specs.Transitions.{Transition}
 use Rattle.hh_office.specs.Promises.{MakesTransition, Stands, UnlessFailed}
 use Rattle.hh_office.specs.Views.{OfficeView, midnight_of}
+
+-- where a file is sent, its name is in its grammar
+abbrev pub IsNamed : Action → Type 0
+IsNamed (ask.Load upload) = IsTrue (is_file_name upload.name)
+IsNamed _ = Unit {0}
 
 -- what the rows of a new file come to in a state, or the first fault in it
 abbrev pub judged_upload : Midnights → State → ℤ → Upload → Result FileRowsView Fault

@@ -1,5 +1,5 @@
 -- The settlement machine: what it answers to a request, and the state after it.
-use Rattle.std.specs.Prelude.{ℕ, nat_lt, ℤ, List, [], ◌∷◌, length, Bool, false, ◌||◌, if◌then◌else◌, Option, Some, None, Ok, Err}
+use Rattle.std.specs.Prelude.{ℕ, nat_lt, ℤ, List, [], ◌∷◌, length, Bool, false, not, ◌||◌, if◌then◌else◌, Option, Some, None, Ok, Err}
 use Rattle.std.specs.FinMap.{find}
 use Rattle.std.specs.Str.{bytes_eq}
 use Rattle.hh_time.specs.Days.{Midnights}
@@ -17,7 +17,7 @@ use Rattle.hh_requests.specs.declared.request.Upload.{Upload}
 use Rattle.hh_requests.specs.declared.reply.Reply.{Reply}
 use Rattle.hh_requests.specs.declared.reply.Reply.TheVariants as reply
 use Rattle.hh_texts.specs.Files.{file_rows}
-use Rattle.hh_texts.specs.Rows.{most_bytes}
+use Rattle.hh_rows.specs.RowKinds.{most_bytes}
 use Rattle.hh_states.specs.declared.file_key.FileKey.{FileKey}
 use Rattle.hh_states.specs.Reads.{is_key_known_in}
 use Rattle.hh_states.specs.States.{AcceptedFile, State, file_key_cmp}
@@ -63,6 +63,10 @@ module _ (midnight : Midnights) (s : State) where
   -- whether a key is that of a registered party
   abbrev pub is_party_key : List ℕ → Bool
   is_party_key key = is_key_known_in (registered_at midnight s) key
+
+  -- whether a key is another than the operator's, or that of a registered party
+  abbrev pub is_others : List ℕ → Bool
+  is_others key = not (is_operator key) || is_party_key key
 
   -- who may ask for what: the operator for everything, a party for what its own accounts have, and for the runs of dates
   abbrev pub may : List ℕ → Action → Bool

@@ -1,5 +1,5 @@
 -- What a party sees of an office, and that it sees no more.
-use Rattle.std.specs.Prelude.{◌≡◌, ℕ, ℤ, List, Bool, true, false, not, Option, Some, IsFalse, IsTrue, MatchBool, option_map}
+use Rattle.std.specs.Prelude.{◌≡◌, ℕ, ℤ, List, Bool, true, false, not, Option, Some, IsTrue, MatchBool, option_map}
 use Rattle.std.specs.FinMap.{find}
 use Rattle.std.specs.Str.{bytes_eq}
 use Rattle.hh_time.specs.Days.{Midnights}
@@ -18,7 +18,7 @@ use Rattle.hh_states.specs.Reads.{contracts_of, postings_in, results_in}
 use Rattle.hh_states.specs.States.{State}
 use Rattle.hh_states.specs.Steps.{IsReached, kinds_on, registered_at}
 use Rattle.hh_office.specs.Enquiries.{rows_of_account}
-use Rattle.hh_office.specs.Machine.{answer, is_holder, is_operator}
+use Rattle.hh_office.specs.Machine.{answer, is_holder, is_others}
 use Rattle.hh_office.specs.Promises.{Stands, is_given_up}
 use Rattle.hh_office.specs.Views.{OfficeView, midnight_of}
 
@@ -63,9 +63,9 @@ is_foreign midnight s key (ask.Balance a) = not (is_holder midnight s a key)
 is_foreign midnight s key (ask.Contracts a date) = not (is_holder midnight s a key)
 is_foreign midnight s key (ask.Runs date) = false
 
--- with another key than the operator's, a file, a run and each foreign enquiry are forbidden
+-- with the key of a registered party, and with any other than the operator's, a file, a run and each foreign enquiry are forbidden
 abbrev pub ForbidsOthers : OfficeView → Request → Reply → Type 0
 ForbidsOthers office request given =
-    (s : State) → Stands office s → IsFalse (is_operator (midnight_of office) s request.key)
+    (s : State) → Stands office s → IsTrue (is_others (midnight_of office) s request.key)
     → IsTrue (is_foreign (midnight_of office) s request.key request.action)
     → MatchBool (is_given_up given) (Unit {0}) (given ≡ reply.Refused (plain_fault Forbidden))

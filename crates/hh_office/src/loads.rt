@@ -2,19 +2,19 @@
 
 ghost use Rattle.std.specs.Prelude.{◌≡◌, ◌≤◌, length, None, IfOk, OnErr, OnOk};
 ghost use Rattle.hh_rules.specs.RegisterView.{ServesFor};
-ghost use Rattle.hh_texts.specs.Rows.{most_rows};
+ghost use Rattle.hh_rows.specs.RowKinds.{most_rows};
 ghost use Rattle.hh_states.specs.Reads.{file_in, whole_register};
 ghost use Rattle.hh_store.specs.Reached.{AreReached};
 ghost use Rattle.hh_store.specs.StoreFaults.{CountsRefusal};
 ghost use Rattle.hh_office.specs.Refusals.{CountsAnswer};
-ghost use Rattle.hh_office.specs.Loads.{Accepts, Judges, WritesLoad, writes_of};
+ghost use Rattle.hh_office.specs.Loads.{Accepts, IsNamed, Judges, WritesLoad, writes_of};
 ghost use Rattle.hh_office.specs.Machine.{load, load_new, loaded_reply, repeat_reply};
 ghost use Rattle.hh_office.specs.Promises.{MakesInEachState, RefusalLeaves, reply_of};
 ghost use Rattle.hh_office.specs.Views.{IsSure};
 
 use crate::office::Office;
 use hh_names::{Fault, Refusal};
-use hh_requests::{Loaded, Reply, Upload};
+use hh_requests::{Action, Loaded, Reply, Request, Upload};
 use hh_rows::Row;
 use hh_rules::{FileRows, Register};
 use hh_state_laws::{kept_files, load_effect};
@@ -68,6 +68,8 @@ impl<'z, T: Tables> Office<'z, T> {
     {
         // Does nothing, but carries a law for the proof: the tables hold the files that were accepted.
         kept_files();
+        // And this that the file's name is in its grammar.
+        upload.name.as_bytes();
         let judged = self.judge(moment, upload)?;
         self.accept(upload, judged)
     }
@@ -125,6 +127,15 @@ impl<'z, T: Tables> Office<'z, T> {
         // Does nothing, but carries a law for the proof: the change makes the machine's tables.
         load_effect();
         self.tables.apply_load(change)
+    }
+}
+
+/// That where a file is sent, its name is in its grammar: does nothing, but carries this for a proof.
+pub(crate) fn is_named(request: &Request)
+    ensures { IsNamed request.now.action }
+{
+    if let Action::Load(upload) = &request.action {
+        upload.name.as_bytes();
     }
 }
 

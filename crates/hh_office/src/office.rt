@@ -1,15 +1,20 @@
 //! The office: requests in, replies out, tables kept.
 
 ghost use Rattle.std.specs.Prelude.{◌≡◌, IfOk, OnErr};
+ghost use Rattle.hh_office.specs.Loads.{IsNamed};
 ghost use Rattle.hh_office.specs.Machine.{step};
 ghost use Rattle.hh_office.specs.PartyViews.{ForbidsOthers, ShowsByView};
 ghost use Rattle.hh_office.specs.Promises.{ConservesAfter, ConservesAfterAll, MakesInEachState, HandleStep, RefusalLeaves, RepeatsOnce, RunAllStep, StandsAfter, StandsAfterAll, reply_of};
 ghost use Rattle.hh_office.specs.Views.{IsSure};
 
+use crate::loads::is_named;
 use hh_day::reached_conserve;
 use hh_names::{Fault, Refusal};
 use hh_requests::{Action, Reply, Request};
-use hh_state_laws::{kept_postings, kept_results, kept_summaries, load_effect, run_effect};
+use hh_state_laws::{
+    accepted_files_in_range, kept_postings, kept_results, kept_summaries, keys_never_meet,
+    load_effect, run_effect,
+};
 use hh_store::Tables;
 use jiff::tz::TimeZone;
 use std::alloc::{AllocError, Global};
@@ -76,6 +81,10 @@ impl<'z, T: Tables> Office<'z, T> {
         load_effect();
         run_effect();
         reached_conserve();
+        // And of what states hold: files have names in their grammar, and no party has the operator's key.
+        is_named(request);
+        accepted_files_in_range();
+        keys_never_meet();
         match self.act(moment, request) {
             Ok(reply) => reply,
             Err(fault) => Reply::Refused(fault),
@@ -113,7 +122,9 @@ impl<'z, T: Tables> Office<'z, T> {
         ensures makes { IsSure T.is_open self.new
             → HandleStep self.old.seen self.new.seen request.now.0 request.now.1 result }
         ensures sure { IsSure T.is_open self.new → IsSure T.is_open self.old }
+        ensures named { IsNamed request.now.1.action }
     {
+        is_named(&request.1);
         self.handle(request.0, &request.1)
     }
 

@@ -5,7 +5,7 @@ ghost use Rattle.std.specs.List.{flat_map};
 ghost use Rattle.std.specs.List.Sorted.{IsStrictlySortedBy};
 ghost use Rattle.hh_names.specs.Accounts.{account_cmp};
 ghost use Rattle.hh_names.specs.Faults.{faults, Gives};
-ghost use Rattle.hh_texts.specs.Rows.{most_rows};
+ghost use Rattle.hh_rows.specs.RowKinds.{most_rows};
 ghost use Rattle.hh_period.specs.Rows.{accepted_rows, bm_unit_entry, bm_unit_of, in_force, period_accounts, period_contract_entry, seller_and_buyer, NamesMore};
 
 use hh_calc::UnitData;

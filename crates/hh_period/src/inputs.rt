@@ -7,7 +7,7 @@ ghost use Rattle.hh_names.specs.Faults.{Gives, Refuses};
 ghost use Rattle.hh_num.specs.Quantities.{price_value};
 ghost use Rattle.hh_period.specs.declared.rejection.Rejection.{Rejection};
 ghost use Rattle.hh_texts.specs.PeriodFiles.{period_contract_rows, period_meter_rows};
-ghost use Rattle.hh_texts.specs.Rows.{most_rows};
+ghost use Rattle.hh_rows.specs.RowKinds.{most_rows};
 ghost use Rattle.hh_period.specs.Outcome.{period_input, period_outcome, priced, read_from, rejections, Writes, WritesFront};
 ghost use Rattle.hh_period.specs.Rows.{accepted_rows, in_force, period_contract_entry};
 

@@ -2,6 +2,7 @@
 
 ghost use Rattle.std.specs.Prelude.{◌≡◌, ◌≤◌, SomeIff};
 ghost use Rattle.hh_rows.specs.Minutes.{lead_minutes_value};
+ghost use Rattle.hh_rows.specs.Values.{AreSettings};
 
 use hh_names::OperatorKey;
 use hh_num::read_natural;
@@ -72,4 +73,15 @@ pub struct Settings {
     pub lead_minutes: LeadMinutes,
     /// The key that the operator shows.
     pub operator_key: OperatorKey,
+}
+
+impl Settings {
+    /// That the minutes are within their range and the key in its grammar: does nothing, but carries this
+    /// for a proof.
+    pub fn are_settings(&self)
+        ensures { AreSettings self.now }
+    {
+        self.lead_minutes.minutes();
+        self.operator_key.as_bytes();
+    }
 }

@@ -14,7 +14,7 @@ use Rattle.hh_names.specs.Faults.{memory_fault}
 use Rattle.hh_requests.specs.declared.request.Request.{Request}
 use Rattle.hh_requests.specs.declared.request.Upload.{Upload}
 use Rattle.hh_requests.specs.declared.reply.Reply.{Reply}
-use Rattle.hh_texts.specs.Rows.{most_bytes}
+use Rattle.hh_rows.specs.RowKinds.{most_bytes}
 use Rattle.hh_states.specs.Content.{tables_of}
 use Rattle.hh_states.specs.States.{State, file_key_cmp}
 use Rattle.hh_office.specs.Machine.{key_of, load_beside, may, step}

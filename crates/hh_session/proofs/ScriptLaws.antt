@@ -4,6 +4,7 @@ use Rattle.std.proofs.lemmas.Bool.{ltb-false, ltb-true}
 use Rattle.std.proofs.lemmas.List.{length-take-le, take_all}
 use Rattle.jiff.specs.declared.tz.timezone.TimeZone.{TimeZone}
 use Rattle.hh_time.specs.Days.{Midnights}
+use Rattle.hh_rows.specs.Values.{AreSettings}
 use Rattle.hh_rows.specs.declared.settings.Settings.{Settings}
 use Rattle.hh_states.specs.Content.{Content, tables_of}
 use Rattle.hh_states.specs.States.{empty_state}
@@ -38,17 +39,17 @@ module _ (most : ℕ) (all bytes : List ℕ) (front : bytes ≡ take (most + 1) 
           absurd (omega arith)
 
 -- A new office is run.
-module _ (reads : List ℕ → Option (List ℕ) → Type 0) (refuses : ℕ → Type 0) (settings : Settings) (zone : TimeZone) (market : IsMarketZone zone)
+module _ (reads : List ℕ → Option (List ℕ) → Type 0) (refuses : ℕ → Type 0) (settings : Settings) (fine : AreSettings settings) (zone : TimeZone) (market : IsMarketZone zone)
     (content : Content) (stands : (midnight : Midnights) → content ≡ tables_of midnight (empty_state settings)) (new : OfficeView) (before after : Option (List ℕ)) (steps : List Step) where
   abbrev first : OfficeView
   first = record { zone = zone; content = content }
 
   pub new_office_writes : RunsScript reads refuses first new before after steps → NewOfficeWrites reads refuses settings before after steps
   new_office_writes runs =
-      let (text, t, does, went, now) = runs (empty_state settings) (at_first settings, stands (midnight_of first)) in
+      let (text, t, does, went, now) = runs (empty_state settings) (at_first settings fine, stands (midnight_of first)) in
       (text, (zone, market, (t, does)), went)
 
   pub new_office_cuts : StopsScript reads refuses first new before after steps → NewOfficeCuts reads refuses settings before after steps
   new_office_cuts stops =
-      let (count, text, t, does, went, now) = stops (empty_state settings) (at_first settings, stands (midnight_of first)) in
+      let (count, text, t, does, went, now) = stops (empty_state settings) (at_first settings fine, stands (midnight_of first)) in
       (count, text, (zone, market, (t, does)), went)

@@ -125,6 +125,8 @@ fn run_new_office<I: Inputs, L: Loopback, O: Sink>(
         (map step_of lines.now)) }
     ensures failed { OnErr result (Failed (O.failures out.old) (O.failures out.new)) }
 {
+    // Does nothing, but carries a law for the proof: the settings are within their ranges.
+    settings.are_settings();
     let mut office = Office::new(alloc, PlainTables::new(alloc, settings), london());
     run_lines(alloc, &mut office, inputs, loopback, lines, out)
 }

@@ -113,7 +113,7 @@ still_complete midnight timetable history more (r ∷ runs) within all =
 
 -- in each reached state each run lacked nothing when it was ordered
 pub runs_complete : RunsComplete
-runs_complete midnight s (at_first settings) = tt
+runs_complete midnight s (at_first settings fine) = tt
 runs_complete midnight s (by_load t load reached can) =
     still_complete midnight (timetable_at midnight t) t.history (rows_coming load) t.runs (reached_within midnight t reached) (runs_complete midnight t reached)
 runs_complete midnight s (by_run t moment key reached can) =

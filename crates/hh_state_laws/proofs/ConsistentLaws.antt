@@ -13,6 +13,7 @@ use Rattle.hh_names.specs.Accounts.{bytes_cmp, is_same_account}
 use Rattle.hh_names.specs.Faults.{first_met}
 use Rattle.hh_names.proofs.AccountLaws.{bytes_total}
 use Rattle.hh_rows.specs.DateRanges.{is_inside}
+use Rattle.hh_rows.specs.RowKinds.{IsRow}
 use Rattle.hh_rows.specs.declared.rows.ContractRow.{ContractRow}
 use Rattle.hh_rows.specs.declared.rows.MeterRow.{MeterRow}
 use Rattle.hh_rows.specs.declared.rows.PartyRegistration.{PartyRegistration}
@@ -252,9 +253,9 @@ nothing_consistent = record {
 }
 
 -- a row that is accepted after a history leaves consistent what is registered and in force
-consistent_with : (timetable : Timetable) (history : History) (a : Accepted) → AreConsistent (registered_in timetable history) → refusal_after timetable history a ≡ None
+consistent_with : (timetable : Timetable) (history : History) (a : Accepted) → AreConsistent (registered_in timetable history) → IsRow a.row → refusal_after timetable history a ≡ None
     → AreConsistent (registered_in timetable (history ++ a ∷ []))
-consistent_with timetable history a before accepted =
+consistent_with timetable history a before valued accepted =
     subst AreConsistent (sym (looks_back timetable history a)) (with_accepted timetable a.moment a.row (registered_in timetable history) before accepted)
 
 -- in each reached state what is registered and in force is consistent

@@ -10,6 +10,7 @@ mod EffectiveLaws
 mod LoadLaws
 pub mod PostingLaws
 mod PutLaws
+mod RangeLaws
 pub mod ReachLaws
 pub mod ReadyLaws
 pub mod ResultLaws

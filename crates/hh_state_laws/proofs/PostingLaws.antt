@@ -207,7 +207,7 @@ have_one_run_key x y = eq_by_cmp run_key_cmp x.key y.key
 
 -- in each reached state no run stands twice
 pub runs_distinct : (midnight : Midnights) (s : State) → IsReached midnight s → NoneAlike have_one_run_key s.runs
-runs_distinct midnight s (at_first settings) = tt
+runs_distinct midnight s (at_first settings fine) = tt
 runs_distinct midnight s (by_load t load reached can) = runs_distinct midnight t reached
 runs_distinct midnight s (by_run t moment key reached can) =
     distinct-append have_one_run_key t.runs (new_run t key ∷ []) (runs_distinct midnight t reached) (tt, tt)

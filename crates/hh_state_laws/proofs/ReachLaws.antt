@@ -60,7 +60,7 @@ pairs_within n earlier (r ∷ runs) before h =
 
 -- in each reached state every run was ordered when no more rows had been accepted than now
 pub reached_within : (midnight : Midnights) (s : State) → IsReached midnight s → AreWithin (length s.history) s.runs
-reached_within midnight s (at_first settings) = tt
+reached_within midnight s (at_first settings fine) = tt
 reached_within midnight s (by_load t load reached can) =
     within_more (length t.history) (length (t.history ++ rows_coming load)) t.runs (let e : length (t.history ++ rows_coming load) ≡ length t.history + length (rows_coming load) = length-append t.history (rows_coming load) in omega arith) (reached_within midnight t reached)
 reached_within midnight s (by_run t moment key reached can) =
@@ -117,7 +117,7 @@ load_effect midnight s load reached can =
     λ i. record {
       settings = s.settings;
       registered = load_register timetable s.history more i;
-      files = in_key_order-append file_key_total exact_file_keys s.files load.key (kept_file timetable load) can.0 i;
+      files = in_key_order-append file_key_total exact_file_keys s.files load.key (kept_file timetable load) can.new i;
       runs = in_key_order run_key_cmp (summaries_same timetable s.history more (with_former [] s.runs) pairs i);
       results = in_key_order result_key_cmp (results_same timetable s.history more s.runs within i);
       credits = in_key_order credit_key_cmp (credits_same timetable s.history more s.runs within i);

@@ -89,7 +89,7 @@ comes_before x y same apart not_earlier =
 
 -- in each reached state the runs of a date rise by their keys: each was made behind those of earlier kinds
 pub runs_rise : (midnight : Midnights) (s : State) (date : ℕ) → IsReached midnight s → Rises run_key_cmp (λ (r : Run). r.key) (runs_of_date date s.runs)
-runs_rise midnight s date (at_first settings) = tt
+runs_rise midnight s date (at_first settings fine) = tt
 runs_rise midnight s date (by_load t load reached can) = runs_rise midnight t date reached
 runs_rise midnight s date (by_run t moment key reached can) =
     let former : List Run = runs_of_date date t.runs in

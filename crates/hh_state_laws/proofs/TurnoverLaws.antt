@@ -348,7 +348,7 @@ run_date_accepted midnight s moment key none = over_accepted midnight key.date m
 
 -- in each reached state each run is of an accepted date
 dates_accepted : (midnight : Midnights) (s : State) → IsReached midnight s → AllByRecursion (λ r. is_accepted r.key.date ≡ true) s.runs
-dates_accepted midnight s (at_first settings) = tt
+dates_accepted midnight s (at_first settings fine) = tt
 dates_accepted midnight s (by_load t load reached can) = dates_accepted midnight t reached
 dates_accepted midnight s (by_run t moment key reached can) =
     all-append (λ r. is_accepted r.key.date ≡ true) t.runs (new_run t key ∷ []) (dates_accepted midnight t reached) (run_date_accepted midnight t moment key can.1, tt)

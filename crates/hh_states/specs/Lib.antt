@@ -3,6 +3,7 @@ pub mod Changes
 pub mod Content
 pub mod DaySettlement
 pub mod PeriodSettlement
+pub mod Ranges
 pub mod Readiness
 pub mod Reads
 pub mod RunReads

@@ -1,5 +1,5 @@
 -- What the settlement machine does with a file and with a run: when it accepts them, and the state after it.
-use Rattle.std.specs.Prelude.{◌≡◌, ℕ, ℤ, List, [], ◌∷◌, ◌++◌, map, length, if◌then◌else◌, Option, Some, None, option_map}
+use Rattle.std.specs.Prelude.{◌≡◌, ℕ, ℤ, List, [], ◌∷◌, ◌++◌, map, length, if◌then◌else◌, Option, Some, None, option_map, IsTrue}
 use Rattle.std.specs.FinMap.{find}
 use Rattle.std.specs.Option.{option_or}
 use Rattle.hh_time.specs.Days.{Midnights, is_over, period_count}
@@ -7,6 +7,9 @@ use Rattle.hh_names.specs.declared.fault.Fault.{Fault}
 use Rattle.hh_names.specs.declared.fault.Refusal.{Refusal}
 use Rattle.hh_names.specs.declared.fault.Refusal.TheVariants.{DayNotOver, MissingMeter, MissingPrice, TooLarge}
 use Rattle.hh_names.specs.Faults.{first_met, plain_fault}
+use Rattle.hh_names.specs.Words.{is_file_name}
+use Rattle.hh_rows.specs.RowKinds.{IsFileOf}
+use Rattle.hh_rows.specs.Values.{AreSettings}
 use Rattle.hh_rows.specs.declared.keys.UnitPeriod.{UnitPeriod}
 use Rattle.hh_rows.specs.declared.rows.Row.{Row}
 use Rattle.hh_rows.specs.declared.settings.Settings.{Settings}
@@ -108,19 +111,21 @@ module _ (midnight : Midnights) (s : State) where
   abbrev pub kept_summary : RunKey → Option Summary
   kept_summary key = find run_key_cmp key (all_summaries timetable_at s)
 
-  -- no file of the load's kind and name has been accepted, and each of the load's rows is accepted
-  abbrev pub CanLoad : Load → Type 0
-  CanLoad load =
-      (find file_key_cmp load.key s.files ≡ None)
-      × (first_fault timetable_at s.history 1 (rows_coming load) ≡ None)
-
   -- the run is not there, and is not refused at the moment
   abbrev pub CanRun : ℤ → RunKey → Type 0
   CanRun moment key = (kept_summary key ≡ None) × (run_fault moment key ≡ None)
 
--- the states that the machine reaches from one in which nothing has been accepted, by accepted loads and by runs
+-- no file of the load's kind and name has been accepted, its name is in its grammar, it can be a file of its kind that reads as
+-- its rows, and each of these is accepted
+pub record CanLoad (midnight : Midnights) (s : State) (load : Load) : Type 0 where
+  pub new : find file_key_cmp load.key s.files ≡ None
+  pub named : IsTrue (is_file_name load.key.name)
+  pub file : IsFileOf load.key.kind load.body load.rows
+  pub accepted : first_fault (timetable_at midnight s) s.history 1 (rows_coming load) ≡ None
+
+-- the states that the machine reaches from one with settings in which nothing has been accepted, by accepted loads and by runs
 pub data IsReached (midnight : Midnights) : State → Type 0 where
-  at_first : (settings : Settings) → IsReached midnight (empty_state settings)
+  at_first : (settings : Settings) → AreSettings settings → IsReached midnight (empty_state settings)
   by_load : (s : State) (load : Load) → IsReached midnight s → CanLoad midnight s load
       → IsReached midnight (after_load midnight s load)
   by_run : (s : State) (moment : ℤ) (key : RunKey) → IsReached midnight s → CanRun midnight s moment key

@@ -4,15 +4,8 @@ use Rattle.std.specs.Cmp.Lexicographic.{pointwise}
 use Rattle.hh_names.specs.declared.fault.Fault.{Fault}
 use Rattle.hh_names.specs.declared.fault.Refusal.TheVariants.{FileTooLarge, TooManyRows, BadHeader, BadRecord}
 use Rattle.hh_names.specs.Faults.{plain_fault, row_fault, field_fault}
+use Rattle.hh_rows.specs.RowKinds.{most_bytes, most_rows}
 use Rattle.hh_texts.specs.Records.{records_of}
-
--- the most bytes of a file
-abbrev pub most_bytes : ℕ
-most_bytes = 1_048_576
-
--- the most rows of a file, without its header
-abbrev pub most_rows : ℕ
-most_rows = 20_000
 
 -- whether two records have the same fields
 abbrev pub same_fields : List (List ℕ) → List (List ℕ) → Bool

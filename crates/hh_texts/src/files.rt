@@ -1,10 +1,10 @@
 //! The six kinds of file.
 
-ghost use Rattle.std.specs.Prelude.{◌≡◌, ◌≤◌, length, IfOk};
+ghost use Rattle.std.specs.Prelude.{◌≡◌, IfOk};
 ghost use Rattle.csv.specs.Records.{fields_of};
 ghost use Rattle.hh_texts.specs.Files.{contract_row, file_rows, kind_form, kind_forms, meter_row, party_row, price_row, reallocation_row, unit_row};
 ghost use Rattle.hh_names.specs.Faults.{faults, Gives};
-ghost use Rattle.hh_texts.specs.Rows.{most_rows};
+ghost use Rattle.hh_rows.specs.RowKinds.{IsFileOf};
 
 use crate::fields::field_in;
 use crate::form::{Form, read_rows};
@@ -176,10 +176,11 @@ fn read_reallocation(fields: &ByteRecord) -> Result<Row, u32>
 ///
 /// A field is in the grammar and range of its column (profile); an empty `to` is 2099-12-31, and a
 /// `to` before `from` is a fault of the column `to`. Of each row only its own fields are judged,
-/// not what is registered or in force.
+/// not what is registered or in force. So the rows of a file that reads are rows of its kind, each field
+/// in its grammar and range, and there are no more rows and bytes than there may be.
 pub fn read_file(alloc: Global, kind: FileKind, bytes: &[u8]) -> Result<Vec<Row>, Fault>
     ensures rows { Gives faults (λ rows. rows.items) result (file_rows kind bytes.now) }
-    ensures few { IfOk result (λ rows. length rows.items ≤ most_rows) }
+    ensures fits { IfOk result (λ rows. IsFileOf kind bytes.now rows.items) }
 {
     read_rows(alloc, &[kind], bytes)
 }

@@ -4,7 +4,8 @@ ghost use Rattle.std.specs.Prelude.{◌≡◌, ◌≤◌, length, map, option_ma
 ghost use Rattle.csv.specs.Records.{fields_of};
 ghost use Rattle.hh_names.specs.Faults.{faults, Gives};
 ghost use Rattle.hh_texts.specs.Records.{IsReading, left_of};
-ghost use Rattle.hh_texts.specs.Rows.{FileForm, form_under, most_rows, rows_of, rows_from, same_fields};
+ghost use Rattle.hh_rows.specs.RowKinds.{most_rows};
+ghost use Rattle.hh_texts.specs.Rows.{FileForm, form_under, rows_of, rows_from, same_fields};
 
 use crate::records::{next_record, records_in};
 use csv::{ByteRecord, Reader};

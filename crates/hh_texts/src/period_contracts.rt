@@ -3,7 +3,7 @@
 ghost use Rattle.std.specs.Prelude.{◌≤◌, length, IfOk};
 ghost use Rattle.hh_names.specs.Faults.{faults, Gives};
 ghost use Rattle.hh_texts.specs.PeriodFiles.{period_contract_form, period_contract_row, period_contract_rows};
-ghost use Rattle.hh_texts.specs.Rows.{most_rows};
+ghost use Rattle.hh_rows.specs.RowKinds.{most_rows};
 
 use crate::fields::field_in;
 use crate::form::{Form, read_rows};

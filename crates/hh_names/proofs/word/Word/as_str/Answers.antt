@@ -7,5 +7,5 @@ use Rattle.hh_names.proofs.word.Word.as_str.Goals as goal
 pub unreachable-requires : goal.unreachable-requires
 unreachable-requires g c =
     let word = c.args.self.now in
-    let ascii = word_is_ascii g.A.Alphabet.allows g.met.A.Alphabet.ascii g.row.LEAST g.row.MOST word c.spelled.ensures.word in
-    c.in-Err.ensures.cases.0 (subst IsUtf8 (sym c.spelled.ensures.bytes) (IsUtf8-from_ascii word ascii))
+    let ascii = word_is_ascii g.A.Alphabet.allows g.met.A.Alphabet.ascii g.row.LEAST g.row.MOST word c.as_bytes.ensures.word in
+    c.in-Err.ensures.cases.0 (subst IsUtf8 (sym c.as_bytes.ensures.bytes) (IsUtf8-from_ascii word ascii))

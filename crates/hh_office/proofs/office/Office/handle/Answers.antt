@@ -15,7 +15,7 @@ returns-in-Ok-clause-step g c sure =
 
 pub returns-in-Ok-clause-once : goal.returns-in-Ok-clause-once
 returns-in-Ok-clause-once g c sure =
-    repeats c.kept_summaries.ensures c.load_effect.ensures c.run_effect.ensures c.args.self.now.seen c.act.new.self.seen c.args.moment c.args.request.now c.in-Ok.reply (returns-in-Ok-clause-step g c sure)
+    repeats c.kept_summaries.ensures c.load_effect.ensures c.run_effect.ensures c.accepted_files_in_range.ensures c.args.self.now.seen c.act.new.self.seen c.args.moment c.args.request.now c.in-Ok.reply (returns-in-Ok-clause-step g c sure)
 
 pub returns-in-Err-clause-step : goal.returns-in-Err-clause-step
 returns-in-Err-clause-step g c sure =
@@ -24,11 +24,11 @@ returns-in-Err-clause-step g c sure =
 
 pub returns-in-Err-clause-once : goal.returns-in-Err-clause-once
 returns-in-Err-clause-once g c sure =
-    repeats c.kept_summaries.ensures c.load_effect.ensures c.run_effect.ensures c.args.self.now.seen c.act.new.self.seen c.args.moment c.args.request.now (reply.Refused c.in-Err.fault) (returns-in-Err-clause-step g c sure)
+    repeats c.kept_summaries.ensures c.load_effect.ensures c.run_effect.ensures c.accepted_files_in_range.ensures c.args.self.now.seen c.act.new.self.seen c.args.moment c.args.request.now (reply.Refused c.in-Err.fault) (returns-in-Err-clause-step g c sure)
 
 pub returns-in-Ok-clause-stands : goal.returns-in-Ok-clause-stands
 returns-in-Ok-clause-stands g c sure =
-    stands_after c.args.self.now.seen c.act.new.self.seen c.args.moment c.args.request.now c.in-Ok.reply (returns-in-Ok-clause-step g c sure)
+    stands_after c.args.self.now.seen c.act.new.self.seen c.args.moment c.args.request.now c.in-Ok.reply c.is_named.ensures (returns-in-Ok-clause-step g c sure)
 
 pub returns-in-Ok-clause-untouched : goal.returns-in-Ok-clause-untouched
 returns-in-Ok-clause-untouched g c sure =
@@ -36,7 +36,7 @@ returns-in-Ok-clause-untouched g c sure =
 
 pub returns-in-Err-clause-stands : goal.returns-in-Err-clause-stands
 returns-in-Err-clause-stands g c sure =
-    stands_after c.args.self.now.seen c.act.new.self.seen c.args.moment c.args.request.now (reply.Refused c.in-Err.fault) (returns-in-Err-clause-step g c sure)
+    stands_after c.args.self.now.seen c.act.new.self.seen c.args.moment c.args.request.now (reply.Refused c.in-Err.fault) c.is_named.ensures (returns-in-Err-clause-step g c sure)
 
 pub returns-in-Err-clause-untouched : goal.returns-in-Err-clause-untouched
 returns-in-Err-clause-untouched g c sure =
@@ -44,11 +44,11 @@ returns-in-Err-clause-untouched g c sure =
 
 pub returns-in-Ok-clause-sums : goal.returns-in-Ok-clause-sums
 returns-in-Ok-clause-sums g c sure =
-    conserves_after c.reached_conserve.ensures c.args.self.now.seen c.act.new.self.seen c.args.moment c.args.request.now c.in-Ok.reply (returns-in-Ok-clause-step g c sure)
+    conserves_after c.reached_conserve.ensures c.args.self.now.seen c.act.new.self.seen c.args.moment c.args.request.now c.in-Ok.reply c.is_named.ensures (returns-in-Ok-clause-step g c sure)
 
 pub returns-in-Err-clause-sums : goal.returns-in-Err-clause-sums
 returns-in-Err-clause-sums g c sure =
-    conserves_after c.reached_conserve.ensures c.args.self.now.seen c.act.new.self.seen c.args.moment c.args.request.now (reply.Refused c.in-Err.fault) (returns-in-Err-clause-step g c sure)
+    conserves_after c.reached_conserve.ensures c.args.self.now.seen c.act.new.self.seen c.args.moment c.args.request.now (reply.Refused c.in-Err.fault) c.is_named.ensures (returns-in-Err-clause-step g c sure)
 
 pub returns-in-Ok-clause-view : goal.returns-in-Ok-clause-view
 returns-in-Ok-clause-view g c sure =
@@ -56,7 +56,7 @@ returns-in-Ok-clause-view g c sure =
 
 pub returns-in-Ok-clause-foreign : goal.returns-in-Ok-clause-foreign
 returns-in-Ok-clause-foreign g c sure =
-    forbids_others c.args.self.now.seen c.act.new.self.seen c.args.moment c.args.request.now c.in-Ok.reply (returns-in-Ok-clause-step g c sure)
+    forbids_others c.keys_never_meet.ensures c.args.self.now.seen c.act.new.self.seen c.args.moment c.args.request.now c.in-Ok.reply (returns-in-Ok-clause-step g c sure)
 
 pub returns-in-Err-clause-view : goal.returns-in-Err-clause-view
 returns-in-Err-clause-view g c sure =
@@ -64,4 +64,4 @@ returns-in-Err-clause-view g c sure =
 
 pub returns-in-Err-clause-foreign : goal.returns-in-Err-clause-foreign
 returns-in-Err-clause-foreign g c sure =
-    forbids_others c.args.self.now.seen c.act.new.self.seen c.args.moment c.args.request.now (reply.Refused c.in-Err.fault) (returns-in-Err-clause-step g c sure)
+    forbids_others c.keys_never_meet.ensures c.args.self.now.seen c.act.new.self.seen c.args.moment c.args.request.now (reply.Refused c.in-Err.fault) (returns-in-Err-clause-step g c sure)

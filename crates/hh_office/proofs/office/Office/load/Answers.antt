@@ -1,7 +1,7 @@
 use Rattle.std.proofs.Common.{subst, sym, ◌∙◌, ◌≤◌, length, w64, to_z, of_z, Some, None, Ok}
 use Rattle.std.proofs.lemmas.Bool.{le-ltb}
 use Rattle.std.proofs.lemmas.Int.{to_z-of_z}
-use Rattle.hh_texts.specs.Rows.{most_bytes}
+use Rattle.hh_rows.specs.RowKinds.{most_bytes}
 use Rattle.hh_office.specs.Machine.{load_beside, load_new, repeat_reply}
 use Rattle.hh_office.specs.Transitions.{unchanged}
 use Rattle.hh_office.specs.Promises.{MakesTransition, MakesInEachState, reply_of}

@@ -22,6 +22,6 @@ pub returns-clause-makes : goal.returns-clause-makes
 returns-clause-makes g c sure s stands =
     let before = c.accept.ensures.sure sure in
     let judged = subst (λ m. Judges c.args.self.now.seen m c.args.upload.now (Ok c.in_ok-judged.judged)) (to_z-of_z w64 c.args.moment c.ranges.moment) (c.in_ok-judged.ensures.judged before) in
-    load_accepted c.args.self.now.seen s c.args.moment c.args.upload.now stands c.accept.new.self.seen c.in_ok-judged.judged (reply_of c.accept.result) c.kept_files.ensures (c.requires (c.in_ok-judged.ensures.sure before))
+    load_accepted c.args.self.now.seen s c.args.moment c.args.upload.now stands c.accept.new.self.seen c.in_ok-judged.judged (reply_of c.accept.result) c.kept_files.ensures (c.requires (c.in_ok-judged.ensures.sure before)) c.as_bytes.ensures.word
     (subst (λ o. Accepts o c.accept.new.self.seen (writes_of c.args.upload.now c.in_ok-judged.judged) (reply_of c.accept.result)) (c.in_ok-judged.ensures.same before) (c.accept.ensures.makes sure))
     (judged s stands)

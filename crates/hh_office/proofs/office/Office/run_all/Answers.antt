@@ -2,7 +2,8 @@ use Rattle.std.proofs.Common.{◌≡◌, ◌+◌, ◌∷◌, [], ◌++◌, lengt
 use Rattle.std.proofs.lemmas.List.{take_more}
 use Rattle.hh_office.specs.Promises.{RunAllStep}
 use Rattle.hh_office.proofs.HandleLaws.{conserves_after_all, stands_after_all}
-use Rattle.hh_office.proofs.ListLaws.{run_more, run_to_the_end}
+use Rattle.hh_office.proofs.ListLaws.{all_named, run_more, run_to_the_end}
+use Rattle.hh_office.proofs.OnceLaws.{AreNamed, named_more}
 use Rattle.hh_office.proofs.office.Office.run_all.Goals as goal
 
 pub loop-request-preserved : goal.loop-request-preserved
@@ -17,9 +18,10 @@ loop-request-preserved g c =
     let room = c.loop-request.invariant.room in
     let kept = c.push-pushed.ensures.capacity in
     record {
+      named = subst AreNamed (sym front) (named_more (take i requests) t c.loop-request.invariant.named c.handle_timed.ensures.named);
       run = λ sure. subst (λ ts. RunAllStep old c.handle_timed.new.self.seen ts c.push-pushed.new.self.items) (sym front)
           (subst (RunAllStep old c.handle_timed.new.self.seen (take i requests ++ t ∷ [])) (sym pushed)
-          (run_more old c.loop-request.self.seen c.handle_timed.new.self.seen (take i requests) before t c.handle_timed.result (c.loop-request.invariant.run (c.handle_timed.ensures.sure sure)) (c.handle_timed.ensures.makes sure)));
+          (run_more old c.loop-request.self.seen c.handle_timed.new.self.seen (take i requests) before t c.handle_timed.result c.loop-request.invariant.named (c.loop-request.invariant.run (c.handle_timed.ensures.sure sure)) (c.handle_timed.ensures.makes sure)));
       sure = λ sure. c.loop-request.invariant.sure (c.handle_timed.ensures.sure sure);
       count = ap length pushed ∙ length-append before (c.handle_timed.result ∷ []) ∙ ap (λ n. n + 1) c.loop-request.invariant.count;
       room = omega arith;
@@ -31,7 +33,7 @@ returns-clause-stands g c sure =
     let end : i ≡ length c.args.requests.now = omega arith in
     let run : RunAllStep c.args.self.now.seen c.loop-request.self.seen c.args.requests.now c.loop-request.replies.items =
     run_to_the_end c.args.self.now.seen c.loop-request.self.seen c.args.requests.now c.loop-request.replies.items i end (c.loop-request.invariant.run sure) in
-    stands_after_all c.args.self.now.seen c.loop-request.self.seen c.args.requests.now c.loop-request.replies.items run
+    stands_after_all c.args.self.now.seen c.loop-request.self.seen c.args.requests.now c.loop-request.replies.items (all_named c.args.requests.now i end c.loop-request.invariant.named) run
 
 pub returns-clause-sums : goal.returns-clause-sums
 returns-clause-sums g c sure =
@@ -39,4 +41,4 @@ returns-clause-sums g c sure =
     let end : i ≡ length c.args.requests.now = omega arith in
     let run : RunAllStep c.args.self.now.seen c.loop-request.self.seen c.args.requests.now c.loop-request.replies.items =
     run_to_the_end c.args.self.now.seen c.loop-request.self.seen c.args.requests.now c.loop-request.replies.items i end (c.loop-request.invariant.run sure) in
-    conserves_after_all c.reached_conserve.ensures c.args.self.now.seen c.loop-request.self.seen c.args.requests.now c.loop-request.replies.items run
+    conserves_after_all c.reached_conserve.ensures c.args.self.now.seen c.loop-request.self.seen c.args.requests.now c.loop-request.replies.items (all_named c.args.requests.now i end c.loop-request.invariant.named) run

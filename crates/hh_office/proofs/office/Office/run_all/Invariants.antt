@@ -2,11 +2,13 @@ use Rattle.std.proofs.Common.{◌≡◌, ◌≤◌, length, take}
 use Rattle.std.specs.Prelude.{vec_capacity}
 use Rattle.hh_office.specs.Promises.{RunAllStep}
 use Rattle.hh_office.specs.Views.{IsSure}
+use Rattle.hh_office.proofs.OnceLaws.{AreNamed}
 use Rattle.hh_office.proofs.office.Office.run_all.Given as goal
 
 -- the requests so far were answered, and there is room for the other replies
 abbrev pub invariant-loop-request : goal.invariant-loop-request
 invariant-loop-request g l = record {
+  named : AreNamed (take l.request-index l.requests);
   run : IsSure g.T.Tables.is_open l.self → RunAllStep l.fn.self.seen l.self.seen (take l.request-index l.requests) l.replies.items;
   sure : IsSure g.T.Tables.is_open l.self → IsSure g.T.Tables.is_open l.fn.self;
   count : length l.replies.items ≡ l.request-index;

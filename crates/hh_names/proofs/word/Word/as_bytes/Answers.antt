@@ -4,7 +4,7 @@ use Rattle.std.proofs.lemmas.Iterator.Consumers.{count_from_yields_List}
 use Rattle.std.proofs.lemmas.Iterator.Search.{YieldsList-from_take_while}
 use Rattle.std.proofs.lemmas.List.Folds.{length-prefix_len}
 use Rattle.hh_names.specs.Words.{is_not_zero, word_in}
-use Rattle.hh_names.proofs.word.Word.spelled.Goals as goal
+use Rattle.hh_names.proofs.word.Word.as_bytes.Goals as goal
 
 pub returns-clause-bytes : goal.returns-clause-bytes
 returns-clause-bytes g c =
