@@ -17,6 +17,7 @@ use Rattle.hh_requests.specs.declared.reply.Reply.{Reply}
 use Rattle.hh_rows.specs.RowKinds.{most_bytes}
 use Rattle.hh_states.specs.Content.{tables_of}
 use Rattle.hh_states.specs.States.{State, file_key_cmp}
+use Rattle.hh_day.specs.Headline.{Conserves, ReachedConserve}
 use Rattle.hh_office.specs.Machine.{key_of, load_beside, may, step}
 use Rattle.hh_office.specs.Transitions.{Transition, refused_for}
 use Rattle.hh_office.specs.Promises.{HandleStep, Stands, StandsAfter, is_given_up}
@@ -26,7 +27,7 @@ use Rattle.hh_script.specs.declared.script_line.ScriptLine.{ScriptLine}
 use Rattle.hh_script.specs.Steps.{LoadFile, LoadStep, MakeRun, RunStep, Serve, Step, WriteReport, step_of}
 use Rattle.hh_session.specs.declared.told.Told.{Told}
 use Rattle.hh_session.specs.declared.told.Told.TheVariants.{Replied}
-use Rattle.hh_session.specs.Course.{BeginsLine, IsLineOf, LeavesRefused, LoadDoes, MakesRun, RunDoes, RunsLoad, RunsScript, RunsStep, ScriptDoes, StandsNow, StepDoes, StopsScript, StopsStep, TellsLine, no_memory, request_for, request_of}
+use Rattle.hh_session.specs.Course.{BeginsLine, FirstConserve, IsLineOf, LeavesRefused, LoadDoes, MakesRun, RunDoes, RunsLoad, RunsScript, RunsStep, ScriptConserves, ScriptDoes, StandsNow, StepDoes, StopsScript, StopsStep, TellsLine, no_memory, request_for, request_of}
 use Rattle.hh_session.specs.Lines.{told_line}
 use Rattle.hh_session.specs.Reporting.{report_asked, report_begun}
 
@@ -197,6 +198,19 @@ module _ (reads : List ℕ → Option (List ℕ) → Type 0) (refuses : ℕ → 
         ),
         (new_stands, new_zone ∙ zone),
       )
+
+-- The tables of a state that an office stands for add up.
+module _ (conserve : ReachedConserve) (reads : List ℕ → Option (List ℕ) → Type 0) (refuses : ℕ → Type 0) (old new : OfficeView) (before after : Option (List ℕ)) (steps : List Step) where
+  sums_now : (t : State) → StandsNow old new t → Conserves (midnight_of old) t new.content
+  sums_now t ((reached, is), zone) =
+      subst (λ z. Conserves (midnight_in (plain_zone z)) t new.content) zone
+      (subst (λ content. Conserves (midnight_of new) t content) (sym is) (conserve (midnight_of new) t reached))
+
+  pub script_conserves : RunsScript reads refuses old new before after steps → ScriptConserves reads refuses old new steps
+  script_conserves runs s stands = let (text, t, does, went, now) = runs s stands in (text, t, does, sums_now t now)
+
+  pub first_conserve : StopsScript reads refuses old new before after steps → FirstConserve reads refuses old new steps
+  first_conserve stops s stands = let (count, text, t, does, cut, now) = stops s stands in (count, text, t, does, sums_now t now)
 
 -- ---- results
 

@@ -1,17 +1,20 @@
 -- What a script's file reads as, and what its lines do over a new office.
-use Rattle.std.proofs.Common.{◌≡◌, ℕ, ◌+◌, ◌<◌, ◌≤◌, List, length, take, refl, ap, ◌∙◌, Bool, true, false, Option, arith, ltb}
+use Rattle.std.proofs.Common.{◌≡◌, ℕ, ◌+◌, ◌<◌, ◌≤◌, List, length, take, refl, ap, subst, ◌∙◌, Bool, true, false, Option, arith, ltb}
 use Rattle.std.proofs.lemmas.Bool.{ltb-false, ltb-true}
 use Rattle.std.proofs.lemmas.List.{length-take-le, take_all}
 use Rattle.jiff.specs.declared.tz.timezone.TimeZone.{TimeZone}
+use Rattle.jiff.specs.Words.{plain_zone}
 use Rattle.hh_time.specs.Days.{Midnights}
+use Rattle.hh_time.specs.Zone.{midnight_in}
 use Rattle.hh_rows.specs.Values.{AreSettings}
 use Rattle.hh_rows.specs.declared.settings.Settings.{Settings}
 use Rattle.hh_states.specs.Content.{Content, tables_of}
-use Rattle.hh_states.specs.States.{empty_state}
-use Rattle.hh_states.specs.Steps.{at_first}
+use Rattle.hh_states.specs.States.{State, empty_state}
+use Rattle.hh_states.specs.Steps.{IsReached, at_first}
+use Rattle.hh_day.specs.Headline.{Conserves, ReachedConserve}
 use Rattle.hh_office.specs.Views.{OfficeView, midnight_of}
 use Rattle.hh_script.specs.Steps.{Step}
-use Rattle.hh_session.specs.Course.{RunsScript, StopsScript}
+use Rattle.hh_session.specs.Course.{RunsScript, StandsNow, StopsScript}
 use Rattle.hh_session.specs.Script.{IsMarketZone, NewOfficeCuts, NewOfficeWrites}
 
 -- So many bytes were read of a file, or all of it.
@@ -39,17 +42,22 @@ module _ (most : ℕ) (all bytes : List ℕ) (front : bytes ≡ take (most + 1) 
           absurd (omega arith)
 
 -- A new office is run.
-module _ (reads : List ℕ → Option (List ℕ) → Type 0) (refuses : ℕ → Type 0) (settings : Settings) (fine : AreSettings settings) (zone : TimeZone) (market : IsMarketZone zone)
+module _ (reads : List ℕ → Option (List ℕ) → Type 0) (refuses : ℕ → Type 0) (settings : Settings) (fine : AreSettings settings) (conserve : ReachedConserve) (zone : TimeZone) (market : IsMarketZone zone)
     (content : Content) (stands : (midnight : Midnights) → content ≡ tables_of midnight (empty_state settings)) (new : OfficeView) (before after : Option (List ℕ)) (steps : List Step) where
   abbrev first : OfficeView
   first = record { zone = zone; content = content }
 
+  -- the tables of the state after it add up
+  sums_now : (t : State) → StandsNow first new t → Conserves (midnight_of first) t (tables_of (midnight_of first) t)
+  sums_now t ((reached, is), same) =
+      conserve (midnight_of first) t (subst (λ z. IsReached (midnight_in (plain_zone z)) t) same reached)
+
   pub new_office_writes : RunsScript reads refuses first new before after steps → NewOfficeWrites reads refuses settings before after steps
   new_office_writes runs =
       let (text, t, does, went, now) = runs (empty_state settings) (at_first settings fine, stands (midnight_of first)) in
-      (text, (zone, market, (t, does)), went)
+      (text, (zone, market, (t, does, sums_now t now)), went)
 
   pub new_office_cuts : StopsScript reads refuses first new before after steps → NewOfficeCuts reads refuses settings before after steps
   new_office_cuts stops =
       let (count, text, t, does, went, now) = stops (empty_state settings) (at_first settings fine, stands (midnight_of first)) in
-      (count, text, (zone, market, (t, does)), went)
+      (count, text, (zone, market, (t, does, sums_now t now)), went)

@@ -8,6 +8,7 @@ use Rattle.hh_requests.specs.declared.request.Action.TheVariants as ask
 use Rattle.hh_requests.specs.declared.request.Request.{Request}
 use Rattle.hh_requests.specs.declared.reply.Reply.TheVariants as reply
 use Rattle.hh_states.specs.States.{State}
+use Rattle.hh_day.specs.Headline.{Conserves}
 use Rattle.hh_office.specs.Machine.{step}
 use Rattle.hh_office.specs.Transitions.{Transition}
 use Rattle.hh_office.specs.Promises.{Stands, is_given_up, is_refused}
@@ -126,3 +127,16 @@ module _ (reads : List ℕ → Option (List ℕ) → Type 0) (refuses : ℕ → 
   abbrev pub StopsScript : List Step → Type 0
   StopsScript steps = (s : State) → Stands old s
       → (count : ℕ) × (text : List ℕ) × (t : State) × ScriptDoes reads refuses (midnight_of old) s (take count steps) text t × AppendsFront before after text × StandsNow old new t
+
+-- What a path may read as, and which ports may not be listened on. An office was the one before and is the other after the lines.
+module _ (reads : List ℕ → Option (List ℕ) → Type 0) (refuses : ℕ → Type 0) (old new : OfficeView) where
+  -- steps were run from each state that the office stood for, and in the state after them its tables add up: each run's rows,
+  -- contracts, charges with shares, the credits of units, and postings
+  abbrev pub ScriptConserves : List Step → Type 0
+  ScriptConserves steps = (s : State) → Stands old s
+      → (text : List ℕ) × (t : State) × ScriptDoes reads refuses (midnight_of old) s steps text t × Conserves (midnight_of old) t new.content
+
+  -- so it is in the state after the first of the steps
+  abbrev pub FirstConserve : List Step → Type 0
+  FirstConserve steps = (s : State) → Stands old s
+      → (count : ℕ) × (text : List ℕ) × (t : State) × ScriptDoes reads refuses (midnight_of old) s (take count steps) text t × Conserves (midnight_of old) t new.content

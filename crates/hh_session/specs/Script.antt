@@ -5,11 +5,14 @@ use Rattle.jiff.specs.Placed.{IsPosixZone}
 use Rattle.jiff.specs.declared.tz.timezone.TimeZone.{TimeZone}
 use Rattle.jiff.specs.Words.{plain_zone}
 use Rattle.hh_devices.specs.Devices.{AppendsFront}
+use Rattle.hh_time.specs.Days.{Midnights}
 use Rattle.hh_time.specs.Zone.{midnight_in}
 use Rattle.hh_names.specs.declared.fault.Refusal.TheVariants.{FileTooLarge}
 use Rattle.hh_names.specs.Faults.{memory_fault, plain_fault, ByRefusal}
 use Rattle.hh_rows.specs.declared.settings.Settings.{Settings}
+use Rattle.hh_states.specs.Content.{tables_of}
 use Rattle.hh_states.specs.States.{State, empty_state}
+use Rattle.hh_day.specs.Headline.{Conserves}
 use Rattle.hh_script.specs.Script.{first_off, script_value}
 use Rattle.hh_script.specs.Steps.{Step}
 use Rattle.hh_session.specs.declared.script.ScriptStop.{ScriptStop}
@@ -27,11 +30,13 @@ IsMarketZone zone = IsPosixZone (codes "GMT0BST,M3.5.0/1,M10.5.0") (plain_zone z
 -- What a path may read as: the bytes of its file, or nothing where it cannot be read; and which ports may not be listened on. An
 -- office has these settings.
 module _ (reads : List ℕ → Option (List ℕ) → Type 0) (refuses : ℕ → Type 0) (settings : Settings) where
-  -- what steps write over a new office of the market's zone
+  -- what steps write over a new office of the market's zone, whose tables in the state after them add up: each run's rows,
+  -- contracts, charges with shares, the credits of units, and postings
   abbrev pub NewOfficeDoes : List Step → List ℕ → Type 0
   NewOfficeDoes steps text =
       (zone : TimeZone) × IsMarketZone zone
-      × ((t : State) × ScriptDoes reads refuses (midnight_in (plain_zone zone)) (empty_state settings) steps text t)
+      × (let midnight : Midnights = midnight_in (plain_zone zone) in
+         (t : State) × ScriptDoes reads refuses midnight (empty_state settings) steps text t × Conserves midnight t (tables_of midnight t))
 
   -- An output had these bytes before and has those after.
   module _ (old new : Option (List ℕ)) (steps : List Step) where

@@ -4,13 +4,14 @@ ghost use Rattle.std.specs.Prelude.{◌≡◌, ℕ, List, Some, None, map, take,
 ghost use Rattle.hh_devices.specs.Devices.{Failed};
 ghost use Rattle.hh_office.specs.Views.{IsSure};
 ghost use Rattle.hh_script.specs.Steps.{IsWellNamed, LoadFile, MakeRun, load_of, run_of, step_of};
-ghost use Rattle.hh_session.specs.Course.{LeavesRefused, MakesRun, RunsLoad, RunsScript, RunsStep, StopsScript, StopsStep, request_for, request_of};
+ghost use Rattle.hh_session.specs.Course.{FirstConserve, LeavesRefused, MakesRun, RunsLoad, RunsScript, RunsStep, ScriptConserves, StopsScript, StopsStep, request_for, request_of};
 
 use crate::lines::LINE_ROOM;
 use crate::reporting::write_report;
 use crate::serving::serve_connections;
 use crate::tell::{tell, tell_no_memory};
 use crate::told::Told;
+use hh_day::reached_conserve;
 use hh_devices::{DeviceFailed, Sink};
 use hh_inputs::{InputFault, Inputs};
 use hh_names::FileName;
@@ -55,9 +56,17 @@ pub fn run_lines<T: Tables, I: Inputs, L: Loopback, O: Sink>(
         → OnErr result (StopsScript (I.reads_as inputs.now) (L.may_refuse loopback.now)
         office.old.seen office.new.seen (O.taken out.old) (O.taken out.new)
         (map step_of lines.now)) }
+    ensures sums { IsSure T.is_open office.new
+        → OnOk result (ScriptConserves (I.reads_as inputs.now) (L.may_refuse loopback.now)
+        office.old.seen office.new.seen (map step_of lines.now)) }
+    ensures sums_cut { IsSure T.is_open office.new
+        → OnErr result (FirstConserve (I.reads_as inputs.now) (L.may_refuse loopback.now)
+        office.old.seen office.new.seen (map step_of lines.now)) }
     ensures failed { OnErr result (Failed (O.failures out.old) (O.failures out.new)) }
     ensures sure { IsSure T.is_open office.new → IsSure T.is_open office.old }
 {
+    // Does nothing, but carries a law for the proof: the tables of the machine's states add up.
+    reached_conserve();
     for line in lines.iter() {
         run_line(alloc, office, inputs, loopback, line, out)?;
     }

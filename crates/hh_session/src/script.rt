@@ -6,6 +6,7 @@ ghost use Rattle.hh_script.specs.Steps.{IsWellNamed, step_of};
 ghost use Rattle.hh_session.specs.Script.{IsUnread, NewOfficeCuts, NewOfficeWrites, StopsAt, WritesScript, most_script_bytes};
 
 use crate::run::run_lines;
+use hh_day::reached_conserve;
 use hh_devices::{DeviceFailed, Sink};
 use hh_inputs::{InputFault, Inputs};
 use hh_names::{Fault, Refusal};
@@ -125,8 +126,10 @@ fn run_new_office<I: Inputs, L: Loopback, O: Sink>(
         (map step_of lines.now)) }
     ensures failed { OnErr result (Failed (O.failures out.old) (O.failures out.new)) }
 {
-    // Does nothing, but carries a law for the proof: the settings are within their ranges.
+    // Do nothing, but carry laws for the proof: the settings are within their ranges, and the tables of the
+    // machine's states add up.
     settings.are_settings();
+    reached_conserve();
     let mut office = Office::new(alloc, PlainTables::new(alloc, settings), london());
     run_lines(alloc, &mut office, inputs, loopback, lines, out)
 }

@@ -1,11 +1,12 @@
-use Rattle.std.proofs.Common.{◌+◌, [], map, take, sym, ◌∙◌, subst, arith, pos}
+use Rattle.std.proofs.Common.{◌≤◌, ◌+◌, [], length, map, take, sym, ap, ◌∙◌, subst, arith, pos}
 use Rattle.std.specs.Prelude.{slice_index_or}
+use Rattle.std.proofs.lemmas.List.{take_all}
 use Rattle.hh_rows.specs.declared.file_kind.FileKind.TheVariants.{Parties}
 use Rattle.hh_script.specs.Steps.{step_of}
 use Rattle.hh_script.specs.declared.script_line.ScriptLine.{ScriptLine}
 use Rattle.hh_script.specs.declared.script_line.ScriptLine.TheVariants.{Load}
 use Rattle.hh_session.specs.Course.{RunsScript}
-use Rattle.hh_session.proofs.CourseLaws.{first_steps, one_more_step, passed_failure, script_more, script_stops}
+use Rattle.hh_session.proofs.CourseLaws.{OnErr-map, first_conserve, first_steps, one_more_step, passed_failure, script_conserves, script_more, script_stops}
 use Rattle.hh_session.proofs.run.run_lines.Goals as goal
 
 -- the line that a place has which no line has
@@ -21,6 +22,24 @@ returns-in_err-run_line-clause-cut g c sure =
     (script_stops (g.I.Inputs.reads_as c.args.inputs.now) (g.L.Loopback.may_refuse c.args.loopback.now) c.args.office.now.seen c.loop-line.office.seen c.run_line.new.office.seen (out c.args.out.now) (out c.loop-line.out) (out c.run_line.new.out)
     (map step_of (take i lines)) (step_of (slice_index_or lines i no_line)) (c.loop-line.invariant.run (c.in_err-run_line.ensures.sure sure))
     (map step_of lines) (i + 1) (first_steps lines (i + 1) ∙ one_more_step lines i no_line (omega arith)) (c.in_err-run_line.ensures.cut sure))
+
+pub returns-in_err-run_line-clause-sums_cut : goal.returns-in_err-run_line-clause-sums_cut
+returns-in_err-run_line-clause-sums_cut g c sure =
+    let out = g.O.Sink.taken in
+    OnErr-map c.from_residual.result _ _
+    (first_conserve c.reached_conserve.ensures (g.I.Inputs.reads_as c.args.inputs.now) (g.L.Loopback.may_refuse c.args.loopback.now) c.args.office.now.seen c.run_line.new.office.seen (out c.args.out.now) (out c.run_line.new.out)
+    (map step_of c.args.lines.now)) (returns-in_err-run_line-clause-cut g c sure)
+
+pub returns-clause-sums : goal.returns-clause-sums
+returns-clause-sums g c sure =
+    let lines = c.args.lines.now in
+    let i = c.loop-line.line-index in
+    let out = g.O.Sink.taken in
+    let reads = g.I.Inputs.reads_as c.args.inputs.now in
+    let refuses = g.L.Loopback.may_refuse c.args.loopback.now in
+    let end : length lines ≤ i = omega arith in
+    script_conserves c.reached_conserve.ensures reads refuses c.args.office.now.seen c.loop-line.office.seen (out c.args.out.now) (out c.loop-line.out) (map step_of lines)
+    (subst (RunsScript reads refuses c.args.office.now.seen c.loop-line.office.seen (out c.args.out.now) (out c.loop-line.out)) (ap (map step_of) (take_all i lines end)) (c.loop-line.invariant.run sure))
 
 pub loop-line-preserved : goal.loop-line-preserved
 loop-line-preserved g c =
