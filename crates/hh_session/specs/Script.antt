@@ -36,7 +36,7 @@ module _ (reads : List ℕ → Option (List ℕ) → Type 0) (refuses : ℕ → 
   NewOfficeDoes steps text =
       (zone : TimeZone) × IsMarketZone zone
       × (let midnight : Midnights = midnight_in (plain_zone zone) in
-         (t : State) × ScriptDoes reads refuses midnight (empty_state settings) steps text t × Conserves midnight t (tables_of midnight t))
+      (t : State) × ScriptDoes reads refuses midnight (empty_state settings) steps text t × Conserves midnight t (tables_of midnight t))
 
   -- An output had these bytes before and has those after.
   module _ (old new : Option (List ℕ)) (steps : List Step) where
