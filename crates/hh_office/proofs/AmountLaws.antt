@@ -1,6 +1,6 @@
 -- What accounts have and pay, by the tables of a state that the machine reaches, fits the types of replies.
-use Rattle.std.proofs.Common.{◌≡◌, ℕ, List, [], ◌∷◌, sym, subst, true, arith}
-use Rattle.std.specs.Prelude.{ℤ, ◌+ℤ◌, ◌==◌, IfSome}
+use Rattle.std.proofs.Common.{◌≡◌, ℕ, List, [], ◌∷◌, sym, ap, subst, ◌∙◌, true, arith, Option, Some, None}
+use Rattle.std.specs.Prelude.{ℤ, ◌+ℤ◌, ◌==◌, IfSome, is_some, option_map, unwrap_or}
 use Rattle.std.specs.List.{AllByRecursion}
 use Rattle.std.proofs.lemmas.Int.{ints}
 use Rattle.hh_num.specs.Quantities.{amounts_of_cash}
@@ -13,14 +13,20 @@ use Rattle.hh_names.specs.Accounts.{is_same_account}
 use Rattle.hh_calc.specs.declared.result.AccountRow.{AccountRow}
 use Rattle.hh_runs.specs.DayNets.{day_cash}
 use Rattle.hh_states.specs.Amounts.{BalancesWithin, PaidWithin, balances}
-use Rattle.hh_states.specs.Content.{tables_of}
-use Rattle.hh_states.specs.Reads.{postings_in, results_in}
-use Rattle.hh_states.specs.RunReads.{HoldsPostings, paid_in}
+use Rattle.hh_runs.specs.declared.run_key.RunKey.{RunKey}
+use Rattle.hh_tables.proofs.TableLaws.{false_is_not_true}
+use Rattle.hh_states.specs.Content.{Content, tables_of}
+use Rattle.hh_states.specs.Reads.{postings_in, results_in, runs_in}
+use Rattle.hh_states.specs.RunReads.{HoldsPostings, HoldsRuns, paid_in}
 use Rattle.hh_states.specs.Runs.{Run, latest_run}
 use Rattle.hh_states.specs.States.{State}
 use Rattle.hh_states.specs.Steps.{IsReached}
 use Rattle.hh_office.specs.Enquiries.{net_of_rows, rows_of_account}
-use Rattle.hh_office.proofs.EnquiryLaws.{latest_holds}
+use Rattle.hh_office.specs.Promises.{Stands}
+use Rattle.hh_office.specs.Reads.{latest_key}
+use Rattle.hh_office.specs.Views.{OfficeView, midnight_of}
+use Rattle.hh_store.specs.Reached.{AreReached}
+use Rattle.hh_office.proofs.EnquiryLaws.{latest_holds, latest_is}
 
 -- what an account's own rows come to is what it pays by all rows
 pub own_rows : (a : Account) (rows : List (ℕ × AccountRow)) → net_of_rows (rows_of_account a rows) ≡ paid_in a rows
@@ -46,3 +52,26 @@ module _ (midnight : Midnights) (s : State) (reached : IsReached midnight s) whe
     where
       wider : (z : ℤ) → IsBetween balances.least balances.most z → IsBetween amounts_of_cash.least amounts_of_cash.most z
       wider z narrow = let low = narrow.0 in let high = narrow.1 in (omega (arith, ints), omega (arith, ints))
+
+-- what an account pays by the rows of the latest run of a date is a day net, in the tables of an office that stands for a state
+pub net_fits : (office : OfficeView) (s : State) → Stands office s → HoldsRuns → PaidWithin → (a : Account) (date : ℕ) (key : RunKey)
+    → Some key ≡ latest_key date (runs_in office.content date)
+    → IsBetween day_cash.least day_cash.most (net_of_rows (rows_of_account a (results_in office.content key)))
+net_fits office s stands runs paid a date key found =
+    fits_by (latest_run date s.runs) (sym (latest_is office s stands runs date) ∙ sym found) (latest_net_fits (midnight_of office) s stands.0 paid a date)
+  where
+    fits : Content → RunKey → Type 0
+    fits content k = IsBetween day_cash.least day_cash.most (net_of_rows (rows_of_account a (results_in content k)))
+
+    fits_by : (o : Option Run) → option_map (λ r. r.key) o ≡ Some key
+        → IfSome o (λ r. fits (tables_of (midnight_of office) s) r.key × ((r.key.date == date) ≡ true)) → fits office.content key
+    fits_by None is held = absurd (false_is_not_true (ap is_some is))
+    fits_by (Some r) is held =
+        subst (fits office.content) (ap (λ o. unwrap_or o key) is) (subst (λ c. fits c r.key) (sym stands.1) held.0)
+
+-- what is posted to an account comes to an amount of cash, in the tables of a reached state
+pub reached_balance : HoldsPostings → BalancesWithin → (content : Content) → AreReached content → (a : Account)
+    → IsBetween amounts_of_cash.least amounts_of_cash.most (total (λ e. e.1) (postings_in content a))
+reached_balance held within content (midnight, s, stands) a =
+    subst (λ (c : Content). IsBetween amounts_of_cash.least amounts_of_cash.most (total (λ e. e.1) (postings_in c a))) (sym stands.1)
+    (balance_fits midnight s stands.0 held within a)

@@ -6,6 +6,9 @@ use Rattle.hh_names.specs.declared.fault.Refusal.TheVariants.{Store}
 use Rattle.hh_requests.specs.declared.reply.Reply.{Reply}
 use Rattle.hh_requests.specs.declared.reply.Reply.TheVariants as reply
 use Rattle.hh_store.specs.StoreFaults.{CountsOneMore}
+use Rattle.hh_states.specs.States.{State}
+use Rattle.hh_office.specs.Promises.{Stands}
+use Rattle.hh_office.specs.Views.{OfficeView}
 use Rattle.hh_office.specs.declared.report.ReportStop.{ReportStop}
 use Rattle.hh_office.specs.declared.report.ReportStop.TheVariants as stop
 
@@ -13,6 +16,14 @@ use Rattle.hh_office.specs.declared.report.ReportStop.TheVariants as stop
 abbrev pub is_of_store : Refusal → Bool
 is_of_store Store = true
 is_of_store _ = false
+
+-- a refusal of another cause
+abbrev pub IsElsewhere : Fault → Type 0
+IsElsewhere fault = is_of_store fault.refusal ≡ false
+
+-- an office stands for some state that the machine reaches
+abbrev pub StandsForSome : OfficeView → Type 0
+StandsForSome office = (s : State) × Stands office s
 
 -- the store counts one refusal where a fault tells one, and none elsewhere
 abbrev pub CountsFault : Fault → ℕ → ℕ → Type 0

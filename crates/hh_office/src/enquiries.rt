@@ -1,6 +1,6 @@
 //! What is asked of accounts, contracts and runs.
 
-ghost use Rattle.std.specs.Prelude.{◌≡◌, map, IfOk, Some, SomeIff};
+ghost use Rattle.std.specs.Prelude.{◌≡◌, ℕ, map, IfOk, Some, SomeIff};
 ghost use Rattle.hh_num.specs.Quantities.{amounts_of_cash};
 ghost use Rattle.hh_num.specs.Ranges.{IsBetween};
 ghost use Rattle.hh_num.specs.Totals.{total};
@@ -8,9 +8,9 @@ ghost use Rattle.hh_runs.specs.DayNets.{day_cash};
 ghost use Rattle.hh_states.specs.Reads.{results_in, runs_in};
 ghost use Rattle.hh_store.specs.Reached.{AreReached};
 ghost use Rattle.hh_store.specs.StoreFaults.{CountsRefusal};
-ghost use Rattle.hh_office.specs.Refusals.{CountsAnswer};
+ghost use Rattle.hh_office.specs.Refusals.{CountsReply, StandsForSome};
 ghost use Rattle.hh_office.specs.Enquiries.{account_reply, balance_reply, contracts_reply, net_of_rows, reply_by_rows, rows_of_account, runs_reply};
-ghost use Rattle.hh_office.specs.Promises.{RepliesAs, TellsInEachState};
+ghost use Rattle.hh_office.specs.Promises.{RepliesAs, TellsInEachState, reply_of};
 ghost use Rattle.hh_office.specs.Reads.{latest_key};
 ghost use Rattle.hh_office.specs.Views.{IsSure};
 
@@ -20,7 +20,7 @@ use hh_names::{Account, Fault, PeriodNumber, Refusal};
 use hh_num::Pence;
 use hh_requests::{AccountReply, ContractsReply, Reply, RunsReply};
 use hh_runs::{DayNet, RunKey, RunKind, Summary};
-use hh_state_laws::{kept_kinds_of_dates, kept_postings, kept_results};
+use hh_state_laws::{balances_within, kept_kinds_of_dates, kept_postings, kept_results, paid_within};
 use hh_store::{StoreFault, Tables};
 use hh_time::SettlementDate;
 use std::alloc::{AllocError, Global};
@@ -37,6 +37,9 @@ impl<'z, T: Tables> Office<'z, T> {
             account_reply midnight s account.now date) }
         ensures same { IsSure T.is_open self.new → self.new.seen ≡ self.old.seen }
         ensures sure { IsSure T.is_open self.new → IsSure T.is_open self.old }
+        ensures tallied { IsSure T.is_open self.new → StandsForSome self.old.seen
+            → CountsReply (reply_of result)
+            (T.refusals self.old.tables) (T.refusals self.new.tables) }
     {
         // Does nothing, but carries a law for the proof: the tables hold the machine's runs.
         kept_kinds_of_dates();
@@ -60,10 +63,15 @@ impl<'z, T: Tables> Office<'z, T> {
             account_reply midnight s account.now date) }
         ensures same { IsSure T.is_open self.new → self.new.seen ≡ self.old.seen }
         ensures sure { IsSure T.is_open self.new → IsSure T.is_open self.old }
+        ensures tallied { IsSure T.is_open self.new → StandsForSome self.old.seen
+            → CountsReply (reply_of result)
+            (T.refusals self.old.tables) (T.refusals self.new.tables) }
     {
-        // Do nothing, but carry laws for the proof: the tables hold the machine's runs and their rows.
+        // Do nothing, but carry laws for the proof: the tables hold the machine's runs and their rows, and
+        // what an account pays by these is a day net.
         kept_kinds_of_dates();
         kept_results();
+        paid_within();
         let rows = self.rows_of_run(&run)?;
         reply_by_rows(self.alloc, account, run, &rows)
     }
@@ -103,9 +111,14 @@ impl<'z, T: Tables> Office<'z, T> {
             balance_reply midnight s account.now) }
         ensures same { IsSure T.is_open self.new → self.new.seen ≡ self.old.seen }
         ensures sure { IsSure T.is_open self.new → IsSure T.is_open self.old }
+        ensures tallied { IsSure T.is_open self.new → AreReached self.old.seen.content
+            → CountsReply (reply_of result)
+            (T.refusals self.old.tables) (T.refusals self.new.tables) }
     {
-        // Does nothing, but carries a law for the proof: postings come to what the latest runs move.
+        // Do nothing, but carry laws for the proof: postings come to what the latest runs move, and that is
+        // an amount of cash.
         kept_postings();
+        balances_within();
         let postings = self.tables.postings(account)?;
         let Some(moved) = sum_of(&postings) else {
             return Err(Fault::of(Refusal::Store));
@@ -128,7 +141,8 @@ impl<'z, T: Tables> Office<'z, T> {
         ensures same { IsSure T.is_open self.new → self.new.seen ≡ self.old.seen }
         ensures sure { IsSure T.is_open self.new → IsSure T.is_open self.old }
         ensures tallied { IsSure T.is_open self.new → AreReached self.old.seen.content
-            → CountsAnswer result (T.refusals self.old.tables) (T.refusals self.new.tables) }
+            → CountsReply (reply_of result)
+            (T.refusals self.old.tables) (T.refusals self.new.tables) }
     {
         let contracts = self.tables.contracts(account, date)?;
         Ok(Reply::Contracts(ContractsReply::new(*account, date, contracts)))
@@ -142,7 +156,8 @@ impl<'z, T: Tables> Office<'z, T> {
         ensures same { IsSure T.is_open self.new → self.new.seen ≡ self.old.seen }
         ensures sure { IsSure T.is_open self.new → IsSure T.is_open self.old }
         ensures tallied { IsSure T.is_open self.new → AreReached self.old.seen.content
-            → CountsAnswer result (T.refusals self.old.tables) (T.refusals self.new.tables) }
+            → CountsReply (reply_of result)
+            (T.refusals self.old.tables) (T.refusals self.new.tables) }
     {
         // Does nothing, but carries a law for the proof: the tables hold the machine's runs.
         kept_kinds_of_dates();
@@ -180,8 +195,11 @@ fn reply_by_rows(
     run: RunKey,
     rows: &[(PeriodNumber, AccountRow)],
 ) -> Result<Reply, Fault>
-    ensures { RepliesAs result
+    ensures replies { RepliesAs result
         (reply_by_rows account.now run (rows_of_account account.now rows.now)) }
+    ensures tallied {
+        IsBetween day_cash.least day_cash.most (net_of_rows (rows_of_account account.now rows.now))
+        → (count : ℕ) → CountsReply (reply_of result) count count }
 {
     let found = rows_of(alloc, account, rows)?;
     if found.is_empty() {

@@ -6,8 +6,8 @@ ghost use Rattle.hh_rows.specs.RowKinds.{most_rows};
 ghost use Rattle.hh_states.specs.Reads.{file_in, whole_register};
 ghost use Rattle.hh_store.specs.Reached.{AreReached};
 ghost use Rattle.hh_store.specs.StoreFaults.{CountsRefusal};
-ghost use Rattle.hh_office.specs.Refusals.{CountsAnswer};
 ghost use Rattle.hh_office.specs.Loads.{Accepts, IsNamed, Judges, WritesLoad, writes_of};
+ghost use Rattle.hh_office.specs.Refusals.{CountsAnswer, CountsReply, StandsForSome};
 ghost use Rattle.hh_office.specs.Machine.{load, load_new, loaded_reply, repeat_reply};
 ghost use Rattle.hh_office.specs.Promises.{MakesInEachState, RefusalLeaves, reply_of};
 ghost use Rattle.hh_office.specs.Views.{IsSure};
@@ -31,6 +31,9 @@ impl<'z, T: Tables> Office<'z, T> {
         ensures untouched { IsSure T.is_open self.new
             → RefusalLeaves self.old.seen self.new.seen (reply_of result) }
         ensures sure { IsSure T.is_open self.new → IsSure T.is_open self.old }
+        ensures tallied { IsSure T.is_open self.new → StandsForSome self.old.seen
+            → CountsReply (reply_of result)
+            (T.refusals self.old.tables) (T.refusals self.new.tables) }
     {
         if upload.body.as_slice().len() > MOST_BYTES {
             return Err(Fault::of(Refusal::FileTooLarge));
@@ -65,6 +68,9 @@ impl<'z, T: Tables> Office<'z, T> {
         ensures untouched { IsSure T.is_open self.new
             → RefusalLeaves self.old.seen self.new.seen (reply_of result) }
         ensures sure { IsSure T.is_open self.new → IsSure T.is_open self.old }
+        ensures tallied { IsSure T.is_open self.new → StandsForSome self.old.seen
+            → CountsReply (reply_of result)
+            (T.refusals self.old.tables) (T.refusals self.new.tables) }
     {
         // Does nothing, but carries a law for the proof: the tables hold the files that were accepted.
         kept_files();
@@ -80,6 +86,8 @@ impl<'z, T: Tables> Office<'z, T> {
         ensures few { IfOk result (λ judged. length judged.rows ≤ most_rows) }
         ensures same { IsSure T.is_open self.new → self.new.seen ≡ self.old.seen }
         ensures sure { IsSure T.is_open self.new → IsSure T.is_open self.old }
+        ensures tallied { IsSure T.is_open self.new → StandsForSome self.old.seen
+            → CountsAnswer result (T.refusals self.old.tables) (T.refusals self.new.tables) }
     {
         let rows = read_file(self.alloc, upload.kind, upload.body.as_slice())?;
         let register = self.register_for(&rows)?;
@@ -107,7 +115,8 @@ impl<'z, T: Tables> Office<'z, T> {
             → RefusalLeaves self.old.seen self.new.seen (reply_of result) }
         ensures sure { IsSure T.is_open self.new → IsSure T.is_open self.old }
         ensures tallied { IsSure T.is_open self.new → AreReached self.old.seen.content
-            → CountsAnswer result (T.refusals self.old.tables) (T.refusals self.new.tables) }
+            → CountsReply (reply_of result)
+            (T.refusals self.old.tables) (T.refusals self.new.tables) }
     {
         let change = change_of(self.alloc, upload, judged)?;
         let reply = loaded_reply(change.file());

@@ -5,6 +5,7 @@ ghost use Rattle.hh_office.specs.Loads.{IsNamed};
 ghost use Rattle.hh_office.specs.Machine.{step};
 ghost use Rattle.hh_office.specs.PartyViews.{ForbidsOthers, ShowsByView};
 ghost use Rattle.hh_office.specs.Promises.{ConservesAfter, ConservesAfterAll, MakesInEachState, HandleStep, RefusalLeaves, RepeatsOnce, RunAllStep, StandsAfter, StandsAfterAll, reply_of};
+ghost use Rattle.hh_office.specs.Refusals.{CountsReply, StandsForSome};
 ghost use Rattle.hh_office.specs.Views.{IsSure};
 
 use crate::loads::is_named;
@@ -72,6 +73,8 @@ impl<'z, T: Tables> Office<'z, T> {
         ensures foreign { IsSure T.is_open self.new
             → ForbidsOthers self.old.seen request.now result }
         ensures sure { IsSure T.is_open self.new → IsSure T.is_open self.old }
+        ensures tallied { IsSure T.is_open self.new → StandsForSome self.old.seen
+            → CountsReply result (T.refusals self.old.tables) (T.refusals self.new.tables) }
     {
         // Do nothing, but carry laws for the proof: the tables hold the machine's runs with their rows and
         // postings, what is written makes the machine's tables, and these add up.
@@ -136,6 +139,9 @@ impl<'z, T: Tables> Office<'z, T> {
         ensures untouched { IsSure T.is_open self.new
             → RefusalLeaves self.old.seen self.new.seen (reply_of result) }
         ensures sure { IsSure T.is_open self.new → IsSure T.is_open self.old }
+        ensures tallied { IsSure T.is_open self.new → StandsForSome self.old.seen
+            → CountsReply (reply_of result)
+            (T.refusals self.old.tables) (T.refusals self.new.tables) }
     {
         if !self.may(request)? {
             return Err(Fault::of(Refusal::Forbidden));

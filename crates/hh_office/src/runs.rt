@@ -4,6 +4,7 @@ ghost use Rattle.std.specs.Prelude.{◌≡◌, find, option_map, IfErr, IfOk, On
 ghost use Rattle.std.specs.Ordering.{eq_by_cmp};
 ghost use Rattle.hh_time.specs.Days.{is_over, period_count};
 ghost use Rattle.hh_time.specs.Zone.{midnight_in};
+ghost use Rattle.hh_day.specs.RunLimits.{FitsRun};
 ghost use Rattle.hh_runs.specs.RunKinds.{run_kind_cmp};
 ghost use Rattle.hh_requests.specs.declared.reply.Reply.TheVariants.{Ran};
 ghost use Rattle.hh_states.specs.DaySettlement.{periods_on};
@@ -11,7 +12,7 @@ ghost use Rattle.hh_states.specs.Reads.{runs_in};
 ghost use Rattle.hh_states.specs.Steps.{missing_meter_fault, period_fault};
 ghost use Rattle.hh_store.specs.Reached.{AreReached};
 ghost use Rattle.hh_store.specs.StoreFaults.{CountsRefusal};
-ghost use Rattle.hh_office.specs.Refusals.{CountsAnswer};
+ghost use Rattle.hh_office.specs.Refusals.{CountsAnswer, CountsReply, IsElsewhere, StandsForSome};
 ghost use Rattle.hh_office.specs.Promises.{MakesInEachState, RefusalLeaves, reply_of};
 ghost use Rattle.hh_office.specs.Reads.{latest_key};
 ghost use Rattle.hh_office.specs.Runs.{run};
@@ -22,7 +23,7 @@ ghost use Rattle.jiff.specs.Words.{plain_zone};
 use crate::enquiries::{kinds_of, latest_of};
 use crate::office::Office;
 use hh_calc::{AccountRow, PeriodData};
-use hh_day::{SettledDay, SettledPeriod, run_change, settle_day, terms_ready, writes_the_run};
+use hh_day::{SettledDay, SettledPeriod, run_change, runs_fit, settle_day, terms_ready, writes_the_run};
 use hh_names::{Fault, PeriodNumber, Refusal};
 use hh_requests::Reply;
 use hh_rows::{SettlementPeriod, UnitPeriod};
@@ -42,6 +43,9 @@ impl<'z, T: Tables> Office<'z, T> {
         ensures untouched { IsSure T.is_open self.new
             → RefusalLeaves self.old.seen self.new.seen (reply_of result) }
         ensures sure { IsSure T.is_open self.new → IsSure T.is_open self.old }
+        ensures tallied { IsSure T.is_open self.new → StandsForSome self.old.seen
+            → CountsReply (reply_of result)
+            (T.refusals self.old.tables) (T.refusals self.new.tables) }
     {
         // Do nothing, but carry laws for the proof: the tables hold the machine's runs.
         kept_summaries();
@@ -80,12 +84,16 @@ impl<'z, T: Tables> Office<'z, T> {
         ensures untouched { IsSure T.is_open self.new
             → RefusalLeaves self.old.seen self.new.seen (reply_of result) }
         ensures sure { IsSure T.is_open self.new → IsSure T.is_open self.old }
+        ensures tallied { IsSure T.is_open self.new → StandsForSome self.old.seen
+            → CountsReply (reply_of result)
+            (T.refusals self.old.tables) (T.refusals self.new.tables) }
     {
         // Do nothing, but carry laws for the proof: the tables hold the machine's runs, and what is written
-        // for a run is what the machine writes.
+        // for a run is what the machine writes, and fits the tables.
         kept_summaries();
         kept_kinds_of_dates();
         writes_the_run();
+        runs_fit();
         let settled = self.settle(moment, key.date)?;
         Ok(self.make_run(key, &settled, former)?)
     }
@@ -102,6 +110,9 @@ impl<'z, T: Tables> Office<'z, T> {
             → IfOk result (IsRunMade self.old.seen self.new.seen key day.now former) }
         ensures same { IsSure T.is_open self.new → OnErr result (self.new.seen ≡ self.old.seen) }
         ensures sure { IsSure T.is_open self.new → IsSure T.is_open self.old }
+        ensures tallied { IsSure T.is_open self.new → AreReached self.old.seen.content
+            → FitsRun key day.now (rows_before self.old.seen.content former)
+            → CountsRefusal result (T.refusals self.old.tables) (T.refusals self.new.tables) }
     {
         let rows = self.rows_before(former)?;
         let change = run_change(self.alloc, key, day, &rows)?;
@@ -194,7 +205,8 @@ fn order_of(
     runs: &[(RunKind, Summary)],
     kind: RunKind,
 ) -> Result<Option<Summary>, Fault>
-    ensures { TellsOrder runs.now kind result }
+    ensures told { TellsOrder runs.now kind result }
+    ensures elsewhere { IfErr result IsElsewhere }
 {
     let kinds = kinds_of(alloc, runs)?;
     match next_kind(&kinds, kind) {

@@ -8,6 +8,7 @@ use Rattle.hh_states.specs.States.{State}
 use Rattle.hh_office.specs.Machine.{next, step}
 use Rattle.hh_office.specs.PartyViews.{ForbidsOthers, ShowsByView}
 use Rattle.hh_office.specs.Promises.{ConservesAfter, HandleStep, RefusalLeaves, RepeatsOnce, Stands, StandsAfter, is_given_up}
+use Rattle.hh_office.specs.Refusals.{CountsReply, StandsForSome}
 use Rattle.hh_office.specs.Transitions.{Transition}
 use Rattle.hh_office.specs.Views.{OfficeView, midnight_of}
 use Rattle.hh_replies.specs.declared.reply.WriteFault.{WriteFault}
@@ -31,29 +32,30 @@ abbrev pub unwritten : WriteFault → Result (Unit {0}) WriteFault
 unwritten fault = Err fault
 
 -- A reply was written, or not to its end.
-module _ (source : Option (List ℕ)) (old new : OfficeView) (moment : ℤ) (before after : Option (List ℕ)) (first last : ℕ) (answer : Answer)
-    (is : IsAnswer source old new moment answer) where
-  pub replied : WritesReply before after first last (answer_text answer) (Ok tt) → Serves source old new moment before after (Ok Replied)
+module _ (source : Option (List ℕ)) (old new : OfficeView) (counted counts : ℕ) (moment : ℤ) (before after : Option (List ℕ)) (first last : ℕ) (answer : Answer)
+    (is : IsAnswer source old new counted counts moment answer) where
+  pub replied : WritesReply before after first last (answer_text answer) (Ok tt) → Serves source old new counted counts moment before after (Ok Replied)
   replied writes = (answer, is, writes.0)
 
   unreplied : (fault : WriteFault) → WritesReply before after first last (answer_text answer) (Err fault)
-      → (TellsNoMemory answer → unwritten fault ≡ Err write.Memory → ⊥) → Serves source old new moment before after (Err (serve_fault fault))
+      → (TellsNoMemory answer → unwritten fault ≡ Err write.Memory → ⊥) → Serves source old new counted counts moment before after (Err (serve_fault fault))
   unreplied write.Write writes wants = (answer, is, writes.0)
   unreplied write.Memory writes wants = (answer, is, (λ tells. wants tells refl), writes.0)
 
   pub not_replied : (fault : WriteFault) (result : Result Served ServeFault) → IsErrAnd result (λ served. served ≡ serve_fault fault)
       → WritesReply before after first last (answer_text answer) (Err fault) → (TellsNoMemory answer → unwritten fault ≡ Err write.Memory → ⊥)
-      → Serves source old new moment before after result
+      → Serves source old new counted counts moment before after result
   not_replied fault result told writes wants =
-      subst (λ (r : Result Served ServeFault). Serves source old new moment before after r) (passed_on result fault told) (unreplied fault writes wants)
+      subst (λ (r : Result Served ServeFault). Serves source old new counted counts moment before after r) (passed_on result fault told) (unreplied fault writes wants)
 
 -- A request was read and handled, at a moment that is written in two ways.
 module _ (old new : OfficeView) (moment at : ℤ) (same : at ≡ moment) (request : Request) (given : Reply) (steps : HandleStep old new at request given)
     (stands : StandsAfter old new at request given) where
   pub handled : (source : Option (List ℕ)) (read : Incoming) → read ≡ Asked request → IsReadOf source (Ok read)
       → RefusalLeaves old new given → RepeatsOnce old new request given → ConservesAfter old new at request given
-      → ShowsByView old request given → ForbidsOthers old request given → IsAnswer source old new moment (Ok given)
-  handled source read is message untouched once sums view foreign = (
+      → ShowsByView old request given → ForbidsOthers old request given → (counted counts : ℕ) → (StandsForSome old → CountsReply given counted counts)
+      → IsAnswer source old new counted counts moment (Ok given)
+  handled source read is message untouched once sums view foreign counted counts tallied = (
     request,
     subst (λ (i : Incoming). IsReadOf source (Ok i)) is message,
     record {
@@ -64,6 +66,7 @@ module _ (old new : OfficeView) (moment at : ℤ) (same : at ≡ moment) (reques
       sums = subst (λ (m : ℤ). ConservesAfter old new m request given) same sums;
       view = view;
       foreign = foreign;
+      tallied = tallied;
     },
   )
 

@@ -10,6 +10,7 @@ use Rattle.hh_states.specs.States.{State}
 use Rattle.hh_office.specs.Machine.{next}
 use Rattle.hh_office.specs.PartyViews.{ForbidsOthers, ShowsByView}
 use Rattle.hh_office.specs.Promises.{ConservesAfter, HandleStep, RefusalLeaves, RepeatsOnce, Stands, StandsAfter}
+use Rattle.hh_office.specs.Refusals.{CountsReply, StandsForSome}
 use Rattle.hh_office.specs.Views.{OfficeView, midnight_of}
 use Rattle.hh_replies.specs.declared.refusal.Refused.{Refused}
 use Rattle.hh_replies.specs.declared.refusal.RequestRefusal.TheVariants as refusal
@@ -25,7 +26,7 @@ use Rattle.hh_serve.specs.declared.serve.Served.{Served}
 use Rattle.hh_serve.specs.declared.serve.Served.TheVariants.{Closed, Replied}
 
 -- the office handled a request that came at a moment and replied this, with all that it promises of a request
-pub record Handles (old new : OfficeView) (moment : ℤ) (request : Request) (given : Reply) : Type 0 where
+pub record Handles (old new : OfficeView) (counted counts : ℕ) (moment : ℤ) (request : Request) (given : Reply) : Type 0 where
   pub step : HandleStep old new moment request given
   pub stands : StandsAfter old new moment request given
   pub untouched : RefusalLeaves old new given
@@ -33,6 +34,7 @@ pub record Handles (old new : OfficeView) (moment : ℤ) (request : Request) (gi
   pub sums : ConservesAfter old new moment request given
   pub view : ShowsByView old request given
   pub foreign : ForbidsOthers old request given
+  pub tallied : StandsForSome old → CountsReply given counted counts
 
 -- what is replied: a reply of the office, or that the request is refused before the office is asked
 abbrev pub Answer : Type 0
@@ -52,12 +54,13 @@ TellsNoMemory (Err refused) = refused.cause ≡ refusal.Memory
 abbrev pub IsReadOf : Option (List ℕ) → Result Incoming WireFault → Type 0
 IsReadOf source read = IfSome source (λ bytes. Reads bytes read)
 
--- A source had these bytes, and an office was the one before and is the other after a call that comes at a moment.
-module _ (source : Option (List ℕ)) (old new : OfficeView) (moment : ℤ) where
+-- A source had these bytes, an office was the one before and is the other after a call that comes at a moment, and its store had
+-- counted so many refusals and counts so many.
+module _ (source : Option (List ℕ)) (old new : OfficeView) (counted counts : ℕ) (moment : ℤ) where
   -- The answer is the office's reply to the request that the bytes ask, which it handled; or it is the refusal of what the bytes ask,
   -- or of memory to read it, and the office stays as it was.
   abbrev pub IsAnswer : Answer → Type 0
-  IsAnswer (Ok given) = (request : Request) × IsReadOf source (Ok (incoming.Asked request)) × Handles old new moment request given
+  IsAnswer (Ok given) = (request : Request) × IsReadOf source (Ok (incoming.Asked request)) × Handles old new counted counts moment request given
   IsAnswer (Err refused) = IsReadOf source (Err (fault.Refused refused)) × (new ≡ old)
 
   -- A sink had taken these bytes before and has taken those after.

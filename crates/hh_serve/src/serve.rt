@@ -61,7 +61,8 @@ pub fn serve_one<T: Tables, I: Source, O: Sink>(
     sink: &mut O,
 ) -> Result<Served, ServeFault>
     ensures served { IsSure T.is_open office.new
-        → Serves (I.remaining source.old) office.old.seen office.new.seen moment
+        → Serves (I.remaining source.old) office.old.seen office.new.seen
+        (T.refusals office.old.tables) (T.refusals office.new.tables) moment
         (O.taken sink.old) (O.taken sink.new) result }
     ensures stands { IsSure T.is_open office.new
         → StandsAfterOne office.old.seen office.new.seen moment }

@@ -10,6 +10,9 @@ use Rattle.hh_office.specs.Transitions.{unchanged}
 use Rattle.hh_office.specs.Views.{OfficeView, midnight_of}
 use Rattle.hh_office.proofs.EnquiryLaws.{account_none}
 use Rattle.hh_office.proofs.StepLaws.{comes_same}
+use Rattle.hh_office.proofs.RefusalLaws.{reached_by}
+use Rattle.hh_office.specs.Refusals.{CountsReply, StandsForSome}
+use Rattle.hh_office.specs.Promises.{reply_of}
 use Rattle.hh_office.proofs.office.Office.account.Goals as goal
 
 pub account_in-requires : goal.account_in-requires
@@ -28,3 +31,10 @@ returns-in-None-clause-makes g c sure s stands =
     subst (λ f. MakesTransition office c.latest_run.new.self.seen (reply.Refused f) transition) (sym c.of.ensures)
     (comes_same office c.latest_run.new.self.seen (reply.Refused (plain_fault NoRun)) transition (c.in_ok-run.ensures.same sure)
     (account_none office s stands c.kept_kinds_of_dates.ensures c.args.account.now c.args.date (sym c.in-None.is ∙ c.in_ok-run.ensures.value sure)))
+
+pub returns-in-Some-clause-tallied : goal.returns-in-Some-clause-tallied
+returns-in-Some-clause-tallied g c sure some =
+    let before = c.account_in.ensures.sure sure in
+    let same = c.in_ok-run.ensures.same before in
+    subst (λ n. CountsReply (reply_of c.account_in.result) n (g.T.Tables.refusals c.account_in.new.self.tables)) (c.in_ok-run.ensures.tallied before (reached_by c.args.self.now.seen some))
+    (c.account_in.ensures.tallied sure (subst StandsForSome (sym same) some))

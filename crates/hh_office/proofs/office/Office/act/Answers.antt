@@ -6,6 +6,10 @@ use Rattle.hh_office.specs.Views.{midnight_of}
 use Rattle.hh_office.specs.Enquiries.{account_reply, balance_reply, contracts_reply, runs_reply}
 use Rattle.hh_office.specs.Runs.{run}
 use Rattle.hh_office.proofs.StepLaws.{comes_allowed}
+use Rattle.hh_office.proofs.RefusalLaws.{reached_by}
+use Rattle.hh_office.specs.Refusals.{CountsReply, StandsForSome}
+use Rattle.hh_store.specs.Reached.{AreReached}
+use Rattle.hh_office.specs.Views.{OfficeView}
 use Rattle.hh_office.proofs.office.Office.act.Goals as goal
 
 pub returns-in-Load-clause-makes : goal.returns-in-Load-clause-makes
@@ -69,3 +73,45 @@ returns-in-Runs-clause-makes g c sure s stands =
     let does = subst (λ o. TellsInEachState o new c.runs.result (λ midnight s. runs_reply midnight s c.in-Runs.date)) (c.in_ok-may.ensures.same before) (c.runs.ensures.makes sure) in
     comes_allowed office new given s c.args.moment c.args.request.now (sym (c.in_ok-may.ensures.allowed before s stands) ∙ c.if-not-branch.false)
     (subst (λ a. MakesTransition office new given (act (midnight_of office) s c.args.moment a)) (sym c.in-Runs.is) (does s stands))
+
+pub returns-in-Load-clause-tallied : goal.returns-in-Load-clause-tallied
+returns-in-Load-clause-tallied g c sure some =
+    let before = c.load.ensures.sure sure in
+    let same = c.in_ok-may.ensures.same before in
+    subst (λ n. CountsReply (reply_of c.load.result) n (g.T.Tables.refusals c.load.new.self.tables)) (c.in_ok-may.ensures.tallied before (reached_by c.args.self.now.seen some))
+    (c.load.ensures.tallied sure (subst StandsForSome (sym same) some))
+
+pub returns-in-Run-clause-tallied : goal.returns-in-Run-clause-tallied
+returns-in-Run-clause-tallied g c sure some =
+    let before = c.run.ensures.sure sure in
+    let same = c.in_ok-may.ensures.same before in
+    subst (λ n. CountsReply (reply_of c.run.result) n (g.T.Tables.refusals c.run.new.self.tables)) (c.in_ok-may.ensures.tallied before (reached_by c.args.self.now.seen some))
+    (c.run.ensures.tallied sure (subst StandsForSome (sym same) some))
+
+pub returns-in-Account-clause-tallied : goal.returns-in-Account-clause-tallied
+returns-in-Account-clause-tallied g c sure some =
+    let before = c.account.ensures.sure sure in
+    let same = c.in_ok-may.ensures.same before in
+    subst (λ n. CountsReply (reply_of c.account.result) n (g.T.Tables.refusals c.account.new.self.tables)) (c.in_ok-may.ensures.tallied before (reached_by c.args.self.now.seen some))
+    (c.account.ensures.tallied sure (subst StandsForSome (sym same) some))
+
+pub returns-in-Balance-clause-tallied : goal.returns-in-Balance-clause-tallied
+returns-in-Balance-clause-tallied g c sure some =
+    let before = c.balance.ensures.sure sure in
+    let same = c.in_ok-may.ensures.same before in
+    subst (λ n. CountsReply (reply_of c.balance.result) n (g.T.Tables.refusals c.balance.new.self.tables)) (c.in_ok-may.ensures.tallied before (reached_by c.args.self.now.seen some))
+    (c.balance.ensures.tallied sure (subst (λ (o : OfficeView). AreReached o.content) (sym same) (reached_by c.args.self.now.seen some)))
+
+pub returns-in-Contracts-clause-tallied : goal.returns-in-Contracts-clause-tallied
+returns-in-Contracts-clause-tallied g c sure some =
+    let before = c.contracts.ensures.sure sure in
+    let same = c.in_ok-may.ensures.same before in
+    subst (λ n. CountsReply (reply_of c.contracts.result) n (g.T.Tables.refusals c.contracts.new.self.tables)) (c.in_ok-may.ensures.tallied before (reached_by c.args.self.now.seen some))
+    (c.contracts.ensures.tallied sure (subst (λ (o : OfficeView). AreReached o.content) (sym same) (reached_by c.args.self.now.seen some)))
+
+pub returns-in-Runs-clause-tallied : goal.returns-in-Runs-clause-tallied
+returns-in-Runs-clause-tallied g c sure some =
+    let before = c.runs.ensures.sure sure in
+    let same = c.in_ok-may.ensures.same before in
+    subst (λ n. CountsReply (reply_of c.runs.result) n (g.T.Tables.refusals c.runs.new.self.tables)) (c.in_ok-may.ensures.tallied before (reached_by c.args.self.now.seen some))
+    (c.runs.ensures.tallied sure (subst (λ (o : OfficeView). AreReached o.content) (sym same) (reached_by c.args.self.now.seen some)))

@@ -6,6 +6,7 @@ use Rattle.hh_office.specs.Promises.{MakesInEachState, RefusalLeaves, reply_of}
 use Rattle.hh_office.proofs.HandleLaws.{conserves_after, stands_after}
 use Rattle.hh_office.proofs.OnceLaws.{repeats}
 use Rattle.hh_office.proofs.ViewLaws.{forbids_others, shows_by_view}
+use Rattle.hh_office.specs.Refusals.{CountsReply}
 use Rattle.hh_office.proofs.office.Office.handle.Goals as goal
 
 pub returns-in-Ok-clause-step : goal.returns-in-Ok-clause-step
@@ -65,3 +66,11 @@ returns-in-Err-clause-view g c sure =
 pub returns-in-Err-clause-foreign : goal.returns-in-Err-clause-foreign
 returns-in-Err-clause-foreign g c sure =
     forbids_others c.keys_never_meet.ensures c.args.self.now.seen c.act.new.self.seen c.args.moment c.args.request.now (reply.Refused c.in-Err.fault) (returns-in-Err-clause-step g c sure)
+
+pub returns-in-Ok-clause-tallied : goal.returns-in-Ok-clause-tallied
+returns-in-Ok-clause-tallied g c sure some =
+    subst (λ r. CountsReply (reply_of r) (g.T.Tables.refusals c.args.self.now.tables) (g.T.Tables.refusals c.act.new.self.tables)) c.in-Ok.is (c.act.ensures.tallied sure some)
+
+pub returns-in-Err-clause-tallied : goal.returns-in-Err-clause-tallied
+returns-in-Err-clause-tallied g c sure some =
+    subst (λ r. CountsReply (reply_of r) (g.T.Tables.refusals c.args.self.now.tables) (g.T.Tables.refusals c.act.new.self.tables)) c.in-Err.is (c.act.ensures.tallied sure some)

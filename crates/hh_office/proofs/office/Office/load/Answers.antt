@@ -7,6 +7,8 @@ use Rattle.hh_office.specs.Transitions.{unchanged}
 use Rattle.hh_office.specs.Promises.{MakesTransition, MakesInEachState, reply_of}
 use Rattle.hh_office.specs.Views.{midnight_of}
 use Rattle.hh_office.proofs.StepLaws.{comes_by_kept, comes_same, comes_unchanged}
+use Rattle.hh_office.proofs.RefusalLaws.{reached_by, repeat_counts}
+use Rattle.hh_office.specs.Refusals.{CountsReply, StandsForSome}
 use Rattle.hh_office.proofs.office.Office.load.Goals as goal
 
 pub returns-in-Some-clause-makes : goal.returns-in-Some-clause-makes
@@ -30,3 +32,17 @@ returns-in-None-clause-makes g c sure s stands =
     let does = subst (λ o. MakesInEachState o new c.load_new.result (λ midnight s. load_new midnight s (to_z w64 (of_z w64 c.args.moment)) upload)) (c.in_ok-file.ensures.same before) (c.load_new.ensures.makes sure) in
     comes_by_kept office s c.args.moment upload stands c.kept_files.ensures None (sym c.in-None.is ∙ c.in_ok-file.ensures.value before) small new (reply_of c.load_new.result)
     (subst (λ m. MakesTransition office new (reply_of c.load_new.result) (load_new (midnight_of office) s m upload)) (to_z-of_z w64 c.args.moment c.ranges.moment) (does s stands))
+
+pub returns-in-Some-clause-tallied : goal.returns-in-Some-clause-tallied
+returns-in-Some-clause-tallied g c sure some =
+    subst (λ r. CountsReply r (g.T.Tables.refusals c.args.self.now.tables) (g.T.Tables.refusals c.kept_under.new.self.tables)) (sym c.repeated.ensures)
+    (subst (λ n. CountsReply (repeat_reply c.in-Some.file c.args.upload.now.body) (g.T.Tables.refusals c.args.self.now.tables) n)
+    (sym (c.in_ok-file.ensures.tallied sure (reached_by c.args.self.now.seen some)))
+    (repeat_counts c.in-Some.file c.args.upload.now.body (g.T.Tables.refusals c.args.self.now.tables)))
+
+pub returns-in-None-clause-tallied : goal.returns-in-None-clause-tallied
+returns-in-None-clause-tallied g c sure some =
+    let before = c.load_new.ensures.sure sure in
+    let same = c.in_ok-file.ensures.same before in
+    subst (λ n. CountsReply (reply_of c.load_new.result) n (g.T.Tables.refusals c.load_new.new.self.tables)) (c.in_ok-file.ensures.tallied before (reached_by c.args.self.now.seen some))
+    (c.load_new.ensures.tallied sure (subst StandsForSome (sym same) some))

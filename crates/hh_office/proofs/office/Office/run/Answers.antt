@@ -9,6 +9,8 @@ use Rattle.hh_office.specs.Settling.{IsNext, TellsOrder}
 use Rattle.hh_office.specs.Views.{OfficeView, midnight_of}
 use Rattle.hh_office.proofs.RunLaws.{run_kept, run_out_of_order}
 use Rattle.hh_office.proofs.StepLaws.{comes_same, passed_reply}
+use Rattle.hh_office.proofs.RefusalLaws.{elsewhere_tallied, reached_by, refused_alike}
+use Rattle.hh_office.specs.Refusals.{CountsReply, StandsForSome}
 use Rattle.hh_office.proofs.office.Office.run.Goals as goal
 
 pub returns-in_err-summary-clause-makes : goal.returns-in_err-summary-clause-makes
@@ -17,7 +19,7 @@ returns-in_err-summary-clause-makes g c sure s stands =
     let office = c.args.self.now.seen in
     let transition = run (midnight_of office) s c.args.moment c.args.key in
     let fault = c.in_err-summary.field-0.0 in
-    let told = subst (λ runs. TellsOrder runs c.args.key.kind (Err fault)) (c.deref.ensures.value ∙ c.in_ok-runs.ensures.value at) c.in_err-summary.ensures in
+    let told = subst (λ runs. TellsOrder runs c.args.key.kind (Err fault)) (c.deref.ensures.value ∙ c.in_ok-runs.ensures.value at) c.in_err-summary.ensures.told in
     subst (λ given. MakesTransition office c.runs_of.new.self.seen given transition) (passed_reply c.from_residual-in_err-summary.result fault c.from_residual-in_err-summary.ensures)
     (comes_same office c.runs_of.new.self.seen (reply.Refused fault) transition (c.in_ok-runs.ensures.same at)
     (run_out_of_order office s stands c.kept_summaries.ensures c.kept_kinds_of_dates.ensures c.args.key c.args.moment fault told))
@@ -26,14 +28,14 @@ pub returns-in-Some-clause-makes : goal.returns-in-Some-clause-makes
 returns-in-Some-clause-makes g c sure s stands =
     let at = sure in
     let office = c.args.self.now.seen in
-    let told = subst (λ runs. TellsOrder runs c.args.key.kind (Ok c.in_ok-summary.field-0)) (c.deref.ensures.value ∙ c.in_ok-runs.ensures.value at) c.in_ok-summary.ensures in
+    let told = subst (λ runs. TellsOrder runs c.args.key.kind (Ok c.in_ok-summary.field-0)) (c.deref.ensures.value ∙ c.in_ok-runs.ensures.value at) c.in_ok-summary.ensures.told in
     comes_same office c.runs_of.new.self.seen (reply.Ran c.args.key c.in-Some.summary) (run (midnight_of office) s c.args.moment c.args.key) (c.in_ok-runs.ensures.same at)
     (run_kept office s stands c.kept_summaries.ensures c.kept_kinds_of_dates.ensures c.args.key c.args.moment c.in-Some.summary (sym c.in-Some.is ∙ told.0))
 
 pub new_run-requires-clause-next : goal.new_run-requires-clause-next
 new_run-requires-clause-next g c at =
     let office = c.args.self.now.seen in
-    let told = subst (λ runs. TellsOrder runs c.args.key.kind (Ok c.in_ok-summary.field-0)) (c.deref.ensures.value ∙ c.in_ok-runs.ensures.value at) c.in_ok-summary.ensures in
+    let told = subst (λ runs. TellsOrder runs c.args.key.kind (Ok c.in_ok-summary.field-0)) (c.deref.ensures.value ∙ c.in_ok-runs.ensures.value at) c.in_ok-summary.ensures.told in
     subst (λ (o : OfficeView). IsNext o.content c.args.key) (sym (c.in_ok-runs.ensures.same at)) (sym told.0 ∙ c.in-None.is, told.1 c.in-None.is)
 
 pub new_run-requires-clause-former : goal.new_run-requires-clause-former
@@ -48,3 +50,16 @@ returns-clause-makes g c sure s stands =
     let new = c.new_run.new.self.seen in
     let does = subst (λ o. MakesInEachState o new c.new_run.result (λ midnight s. run midnight s (to_z w64 (of_z w64 c.args.moment)) c.args.key)) (c.in_ok-runs.ensures.same at) (c.new_run.ensures.makes sure) in
     subst (λ m. MakesTransition office new (reply_of c.new_run.result) (run (midnight_of office) s m c.args.key)) (to_z-of_z w64 c.args.moment c.ranges.moment) (does s stands)
+
+pub returns-in_err-summary-clause-tallied : goal.returns-in_err-summary-clause-tallied
+returns-in_err-summary-clause-tallied g c sure some =
+    let fault = c.in_err-summary.field-0.0 in
+    refused_alike c.from_residual-in_err-summary.result fault _ _ c.from_residual-in_err-summary.ensures
+    (elsewhere_tallied fault _ _ c.in_err-summary.ensures.elsewhere (c.in_ok-runs.ensures.tallied sure (reached_by c.args.self.now.seen some)))
+
+pub returns-clause-tallied : goal.returns-clause-tallied
+returns-clause-tallied g c sure some =
+    let before = c.new_run.ensures.sure sure in
+    let same = c.in_ok-runs.ensures.same before in
+    subst (λ n. CountsReply (reply_of c.new_run.result) n (g.T.Tables.refusals c.new_run.new.self.tables)) (c.in_ok-runs.ensures.tallied before (reached_by c.args.self.now.seen some))
+    (c.new_run.ensures.tallied sure (subst StandsForSome (sym same) some))
