@@ -90,9 +90,9 @@ module _ {X : Type 0} where
         | true ↦ refl
         | false ↦ elim (length fields == columns) as (λ b.
             IfErr (cond b (row_with (at_row number (row_of fields)) (rows_from columns row_of (number + 1) records)) (Err (row_fault BadRecord number))) IsElsewhere) [
-          | true ↦ with_elsewhere number (row_of fields) (rows_from columns row_of (number + 1) records) (from_elsewhere columns row_of (number + 1) records)
-          | false ↦ refl
-        ]
+              | true ↦ with_elsewhere number (row_of fields) (rows_from columns row_of (number + 1) records) (from_elsewhere columns row_of (number + 1) records)
+              | false ↦ refl
+            ]
       ]
 
   by_elsewhere : (form : Option (FileForm X)) (records : List (List (List ℕ))) → IfErr (rows_by form records) IsElsewhere

@@ -20,7 +20,9 @@ use hh_names::{Account, Fault, PeriodNumber, Refusal};
 use hh_num::Pence;
 use hh_requests::{AccountReply, ContractsReply, Reply, RunsReply};
 use hh_runs::{DayNet, RunKey, RunKind, Summary};
-use hh_state_laws::{balances_within, kept_kinds_of_dates, kept_postings, kept_results, paid_within};
+use hh_state_laws::{
+    balances_within, kept_kinds_of_dates, kept_postings, kept_results, paid_within,
+};
 use hh_store::{StoreFault, Tables};
 use hh_time::SettlementDate;
 use std::alloc::{AllocError, Global};
@@ -197,8 +199,7 @@ fn reply_by_rows(
 ) -> Result<Reply, Fault>
     ensures replies { RepliesAs result
         (reply_by_rows account.now run (rows_of_account account.now rows.now)) }
-    ensures tallied {
-        IsBetween day_cash.least day_cash.most (net_of_rows (rows_of_account account.now rows.now))
+    ensures tallied { IsBetween day_cash.least day_cash.most (net_of_rows (rows_of_account account.now rows.now))
         → (count : ℕ) → CountsReply (reply_of result) count count }
 {
     let found = rows_of(alloc, account, rows)?;

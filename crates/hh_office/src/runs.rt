@@ -23,7 +23,9 @@ ghost use Rattle.jiff.specs.Words.{plain_zone};
 use crate::enquiries::{kinds_of, latest_of};
 use crate::office::Office;
 use hh_calc::{AccountRow, PeriodData};
-use hh_day::{SettledDay, SettledPeriod, run_change, runs_fit, settle_day, terms_ready, writes_the_run};
+use hh_day::{
+    SettledDay, SettledPeriod, run_change, runs_fit, settle_day, terms_ready, writes_the_run,
+};
 use hh_names::{Fault, PeriodNumber, Refusal};
 use hh_requests::Reply;
 use hh_rows::{SettlementPeriod, UnitPeriod};

@@ -35,7 +35,7 @@ returns-clause-tallied g c sure some =
     let zone = ap (λ (o : OfficeView). o.zone) (ap (λ (k : Kept _). k.seen) c.self-2.view_is ∙ c.in_ok-register.ensures.same sure) in
     let passed = to_z-of_z w64 c.args.moment c.ranges.moment in
     let judges = judges_at c.args.self.now.seen some.0 c.args.moment rows register some.1 (rw c.deref.ensures.value at (c.in_ok-register.ensures.serves sure)) result
-        (subst (λ z. JudgesFile z register c.args.moment rows result) zone
-        (subst (λ m. JudgesFile c.self-2.inside.zone register m rows result) passed
-        (subst (λ rs. JudgesFile c.self-2.inside.zone register (to_z w64 (of_z w64 c.args.moment)) rs result) c.deref-2.ensures.value c.judge_file.ensures.judged))) in
+    (subst (λ z. JudgesFile z register c.args.moment rows result) zone
+    (subst (λ m. JudgesFile c.self-2.inside.zone register m rows result) passed
+    (subst (λ rs. JudgesFile c.self-2.inside.zone register (to_z w64 (of_z w64 c.args.moment)) rs result) c.deref-2.ensures.value c.judge_file.ensures.judged))) in
     answer_tallied result _ _ (gives_elsewhere (λ file. file) result _ (judged_elsewhere (timetable_at (midnight_of c.args.self.now.seen) some.0) some.0.history (coming_at c.args.moment rows)) judges) (c.in_ok-register.ensures.tallied sure (reached_by c.args.self.now.seen some))

@@ -59,7 +59,7 @@ returns-in_err-make_run-clause-tallied g c sure some =
     let e = c.in_err-make_run.field-0.0 in
     let settles = subst (λ m. SettlesIn office m c.args.key.date c.in_ok-settled.settled.items) (to_z-of_z w64 c.args.moment c.ranges.moment) (c.in_ok-settled.ensures.settled before) in
     let fits = run_fits office some.0 some.1 c.kept_summaries.ensures c.kept_kinds_of_dates.ensures c.args.key c.args.moment (c.requires.next first) c.runs_fit.ensures
-        c.in_ok-settled.settled.items c.args.former settles (c.requires.former first) in
+    c.in_ok-settled.settled.items c.args.former settles (c.requires.former first) in
     let told = subst (λ day. FitsRun c.args.key day (rows_before office.content c.args.former)) (sym c.deref.ensures.value) fits in
     refused_alike c.from_residual-in_err-make_run.result (store_fault e) _ _ c.from_residual-in_err-make_run.ensures
     (store_counts Reply e _ _ (subst (λ n. CountsRefusal {A = Reply} (Err e) n (g.T.Tables.refusals c.make_run.new.self.tables)) (c.in_ok-settled.ensures.tallied before reached)
@@ -75,7 +75,7 @@ returns-clause-tallied g c sure some =
     let reached = reached_by office some in
     let settles = subst (λ m. SettlesIn office m c.args.key.date c.in_ok-settled.settled.items) (to_z-of_z w64 c.args.moment c.ranges.moment) (c.in_ok-settled.ensures.settled before) in
     let fits = run_fits office some.0 some.1 c.kept_summaries.ensures c.kept_kinds_of_dates.ensures c.args.key c.args.moment (c.requires.next first) c.runs_fit.ensures
-        c.in_ok-settled.settled.items c.args.former settles (c.requires.former first) in
+    c.in_ok-settled.settled.items c.args.former settles (c.requires.former first) in
     let told = subst (λ day. FitsRun c.args.key day (rows_before office.content c.args.former)) (sym c.deref.ensures.value) fits in
     let makes = c.in_ok-make_run.ensures.made sure in
     subst (λ given. CountsReply given (g.T.Tables.refusals c.args.self.now.tables) (g.T.Tables.refusals c.make_run.new.self.tables)) (sym makes.replied)
