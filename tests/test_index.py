@@ -56,7 +56,7 @@ class Index(unittest.TestCase):
     def check_definition(self, cell):
         """A definition stands in the file that the cell names. The crate of the file."""
         place, *names = NAME.findall(cell)
-        crate, file = place.split("/")
+        crate, _, file = place.partition("/")
         text = (HOME / "crates" / crate / "specs" / f"{file}.antt").read_text(encoding="utf-8")
         for name in names:
             self.assertTrue(re.search(rf"(?m)^\s*(?:(?:abbrev|unfoldable) )?pub (?:record )?{re.escape(name)}\b", text), name)

@@ -18,7 +18,7 @@ use Rattle.hh_calc.specs.declared.result.CreditRow.{CreditRow}
 use Rattle.hh_calc.specs.Formulas.{lead_credit, loss_adjusted, subsidiary_credit, unit_credits}
 use Rattle.hh_calc.specs.Ready.{most_subsidiaries}
 use Rattle.hh_calc.specs.Settled.{credit_cmp}
-use Rattle.hh_calc.specs.Sums.{IsCreditSmall}
+use Rattle.hh_calc.specs.steps.Sums.{IsCreditSmall}
 use Rattle.hh_calc.specs.Terms.{BmUnit}
 use Rattle.hh_calc.proofs.SumLaws.{total-more}
 use Rattle.hh_calc.proofs.WordFacts.{long_word, word}

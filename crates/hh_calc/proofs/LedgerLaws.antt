@@ -14,7 +14,7 @@ use Rattle.hh_calc.specs.declared.result.CreditRow.{CreditRow}
 use Rattle.hh_calc.specs.declared.sums.AccountSums.{AccountSums}
 use Rattle.hh_calc.specs.Formulas.{all_sums, balanced, balancing_of, credited_of, credits_of, net_contracts, period_sums, unit_credits, unit_sums, weighing, weight_of}
 use Rattle.hh_calc.specs.Ready.{most_subsidiaries, HasFewSubsidiaries}
-use Rattle.hh_calc.specs.Sums.{balancing_amounts, greatest_credit, greatest_sum, greatest_volume, no_sums, with_amounts, with_contracts, with_credits, with_unit, AreChanged, AreGrown, IsWithin}
+use Rattle.hh_calc.specs.steps.Sums.{balancing_amounts, greatest_credit, greatest_sum, greatest_volume, no_sums, with_amounts, with_contracts, with_credits, with_unit, AreChanged, AreGrown, IsWithin}
 use Rattle.hh_calc.specs.Terms.{BmUnit, PeriodTerms}
 use Rattle.hh_calc.proofs.SumLaws.{all_within, changed_on, grown_on, none_more, total-more, weight_of_none}
 use Rattle.hh_calc.proofs.CreditFacts.{credit_of}

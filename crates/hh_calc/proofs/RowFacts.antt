@@ -13,7 +13,7 @@ use Rattle.hh_calc.specs.declared.sums.AccountSums.{AccountSums}
 use Rattle.hh_calc.specs.declared.result.Figures.{Figures}
 use Rattle.hh_calc.specs.Formulas.{charge_for, figures_from, imbalance_of}
 use Rattle.hh_calc.specs.Limits.{are_within, is_at_most, kept_where}
-use Rattle.hh_calc.specs.Sums.{greatest_sum, IsWithin}
+use Rattle.hh_calc.specs.steps.Sums.{greatest_sum, IsWithin}
 use Rattle.hh_calc.proofs.WordFacts.{long_word, word}
 
 -- an amount that a limit let through, or did not

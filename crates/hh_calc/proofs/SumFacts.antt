@@ -2,7 +2,7 @@
 use Rattle.std.proofs.Common.{◌≡◌, ◌*◌, ◌^◌, ◌≤◌, ◌∙◌, arith}
 use Rattle.std.specs.Prelude.{ℤ, ◌+ℤ◌, unsigned_abs}
 use Rattle.std.proofs.lemmas.Int.{ints}
-use Rattle.hh_calc.specs.Sums.{greatest_credit, greatest_sum}
+use Rattle.hh_calc.specs.steps.Sums.{greatest_credit, greatest_sum}
 use Rattle.hh_calc.proofs.WordFacts.{long_word, word}
 
 pub sum_word : (held amount : ℤ) → unsigned_abs held ≤ 2 * greatest_sum → unsigned_abs amount ≤ greatest_credit → word (word held +ℤ word amount) ≡ held +ℤ amount

@@ -19,7 +19,7 @@ use Rattle.hh_names.proofs.AccountLaws.{account_total}
 use Rattle.hh_calc.specs.declared.result.CreditRow.{CreditRow}
 use Rattle.hh_calc.specs.declared.sums.AccountSums.{AccountSums}
 use Rattle.hh_calc.specs.Formulas.{contracted, credited_of, net_of, of_account, weight_of}
-use Rattle.hh_calc.specs.Sums.{contract_amounts, credit_amounts, sums_plus, with_amounts, with_contract, with_contracts, with_credits, AreChanged, AreGrown, IsWithin}
+use Rattle.hh_calc.specs.steps.Sums.{contract_amounts, credit_amounts, sums_plus, with_amounts, with_contract, with_contracts, with_credits, AreChanged, AreGrown, IsWithin}
 
 -- amounts of another account do not count
 apart : (a to : Account) (x held : AccountSums) → is_same_account to a ≡ false → held ≡ with_amounts to x a held

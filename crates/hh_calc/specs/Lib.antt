@@ -3,4 +3,4 @@ pub mod Terms
 pub mod Ready
 pub mod Limits
 pub mod Settled
-pub mod Sums
+pub mod steps

@@ -4,7 +4,7 @@ ghost use Rattle.std.specs.Prelude.{◌≡◌, ◌≤◌, ◌^◌, ◌++◌, uns
 ghost use Rattle.hh_calc.specs.Formulas.{loss_adjusted, subsidiary_credit, unit_credits};
 ghost use Rattle.hh_calc.specs.Ready.{HasFewSubsidiaries};
 ghost use Rattle.hh_calc.specs.Settled.{credit_cmp};
-ghost use Rattle.hh_calc.specs.Sums.{greatest_volume, IsCreditSmall};
+ghost use Rattle.hh_calc.specs.steps.Sums.{greatest_volume, IsCreditSmall};
 
 use crate::data::{Subsidiary, UnitData};
 use crate::result::CreditRow;

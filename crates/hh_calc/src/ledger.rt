@@ -3,7 +3,7 @@
 ghost use Rattle.std.specs.Prelude.{◌≡◌, ◌+◌, ◌*◌, ◌++◌, [], length, map, replicate, All, IfOk, OnOk};
 ghost use Rattle.hh_calc.specs.Formulas.{all_sums, credits_of, unit_credits, unit_sums};
 ghost use Rattle.hh_calc.specs.Ready.{AreAccountsInOrder, AreInOrder, AreNamed, AreSubsidiariesFew, HasFewSubsidiaries, IsUnitNamed};
-ghost use Rattle.hh_calc.specs.Sums.{greatest_credit, greatest_sum, greatest_unit_sum, greatest_volume, no_sums, with_unit, AreChanged, AreGrown, IsWithin};
+ghost use Rattle.hh_calc.specs.steps.Sums.{greatest_credit, greatest_sum, greatest_unit_sum, greatest_volume, no_sums, with_unit, AreChanged, AreGrown, IsWithin};
 
 use crate::credits::push_credits;
 use crate::data::{PeriodData, UnitData};

@@ -5,7 +5,7 @@ ghost use Rattle.hh_calc.specs.Formulas.{all_figures, all_sums, charge_for, figu
 ghost use Rattle.hh_calc.specs.Limits.{are_all_within, are_within, greatest_cash, greatest_energy, is_at_most, is_within_limits, kept_where};
 ghost use Rattle.hh_calc.specs.Ready.{AreInOrder, AreNamed, AreSubsidiariesFew};
 ghost use Rattle.hh_calc.specs.Settled.{figures_of, shares_shown, AddsUp, IsSettled, SharesDepartLeast};
-ghost use Rattle.hh_calc.specs.Sums.{greatest_sum, IsWithin};
+ghost use Rattle.hh_calc.specs.steps.Sums.{greatest_sum, IsWithin};
 
 use crate::credits::sorted_credits;
 use crate::data::PeriodData;

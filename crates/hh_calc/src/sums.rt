@@ -4,7 +4,7 @@ ghost use Rattle.std.specs.Prelude.{◌≡◌, ◌<◌, ◌≤◌, ◌*◌, ◌+
 ghost use Rattle.std.specs.List.{HoldsAt};
 ghost use Rattle.hh_calc.specs.Formulas.{balanced, contracted};
 ghost use Rattle.hh_calc.specs.Ready.{most_subsidiaries, AreAccountsInOrder, IsContractNamed, IsCreditNamed, IsNamed};
-ghost use Rattle.hh_calc.specs.Sums.{added_at, greatest_credit, greatest_sum, greatest_unit_sum, greatest_volume, balancing_amounts, contract_amounts, credit_amounts, no_sums, sums_plus, with_amounts, with_contract, with_contracts, with_credits, AreChanged, AreGrown, IsCreditSmall, IsWithin};
+ghost use Rattle.hh_calc.specs.steps.Sums.{added_at, greatest_credit, greatest_sum, greatest_unit_sum, greatest_volume, balancing_amounts, contract_amounts, credit_amounts, no_sums, sums_plus, with_amounts, with_contract, with_contracts, with_credits, AreChanged, AreGrown, IsCreditSmall, IsWithin};
 
 use crate::data::UnitData;
 use crate::places::place_of;

@@ -33,7 +33,7 @@ use Rattle.hh_state_laws.proofs.TurnoverLaws.{is_day_net, sum_by-made, total_by_
 use Rattle.hh_store.specs.DayReads.{ArePeriodsOf}
 use Rattle.hh_day.specs.NewRuns.{WritesTheRun}
 use Rattle.hh_day.specs.RunLimits.{AreTurnoversSmall, FitsFields, RunsFit, TermsReady}
-use Rattle.hh_day.specs.RunParts.{AreNetsOf}
+use Rattle.hh_day.specs.steps.RunParts.{AreNetsOf}
 use Rattle.hh_day.proofs.NetLaws.{total_next}
 use Rattle.hh_day.proofs.WriteLaws.{of_the_last, of_those_that_pass, settles_the_day}
 

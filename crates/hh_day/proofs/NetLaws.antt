@@ -22,7 +22,7 @@ use Rattle.hh_runs.specs.declared.run_key.RunKey.{RunKey}
 use Rattle.hh_states.specs.declared.run_keys.ResultKey.{ResultKey}
 use Rattle.hh_states.specs.Content.{result_entries, result_key}
 use Rattle.hh_states.specs.RunReads.{paid_in, rows_by_period}
-use Rattle.hh_day.specs.RunParts.{AddsRow, AreNetsOf}
+use Rattle.hh_day.specs.steps.RunParts.{AddsRow, AreNetsOf}
 
 -- a net put where what it was and what the row moves come to adds the row
 pub adds_row : (nets : DayNets) (row : AccountRow) (net : ℤ) → net ≡ day_net_of nets row.account +ℤ paid_by row → AddsRow row nets (put account_cmp row.account net nets)

@@ -17,7 +17,7 @@ use Rattle.hh_states.specs.PeriodSettlement.{terms_at}
 use Rattle.hh_states.specs.Readiness.{ArePeriodsConsistent, AreTermsConsistent}
 use Rattle.hh_store.specs.DayReads.{ArePeriodsOf, IsPeriodOf}
 use Rattle.hh_day.specs.NewRuns.{SettledInOneWay}
-use Rattle.hh_day.specs.PeriodSteps.{SettlesPeriod}
+use Rattle.hh_day.specs.steps.PeriodSteps.{SettlesPeriod}
 
 -- So many of these Settlement Periods are settled so from these, and none of them passes a limit, by whatever is registered and in
 -- force, where what each is settled from fits together.

@@ -1,5 +1,4 @@
 pub mod Headline
 pub mod NewRuns
-pub mod PeriodSteps
 pub mod RunLimits
-pub mod RunParts
+pub mod steps

@@ -4,7 +4,7 @@ ghost use Rattle.std.specs.Prelude.{◌≡◌, ◌++◌, map, IfOk, OnOk};
 ghost use Rattle.hh_runs.specs.Postings.{entry_of};
 ghost use Rattle.hh_states.specs.Content.{credit_entries, credit_key, posting_entries, result_entries, result_key};
 ghost use Rattle.hh_day.specs.NewRuns.{account_count};
-ghost use Rattle.hh_day.specs.RunParts.{credit_count};
+ghost use Rattle.hh_day.specs.steps.RunParts.{credit_count};
 
 use crate::settle::SettledPeriod;
 use hh_calc::{AccountRow, CreditRow};

@@ -5,7 +5,7 @@ ghost use Rattle.hh_num.specs.Ranges.{IsBetween};
 ghost use Rattle.hh_calc.specs.Settled.{paid_by};
 ghost use Rattle.hh_runs.specs.DayNets.{day_cash, day_net_of};
 ghost use Rattle.hh_day.specs.RunLimits.{AreTurnoversSmall};
-ghost use Rattle.hh_day.specs.RunParts.{AddsRow, AreNetsOf};
+ghost use Rattle.hh_day.specs.steps.RunParts.{AddsRow, AreNetsOf};
 
 use hh_calc::AccountRow;
 use hh_runs::{DayNet, DayNetTable};

@@ -4,7 +4,7 @@ ghost use Rattle.std.specs.Prelude.{◌≡◌, All, IfErr, IfOk};
 ghost use Rattle.hh_calc.specs.Ready.{IsReady};
 ghost use Rattle.hh_states.specs.DaySettlement.{periods_on};
 ghost use Rattle.hh_day.specs.NewRuns.{SettlesDay};
-ghost use Rattle.hh_day.specs.PeriodSteps.{SettlesPeriod};
+ghost use Rattle.hh_day.specs.steps.PeriodSteps.{SettlesPeriod};
 
 use crate::laws::settled_in_one_way;
 use hh_calc::{CalcFault, PeriodData, PeriodResult, settle_period};

@@ -5,7 +5,7 @@ use Rattle.std.proofs.lemmas.List.Elements.{filter-append}
 use Rattle.std.specs.Str.{str_eq_ignore_ascii_case}
 use Rattle.httparse.specs.Spans.{header_bytes}
 use Rattle.httparse.specs.declared.spans.HeaderSpan.{HeaderSpan}
-use Rattle.hh_heads.specs.Fields.{IsField}
+use Rattle.hh_heads.specs.steps.Fields.{IsField}
 use Rattle.hh_heads.specs.Headings.{Header, values_in}
 use Rattle.hh_heads.specs.declared.field.Field.{Field}
 

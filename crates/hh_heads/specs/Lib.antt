@@ -1,6 +1,6 @@
-pub mod Fields
 pub mod Found
 pub mod Fronts
 pub mod Headings
 pub mod Heads
 pub mod Lengths
+pub mod steps

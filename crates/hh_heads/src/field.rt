@@ -3,7 +3,7 @@
 ghost use Rattle.std.specs.Prelude.{◌≡◌, ℕ, List, [], ◌∷◌, ◌++◌, All, length, map};
 ghost use Rattle.std.specs.Str.{str_eq_ignore_ascii_case};
 ghost use Rattle.httparse.specs.Spans.{IsHeaderWithin, header_bytes};
-ghost use Rattle.hh_heads.specs.Fields.{IsField};
+ghost use Rattle.hh_heads.specs.steps.Fields.{IsField};
 ghost use Rattle.hh_heads.specs.Headings.{values_in};
 
 use httparse::spans::HeaderSpan;

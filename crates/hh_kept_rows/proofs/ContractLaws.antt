@@ -19,7 +19,7 @@ use Rattle.hh_rules.specs.History.{Registered}
 use Rattle.hh_states.specs.DaySettlement.{from_one_to}
 use Rattle.hh_states.specs.PeriodSettlement.{row_in_force, rows_in_force}
 use Rattle.hh_states.specs.Reads.{contracts_of, names_account}
-use Rattle.hh_kept_rows.specs.KeptContracts.{contract_on, is_in_period, names, row_that_names}
+use Rattle.hh_kept_rows.specs.steps.KeptContracts.{contract_on, is_in_period, names, row_that_names}
 
 both_equal : (o p : Ordering) → is_eq (ordering_then o p) ≡ (is_eq o && is_eq p)
 both_equal Less p = refl

@@ -17,8 +17,8 @@ use Rattle.hh_rows.specs.declared.settlement_period.SettlementPeriod.{Settlement
 use Rattle.hh_rules.specs.History.{Registered}
 use Rattle.hh_states.specs.DaySettlement.{from_one_to, periods_on}
 use Rattle.hh_states.specs.PeriodSettlement.{row_in_force, rows_in_force}
-use Rattle.hh_kept_rows.specs.DayRolls.{row_on}
-use Rattle.hh_kept_rows.specs.KeptContracts.{is_in_period}
+use Rattle.hh_kept_rows.specs.steps.DayRolls.{row_on}
+use Rattle.hh_kept_rows.specs.steps.KeptContracts.{is_in_period}
 use Rattle.hh_kept_rows.proofs.ContractLaws.{same_period}
 
 -- a search over a list that goes on

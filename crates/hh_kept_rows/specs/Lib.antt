@@ -1,6 +1,4 @@
-pub mod DayRolls
 pub mod DayRows
-pub mod KeptContracts
-pub mod KeptReallocations
 pub mod Parts
 pub mod Reports
+pub mod steps

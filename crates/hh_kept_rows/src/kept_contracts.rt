@@ -4,7 +4,7 @@ ghost use Rattle.std.specs.Prelude.{◌≡◌, ◌++◌, filter, filter_map, IfO
 ghost use Rattle.std.specs.List.{flat_map};
 ghost use Rattle.hh_states.specs.DaySettlement.{from_one_to};
 ghost use Rattle.hh_states.specs.Reads.{contracts_of};
-ghost use Rattle.hh_kept_rows.specs.KeptContracts.{contract_on, is_in_period, names};
+ghost use Rattle.hh_kept_rows.specs.steps.KeptContracts.{contract_on, is_in_period, names};
 
 use crate::kept_register::KeptRegister;
 use hh_names::{Account, Contract, Counterparties};

@@ -6,8 +6,8 @@ ghost use Rattle.hh_rules.specs.RegisterView.{reallocations_at};
 ghost use Rattle.hh_states.specs.DaySettlement.{missing_meter, missing_price, periods_on, unit_periods_at};
 ghost use Rattle.hh_states.specs.PeriodSettlement.{accounts_on, price_of, reading_of, subsidiaries_of, unit_at, units_on};
 ghost use Rattle.hh_store.specs.DayReads.{ArePeriodsOf, IsDayData, IsPeriodOf};
-ghost use Rattle.hh_kept_rows.specs.DayRolls.{IsRollOf, row_on};
-ghost use Rattle.hh_kept_rows.specs.KeptContracts.{is_in_period};
+ghost use Rattle.hh_kept_rows.specs.steps.DayRolls.{IsRollOf, row_on};
+ghost use Rattle.hh_kept_rows.specs.steps.KeptContracts.{is_in_period};
 
 use crate::day_places::{DayPlaces, UnitPlaces};
 use crate::kept_reallocations::{count_of, first_of};

@@ -4,7 +4,7 @@ ghost use Rattle.std.specs.Prelude.{◌≡◌, ◌≤◌, ◌<◌, ◌-◌, leng
 ghost use Rattle.std.specs.List.{AllWithin, HoldsAt};
 ghost use Rattle.hh_rows.specs.Keys.{reallocation_key_cmp};
 ghost use Rattle.hh_tables.specs.Tables.{IsTable};
-ghost use Rattle.hh_kept_rows.specs.KeptReallocations.{is_before, is_no_later, BeginAt};
+ghost use Rattle.hh_kept_rows.specs.steps.KeptReallocations.{is_before, is_no_later, BeginAt};
 
 use hh_names::Reallocation;
 use hh_rows::{ReallocationKey, UnitPeriod};

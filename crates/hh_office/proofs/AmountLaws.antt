@@ -23,7 +23,7 @@ use Rattle.hh_states.specs.States.{State}
 use Rattle.hh_states.specs.Steps.{IsReached}
 use Rattle.hh_office.specs.Enquiries.{net_of_rows, rows_of_account}
 use Rattle.hh_office.specs.Promises.{Stands}
-use Rattle.hh_office.specs.Reads.{latest_key}
+use Rattle.hh_office.specs.steps.Reads.{latest_key}
 use Rattle.hh_office.specs.Views.{OfficeView, midnight_of}
 use Rattle.hh_store.specs.Reached.{AreReached}
 use Rattle.hh_office.proofs.EnquiryLaws.{latest_holds, latest_is}
@@ -68,10 +68,3 @@ net_fits office s stands runs paid a date key found =
     fits_by None is held = absurd (false_is_not_true (ap is_some is))
     fits_by (Some r) is held =
         subst (fits office.content) (ap (λ o. unwrap_or o key) is) (subst (λ c. fits c r.key) (sym stands.1) held.0)
-
--- what is posted to an account comes to an amount of cash, in the tables of a reached state
-pub reached_balance : HoldsPostings → BalancesWithin → (content : Content) → AreReached content → (a : Account)
-    → IsBetween amounts_of_cash.least amounts_of_cash.most (total (λ e. e.1) (postings_in content a))
-reached_balance held within content (midnight, s, stands) a =
-    subst (λ (c : Content). IsBetween amounts_of_cash.least amounts_of_cash.most (total (λ e. e.1) (postings_in c a))) (sym stands.1)
-    (balance_fits midnight s stands.0 held within a)

@@ -21,7 +21,7 @@ use Rattle.hh_states.specs.States.{State}
 use Rattle.hh_states.specs.Steps.{kinds_on}
 use Rattle.hh_office.specs.Enquiries.{account_reply, reply_by_rows, reply_by_run, rows_of_account}
 use Rattle.hh_office.specs.Promises.{MakesTransition, RepliesAs, Stands, reply_of}
-use Rattle.hh_office.specs.Reads.{latest_key}
+use Rattle.hh_office.specs.steps.Reads.{latest_key}
 use Rattle.hh_office.specs.Transitions.{unchanged}
 use Rattle.hh_office.specs.Views.{OfficeView, midnight_of}
 use Rattle.hh_office.proofs.StepLaws.{comes_unchanged, comes_replied}

@@ -7,9 +7,10 @@ use Rattle.hh_requests.specs.declared.reply.Reply.{Reply}
 use Rattle.hh_states.specs.Content.{tables_of, Content}
 use Rattle.hh_states.specs.States.{State}
 use Rattle.hh_states.specs.Steps.{IsReached}
-use Rattle.hh_office.specs.Loads.{IsNamed}
+use Rattle.hh_office.specs.steps.Loads.{NamesItsFile}
 use Rattle.hh_office.specs.Machine.{answer, next, Timed, state_after}
 use Rattle.hh_office.specs.Promises.{HandleStep, Stands, StandsAfter, is_given_up, ConservesAfter, ConservesAfterAll, RunAllStep, RunsAs, StandsAfterAll, served}
+use Rattle.hh_office.specs.Refusals.{StandsForSome}
 use Rattle.hh_office.specs.Views.{OfficeView, midnight_of}
 use Rattle.hh_office.proofs.OnceLaws.{AreNamed, next_reached, served_reached}
 use Rattle.jiff.specs.Words.{plain_zone}
@@ -23,7 +24,7 @@ stands_by true old new s t P stands reached same = subst (λ o. Stands o s) (sym
 stands_by false old new s t P stands reached comes = subst (λ o. Stands o t) (sym comes.1) (reached, refl)
 
 -- an office that steps as the machine stands for its state
-pub stands_after : (old new : OfficeView) (moment : ℤ) (request : Request) (given : Reply) → IsNamed request.action → HandleStep old new moment request given
+pub stands_after : (old new : OfficeView) (moment : ℤ) (request : Request) (given : Reply) → NamesItsFile request.action → HandleStep old new moment request given
     → StandsAfter old new moment request given
 stands_after old new moment request given named steps s stands =
     let t : State = next (midnight_of old) s moment request in
@@ -41,7 +42,7 @@ zone_by true old new P content same = ap (λ o. o.zone) same
 zone_by false old new P content comes = ap (λ (o : OfficeView). o.zone) comes.1
 
 -- an office that steps as the machine has tables that add up afterwards
-pub conserves_after : ReachedConserve → (old new : OfficeView) (moment : ℤ) (request : Request) (given : Reply) → IsNamed request.action → HandleStep old new moment request given
+pub conserves_after : ReachedConserve → (old new : OfficeView) (moment : ℤ) (request : Request) (given : Reply) → NamesItsFile request.action → HandleStep old new moment request given
     → ConservesAfter old new moment request given
 conserves_after law old new moment request given named steps s stands =
     let t : State = next (midnight_of old) s moment request in
@@ -55,6 +56,12 @@ stands_after_all old new requests given named runs s stands =
     let ran : RunsAs old new s requests given = runs s stands in
     let done : List Timed = map (λ (r : Timed × Reply). r.0) (served requests given) in
     subst (λ (o : OfficeView). Stands o (state_after (midnight_of old) s done)) (sym ran.tables) (served_reached (midnight_of old) s requests given named stands.0, refl)
+
+-- so it stands for some state afterwards, if it did before
+pub stands_for_some : (old new : OfficeView) (requests : List Timed) (given : List Reply) → AreNamed requests → RunAllStep old new requests given
+    → StandsForSome old → StandsForSome new
+stands_for_some old new requests given named runs (s, stands) =
+    (state_after (midnight_of old) s (map (λ (r : Timed × Reply). r.0) (served requests given)), stands_after_all old new requests given named runs s stands)
 
 -- an office that runs as the machine has tables that add up afterwards
 pub conserves_after_all : ReachedConserve → (old new : OfficeView) (requests : List Timed) (given : List Reply) → AreNamed requests → RunAllStep old new requests given

@@ -37,7 +37,7 @@ use Rattle.hh_states.specs.RunReads.{HoldsSummaries}
 use Rattle.hh_states.specs.Changes.{LoadEffect, RunEffect}
 use Rattle.hh_states.specs.Runs.{run_key_cmp}
 use Rattle.hh_states.proofs.KeyLaws.{file_key_total, exact_run_keys, run_key_total}
-use Rattle.hh_office.specs.Loads.{IsNamed}
+use Rattle.hh_office.specs.steps.Loads.{NamesItsFile}
 use Rattle.hh_office.specs.Machine.{Timed, act, is_operator, key_of, load, load_beside, load_new, load_read_as, loaded, loaded_reply, may, next, repeat_reply, state_after, step, answer}
 use Rattle.hh_office.specs.Transitions.{Transition, refused, refused_for, unchanged}
 use Rattle.hh_office.specs.Promises.{MakesTransition, HandleStep, RepeatsOnce, is_given_up, is_refused, served, Stands}
@@ -55,7 +55,7 @@ Passes N _ = Unit {0}
 abbrev pub IsFileName : List ℕ → Type 0
 IsFileName name = IsTrue (is_file_name name)
 
-named_passes : (action : Action) → IsNamed action → Passes IsFileName action
+named_passes : (action : Action) → NamesItsFile action → Passes IsFileName action
 named_passes (ask.Load upload) named = named
 named_passes (ask.Run key) named = tt
 named_passes (ask.Account account date) named = tt
@@ -143,7 +143,7 @@ after_by midnight P keeps s [] holds = holds
 after_by midnight P keeps s (t ∷ ts) holds = after_by midnight P keeps (next midnight s t.0 t.1) ts (keeps s t.0 t.1 holds)
 
 -- the machine reaches the state after each request
-pub next_reached : (midnight : Midnights) (s : State) (moment : ℤ) (request : Request) → IsNamed request.action → IsReached midnight s
+pub next_reached : (midnight : Midnights) (s : State) (moment : ℤ) (request : Request) → NamesItsFile request.action → IsReached midnight s
     → IsReached midnight (next midnight s moment request)
 next_reached midnight s moment request named reached =
     next_by midnight s IsFileName (IsReached midnight) reached (λ load name may. by_load s load reached (can_load midnight s load name may)) (λ at key can. by_run s at key reached can)
@@ -151,7 +151,7 @@ next_reached midnight s moment request named reached =
 
 -- each file that requests send has a name in its grammar
 abbrev pub AreNamed : List Timed → Type 0
-AreNamed ts = AllByRecursion (λ t. IsNamed t.1.action) ts
+AreNamed ts = AllByRecursion (λ t. NamesItsFile t.1.action) ts
 
 -- the machine reaches the state after a list of requests
 pub all_reached : (midnight : Midnights) (s : State) (ts : List Timed) → AreNamed ts → IsReached midnight s → IsReached midnight (state_after midnight s ts)
@@ -172,7 +172,7 @@ pub served_reached : (midnight : Midnights) (s : State) (ts : List Timed) (rs : 
 served_reached midnight s ts rs named reached = all_reached midnight s (map (λ (x : Timed × Reply). x.0) (served ts rs)) (named_served ts rs named) reached
 
 -- one more is named too
-pub named_more : (ts : List Timed) (t : Timed) → AreNamed ts → IsNamed t.1.action → AreNamed (ts ++ t ∷ [])
+pub named_more : (ts : List Timed) (t : Timed) → AreNamed ts → NamesItsFile t.1.action → AreNamed (ts ++ t ∷ [])
 named_more [] t named one = (one, tt)
 named_more (u ∷ ts) t named one = (named.0, named_more ts t named.1 one)
 

@@ -1,5 +1,5 @@
 -- How often a store has refused through the parts of a request, and which of them refuse for another cause.
-use Rattle.std.proofs.Common.{◌≡◌, ℕ, ◌+◌, List, [], ◌∷◌, ◌++◌, length, refl, sym, ap, subst, Bool, true, false, cond, Option, Some, None, Result, Ok, Err}
+use Rattle.std.proofs.Common.{◌≡◌, ℕ, ◌+◌, ◌≤◌, ◌<◌, List, [], ◌∷◌, ◌++◌, length, refl, sym, ap, subst, Bool, true, false, cond, arith, Option, Some, None, Result, Ok, Err}
 use Rattle.std.specs.Prelude.{All, IfErr, IsErr, IsErrAnd, MatchBool, is_some, ◌==◌, nat_lt, unwrap_or}
 use Rattle.std.specs.List.{AllByRecursion}
 use Rattle.hh_tables.proofs.TableLaws.{false_is_not_true}
@@ -40,24 +40,25 @@ use Rattle.hh_states.specs.States.{AcceptedFile}
 use Rattle.hh_office.specs.Machine.{loaded_reply, repeat_reply}
 use Rattle.hh_office.specs.Promises.{UnlessFailed, reply_of}
 use Rattle.hh_office.specs.Views.{OfficeView, midnight_of}
-use Rattle.hh_office.specs.Refusals.{CountsAnswer, CountsFault, CountsReply, IsElsewhere, StandsForSome, is_of_store}
+use Rattle.hh_office.specs.Refusals.{CountsAnswer, CountsStoreFault, CountsReplies, CountsReply, IsElsewhere, IsNotOfStore, StandsForSome, is_of_store}
+use Rattle.hh_devices.specs.Devices.{most_failures}
 
 -- ---- faults that are passed on
 
 -- the reply of a refusal that is passed on
 pub refused_alike : (result : Result Reply Fault) (fault : Fault) (old new : ℕ) → IsErr result × IsErrAnd result (λ f. f ≡ fault)
-    → CountsFault fault old new → CountsReply (reply_of result) old new
+    → CountsStoreFault fault old new → CountsReply (reply_of result) old new
 refused_alike (Ok x) fault old new passed counts = absurd (false_is_not_true passed.0)
-refused_alike (Err f) fault old new passed counts = subst (λ f. CountsFault f old new) (sym passed.1) counts
+refused_alike (Err f) fault old new passed counts = subst (λ f. CountsStoreFault f old new) (sym passed.1) counts
 
 -- the same of a part of a request
 pub refuses_alike : {X : Type 0} (result : Result X Fault) (fault : Fault) (old new : ℕ) → IsErr result × IsErrAnd result (λ f. f ≡ fault)
-    → CountsFault fault old new → CountsAnswer result old new
+    → CountsStoreFault fault old new → CountsAnswer result old new
 refuses_alike (Ok x) fault old new passed counts = absurd (false_is_not_true passed.0)
-refuses_alike (Err f) fault old new passed counts = subst (λ f. CountsFault f old new) (sym passed.1) counts
+refuses_alike (Err f) fault old new passed counts = subst (λ f. CountsStoreFault f old new) (sym passed.1) counts
 
 -- what a store tells, as a refusal
-pub store_counts : (Y : Type 0) (e : StoreFault) (old new : ℕ) → CountsRefusal {A = Y} (Err e) old new → CountsFault (store_fault e) old new
+pub store_counts : (Y : Type 0) (e : StoreFault) (old new : ℕ) → CountsRefusal {A = Y} (Err e) old new → CountsStoreFault (store_fault e) old new
 store_counts Y Memory old new counts = counts
 store_counts Y Store old new counts = counts
 
@@ -71,7 +72,7 @@ some_same : {X : Type 0} (x y : X) → Some x ≡ Some y → x ≡ y
 some_same x y is = ap (λ o. unwrap_or o x) is
 
 -- of a refusal of another cause the store counts none
-pub elsewhere_counts : (fault : Fault) (n : ℕ) → IsElsewhere fault → CountsFault fault n n
+pub elsewhere_counts : (fault : Fault) (n : ℕ) → IsElsewhere fault → CountsStoreFault fault n n
 elsewhere_counts fault n is = subst (λ b. MatchBool b (CountsOneMore n n) (n ≡ n)) (sym is) refl
 
 module _ {X : Type 0} where
@@ -172,11 +173,11 @@ pub memory_elsewhere : (e : StoreFault) → e ≡ Memory → IsElsewhere (store_
 memory_elsewhere e is = ap (λ (e : StoreFault). is_of_store (store_fault e).refusal) is
 
 -- a call that fails for memory alone counts none
-pub memory_tallied : {X : Type 0} (result : Result X Fault) (e : StoreFault) (old new : ℕ) → IsErr result × IsErrAnd result (λ f. f ≡ store_fault e)
+pub memory_counted : {X : Type 0} (result : Result X Fault) (e : StoreFault) (old new : ℕ) → IsErr result × IsErrAnd result (λ f. f ≡ store_fault e)
     → e ≡ Memory → new ≡ old → CountsAnswer result old new
-memory_tallied result e old new passed alone same =
+memory_counted result e old new passed alone same =
     refuses_alike result (store_fault e) old new passed
-    (subst (λ n. CountsFault (store_fault e) old n) (sym same) (elsewhere_counts (store_fault e) old (memory_elsewhere e alone)))
+    (subst (λ n. CountsStoreFault (store_fault e) old n) (sym same) (elsewhere_counts (store_fault e) old (memory_elsewhere e alone)))
 
 -- a fault of the store gives a request up, whatever held otherwise
 pub store_unless : (e : StoreFault) (holds : Type 0) → UnlessFailed (store_fault e) holds
@@ -184,13 +185,13 @@ store_unless Memory holds = tt
 store_unless Store holds = tt
 
 -- a refusal of another cause counts none, wherever the count was last told
-pub elsewhere_tallied : (fault : Fault) (old new : ℕ) → IsElsewhere fault → new ≡ old → CountsFault fault old new
-elsewhere_tallied fault old new elsewhere same = subst (λ n. CountsFault fault old n) (sym same) (elsewhere_counts fault old elsewhere)
+pub elsewhere_counted : (fault : Fault) (old new : ℕ) → IsElsewhere fault → new ≡ old → CountsStoreFault fault old new
+elsewhere_counted fault old new elsewhere same = subst (λ n. CountsStoreFault fault old n) (sym same) (elsewhere_counts fault old elsewhere)
 
 -- an answer that refuses for another cause alone counts none
-pub answer_tallied : {X : Type 0} (result : Result X Fault) (old new : ℕ) → IfErr result IsElsewhere → new ≡ old → CountsAnswer result old new
-answer_tallied (Ok x) old new elsewhere same = same
-answer_tallied (Err fault) old new elsewhere same = elsewhere_tallied fault old new elsewhere same
+pub answer_counted : {X : Type 0} (result : Result X Fault) (old new : ℕ) → IfErr result IsElsewhere → new ≡ old → CountsAnswer result old new
+answer_counted (Ok x) old new elsewhere same = same
+answer_counted (Err fault) old new elsewhere same = elsewhere_counted fault old new elsewhere same
 
 -- what is answered is of another cause, if what may be answered is
 pub gives_elsewhere : {X Y : Type 0} (view : X → Y) (result : Result X Fault) (outcome : Result Y Fault) → IfErr outcome IsElsewhere
@@ -223,3 +224,39 @@ next_elsewhere done wanted =
 pub repeat_counts : (file : AcceptedFile) (body : List ℕ) (n : ℕ) → CountsReply (repeat_reply file body) n n
 repeat_counts file body n =
     elim (bytes_eq file.body body) as (λ b. CountsReply (cond b (loaded_reply file) (reply.Refused (plain_fault FileChanged))) n n) [ true ↦ refl | false ↦ refl ]
+
+-- ---- lists of replies
+
+all_more : {X : Type 0} (P : X → Type 0) (xs : List X) (x : X) → AllByRecursion P xs → P x → AllByRecursion P (xs ++ x ∷ [])
+all_more P [] x all is = (is, tt)
+all_more P (y ∷ xs) x all is = (all.0, all_more P xs x all.1 is)
+
+-- what a reply counts is no less, and where nothing is counted it is not the refusal of a store
+counts_up : (b : Bool) (old new : ℕ) → MatchBool b (CountsOneMore old new) (new ≡ old)
+    → (old ≤ new) × (new ≡ old → old < most_failures → b ≡ false)
+counts_up true old new counts = (counts.0, λ same below. absurd (omega (arith, counts.1 below)))
+counts_up false old new same = (omega arith, λ _ _. refl)
+
+reply_up : (given : Reply) (old new : ℕ) → CountsReply given old new → (old ≤ new) × (new ≡ old → old < most_failures → IsNotOfStore given)
+reply_up (reply.Refused fault) old new counts = counts_up (is_of_store fault.refusal) old new counts
+reply_up (reply.Loaded x) old new same = (omega arith, λ _ _. tt)
+reply_up (reply.Ran x y) old new same = (omega arith, λ _ _. tt)
+reply_up (reply.Account x) old new same = (omega arith, λ _ _. tt)
+reply_up (reply.Balance x y) old new same = (omega arith, λ _ _. tt)
+reply_up (reply.Contracts x) old new same = (omega arith, λ _ _. tt)
+reply_up (reply.Runs x) old new same = (omega arith, λ _ _. tt)
+
+-- one more reply
+pub counts_more : (given : List Reply) (r : Reply) (first old new : ℕ) → CountsReplies given first old → CountsReply r old new
+    → CountsReplies (given ++ r ∷ []) first new
+counts_more given r first old new before counts =
+    let up = before.up in
+    let more = (reply_up r old new counts).0 in
+    record {
+      up = omega arith;
+      stays = λ same below.
+          let still : old ≡ first = omega arith in
+          let now : new ≡ old = omega arith in
+          let low : old < most_failures = omega arith in
+          all_more IsNotOfStore given r (before.stays still below) ((reply_up r old new counts).1 now low);
+    }

@@ -19,7 +19,7 @@ use Rattle.hh_states.specs.Steps.{after_run, first_there, missing_meter_fault, p
 use Rattle.hh_day.specs.NewRuns.{day_in, IsSettledDay, SettlesDay, IsWrittenFor, WritesTheRun, former_rows}
 use Rattle.hh_day.specs.RunLimits.{FitsRun, RunsFit}
 use Rattle.hh_office.specs.Promises.{Stands, UnlessFailed, gives_up, MakesTransition, reply_of}
-use Rattle.hh_office.specs.Settling.{Lacks, WritesRun, lack_fault, AreTermsOf, IsOverDay, TellsOrder, order_fault, IsNext, IsRunMade, RefusesIn, SettlesIn, rows_before}
+use Rattle.hh_office.specs.steps.Settling.{Lacks, WritesRun, lack_fault, AreTermsOf, IsOverDay, TellsOrder, order_fault, IsNext, IsRunMade, RefusesIn, SettlesIn, rows_before}
 use Rattle.hh_office.specs.Views.{OfficeView, midnight_of}
 use Rattle.std.proofs.lemmas.Option.{none-some}
 use Rattle.std.specs.Result.{IsErr, IsErrAnd}
@@ -50,7 +50,7 @@ use Rattle.hh_states.specs.Runs.{Run, latest_run, run_key_cmp}
 use Rattle.hh_store.specs.StoreFaults.{store_fault}
 use Rattle.hh_store.specs.declared.store_fault.StoreFault.{StoreFault}
 use Rattle.hh_store.specs.declared.store_fault.StoreFault.TheVariants as store
-use Rattle.hh_office.specs.Reads.{latest_key}
+use Rattle.hh_office.specs.steps.Reads.{latest_key}
 use Rattle.hh_office.specs.Runs.{made_or_refused, run, run_beside}
 use Rattle.hh_office.specs.Transitions.{Transition, refused}
 use Rattle.hh_office.proofs.EnquiryLaws.{latest_is}

@@ -26,7 +26,7 @@ use Rattle.hh_states.specs.Content.{tables_of}
 use Rattle.hh_states.specs.Reads.{HoldsFiles, file_in, whole_register}
 use Rattle.hh_states.specs.States.{AcceptedFile, State, file_key_cmp}
 use Rattle.hh_states.specs.Steps.{after_load, timetable_at}
-use Rattle.hh_office.specs.Loads.{Accepts, Answers, WritesLoad, accepted, judged_upload, writes_of}
+use Rattle.hh_office.specs.steps.Loads.{Accepts, Answers, WritesLoad, accepted, judged_upload, writes_of}
 use Rattle.hh_office.specs.Machine.{act, key_of, load_new, may, step, load, load_beside, load_read_as, loaded_reply}
 use Rattle.hh_office.specs.Transitions.{Transition, refused, refused_for, unchanged}
 use Rattle.hh_office.specs.Promises.{MakesTransition, Stands, UnlessFailed, gives_up, is_given_up, reply_of, RepliesAs}

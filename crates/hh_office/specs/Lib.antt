@@ -1,13 +1,11 @@
 pub mod Enquiries
-pub mod Loads
 pub mod Machine
 pub mod PartyViews
 pub mod Promises
-pub mod Reads
 pub mod Reports
 pub mod Refusals
 pub mod ReportTexts
 pub mod Runs
-pub mod Settling
 pub mod Transitions
 pub mod Views
+pub mod steps

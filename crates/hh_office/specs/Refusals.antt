@@ -1,5 +1,7 @@
 -- How often a store has refused, as the office's answers tell it.
-use Rattle.std.specs.Prelude.{◌≡◌, ℕ, Bool, true, false, MatchBool, Result, Ok, Err}
+use Rattle.std.specs.Prelude.{◌≡◌, ◌≤◌, ◌<◌, ℕ, List, Bool, true, false, MatchBool, Result, Ok, Err}
+use Rattle.std.specs.List.{AllByRecursion}
+use Rattle.hh_devices.specs.Devices.{most_failures}
 use Rattle.hh_names.specs.declared.fault.Fault.{Fault}
 use Rattle.hh_names.specs.declared.fault.Refusal.{Refusal}
 use Rattle.hh_names.specs.declared.fault.Refusal.TheVariants.{Store}
@@ -26,21 +28,31 @@ abbrev pub StandsForSome : OfficeView → Type 0
 StandsForSome office = (s : State) × Stands office s
 
 -- the store counts one refusal where a fault tells one, and none elsewhere
-abbrev pub CountsFault : Fault → ℕ → ℕ → Type 0
-CountsFault fault old new = MatchBool (is_of_store fault.refusal) (CountsOneMore old new) (new ≡ old)
+abbrev pub CountsStoreFault : Fault → ℕ → ℕ → Type 0
+CountsStoreFault fault old new = MatchBool (is_of_store fault.refusal) (CountsOneMore old new) (new ≡ old)
 
 -- the same of a part of a request
 abbrev pub CountsAnswer : {A : Type 0} → Result A Fault → ℕ → ℕ → Type 0
 CountsAnswer (Ok x) old new = new ≡ old
-CountsAnswer (Err fault) old new = CountsFault fault old new
+CountsAnswer (Err fault) old new = CountsStoreFault fault old new
 
 -- the same of a reply
 abbrev pub CountsReply : Reply → ℕ → ℕ → Type 0
-CountsReply (reply.Refused fault) old new = CountsFault fault old new
+CountsReply (reply.Refused fault) old new = CountsStoreFault fault old new
 CountsReply _ old new = new ≡ old
 
+-- a reply is not the refusal of a store
+abbrev pub IsNotOfStore : Reply → Type 0
+IsNotOfStore (reply.Refused fault) = IsElsewhere fault
+IsNotOfStore _ = Unit {0}
+
+-- over a list of replies the count did not fall; and where it stayed, below the greatest, none of them is the refusal of a store
+pub record CountsReplies (given : List Reply) (old new : ℕ) : Type 0 where
+  pub up : old ≤ new
+  pub stays : new ≡ old → old < most_failures → AllByRecursion IsNotOfStore given
+
 -- the same of a report
-abbrev pub CountsStop : {A : Type 0} → Result A ReportStop → ℕ → ℕ → Type 0
-CountsStop (Ok x) old new = new ≡ old
-CountsStop (Err (stop.Refused fault)) old new = CountsFault fault old new
-CountsStop (Err stop.Write) old new = new ≡ old
+abbrev pub CountsReportStop : {A : Type 0} → Result A ReportStop → ℕ → ℕ → Type 0
+CountsReportStop (Ok x) old new = new ≡ old
+CountsReportStop (Err (stop.Refused fault)) old new = CountsStoreFault fault old new
+CountsReportStop (Err stop.Write) old new = new ≡ old

@@ -19,7 +19,7 @@ impl<'z, T: Tables> Office<'z, T> {
             → IfOk result (λ allowed. TellsTruly self.old.seen allowed
             (λ midnight s. may midnight s request.now.key request.now.action)) }
         ensures same { IsSure T.is_open self.new → self.new.seen ≡ self.old.seen }
-        ensures tallied { IsSure T.is_open self.new → AreReached self.old.seen.content
+        ensures refusals_counted { IsSure T.is_open self.new → AreReached self.old.seen.content
             → CountsRefusal result (T.refusals self.old.tables) (T.refusals self.new.tables) }
         ensures sure { IsSure T.is_open self.new → IsSure T.is_open self.old }
     {
@@ -39,7 +39,7 @@ impl<'z, T: Tables> Office<'z, T> {
             → IfOk result (λ told. TellsTruly self.old.seen told
             (λ midnight s. is_operator midnight s key.now || is_holder midnight s account.now key.now)) }
         ensures same { IsSure T.is_open self.new → self.new.seen ≡ self.old.seen }
-        ensures tallied { IsSure T.is_open self.new → AreReached self.old.seen.content
+        ensures refusals_counted { IsSure T.is_open self.new → AreReached self.old.seen.content
             → CountsRefusal result (T.refusals self.old.tables) (T.refusals self.new.tables) }
         ensures sure { IsSure T.is_open self.new → IsSure T.is_open self.old }
     {
@@ -52,7 +52,7 @@ impl<'z, T: Tables> Office<'z, T> {
             → IfOk result (λ told. TellsTruly self.old.seen told
             (λ midnight s. is_party_key midnight s key.now)) }
         ensures same { IsSure T.is_open self.new → self.new.seen ≡ self.old.seen }
-        ensures tallied { IsSure T.is_open self.new → AreReached self.old.seen.content
+        ensures refusals_counted { IsSure T.is_open self.new → AreReached self.old.seen.content
             → CountsRefusal result (T.refusals self.old.tables) (T.refusals self.new.tables) }
         ensures sure { IsSure T.is_open self.new → IsSure T.is_open self.old }
     {
@@ -65,7 +65,7 @@ impl<'z, T: Tables> Office<'z, T> {
             → IfOk result (λ told. TellsTruly self.old.seen told
             (λ midnight s. is_operator midnight s key.now)) }
         ensures same { IsSure T.is_open self.new → self.new.seen ≡ self.old.seen }
-        ensures tallied { IsSure T.is_open self.new → AreReached self.old.seen.content
+        ensures refusals_counted { IsSure T.is_open self.new → AreReached self.old.seen.content
             → CountsRefusal result (T.refusals self.old.tables) (T.refusals self.new.tables) }
         ensures sure { IsSure T.is_open self.new → IsSure T.is_open self.old }
     {
@@ -79,7 +79,7 @@ impl<'z, T: Tables> Office<'z, T> {
             → IfOk result (λ told. TellsTruly self.old.seen told
             (λ midnight s. is_holder midnight s account.now key.now)) }
         ensures same { IsSure T.is_open self.new → self.new.seen ≡ self.old.seen }
-        ensures tallied { IsSure T.is_open self.new → AreReached self.old.seen.content
+        ensures refusals_counted { IsSure T.is_open self.new → AreReached self.old.seen.content
             → CountsRefusal result (T.refusals self.old.tables) (T.refusals self.new.tables) }
         ensures sure { IsSure T.is_open self.new → IsSure T.is_open self.old }
     {

@@ -11,7 +11,7 @@ ghost use Rattle.hh_store.specs.StoreFaults.{CountsRefusal};
 ghost use Rattle.hh_office.specs.Refusals.{CountsReply, StandsForSome};
 ghost use Rattle.hh_office.specs.Enquiries.{account_reply, balance_reply, contracts_reply, net_of_rows, reply_by_rows, rows_of_account, runs_reply};
 ghost use Rattle.hh_office.specs.Promises.{RepliesAs, TellsInEachState, reply_of};
-ghost use Rattle.hh_office.specs.Reads.{latest_key};
+ghost use Rattle.hh_office.specs.steps.Reads.{latest_key};
 ghost use Rattle.hh_office.specs.Views.{IsSure};
 
 use crate::office::Office;
@@ -39,7 +39,7 @@ impl<'z, T: Tables> Office<'z, T> {
             account_reply midnight s account.now date) }
         ensures same { IsSure T.is_open self.new → self.new.seen ≡ self.old.seen }
         ensures sure { IsSure T.is_open self.new → IsSure T.is_open self.old }
-        ensures tallied { IsSure T.is_open self.new → StandsForSome self.old.seen
+        ensures refusals_counted { IsSure T.is_open self.new → StandsForSome self.old.seen
             → CountsReply (reply_of result)
             (T.refusals self.old.tables) (T.refusals self.new.tables) }
     {
@@ -65,7 +65,7 @@ impl<'z, T: Tables> Office<'z, T> {
             account_reply midnight s account.now date) }
         ensures same { IsSure T.is_open self.new → self.new.seen ≡ self.old.seen }
         ensures sure { IsSure T.is_open self.new → IsSure T.is_open self.old }
-        ensures tallied { IsSure T.is_open self.new → StandsForSome self.old.seen
+        ensures refusals_counted { IsSure T.is_open self.new → StandsForSome self.old.seen
             → CountsReply (reply_of result)
             (T.refusals self.old.tables) (T.refusals self.new.tables) }
     {
@@ -83,7 +83,7 @@ impl<'z, T: Tables> Office<'z, T> {
         ensures value { IsSure T.is_open self.new → IfOk result (λ latest.
             latest ≡ latest_key date (runs_in self.old.seen.content date)) }
         ensures same { IsSure T.is_open self.new → self.new.seen ≡ self.old.seen }
-        ensures tallied { IsSure T.is_open self.new → AreReached self.old.seen.content
+        ensures refusals_counted { IsSure T.is_open self.new → AreReached self.old.seen.content
             → CountsRefusal result (T.refusals self.old.tables) (T.refusals self.new.tables) }
         ensures sure { IsSure T.is_open self.new → IsSure T.is_open self.old }
     {
@@ -99,7 +99,7 @@ impl<'z, T: Tables> Office<'z, T> {
         ensures value { IsSure T.is_open self.new
             → IfOk result (λ rows. rows.items ≡ results_in self.old.seen.content run.now) }
         ensures same { IsSure T.is_open self.new → self.new.seen ≡ self.old.seen }
-        ensures tallied { IsSure T.is_open self.new → AreReached self.old.seen.content
+        ensures refusals_counted { IsSure T.is_open self.new → AreReached self.old.seen.content
             → CountsRefusal result (T.refusals self.old.tables) (T.refusals self.new.tables) }
         ensures sure { IsSure T.is_open self.new → IsSure T.is_open self.old }
     {
@@ -113,7 +113,7 @@ impl<'z, T: Tables> Office<'z, T> {
             balance_reply midnight s account.now) }
         ensures same { IsSure T.is_open self.new → self.new.seen ≡ self.old.seen }
         ensures sure { IsSure T.is_open self.new → IsSure T.is_open self.old }
-        ensures tallied { IsSure T.is_open self.new → AreReached self.old.seen.content
+        ensures refusals_counted { IsSure T.is_open self.new → AreReached self.old.seen.content
             → CountsReply (reply_of result)
             (T.refusals self.old.tables) (T.refusals self.new.tables) }
     {
@@ -142,7 +142,7 @@ impl<'z, T: Tables> Office<'z, T> {
             contracts_reply midnight s account.now date) }
         ensures same { IsSure T.is_open self.new → self.new.seen ≡ self.old.seen }
         ensures sure { IsSure T.is_open self.new → IsSure T.is_open self.old }
-        ensures tallied { IsSure T.is_open self.new → AreReached self.old.seen.content
+        ensures refusals_counted { IsSure T.is_open self.new → AreReached self.old.seen.content
             → CountsReply (reply_of result)
             (T.refusals self.old.tables) (T.refusals self.new.tables) }
     {
@@ -157,7 +157,7 @@ impl<'z, T: Tables> Office<'z, T> {
             runs_reply midnight s date) }
         ensures same { IsSure T.is_open self.new → self.new.seen ≡ self.old.seen }
         ensures sure { IsSure T.is_open self.new → IsSure T.is_open self.old }
-        ensures tallied { IsSure T.is_open self.new → AreReached self.old.seen.content
+        ensures refusals_counted { IsSure T.is_open self.new → AreReached self.old.seen.content
             → CountsReply (reply_of result)
             (T.refusals self.old.tables) (T.refusals self.new.tables) }
     {
@@ -199,8 +199,9 @@ fn reply_by_rows(
 ) -> Result<Reply, Fault>
     ensures replies { RepliesAs result
         (reply_by_rows account.now run (rows_of_account account.now rows.now)) }
-    ensures tallied { IsBetween day_cash.least day_cash.most (net_of_rows (rows_of_account account.now rows.now))
-        → (count : ℕ) → CountsReply (reply_of result) count count }
+    ensures refusals_counted { let net = net_of_rows (rows_of_account account.now rows.now);
+        IsBetween day_cash.least day_cash.most net
+            → (count : ℕ) → CountsReply (reply_of result) count count }
 {
     let found = rows_of(alloc, account, rows)?;
     if found.is_empty() {

@@ -6,7 +6,7 @@ ghost use Rattle.hh_rows.specs.RowKinds.{most_rows};
 ghost use Rattle.hh_states.specs.Reads.{file_in, whole_register};
 ghost use Rattle.hh_store.specs.Reached.{AreReached};
 ghost use Rattle.hh_store.specs.StoreFaults.{CountsRefusal};
-ghost use Rattle.hh_office.specs.Loads.{Accepts, IsNamed, Judges, WritesLoad, writes_of};
+ghost use Rattle.hh_office.specs.steps.Loads.{Accepts, NamesItsFile, Judges, WritesLoad, writes_of};
 ghost use Rattle.hh_office.specs.Refusals.{CountsAnswer, CountsReply, StandsForSome};
 ghost use Rattle.hh_office.specs.Machine.{load, load_new, loaded_reply, repeat_reply};
 ghost use Rattle.hh_office.specs.Promises.{MakesInEachState, RefusalLeaves, reply_of};
@@ -31,7 +31,7 @@ impl<'z, T: Tables> Office<'z, T> {
         ensures untouched { IsSure T.is_open self.new
             → RefusalLeaves self.old.seen self.new.seen (reply_of result) }
         ensures sure { IsSure T.is_open self.new → IsSure T.is_open self.old }
-        ensures tallied { IsSure T.is_open self.new → StandsForSome self.old.seen
+        ensures refusals_counted { IsSure T.is_open self.new → StandsForSome self.old.seen
             → CountsReply (reply_of result)
             (T.refusals self.old.tables) (T.refusals self.new.tables) }
     {
@@ -51,7 +51,7 @@ impl<'z, T: Tables> Office<'z, T> {
         ensures value { IsSure T.is_open self.new → IfOk result (λ found.
             found ≡ file_in self.old.seen.content upload.now.kind upload.now.name) }
         ensures same { IsSure T.is_open self.new → self.new.seen ≡ self.old.seen }
-        ensures tallied { IsSure T.is_open self.new → AreReached self.old.seen.content
+        ensures refusals_counted { IsSure T.is_open self.new → AreReached self.old.seen.content
             → CountsRefusal result (T.refusals self.old.tables) (T.refusals self.new.tables) }
         ensures sure { IsSure T.is_open self.new → IsSure T.is_open self.old }
     {
@@ -68,7 +68,7 @@ impl<'z, T: Tables> Office<'z, T> {
         ensures untouched { IsSure T.is_open self.new
             → RefusalLeaves self.old.seen self.new.seen (reply_of result) }
         ensures sure { IsSure T.is_open self.new → IsSure T.is_open self.old }
-        ensures tallied { IsSure T.is_open self.new → StandsForSome self.old.seen
+        ensures refusals_counted { IsSure T.is_open self.new → StandsForSome self.old.seen
             → CountsReply (reply_of result)
             (T.refusals self.old.tables) (T.refusals self.new.tables) }
     {
@@ -86,7 +86,7 @@ impl<'z, T: Tables> Office<'z, T> {
         ensures few { IfOk result (λ judged. length judged.rows ≤ most_rows) }
         ensures same { IsSure T.is_open self.new → self.new.seen ≡ self.old.seen }
         ensures sure { IsSure T.is_open self.new → IsSure T.is_open self.old }
-        ensures tallied { IsSure T.is_open self.new → StandsForSome self.old.seen
+        ensures refusals_counted { IsSure T.is_open self.new → StandsForSome self.old.seen
             → CountsAnswer result (T.refusals self.old.tables) (T.refusals self.new.tables) }
     {
         let rows = read_file(self.alloc, upload.kind, upload.body.as_slice())?;
@@ -99,7 +99,7 @@ impl<'z, T: Tables> Office<'z, T> {
         ensures serves { IsSure T.is_open self.new
             → IfOk result (ServesFor rows.now (whole_register self.old.seen.content)) }
         ensures same { IsSure T.is_open self.new → self.new.seen ≡ self.old.seen }
-        ensures tallied { IsSure T.is_open self.new → AreReached self.old.seen.content
+        ensures refusals_counted { IsSure T.is_open self.new → AreReached self.old.seen.content
             → CountsRefusal result (T.refusals self.old.tables) (T.refusals self.new.tables) }
         ensures sure { IsSure T.is_open self.new → IsSure T.is_open self.old }
     {
@@ -114,7 +114,7 @@ impl<'z, T: Tables> Office<'z, T> {
         ensures untouched { IsSure T.is_open self.new
             → RefusalLeaves self.old.seen self.new.seen (reply_of result) }
         ensures sure { IsSure T.is_open self.new → IsSure T.is_open self.old }
-        ensures tallied { IsSure T.is_open self.new → AreReached self.old.seen.content
+        ensures refusals_counted { IsSure T.is_open self.new → AreReached self.old.seen.content
             → CountsReply (reply_of result)
             (T.refusals self.old.tables) (T.refusals self.new.tables) }
     {
@@ -130,7 +130,7 @@ impl<'z, T: Tables> Office<'z, T> {
             → OnOk result (WritesLoad self.old.seen self.new.seen change) }
         ensures same { IsSure T.is_open self.new → OnErr result (self.new.seen ≡ self.old.seen) }
         ensures sure { IsSure T.is_open self.new → IsSure T.is_open self.old }
-        ensures tallied { IsSure T.is_open self.new → AreReached self.old.seen.content
+        ensures refusals_counted { IsSure T.is_open self.new → AreReached self.old.seen.content
             → CountsRefusal result (T.refusals self.old.tables) (T.refusals self.new.tables) }
     {
         // Does nothing, but carries a law for the proof: the change makes the machine's tables.
@@ -141,7 +141,7 @@ impl<'z, T: Tables> Office<'z, T> {
 
 /// That where a file is sent, its name is in its grammar: does nothing, but carries this for a proof.
 pub(crate) fn is_named(request: &Request)
-    ensures { IsNamed request.now.action }
+    ensures { NamesItsFile request.now.action }
 {
     if let Action::Load(upload) = &request.action {
         upload.name.as_bytes();

@@ -1,11 +1,11 @@
 //! The office: requests in, replies out, tables kept.
 
 ghost use Rattle.std.specs.Prelude.{◌≡◌, IfOk, OnErr};
-ghost use Rattle.hh_office.specs.Loads.{IsNamed};
+ghost use Rattle.hh_office.specs.steps.Loads.{NamesItsFile};
 ghost use Rattle.hh_office.specs.Machine.{step};
 ghost use Rattle.hh_office.specs.PartyViews.{ForbidsOthers, ShowsByView};
 ghost use Rattle.hh_office.specs.Promises.{ConservesAfter, ConservesAfterAll, MakesInEachState, HandleStep, RefusalLeaves, RepeatsOnce, RunAllStep, StandsAfter, StandsAfterAll, reply_of};
-ghost use Rattle.hh_office.specs.Refusals.{CountsReply, StandsForSome};
+ghost use Rattle.hh_office.specs.Refusals.{CountsReplies, CountsReply, StandsForSome};
 ghost use Rattle.hh_office.specs.Views.{IsSure};
 
 use crate::loads::is_named;
@@ -73,7 +73,7 @@ impl<'z, T: Tables> Office<'z, T> {
         ensures foreign { IsSure T.is_open self.new
             → ForbidsOthers self.old.seen request.now result }
         ensures sure { IsSure T.is_open self.new → IsSure T.is_open self.old }
-        ensures tallied { IsSure T.is_open self.new → StandsForSome self.old.seen
+        ensures refusals_counted { IsSure T.is_open self.new → StandsForSome self.old.seen
             → CountsReply result (T.refusals self.old.tables) (T.refusals self.new.tables) }
     {
         // Do nothing, but carry laws for the proof: the tables hold the machine's runs with their rows and
@@ -109,6 +109,9 @@ impl<'z, T: Tables> Office<'z, T> {
             ConservesAfterAll self.old.seen self.new.seen requests.now replies.items) }
         ensures none { IsSure T.is_open self.new → OnErr result (self.new.seen ≡ self.old.seen) }
         ensures sure { IsSure T.is_open self.new → IsSure T.is_open self.old }
+        ensures refusals_counted { IsSure T.is_open self.new → StandsForSome self.old.seen
+            → IfOk result (λ replies. CountsReplies replies.items
+            (T.refusals self.old.tables) (T.refusals self.new.tables)) }
     {
         // Does nothing, but carries a law for the proof: the tables of the machine's states add up.
         reached_conserve();
@@ -125,7 +128,9 @@ impl<'z, T: Tables> Office<'z, T> {
         ensures makes { IsSure T.is_open self.new
             → HandleStep self.old.seen self.new.seen request.now.0 request.now.1 result }
         ensures sure { IsSure T.is_open self.new → IsSure T.is_open self.old }
-        ensures named { IsNamed request.now.1.action }
+        ensures named { NamesItsFile request.now.1.action }
+        ensures refusals_counted { IsSure T.is_open self.new → StandsForSome self.old.seen
+            → CountsReply result (T.refusals self.old.tables) (T.refusals self.new.tables) }
     {
         is_named(&request.1);
         self.handle(request.0, &request.1)
@@ -139,7 +144,7 @@ impl<'z, T: Tables> Office<'z, T> {
         ensures untouched { IsSure T.is_open self.new
             → RefusalLeaves self.old.seen self.new.seen (reply_of result) }
         ensures sure { IsSure T.is_open self.new → IsSure T.is_open self.old }
-        ensures tallied { IsSure T.is_open self.new → StandsForSome self.old.seen
+        ensures refusals_counted { IsSure T.is_open self.new → StandsForSome self.old.seen
             → CountsReply (reply_of result)
             (T.refusals self.old.tables) (T.refusals self.new.tables) }
     {

@@ -6,7 +6,7 @@ ghost use Rattle.hh_states.specs.Runs.{run_key_cmp};
 ghost use Rattle.hh_store.specs.Outputs.{balances_in, day_report_in, export_in};
 ghost use Rattle.hh_store.specs.Reached.{AreReached};
 ghost use Rattle.hh_store.specs.StoreFaults.{CountsRefusal};
-ghost use Rattle.hh_office.specs.Refusals.{CountsStop};
+ghost use Rattle.hh_office.specs.Refusals.{CountsReportStop};
 ghost use Rattle.hh_office.specs.Reports.{CountsReport, Reports, ReportsAs, WritesReport, or_no_run};
 ghost use Rattle.hh_office.specs.declared.report.Report.TheVariants.{Balances, Day, Results};
 ghost use Rattle.hh_office.specs.Views.{IsSure};
@@ -41,8 +41,8 @@ impl<'z, T: Tables> Office<'z, T> {
             (S.failures out.old) (S.failures out.new) self.old.seen key.now report.now result }
         ensures counted { CountsReport result (S.failures out.old) (S.failures out.new) }
         ensures same { IsSure T.is_open self.new → self.new.seen ≡ self.old.seen }
-        ensures tallied { IsSure T.is_open self.new → AreReached self.old.seen.content
-            → CountsStop result (T.refusals self.old.tables) (T.refusals self.new.tables) }
+        ensures refusals_counted { IsSure T.is_open self.new → AreReached self.old.seen.content
+            → CountsReportStop result (T.refusals self.old.tables) (T.refusals self.new.tables) }
         ensures sure { IsSure T.is_open self.new → IsSure T.is_open self.old }
     {
         // Does nothing, but carries a law for the proof: the reports that the tables give are the machine's.
@@ -74,8 +74,8 @@ impl<'z, T: Tables> Office<'z, T> {
             (Day (record { date = date; kind = kind })) result }
         ensures counted { CountsReport result (S.failures out.old) (S.failures out.new) }
         ensures same { IsSure T.is_open self.new → self.new.seen ≡ self.old.seen }
-        ensures tallied { IsSure T.is_open self.new → AreReached self.old.seen.content
-            → CountsStop result (T.refusals self.old.tables) (T.refusals self.new.tables) }
+        ensures refusals_counted { IsSure T.is_open self.new → AreReached self.old.seen.content
+            → CountsReportStop result (T.refusals self.old.tables) (T.refusals self.new.tables) }
         ensures sure { IsSure T.is_open self.new → IsSure T.is_open self.old }
     {
         self.report(key, &Report::Day(RunKey { date, kind }), out)
@@ -98,8 +98,8 @@ impl<'z, T: Tables> Office<'z, T> {
             (Results (record { date = date; kind = kind })) result }
         ensures counted { CountsReport result (S.failures out.old) (S.failures out.new) }
         ensures same { IsSure T.is_open self.new → self.new.seen ≡ self.old.seen }
-        ensures tallied { IsSure T.is_open self.new → AreReached self.old.seen.content
-            → CountsStop result (T.refusals self.old.tables) (T.refusals self.new.tables) }
+        ensures refusals_counted { IsSure T.is_open self.new → AreReached self.old.seen.content
+            → CountsReportStop result (T.refusals self.old.tables) (T.refusals self.new.tables) }
         ensures sure { IsSure T.is_open self.new → IsSure T.is_open self.old }
     {
         self.report(key, &Report::Results(RunKey { date, kind }), out)
@@ -115,8 +115,8 @@ impl<'z, T: Tables> Office<'z, T> {
             (S.failures out.old) (S.failures out.new) self.old.seen key.now Balances result }
         ensures counted { CountsReport result (S.failures out.old) (S.failures out.new) }
         ensures same { IsSure T.is_open self.new → self.new.seen ≡ self.old.seen }
-        ensures tallied { IsSure T.is_open self.new → AreReached self.old.seen.content
-            → CountsStop result (T.refusals self.old.tables) (T.refusals self.new.tables) }
+        ensures refusals_counted { IsSure T.is_open self.new → AreReached self.old.seen.content
+            → CountsReportStop result (T.refusals self.old.tables) (T.refusals self.new.tables) }
         ensures sure { IsSure T.is_open self.new → IsSure T.is_open self.old }
     {
         self.report(key, &Report::Balances, out)
@@ -129,8 +129,8 @@ impl<'z, T: Tables> Office<'z, T> {
             (or_no_run (day_report_in self.old.seen.content run.now)) result }
         ensures counted { CountsReport result (S.failures out.old) (S.failures out.new) }
         ensures same { IsSure T.is_open self.new → self.new.seen ≡ self.old.seen }
-        ensures tallied { IsSure T.is_open self.new → AreReached self.old.seen.content
-            → CountsStop result (T.refusals self.old.tables) (T.refusals self.new.tables) }
+        ensures refusals_counted { IsSure T.is_open self.new → AreReached self.old.seen.content
+            → CountsReportStop result (T.refusals self.old.tables) (T.refusals self.new.tables) }
         ensures sure { IsSure T.is_open self.new → IsSure T.is_open self.old }
     {
         if self.kept_run(run)?.is_none() {
@@ -146,8 +146,8 @@ impl<'z, T: Tables> Office<'z, T> {
             (or_no_run (export_in self.old.seen.content run.now)) result }
         ensures counted { CountsReport result (S.failures out.old) (S.failures out.new) }
         ensures same { IsSure T.is_open self.new → self.new.seen ≡ self.old.seen }
-        ensures tallied { IsSure T.is_open self.new → AreReached self.old.seen.content
-            → CountsStop result (T.refusals self.old.tables) (T.refusals self.new.tables) }
+        ensures refusals_counted { IsSure T.is_open self.new → AreReached self.old.seen.content
+            → CountsReportStop result (T.refusals self.old.tables) (T.refusals self.new.tables) }
         ensures sure { IsSure T.is_open self.new → IsSure T.is_open self.old }
     {
         if self.kept_run(run)?.is_none() {
@@ -163,8 +163,8 @@ impl<'z, T: Tables> Office<'z, T> {
             (S.failures out.old) (S.failures out.new) (balances_in self.old.seen.content) result }
         ensures counted { CountsReport result (S.failures out.old) (S.failures out.new) }
         ensures same { IsSure T.is_open self.new → self.new.seen ≡ self.old.seen }
-        ensures tallied { IsSure T.is_open self.new → AreReached self.old.seen.content
-            → CountsStop result (T.refusals self.old.tables) (T.refusals self.new.tables) }
+        ensures refusals_counted { IsSure T.is_open self.new → AreReached self.old.seen.content
+            → CountsReportStop result (T.refusals self.old.tables) (T.refusals self.new.tables) }
         ensures sure { IsSure T.is_open self.new → IsSure T.is_open self.old }
     {
         Ok(self.tables.balances(out)?)
@@ -175,7 +175,7 @@ impl<'z, T: Tables> Office<'z, T> {
         ensures value { IsSure T.is_open self.new → IfOk result (λ found.
             found ≡ find run_key_cmp run.now self.old.seen.content.runs) }
         ensures same { IsSure T.is_open self.new → self.new.seen ≡ self.old.seen }
-        ensures tallied { IsSure T.is_open self.new → AreReached self.old.seen.content
+        ensures refusals_counted { IsSure T.is_open self.new → AreReached self.old.seen.content
             → CountsRefusal result (T.refusals self.old.tables) (T.refusals self.new.tables) }
         ensures sure { IsSure T.is_open self.new → IsSure T.is_open self.old }
     {

@@ -14,9 +14,9 @@ ghost use Rattle.hh_store.specs.Reached.{AreReached};
 ghost use Rattle.hh_store.specs.StoreFaults.{CountsRefusal};
 ghost use Rattle.hh_office.specs.Refusals.{CountsAnswer, CountsReply, IsElsewhere, StandsForSome};
 ghost use Rattle.hh_office.specs.Promises.{MakesInEachState, RefusalLeaves, reply_of};
-ghost use Rattle.hh_office.specs.Reads.{latest_key};
+ghost use Rattle.hh_office.specs.steps.Reads.{latest_key};
 ghost use Rattle.hh_office.specs.Runs.{run};
-ghost use Rattle.hh_office.specs.Settling.{AreTermsOf, IsEarly, IsNext, IsOverDay, Lacks, IsRunMade, RefusesIn, SettlesIn, TellsOrder, WritesRun, rows_before};
+ghost use Rattle.hh_office.specs.steps.Settling.{AreTermsOf, IsEarly, IsNext, IsOverDay, Lacks, IsRunMade, RefusesIn, SettlesIn, TellsOrder, WritesRun, rows_before};
 ghost use Rattle.hh_office.specs.Views.{IsSure, midnight_of};
 ghost use Rattle.jiff.specs.Words.{plain_zone};
 
@@ -45,7 +45,7 @@ impl<'z, T: Tables> Office<'z, T> {
         ensures untouched { IsSure T.is_open self.new
             → RefusalLeaves self.old.seen self.new.seen (reply_of result) }
         ensures sure { IsSure T.is_open self.new → IsSure T.is_open self.old }
-        ensures tallied { IsSure T.is_open self.new → StandsForSome self.old.seen
+        ensures refusals_counted { IsSure T.is_open self.new → StandsForSome self.old.seen
             → CountsReply (reply_of result)
             (T.refusals self.old.tables) (T.refusals self.new.tables) }
     {
@@ -67,7 +67,7 @@ impl<'z, T: Tables> Office<'z, T> {
         ensures value { IsSure T.is_open self.new
             → IfOk result (λ runs. runs.items ≡ runs_in self.old.seen.content date) }
         ensures same { IsSure T.is_open self.new → self.new.seen ≡ self.old.seen }
-        ensures tallied { IsSure T.is_open self.new → AreReached self.old.seen.content
+        ensures refusals_counted { IsSure T.is_open self.new → AreReached self.old.seen.content
             → CountsRefusal result (T.refusals self.old.tables) (T.refusals self.new.tables) }
         ensures sure { IsSure T.is_open self.new → IsSure T.is_open self.old }
     {
@@ -86,7 +86,7 @@ impl<'z, T: Tables> Office<'z, T> {
         ensures untouched { IsSure T.is_open self.new
             → RefusalLeaves self.old.seen self.new.seen (reply_of result) }
         ensures sure { IsSure T.is_open self.new → IsSure T.is_open self.old }
-        ensures tallied { IsSure T.is_open self.new → StandsForSome self.old.seen
+        ensures refusals_counted { IsSure T.is_open self.new → StandsForSome self.old.seen
             → CountsReply (reply_of result)
             (T.refusals self.old.tables) (T.refusals self.new.tables) }
     {
@@ -112,7 +112,7 @@ impl<'z, T: Tables> Office<'z, T> {
             → IfOk result (IsRunMade self.old.seen self.new.seen key day.now former) }
         ensures same { IsSure T.is_open self.new → OnErr result (self.new.seen ≡ self.old.seen) }
         ensures sure { IsSure T.is_open self.new → IsSure T.is_open self.old }
-        ensures tallied { IsSure T.is_open self.new → AreReached self.old.seen.content
+        ensures refusals_counted { IsSure T.is_open self.new → AreReached self.old.seen.content
             → FitsRun key day.now (rows_before self.old.seen.content former)
             → CountsRefusal result (T.refusals self.old.tables) (T.refusals self.new.tables) }
     {
@@ -132,7 +132,7 @@ impl<'z, T: Tables> Office<'z, T> {
             → IfErr result (RefusesIn self.old.seen moment date) }
         ensures same { IsSure T.is_open self.new → self.new.seen ≡ self.old.seen }
         ensures sure { IsSure T.is_open self.new → IsSure T.is_open self.old }
-        ensures tallied { IsSure T.is_open self.new → AreReached self.old.seen.content
+        ensures refusals_counted { IsSure T.is_open self.new → AreReached self.old.seen.content
             → CountsAnswer result (T.refusals self.old.tables) (T.refusals self.new.tables) }
     {
         // Do nothing, but carry laws for the proof: what each period is settled from fits together, and may
@@ -157,7 +157,7 @@ impl<'z, T: Tables> Office<'z, T> {
             (periods_on day.now.date day.now.count)) }
         ensures same { IsSure T.is_open self.new → self.new.seen ≡ self.old.seen }
         ensures sure { IsSure T.is_open self.new → IsSure T.is_open self.old }
-        ensures tallied { IsSure T.is_open self.new → AreReached self.old.seen.content
+        ensures refusals_counted { IsSure T.is_open self.new → AreReached self.old.seen.content
             → CountsAnswer result (T.refusals self.old.tables) (T.refusals self.new.tables) }
     {
         let found = self.tables.day_data(day)?;
@@ -176,7 +176,7 @@ impl<'z, T: Tables> Office<'z, T> {
         ensures value { IsSure T.is_open self.new
             → IfOk result (λ rows. rows.items ≡ rows_before self.old.seen.content run) }
         ensures same { IsSure T.is_open self.new → self.new.seen ≡ self.old.seen }
-        ensures tallied { IsSure T.is_open self.new → AreReached self.old.seen.content
+        ensures refusals_counted { IsSure T.is_open self.new → AreReached self.old.seen.content
             → CountsRefusal result (T.refusals self.old.tables) (T.refusals self.new.tables) }
         ensures sure { IsSure T.is_open self.new → IsSure T.is_open self.old }
     {
@@ -192,7 +192,7 @@ impl<'z, T: Tables> Office<'z, T> {
             → OnOk result (WritesRun self.old.seen self.new.seen change) }
         ensures same { IsSure T.is_open self.new → OnErr result (self.new.seen ≡ self.old.seen) }
         ensures sure { IsSure T.is_open self.new → IsSure T.is_open self.old }
-        ensures tallied { IsSure T.is_open self.new → AreReached self.old.seen.content
+        ensures refusals_counted { IsSure T.is_open self.new → AreReached self.old.seen.content
             → CountsRefusal result (T.refusals self.old.tables) (T.refusals self.new.tables) }
     {
         // Does nothing, but carries a law for the proof: the change makes the machine's tables.

@@ -10,7 +10,7 @@ use Rattle.hh_rules.specs.Entries.{contract_entry, meter_entry, party_entry, pri
 use Rattle.hh_rules.specs.History.{Registered}
 use Rattle.hh_states.specs.Changes.{LoadWrites, put_row, put_rows, registered_with}
 use Rattle.hh_plain_tables.specs.declared.changed_tables.ChangedTables.{ChangedTables}
-use Rattle.hh_plain_tables.specs.KeptTables.{with_changed}
+use Rattle.hh_plain_tables.specs.steps.KeptTables.{with_changed}
 
 -- the tables with the entries of rows put into each
 abbrev by_table : List Row → Registered → Registered

@@ -18,13 +18,6 @@ pub memory_alone_counts : {A : Type 0} (n : ℕ) (result : Result A StoreFault) 
 memory_alone_counts n (Ok x) alone = refl
 memory_alone_counts {A} n (Err fault) alone = subst (λ (f : StoreFault). CountsRefusal {A = A} (Err f) n n) (sym alone) refl
 
--- so does one that answers no fault of the store
-pub never_store_counts : {A : Type 0} (n : ℕ) (result : Result A OutputFault) → IfErr result (λ fault. fault ≢ output.Store) → CountsReportRefusal result n n
-never_store_counts n (Ok x) never = refl
-never_store_counts n (Err output.Memory) never = refl
-never_store_counts n (Err output.Store) never = absurd (never refl)
-never_store_counts n (Err output.Write) never = refl
-
 -- what is registered and in force in the tables of a reached state is sound
 pub reached_sound : SoundStates → (content : Content) → AreReached content → AreSound content.registered
 reached_sound law content (midnight, s, stands) =

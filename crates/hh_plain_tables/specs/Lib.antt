@@ -1,2 +1,2 @@
 pub mod KeptRuns
-pub mod KeptTables
+pub mod steps

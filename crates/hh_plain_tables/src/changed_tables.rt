@@ -3,7 +3,7 @@
 ghost use Rattle.std.specs.Prelude.{◌≡◌, unwrap_or, IfOk};
 ghost use Rattle.hh_tables.specs.Tables.{put_all};
 ghost use Rattle.hh_states.specs.Changes.{registered_with};
-ghost use Rattle.hh_plain_tables.specs.KeptTables.{with_changed};
+ghost use Rattle.hh_plain_tables.specs.steps.KeptTables.{with_changed};
 
 use crate::entries::{contracts_of, meters_of, parties_of, prices_of, reallocations_of, units_of};
 use hh_kept_rows::KeptRegister;

@@ -141,7 +141,7 @@ impl Tables for PlainTables {
         ensures serves { IfOk result (ServesFor rows.now (whole_register self.old)) }
         ensures memory_alone { AreSound self.old.registered
             → IfErr result (λ fault. fault ≡ StoreFault.Memory) }
-        ensures tallied { AreReached self.old → CountsRefusal result 0 0 }
+        ensures refusals_counted { AreReached self.old → CountsRefusal result 0 0 }
         ensures same { self.new ≡ self.old }
     {
         // Does nothing, but carries a law for the proof: what is registered in a reached state is sound.

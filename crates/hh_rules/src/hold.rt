@@ -89,7 +89,8 @@ impl Register {
         key: ReallocationKey,
         reallocation: Reallocation,
     ) -> Result<(), Fault>
-        ensures answer { Gives faults (λ _. tt) result (held_reallocation self.old key reallocation) }
+        ensures answer { Gives faults (λ _. tt) result
+            (held_reallocation self.old key reallocation) }
         ensures ok { OnOk result (self.new ≡ holding_reallocation self.old key reallocation) }
         ensures err { OnErr result (self.new ≡ self.old) }
     {

@@ -55,7 +55,7 @@ module _ (old new : OfficeView) (moment at : ℤ) (same : at ≡ moment) (reques
       → RefusalLeaves old new given → RepeatsOnce old new request given → ConservesAfter old new at request given
       → ShowsByView old request given → ForbidsOthers old request given → (counted counts : ℕ) → (StandsForSome old → CountsReply given counted counts)
       → IsAnswer source old new counted counts moment (Ok given)
-  handled source read is message untouched once sums view foreign counted counts tallied = (
+  handled source read is message untouched once sums view foreign counted counts refusals_counted = (
     request,
     subst (λ (i : Incoming). IsReadOf source (Ok i)) is message,
     record {
@@ -66,7 +66,7 @@ module _ (old new : OfficeView) (moment at : ℤ) (same : at ≡ moment) (reques
       sums = subst (λ (m : ℤ). ConservesAfter old new m request given) same sums;
       view = view;
       foreign = foreign;
-      tallied = tallied;
+      refusals_counted = refusals_counted;
     },
   )
 

@@ -34,7 +34,7 @@ pub record Handles (old new : OfficeView) (counted counts : ℕ) (moment : ℤ) 
   pub sums : ConservesAfter old new moment request given
   pub view : ShowsByView old request given
   pub foreign : ForbidsOthers old request given
-  pub tallied : StandsForSome old → CountsReply given counted counts
+  pub refusals_counted : StandsForSome old → CountsReply given counted counts
 
 -- what is replied: a reply of the office, or that the request is refused before the office is asked
 abbrev pub Answer : Type 0

@@ -8,7 +8,7 @@ use Rattle.std.proofs.lemmas.List.{length-map, get_or-map}
 use Rattle.std.proofs.lemmas.Simd.{splat_is_map}
 use Rattle.hh_share.specs.declared.shares.Quota.{Quota}
 use Rattle.hh_share.specs.Shares.{lower_quota, effective}
-use Rattle.hh_share.specs.Quotas.{quota_for}
+use Rattle.hh_share.specs.steps.Quotas.{quota_for}
 use Rattle.hh_share.proofs.SumLaws.{lower_quotas_fit}
 
 -- where all weights are 0 ones count

@@ -1,4 +1,4 @@
 pub mod Departure
-pub mod Quotas
 pub mod Ranking
 pub mod Shares
+pub mod steps

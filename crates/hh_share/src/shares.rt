@@ -4,7 +4,7 @@ ghost use Rattle.std.specs.Prelude.{◌≡◌, ◌==◌, ℕ, ◌<◌, ◌≤◌
 ghost use Rattle.std.specs.List.{list_all};
 ghost use Rattle.hh_share.specs.Shares.{effective, shares, sizes_by, with_sign_of, AreQuotasRounded, SumsTo};
 ghost use Rattle.hh_share.specs.Departure.{DepartsLeast};
-ghost use Rattle.hh_share.specs.Quotas.{quota_for};
+ghost use Rattle.hh_share.specs.steps.Quotas.{quota_for};
 ghost use Rattle.hh_share.specs.Ranking.{HasPennies};
 
 use crate::ranking::ranked;

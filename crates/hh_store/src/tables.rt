@@ -48,7 +48,7 @@ pub trait Tables {
             settings ≡ (content self.old).settings) }
         ensures same { IsTrue (is_open self.new) → content self.new ≡ content self.old }
         ensures stood { IsTrue (is_open self.new) → IsTrue (is_open self.old) }
-        ensures tallied { IsTrue (is_open self.new) → AreReached (content self.old)
+        ensures refusals_counted { IsTrue (is_open self.new) → AreReached (content self.old)
             → CountsRefusal result (refusals self.old) (refusals self.new) };
 
     /// What is registered of a party, if it is registered (profile).
@@ -57,7 +57,7 @@ pub trait Tables {
             found ≡ party_in (content self.old) party.now) }
         ensures same { IsTrue (is_open self.new) → content self.new ≡ content self.old }
         ensures stood { IsTrue (is_open self.new) → IsTrue (is_open self.old) }
-        ensures tallied { IsTrue (is_open self.new) → AreReached (content self.old)
+        ensures refusals_counted { IsTrue (is_open self.new) → AreReached (content self.old)
             → CountsRefusal result (refusals self.old) (refusals self.new) };
 
     /// What is registered of a unit, if it is registered (profile).
@@ -66,7 +66,7 @@ pub trait Tables {
             found ≡ unit_in (content self.old) unit.now) }
         ensures same { IsTrue (is_open self.new) → content self.new ≡ content self.old }
         ensures stood { IsTrue (is_open self.new) → IsTrue (is_open self.old) }
-        ensures tallied { IsTrue (is_open self.new) → AreReached (content self.old)
+        ensures refusals_counted { IsTrue (is_open self.new) → AreReached (content self.old)
             → CountsRefusal result (refusals self.old) (refusals self.new) };
 
     /// The seller and the buyer of a reference, which its first accepted row fixed, if there was
@@ -76,7 +76,7 @@ pub trait Tables {
             found ≡ reference_in (content self.old) reference.now) }
         ensures same { IsTrue (is_open self.new) → content self.new ≡ content self.old }
         ensures stood { IsTrue (is_open self.new) → IsTrue (is_open self.old) }
-        ensures tallied { IsTrue (is_open self.new) → AreReached (content self.old)
+        ensures refusals_counted { IsTrue (is_open self.new) → AreReached (content self.old)
             → CountsRefusal result (refusals self.old) (refusals self.new) };
 
     /// Whether a registered party has the key (profile).
@@ -85,7 +85,7 @@ pub trait Tables {
             known ≡ is_key_known (content self.old) key.now) }
         ensures same { IsTrue (is_open self.new) → content self.new ≡ content self.old }
         ensures stood { IsTrue (is_open self.new) → IsTrue (is_open self.old) }
-        ensures tallied { IsTrue (is_open self.new) → AreReached (content self.old)
+        ensures refusals_counted { IsTrue (is_open self.new) → AreReached (content self.old)
             → CountsRefusal result (refusals self.old) (refusals self.new) };
 
     /// The accepted file of a kind and name, if there is one (profile).
@@ -94,7 +94,7 @@ pub trait Tables {
             found ≡ file_in (content self.old) kind name.now) }
         ensures same { IsTrue (is_open self.new) → content self.new ≡ content self.old }
         ensures stood { IsTrue (is_open self.new) → IsTrue (is_open self.old) }
-        ensures tallied { IsTrue (is_open self.new) → AreReached (content self.old)
+        ensures refusals_counted { IsTrue (is_open self.new) → AreReached (content self.old)
             → CountsRefusal result (refusals self.old) (refusals self.new) };
 
     /// A register that judges these rows, and is changed by them, as one of everything that is
@@ -104,7 +104,7 @@ pub trait Tables {
             → IfOk result (ServesFor rows.now (whole_register (content self.old))) }
         ensures same { IsTrue (is_open self.new) → content self.new ≡ content self.old }
         ensures stood { IsTrue (is_open self.new) → IsTrue (is_open self.old) }
-        ensures tallied { IsTrue (is_open self.new) → AreReached (content self.old)
+        ensures refusals_counted { IsTrue (is_open self.new) → AreReached (content self.old)
             → CountsRefusal result (refusals self.old) (refusals self.new) };
 
     /// The rows of contracts that are in force on a date and name an account, by Settlement Period,
@@ -118,7 +118,7 @@ pub trait Tables {
             rows.items ≡ contracts_in (content self.old) account.now date) }
         ensures same { IsTrue (is_open self.new) → content self.new ≡ content self.old }
         ensures stood { IsTrue (is_open self.new) → IsTrue (is_open self.old) }
-        ensures tallied { IsTrue (is_open self.new) → AreReached (content self.old)
+        ensures refusals_counted { IsTrue (is_open self.new) → AreReached (content self.old)
             → CountsRefusal result (refusals self.old) (refusals self.new) };
 
     /// What the Settlement Periods of a day are settled from: the first that has no price, if there is one;
@@ -130,7 +130,7 @@ pub trait Tables {
             (periods_on day.now.date day.now.count)) }
         ensures same { IsTrue (is_open self.new) → content self.new ≡ content self.old }
         ensures stood { IsTrue (is_open self.new) → IsTrue (is_open self.old) }
-        ensures tallied { IsTrue (is_open self.new) → AreReached (content self.old)
+        ensures refusals_counted { IsTrue (is_open self.new) → AreReached (content self.old)
             → CountsRefusal result (refusals self.old) (refusals self.new) };
 
     /// The runs of a date with their summaries, in the order of their kinds (profile).
@@ -139,7 +139,7 @@ pub trait Tables {
             runs.items ≡ runs_in (content self.old) date) }
         ensures same { IsTrue (is_open self.new) → content self.new ≡ content self.old }
         ensures stood { IsTrue (is_open self.new) → IsTrue (is_open self.old) }
-        ensures tallied { IsTrue (is_open self.new) → AreReached (content self.old)
+        ensures refusals_counted { IsTrue (is_open self.new) → AreReached (content self.old)
             → CountsRefusal result (refusals self.old) (refusals self.new) };
 
     /// The rows of a run's accounts, by Settlement Period, then by account; none where the run is not
@@ -149,7 +149,7 @@ pub trait Tables {
             rows.items ≡ results_in (content self.old) run.now) }
         ensures same { IsTrue (is_open self.new) → content self.new ≡ content self.old }
         ensures stood { IsTrue (is_open self.new) → IsTrue (is_open self.old) }
-        ensures tallied { IsTrue (is_open self.new) → AreReached (content self.old)
+        ensures refusals_counted { IsTrue (is_open self.new) → AreReached (content self.old)
             → CountsRefusal result (refusals self.old) (refusals self.new) };
 
     /// What the runs have posted to an account, in pence, by the dates of the runs, then by their kinds
@@ -159,7 +159,7 @@ pub trait Tables {
             rows.items ≡ postings_in (content self.old) account.now) }
         ensures same { IsTrue (is_open self.new) → content self.new ≡ content self.old }
         ensures stood { IsTrue (is_open self.new) → IsTrue (is_open self.old) }
-        ensures tallied { IsTrue (is_open self.new) → AreReached (content self.old)
+        ensures refusals_counted { IsTrue (is_open self.new) → AreReached (content self.old)
             → CountsRefusal result (refusals self.old) (refusals self.new) };
 
     /// Writes the results of a run as comma-separated values: its rows as the tables hold them, in the
@@ -178,7 +178,7 @@ pub trait Tables {
         ensures counted { CountsOutcome result (S.failures out.old) (S.failures out.new) }
         ensures same { IsTrue (is_open self.new) → content self.new ≡ content self.old }
         ensures stood { IsTrue (is_open self.new) → IsTrue (is_open self.old) }
-        ensures tallied { IsTrue (is_open self.new) → AreReached (content self.old)
+        ensures refusals_counted { IsTrue (is_open self.new) → AreReached (content self.old)
             → CountsReportRefusal result (refusals self.old) (refusals self.new) };
 
     /// Writes the day report of a run, from its rows as the tables hold them, and nothing else; or a
@@ -195,7 +195,7 @@ pub trait Tables {
         ensures counted { CountsOutcome result (S.failures out.old) (S.failures out.new) }
         ensures same { IsTrue (is_open self.new) → content self.new ≡ content self.old }
         ensures stood { IsTrue (is_open self.new) → IsTrue (is_open self.old) }
-        ensures tallied { IsTrue (is_open self.new) → AreReached (content self.old)
+        ensures refusals_counted { IsTrue (is_open self.new) → AreReached (content self.old)
             → CountsReportRefusal result (refusals self.old) (refusals self.new) };
 
     /// Writes the balances of both accounts of each registered party, in order, as comma-separated values,
@@ -211,7 +211,7 @@ pub trait Tables {
         ensures counted { CountsOutcome result (S.failures out.old) (S.failures out.new) }
         ensures same { IsTrue (is_open self.new) → content self.new ≡ content self.old }
         ensures stood { IsTrue (is_open self.new) → IsTrue (is_open self.old) }
-        ensures tallied { IsTrue (is_open self.new) → AreReached (content self.old)
+        ensures refusals_counted { IsTrue (is_open self.new) → AreReached (content self.old)
             → CountsReportRefusal result (refusals self.old) (refusals self.new) };
 
     /// Writes what an accepted file changes, whole or not at all. Of a change that the machine does
@@ -223,7 +223,7 @@ pub trait Tables {
         ensures err { IsTrue (is_open self.new)
             → OnErr result (content self.new ≡ content self.old) }
         ensures stood { IsTrue (is_open self.new) → IsTrue (is_open self.old) }
-        ensures tallied { IsTrue (is_open self.new) → AreReached (content self.old)
+        ensures refusals_counted { IsTrue (is_open self.new) → AreReached (content self.old)
             → CountsRefusal result (refusals self.old) (refusals self.new) };
 
     /// Writes what a new run changes, whole or not at all. Of a change that the machine does not make,
@@ -235,6 +235,6 @@ pub trait Tables {
         ensures err { IsTrue (is_open self.new)
             → OnErr result (content self.new ≡ content self.old) }
         ensures stood { IsTrue (is_open self.new) → IsTrue (is_open self.old) }
-        ensures tallied { IsTrue (is_open self.new) → AreReached (content self.old)
+        ensures refusals_counted { IsTrue (is_open self.new) → AreReached (content self.old)
             → CountsRefusal result (refusals self.old) (refusals self.new) };
 }

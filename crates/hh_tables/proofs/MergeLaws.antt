@@ -11,7 +11,7 @@ use Rattle.std.specs.declared.cmp.Ordering.TheVariants.{Less, Equal, Greater}
 use Rattle.std.proofs.lemmas.List.{append_assoc, get_or_read, take_more}
 use Rattle.std.proofs.lemmas.List.Sums.{prefix_len_is}
 use Rattle.std.proofs.lemmas.List.Sorted.{ranks_by, sorted_far}
-use Rattle.hh_tables.specs.Merges.{is_up_to, AreUpTo}
+use Rattle.hh_tables.specs.steps.Merges.{is_up_to, AreUpTo}
 use Rattle.hh_tables.specs.Tables.{IsTable, put_all}
 use Rattle.hh_tables.proofs.RowLaws.{both, first, second, less, is_less, equal, below_less, is_sorted-put_all, put_all-sorted}
 

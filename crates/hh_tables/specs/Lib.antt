@@ -1,4 +1,3 @@
-pub mod Merges
 pub mod Places
 pub mod Tables
-pub mod Trees
+pub mod steps

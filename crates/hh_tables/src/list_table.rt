@@ -6,7 +6,7 @@ ghost use Rattle.std.specs.FinMap.{find, is_sorted, put};
 ghost use Rattle.std.specs.List.{prefix_len, HoldsAt};
 ghost use Rattle.std.specs.declared.cmp.Ordering.TheVariants.{Equal};
 ghost use Rattle.std.specs.List.Sorted.{IsSortedByKey, IsStableByKey};
-ghost use Rattle.hh_tables.specs.Merges.{is_up_to, AreUpTo};
+ghost use Rattle.hh_tables.specs.steps.Merges.{is_up_to, AreUpTo};
 ghost use Rattle.hh_tables.specs.Places.{IsPlaceOf};
 ghost use Rattle.hh_tables.specs.Tables.{IsTable, put_all};
 

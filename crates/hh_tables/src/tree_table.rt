@@ -4,7 +4,7 @@ ghost use Rattle.std.specs.Prelude.{◌≡◌, [], IsSome, OnOk, OnErr};
 ghost use Rattle.std.specs.BTreeMap.{get};
 ghost use Rattle.std.specs.FinMap.{find, put};
 ghost use Rattle.hh_tables.specs.Tables.{IsTable};
-ghost use Rattle.hh_tables.specs.Trees.{Inserts, PutsBack};
+ghost use Rattle.hh_tables.specs.steps.Trees.{Inserts, PutsBack};
 
 use std::alloc::{AllocError, Global};
 use std::collections::BTreeMap;

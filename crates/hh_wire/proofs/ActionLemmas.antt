@@ -12,7 +12,7 @@ use Rattle.hh_rows.specs.Kinds.{kind_value}
 use Rattle.hh_runs.specs.RunKinds.{run_kind_value}
 use Rattle.hh_requests.specs.declared.request.Action.{Action}
 use Rattle.hh_requests.specs.declared.request.Action.TheVariants as ask
-use Rattle.hh_wire.specs.Paths.{BeginsWith, IsPathOf, action_of, has_two, name_of, word_of}
+use Rattle.hh_wire.specs.steps.Paths.{BeginsWith, IsPathOf, action_of, has_two, name_of, word_of}
 use Rattle.hh_wire.specs.Routes.{action_at, of_both, one_part, parts_of, two_parts}
 use Rattle.hh_wire.specs.declared.router.Route.{Route}
 use Rattle.hh_wire.specs.declared.router.Route.TheVariants as route

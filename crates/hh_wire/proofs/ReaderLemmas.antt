@@ -24,7 +24,7 @@ use Rattle.hh_runs.specs.RunKinds.{all_run_kinds, run_kind_code, run_kind_value}
 use Rattle.hh_runs.specs.declared.run_kind.RunKind.{RunKind}
 use Rattle.hh_runs.specs.declared.run_kind.RunKind.TheVariants as run
 use Rattle.hh_replies.proofs.TextLemmas.{size_below}
-use Rattle.hh_wire.specs.Paths.{is_part, is_part_byte}
+use Rattle.hh_wire.specs.steps.Paths.{is_part, is_part_byte}
 
 -- ---- kinds
 named : {K : Type 0} (name : K → List ℕ) (all : List K) (word : List ℕ) (k : K) → find (λ x. bytes_eq word (name x)) all ≡ Some k → word ≡ name k

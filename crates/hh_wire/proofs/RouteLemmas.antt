@@ -11,8 +11,8 @@ use Rattle.matchit.specs.Router.{RouteOf}
 use Rattle.matchit.specs.Rows.{RowsOf}
 use Rattle.matchit.specs.Seek.{first}
 use Rattle.hh_names.proofs.AsciiLaws.{all_ascii}
-use Rattle.hh_wire.specs.Paths.{BeginsWith, HasParts, IsPathOf, has_two, is_part, is_part_byte, word_of}
-use Rattle.hh_wire.specs.RouteRows.{all_routes, params, pattern_of, row_of, rows}
+use Rattle.hh_wire.specs.steps.Paths.{BeginsWith, HasParts, IsPathOf, has_two, is_part, is_part_byte, word_of}
+use Rattle.hh_wire.specs.steps.RouteRows.{all_routes, params, pattern_of, row_of, rows}
 use Rattle.hh_wire.specs.declared.router.Route.{Route}
 use Rattle.hh_wire.specs.declared.router.Route.TheVariants as route
 use Rattle.hh_wire.proofs.FoundFacts.{Among, Begins, begins_word, first_begins, is_byte}

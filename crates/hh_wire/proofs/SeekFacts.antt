@@ -8,7 +8,7 @@ use Rattle.std.specs.Cmp.Lexicographic.{pointwise}
 use Rattle.std.specs.List.{list_all}
 use Rattle.std.specs.Prelude.{nat_lt}
 use Rattle.matchit.specs.Rows.{RowsOf, param_token, catch_all_token}
-use Rattle.hh_wire.specs.Paths.{is_part, is_part_byte}
+use Rattle.hh_wire.specs.steps.Paths.{is_part, is_part_byte}
 use Rattle.matchit.specs.Seek.{step, or_else, own, seek, first, param_step, has_slash, segment, cuts}
 
 -- ---- segments

@@ -1,6 +1,4 @@
 pub mod Behind
 pub mod Message
-pub mod Paths
-pub mod RouteRows
 pub mod Routes
-pub mod Stops
+pub mod steps

@@ -1,7 +1,7 @@
 //! What paths ask for.
 
 ghost use Rattle.std.specs.Prelude.{◌≡◌, ◌<◌, ◌==◌, [], ◌∷◌, length, position, IfNone, IfOk, IfSome};
-ghost use Rattle.hh_wire.specs.Paths.{action_of, one_part_of, two_parts_of};
+ghost use Rattle.hh_wire.specs.steps.Paths.{action_of, one_part_of, two_parts_of};
 ghost use Rattle.hh_wire.specs.Routes.{action_at, method_of, parts_of};
 
 use crate::router::{Route, route_at};

@@ -1,8 +1,8 @@
 //! The routes of the office, and which of them a path has.
 
 ghost use Rattle.std.specs.Prelude.{◌≡◌, Some, IfErr, IfOk, IfSome};
-ghost use Rattle.hh_wire.specs.Paths.{BeginsWith, IsPathOf};
-ghost use Rattle.hh_wire.specs.RouteRows.{rows};
+ghost use Rattle.hh_wire.specs.steps.Paths.{BeginsWith, IsPathOf};
+ghost use Rattle.hh_wire.specs.steps.RouteRows.{rows};
 
 use matchit::{InsertError, Router};
 use std::alloc::{AllocError, Global};

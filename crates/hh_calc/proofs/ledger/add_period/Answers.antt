@@ -1,5 +1,5 @@
 use Rattle.std.proofs.Common.{◌+◌, ◌*◌, arith, length}
-use Rattle.hh_calc.specs.Sums.{greatest_sum, greatest_unit_sum, greatest_volume}
+use Rattle.hh_calc.specs.steps.Sums.{greatest_sum, greatest_unit_sum, greatest_volume}
 use Rattle.hh_calc.proofs.LedgerLaws.{contracts_after}
 use Rattle.hh_calc.proofs.SumLaws.{all_within}
 use Rattle.hh_calc.proofs.ledger.add_period.Goals as goal

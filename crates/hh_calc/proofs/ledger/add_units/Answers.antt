@@ -1,7 +1,7 @@
 use Rattle.std.proofs.Common.{◌∙◌, ◌+◌, ◌*◌, ◌++◌, ap, arith, length, map, take, sym, length-append}
 use Rattle.hh_calc.specs.Formulas.{unit_credits, unit_sums}
 use Rattle.hh_calc.specs.Ready.{HasFewSubsidiaries, IsUnitNamed}
-use Rattle.hh_calc.specs.Sums.{greatest_credit, greatest_sum, greatest_unit_sum, greatest_volume}
+use Rattle.hh_calc.specs.steps.Sums.{greatest_credit, greatest_sum, greatest_unit_sum, greatest_volume}
 use Rattle.hh_calc.proofs.LedgerLaws.{credits_next, none_within, sums_start, units_step}
 use Rattle.hh_calc.proofs.SumLaws.{all_read, all_within}
 use Rattle.hh_calc.proofs.ledger.add_units.Goals as goal

@@ -1,7 +1,7 @@
 use Rattle.std.proofs.Common.{◌≡◌, ◌+◌, ◌*◌, length, map, take}
 use Rattle.std.specs.Prelude.{All}
 use Rattle.hh_calc.specs.Formulas.{credits_of, unit_sums}
-use Rattle.hh_calc.specs.Sums.{greatest_credit, greatest_volume, IsWithin}
+use Rattle.hh_calc.specs.steps.Sums.{greatest_credit, greatest_volume, IsWithin}
 use Rattle.hh_calc.proofs.ledger.add_units.Given as goal
 
 -- the credits and the sums over the units so far

@@ -1,7 +1,7 @@
 use Rattle.std.proofs.Common.{◌∙◌, ◌*◌, ◌+◌, ◌≡◌, ap, arith}
 use Rattle.std.specs.Prelude.{neg_ℤ}
 use Rattle.hh_calc.specs.Formulas.{contracted}
-use Rattle.hh_calc.specs.Sums.{contract_amounts, greatest_sum, greatest_volume, with_amounts, with_contract}
+use Rattle.hh_calc.specs.steps.Sums.{contract_amounts, greatest_sum, greatest_volume, with_amounts, with_contract}
 use Rattle.hh_calc.proofs.SumLaws.{all_within, changed_on, grown_on, sold_and_bought}
 use Rattle.hh_calc.proofs.WordFacts.{held_volume, turned_word}
 use Rattle.hh_calc.proofs.sums.add_contract.Goals as goal

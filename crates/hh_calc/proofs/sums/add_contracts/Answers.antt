@@ -1,6 +1,6 @@
 use Rattle.std.proofs.Common.{[], ◌*◌, ◌+◌, arith, length, take}
 use Rattle.hh_calc.specs.Ready.{IsContractNamed}
-use Rattle.hh_calc.specs.Sums.{greatest_sum, greatest_unit_sum, greatest_volume, with_contract, with_contracts}
+use Rattle.hh_calc.specs.steps.Sums.{greatest_sum, greatest_unit_sum, greatest_volume, with_contract, with_contracts}
 use Rattle.hh_calc.proofs.SumLaws.{all_read, all_within, changed_on, contract_step, grown_on, no_contracts, not_grown, unchanged}
 use Rattle.hh_calc.proofs.sums.add_contracts.Goals as goal
 

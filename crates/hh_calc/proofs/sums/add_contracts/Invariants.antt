@@ -1,5 +1,5 @@
 use Rattle.std.proofs.Common.{◌*◌, take}
-use Rattle.hh_calc.specs.Sums.{greatest_volume, with_contracts, AreChanged, AreGrown}
+use Rattle.hh_calc.specs.steps.Sums.{greatest_volume, with_contracts, AreChanged, AreGrown}
 use Rattle.hh_calc.proofs.sums.add_contracts.Given as goal
 
 -- the contracts so far are added

@@ -1,5 +1,5 @@
 use Rattle.std.proofs.Common.{◌*◌, take}
-use Rattle.hh_calc.specs.Sums.{greatest_credit, with_credits, AreChanged, AreGrown}
+use Rattle.hh_calc.specs.steps.Sums.{greatest_credit, with_credits, AreChanged, AreGrown}
 use Rattle.hh_calc.proofs.sums.add_credits.Given as goal
 
 -- the credits so far are added

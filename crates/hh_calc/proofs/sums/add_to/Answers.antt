@@ -1,5 +1,5 @@
 use Rattle.std.proofs.Common.{◌∙◌, ap, get_or, set}
-use Rattle.hh_calc.specs.Sums.{no_sums, sums_plus}
+use Rattle.hh_calc.specs.steps.Sums.{no_sums, sums_plus}
 use Rattle.hh_calc.proofs.SumLaws.{added_once}
 use Rattle.hh_calc.proofs.sums.add_to.Goals as goal
 

@@ -1,6 +1,6 @@
 use Rattle.std.proofs.Common.{arith, ◌∙◌, ◌^◌, ◌*◌, ap}
 use Rattle.std.specs.Prelude.{◌*ℤ◌}
-use Rattle.hh_calc.specs.Sums.{balancing_amounts}
+use Rattle.hh_calc.specs.steps.Sums.{balancing_amounts}
 use Rattle.hh_calc.proofs.CreditFacts.{held_times, held_wide, held_word, multiplier_most}
 use Rattle.hh_calc.proofs.WordFacts.{volume_size}
 use Rattle.hh_calc.proofs.sums.amounts_of_balancing.Goals as goal

@@ -1,7 +1,7 @@
 use Rattle.std.proofs.Common.{sym, subst, ap, ◌∙◌}
 use Rattle.std.specs.Prelude.{pos, ◌+ℤ◌, unwrap_or}
 use Rattle.hh_calc.specs.Settled.{paid_by}
-use Rattle.hh_day.specs.RunParts.{AddsRow}
+use Rattle.hh_day.specs.steps.RunParts.{AddsRow}
 use Rattle.hh_day.proofs.NetLaws.{adds_row}
 use Rattle.hh_day.proofs.nets.add_row.Goals as goal
 

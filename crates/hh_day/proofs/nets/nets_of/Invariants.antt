@@ -1,5 +1,5 @@
 use Rattle.std.proofs.Common.{take}
-use Rattle.hh_day.specs.RunParts.{AreNetsOf}
+use Rattle.hh_day.specs.steps.RunParts.{AreNetsOf}
 use Rattle.hh_day.proofs.nets.nets_of.Given as goal
 
 -- the nets by the rows so far

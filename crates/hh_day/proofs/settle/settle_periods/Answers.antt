@@ -3,7 +3,7 @@ use Rattle.std.proofs.lemmas.List.Elements.{All-get_or}
 use Rattle.std.proofs.lemmas.List.{length_push}
 use Rattle.std.proofs.lemmas.Slice.Zip.{zip_end, zip_turn}
 use Rattle.hh_calc.specs.Ready.{IsReady}
-use Rattle.hh_day.specs.PeriodSteps.{SettlesPeriod}
+use Rattle.hh_day.specs.steps.PeriodSteps.{SettlesPeriod}
 use Rattle.hh_day.proofs.SettleLaws.{SettlesFirst, passes_first, settles_all, settles_next}
 use Rattle.hh_day.proofs.settle.settle_periods.Goals as goal
 

@@ -1,6 +1,6 @@
 use Rattle.std.proofs.Common.{take, map}
 use Rattle.httparse.specs.Spans.{header_bytes}
-use Rattle.hh_heads.specs.Fields.{IsField}
+use Rattle.hh_heads.specs.steps.Fields.{IsField}
 use Rattle.hh_heads.specs.Headings.{values_in}
 use Rattle.hh_heads.proofs.field.find.Given as goal
 

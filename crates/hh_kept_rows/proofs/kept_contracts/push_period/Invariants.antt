@@ -1,6 +1,6 @@
 use Rattle.std.proofs.Common.{◌≡◌, ◌++◌, take}
 use Rattle.std.specs.Prelude.{filter}
-use Rattle.hh_kept_rows.specs.KeptContracts.{is_in_period}
+use Rattle.hh_kept_rows.specs.steps.KeptContracts.{is_in_period}
 use Rattle.hh_kept_rows.proofs.kept_contracts.push_period.Given as goal
 
 -- the rows so far of the Settlement Period stand behind those before

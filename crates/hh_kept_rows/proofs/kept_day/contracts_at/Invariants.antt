@@ -1,6 +1,6 @@
 use Rattle.std.proofs.Common.{◌≡◌, map, take}
 use Rattle.std.specs.Prelude.{filter}
-use Rattle.hh_kept_rows.specs.KeptContracts.{is_in_period}
+use Rattle.hh_kept_rows.specs.steps.KeptContracts.{is_in_period}
 use Rattle.hh_kept_rows.proofs.kept_day.contracts_at.Given as goal
 
 -- the contracts of the Settlement Period among the rows so far

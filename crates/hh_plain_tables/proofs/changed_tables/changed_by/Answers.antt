@@ -6,7 +6,7 @@ use Rattle.hh_rows.specs.Keys.{contract_key_cmp, reallocation_key_cmp, settlemen
 use Rattle.hh_rules.specs.Entries.{contract_entry, meter_entry, party_entry, price_entry, reallocation_entry, unit_entry}
 use Rattle.hh_states.specs.Changes.{registered_with}
 use Rattle.hh_plain_tables.specs.declared.changed_tables.ChangedTables.{ChangedTables}
-use Rattle.hh_plain_tables.specs.KeptTables.{with_changed}
+use Rattle.hh_plain_tables.specs.steps.KeptTables.{with_changed}
 use Rattle.hh_plain_tables.proofs.KeptLaws.{changed_with}
 use Rattle.hh_plain_tables.proofs.changed_tables.changed_by.Goals as goal
 

@@ -16,7 +16,7 @@ returns-in_err-write_reply-in-Ok-Asked-clause-served g c sure =
     let counts = g.T.Tables.refusals c.handle-reply.new.self.tables in
     let fits : SFits w64 c.args.moment = search rules in
     let is = handled old new c.args.moment _ (to_z-of_z w64 c.args.moment fits) c.in-Ok-Asked.request c.handle-reply.result (h.step sure) (h.stands sure)
-    source c.in-Ok-Asked.field-0 c.in-Ok-Asked.field-0-is c.in-Ok-Asked.ensures.message (h.untouched sure) (h.once sure) (h.sums sure) (h.view sure) (h.foreign sure) counted counts (h.tallied sure) in
+    source c.in-Ok-Asked.field-0 c.in-Ok-Asked.field-0-is c.in-Ok-Asked.ensures.message (h.untouched sure) (h.once sure) (h.sums sure) (h.view sure) (h.foreign sure) counted counts (h.refusals_counted sure) in
     not_replied source old new counted counts c.args.moment _ _ _ _ (Ok c.handle-reply.result) is c.in_err-write_reply-in-Ok-Asked.field-0.0 c.from_residual.result c.from_residual.ensures.1
     c.in_err-write_reply-in-Ok-Asked.ensures.reply c.in_err-write_reply-in-Ok-Asked.ensures.no_memory
 
@@ -48,7 +48,7 @@ returns-in_ok-write_reply-in-Ok-Asked-clause-served g c sure =
     let counts = g.T.Tables.refusals c.handle-reply.new.self.tables in
     let fits : SFits w64 c.args.moment = search rules in
     let is = handled old new c.args.moment _ (to_z-of_z w64 c.args.moment fits) c.in-Ok-Asked.request c.handle-reply.result (h.step sure) (h.stands sure)
-    source c.in-Ok-Asked.field-0 c.in-Ok-Asked.field-0-is c.in-Ok-Asked.ensures.message (h.untouched sure) (h.once sure) (h.sums sure) (h.view sure) (h.foreign sure) counted counts (h.tallied sure) in
+    source c.in-Ok-Asked.field-0 c.in-Ok-Asked.field-0-is c.in-Ok-Asked.ensures.message (h.untouched sure) (h.once sure) (h.sums sure) (h.view sure) (h.foreign sure) counted counts (h.refusals_counted sure) in
     replied source old new counted counts c.args.moment _ _ _ _ (Ok c.handle-reply.result) is c.in_ok-write_reply-in-Ok-Asked.ensures.reply
 
 pub returns-in_ok-write_reply-in-Ok-Asked-clause-stands :

@@ -1,5 +1,5 @@
 use Rattle.std.proofs.Common.{◌≡◌, map, take}
-use Rattle.hh_share.specs.Quotas.{quota_for}
+use Rattle.hh_share.specs.steps.Quotas.{quota_for}
 use Rattle.hh_share.proofs.shares.quotas_of.Given as goal
 
 -- the quotas of the weights so far

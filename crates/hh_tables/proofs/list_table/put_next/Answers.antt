@@ -1,6 +1,6 @@
 use Rattle.std.proofs.Common.{◌++◌, ap, subst, sym, ◌∙◌}
 use Rattle.std.specs.FinMap.{put}
-use Rattle.hh_tables.specs.Merges.{AreUpTo}
+use Rattle.hh_tables.specs.steps.Merges.{AreUpTo}
 use Rattle.hh_tables.specs.Tables.{IsTable}
 use Rattle.hh_tables.proofs.MergeLaws.{front_is_table, front_is_up_to, put_between, put_is_up_to}
 use Rattle.hh_tables.proofs.list_table.put_next.Goals as goal

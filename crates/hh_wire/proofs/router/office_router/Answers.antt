@@ -6,7 +6,7 @@ use Rattle.matchit.specs.Router.{Refused, RouteOf, nearest}
 use Rattle.matchit.specs.Rows.{RowsOf}
 use Rattle.matchit.specs.declared.error.InsertError.{InsertError}
 use Rattle.matchit.specs.declared.error.InsertError.TheVariants.{Conflict, InvalidCatchAll, InvalidParam, InvalidParamSegment, OutOfMemory}
-use Rattle.hh_wire.specs.RouteRows.{pattern_of}
+use Rattle.hh_wire.specs.steps.RouteRows.{pattern_of}
 use Rattle.hh_wire.specs.declared.router.Route.{Route}
 use Rattle.hh_wire.specs.declared.router.Route.TheVariants as route
 use Rattle.hh_wire.proofs.router.office_router.Goals as goal

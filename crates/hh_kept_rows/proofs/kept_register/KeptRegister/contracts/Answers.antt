@@ -4,7 +4,7 @@ use Rattle.std.specs.List.{flat_map}
 use Rattle.std.proofs.lemmas.Result.{IfOk-weaker}
 use Rattle.hh_states.specs.DaySettlement.{from_one_to}
 use Rattle.hh_states.specs.Reads.{contracts_of}
-use Rattle.hh_kept_rows.specs.KeptContracts.{is_in_period}
+use Rattle.hh_kept_rows.specs.steps.KeptContracts.{is_in_period}
 use Rattle.hh_kept_rows.proofs.ContractLaws.{contracts_by_period}
 use Rattle.hh_kept_rows.proofs.kept_register.KeptRegister.contracts.Goals as goal
 

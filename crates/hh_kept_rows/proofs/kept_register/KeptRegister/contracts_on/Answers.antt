@@ -1,7 +1,7 @@
 use Rattle.std.proofs.Common.{◌∙◌, ap, arith, sym, None, Some}
 use Rattle.std.proofs.lemmas.List.{append-nil}
 use Rattle.hh_rules.specs.History.{Registered}
-use Rattle.hh_kept_rows.specs.KeptContracts.{contract_on}
+use Rattle.hh_kept_rows.specs.steps.KeptContracts.{contract_on}
 use Rattle.hh_kept_rows.proofs.ContractLaws.{found_more}
 use Rattle.hh_kept_rows.proofs.kept_register.KeptRegister.contracts_on.Goals as goal
 use Rattle.hh_kept_rows.proofs.kept_register.KeptRegister.contracts_on.Goals.{in-Some+in_ok-push, in_default}

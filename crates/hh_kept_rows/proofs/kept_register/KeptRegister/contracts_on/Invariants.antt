@@ -1,6 +1,6 @@
 use Rattle.std.proofs.Common.{◌≡◌, take}
 use Rattle.std.specs.Prelude.{filter_map}
-use Rattle.hh_kept_rows.specs.KeptContracts.{contract_on}
+use Rattle.hh_kept_rows.specs.steps.KeptContracts.{contract_on}
 use Rattle.hh_kept_rows.proofs.kept_register.KeptRegister.contracts_on.Given as goal
 
 -- the rows found so far

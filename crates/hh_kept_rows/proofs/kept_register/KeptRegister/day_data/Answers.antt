@@ -1,6 +1,6 @@
 use Rattle.std.proofs.Common.{◌≡◌}
 use Rattle.hh_states.specs.PeriodSettlement.{units_on}
-use Rattle.hh_kept_rows.specs.DayRolls.{IsRollOf}
+use Rattle.hh_kept_rows.specs.steps.DayRolls.{IsRollOf}
 use Rattle.hh_kept_rows.proofs.DayLaws.{all_on_date}
 use Rattle.hh_kept_rows.proofs.kept_register.KeptRegister.day_data.Goals as goal
 

@@ -2,7 +2,7 @@ use Rattle.std.proofs.Common.{map, ap, ◌∙◌}
 use Rattle.std.specs.Prelude.{filter, filter_map}
 use Rattle.hh_calc.specs.Terms.{period_terms}
 use Rattle.hh_states.specs.PeriodSettlement.{unit_at}
-use Rattle.hh_kept_rows.specs.KeptContracts.{is_in_period}
+use Rattle.hh_kept_rows.specs.steps.KeptContracts.{is_in_period}
 use Rattle.hh_kept_rows.proofs.DayLaws.{rows_at}
 use Rattle.hh_kept_rows.proofs.kept_register.KeptRegister.period_data.Goals as goal
 

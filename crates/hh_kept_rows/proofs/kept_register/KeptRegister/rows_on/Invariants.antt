@@ -1,6 +1,6 @@
 use Rattle.std.proofs.Common.{◌≡◌, take}
 use Rattle.std.specs.Prelude.{filter_map}
-use Rattle.hh_kept_rows.specs.DayRolls.{row_on}
+use Rattle.hh_kept_rows.specs.steps.DayRolls.{row_on}
 use Rattle.hh_kept_rows.proofs.kept_register.KeptRegister.rows_on.Given as goal
 
 -- the rows of the date among those so far

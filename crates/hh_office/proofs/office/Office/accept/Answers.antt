@@ -1,6 +1,6 @@
 use Rattle.std.proofs.Common.{ap, subst, ◌∙◌}
 use Rattle.hh_states.specs.Changes.{LoadWrites}
-use Rattle.hh_office.specs.Loads.{WritesLoad, writes_of}
+use Rattle.hh_office.specs.steps.Loads.{WritesLoad, writes_of}
 use Rattle.hh_office.specs.Machine.{loaded_reply}
 use Rattle.hh_office.proofs.StepLaws.{accepts}
 use Rattle.hh_office.proofs.office.Office.accept.Goals as goal

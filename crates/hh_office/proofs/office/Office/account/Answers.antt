@@ -5,7 +5,7 @@ use Rattle.hh_requests.specs.declared.reply.Reply.TheVariants as reply
 use Rattle.hh_states.specs.Reads.{runs_in}
 use Rattle.hh_office.specs.Enquiries.{account_reply}
 use Rattle.hh_office.specs.Promises.{MakesTransition, TellsInEachState}
-use Rattle.hh_office.specs.Reads.{latest_key}
+use Rattle.hh_office.specs.steps.Reads.{latest_key}
 use Rattle.hh_office.specs.Transitions.{unchanged}
 use Rattle.hh_office.specs.Views.{OfficeView, midnight_of}
 use Rattle.hh_office.proofs.EnquiryLaws.{account_none}
@@ -32,9 +32,9 @@ returns-in-None-clause-makes g c sure s stands =
     (comes_same office c.latest_run.new.self.seen (reply.Refused (plain_fault NoRun)) transition (c.in_ok-run.ensures.same sure)
     (account_none office s stands c.kept_kinds_of_dates.ensures c.args.account.now c.args.date (sym c.in-None.is ∙ c.in_ok-run.ensures.value sure)))
 
-pub returns-in-Some-clause-tallied : goal.returns-in-Some-clause-tallied
-returns-in-Some-clause-tallied g c sure some =
+pub returns-in-Some-clause-refusals_counted : goal.returns-in-Some-clause-refusals_counted
+returns-in-Some-clause-refusals_counted g c sure some =
     let before = c.account_in.ensures.sure sure in
     let same = c.in_ok-run.ensures.same before in
-    subst (λ n. CountsReply (reply_of c.account_in.result) n (g.T.Tables.refusals c.account_in.new.self.tables)) (c.in_ok-run.ensures.tallied before (reached_by c.args.self.now.seen some))
-    (c.account_in.ensures.tallied sure (subst StandsForSome (sym same) some))
+    subst (λ n. CountsReply (reply_of c.account_in.result) n (g.T.Tables.refusals c.account_in.new.self.tables)) (c.in_ok-run.ensures.refusals_counted before (reached_by c.args.self.now.seen some))
+    (c.account_in.ensures.refusals_counted sure (subst StandsForSome (sym same) some))

@@ -21,11 +21,11 @@ returns-clause-makes g c sure s stands =
     comes_same office c.rows_of_run.new.self.seen (reply_of c.reply_by_rows.result) (unchanged s (account_reply (midnight_of office) s account c.args.date)) (c.in_ok-rows.ensures.same sure)
     (account_found office s stands c.kept_kinds_of_dates.ensures c.kept_results.ensures account c.args.date c.args.run c.reply_by_rows.result (c.requires (c.in_ok-rows.ensures.sure sure)) replies)
 
-pub returns-clause-tallied : goal.returns-clause-tallied
-returns-clause-tallied g c sure some =
+pub returns-clause-refusals_counted : goal.returns-clause-refusals_counted
+returns-clause-refusals_counted g c sure some =
     let office = c.args.self.now.seen in
     let account = c.args.account.now in
     let fits = net_fits office some.0 some.1 c.kept_kinds_of_dates.ensures c.paid_within.ensures account c.args.date c.args.run (c.requires (c.in_ok-rows.ensures.sure sure)) in
     let told = subst (λ rows. IsBetween day_cash.least day_cash.most (net_of_rows (rows_of_account account rows))) (sym (c.deref.ensures.value ∙ c.in_ok-rows.ensures.value sure)) fits in
-    subst (λ n. CountsReply (reply_of c.reply_by_rows.result) (g.T.Tables.refusals c.args.self.now.tables) n) (sym (c.in_ok-rows.ensures.tallied sure (reached_by office some)))
-    (c.reply_by_rows.ensures.tallied told (g.T.Tables.refusals c.args.self.now.tables))
+    subst (λ n. CountsReply (reply_of c.reply_by_rows.result) (g.T.Tables.refusals c.args.self.now.tables) n) (sym (c.in_ok-rows.ensures.refusals_counted sure (reached_by office some)))
+    (c.reply_by_rows.ensures.refusals_counted told (g.T.Tables.refusals c.args.self.now.tables))

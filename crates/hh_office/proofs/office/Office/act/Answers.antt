@@ -74,44 +74,44 @@ returns-in-Runs-clause-makes g c sure s stands =
     comes_allowed office new given s c.args.moment c.args.request.now (sym (c.in_ok-may.ensures.allowed before s stands) ∙ c.if-not-branch.false)
     (subst (λ a. MakesTransition office new given (act (midnight_of office) s c.args.moment a)) (sym c.in-Runs.is) (does s stands))
 
-pub returns-in-Load-clause-tallied : goal.returns-in-Load-clause-tallied
-returns-in-Load-clause-tallied g c sure some =
+pub returns-in-Load-clause-refusals_counted : goal.returns-in-Load-clause-refusals_counted
+returns-in-Load-clause-refusals_counted g c sure some =
     let before = c.load.ensures.sure sure in
     let same = c.in_ok-may.ensures.same before in
-    subst (λ n. CountsReply (reply_of c.load.result) n (g.T.Tables.refusals c.load.new.self.tables)) (c.in_ok-may.ensures.tallied before (reached_by c.args.self.now.seen some))
-    (c.load.ensures.tallied sure (subst StandsForSome (sym same) some))
+    subst (λ n. CountsReply (reply_of c.load.result) n (g.T.Tables.refusals c.load.new.self.tables)) (c.in_ok-may.ensures.refusals_counted before (reached_by c.args.self.now.seen some))
+    (c.load.ensures.refusals_counted sure (subst StandsForSome (sym same) some))
 
-pub returns-in-Run-clause-tallied : goal.returns-in-Run-clause-tallied
-returns-in-Run-clause-tallied g c sure some =
+pub returns-in-Run-clause-refusals_counted : goal.returns-in-Run-clause-refusals_counted
+returns-in-Run-clause-refusals_counted g c sure some =
     let before = c.run.ensures.sure sure in
     let same = c.in_ok-may.ensures.same before in
-    subst (λ n. CountsReply (reply_of c.run.result) n (g.T.Tables.refusals c.run.new.self.tables)) (c.in_ok-may.ensures.tallied before (reached_by c.args.self.now.seen some))
-    (c.run.ensures.tallied sure (subst StandsForSome (sym same) some))
+    subst (λ n. CountsReply (reply_of c.run.result) n (g.T.Tables.refusals c.run.new.self.tables)) (c.in_ok-may.ensures.refusals_counted before (reached_by c.args.self.now.seen some))
+    (c.run.ensures.refusals_counted sure (subst StandsForSome (sym same) some))
 
-pub returns-in-Account-clause-tallied : goal.returns-in-Account-clause-tallied
-returns-in-Account-clause-tallied g c sure some =
+pub returns-in-Account-clause-refusals_counted : goal.returns-in-Account-clause-refusals_counted
+returns-in-Account-clause-refusals_counted g c sure some =
     let before = c.account.ensures.sure sure in
     let same = c.in_ok-may.ensures.same before in
-    subst (λ n. CountsReply (reply_of c.account.result) n (g.T.Tables.refusals c.account.new.self.tables)) (c.in_ok-may.ensures.tallied before (reached_by c.args.self.now.seen some))
-    (c.account.ensures.tallied sure (subst StandsForSome (sym same) some))
+    subst (λ n. CountsReply (reply_of c.account.result) n (g.T.Tables.refusals c.account.new.self.tables)) (c.in_ok-may.ensures.refusals_counted before (reached_by c.args.self.now.seen some))
+    (c.account.ensures.refusals_counted sure (subst StandsForSome (sym same) some))
 
-pub returns-in-Balance-clause-tallied : goal.returns-in-Balance-clause-tallied
-returns-in-Balance-clause-tallied g c sure some =
+pub returns-in-Balance-clause-refusals_counted : goal.returns-in-Balance-clause-refusals_counted
+returns-in-Balance-clause-refusals_counted g c sure some =
     let before = c.balance.ensures.sure sure in
     let same = c.in_ok-may.ensures.same before in
-    subst (λ n. CountsReply (reply_of c.balance.result) n (g.T.Tables.refusals c.balance.new.self.tables)) (c.in_ok-may.ensures.tallied before (reached_by c.args.self.now.seen some))
-    (c.balance.ensures.tallied sure (subst (λ (o : OfficeView). AreReached o.content) (sym same) (reached_by c.args.self.now.seen some)))
+    subst (λ n. CountsReply (reply_of c.balance.result) n (g.T.Tables.refusals c.balance.new.self.tables)) (c.in_ok-may.ensures.refusals_counted before (reached_by c.args.self.now.seen some))
+    (c.balance.ensures.refusals_counted sure (subst (λ (o : OfficeView). AreReached o.content) (sym same) (reached_by c.args.self.now.seen some)))
 
-pub returns-in-Contracts-clause-tallied : goal.returns-in-Contracts-clause-tallied
-returns-in-Contracts-clause-tallied g c sure some =
+pub returns-in-Contracts-clause-refusals_counted : goal.returns-in-Contracts-clause-refusals_counted
+returns-in-Contracts-clause-refusals_counted g c sure some =
     let before = c.contracts.ensures.sure sure in
     let same = c.in_ok-may.ensures.same before in
-    subst (λ n. CountsReply (reply_of c.contracts.result) n (g.T.Tables.refusals c.contracts.new.self.tables)) (c.in_ok-may.ensures.tallied before (reached_by c.args.self.now.seen some))
-    (c.contracts.ensures.tallied sure (subst (λ (o : OfficeView). AreReached o.content) (sym same) (reached_by c.args.self.now.seen some)))
+    subst (λ n. CountsReply (reply_of c.contracts.result) n (g.T.Tables.refusals c.contracts.new.self.tables)) (c.in_ok-may.ensures.refusals_counted before (reached_by c.args.self.now.seen some))
+    (c.contracts.ensures.refusals_counted sure (subst (λ (o : OfficeView). AreReached o.content) (sym same) (reached_by c.args.self.now.seen some)))
 
-pub returns-in-Runs-clause-tallied : goal.returns-in-Runs-clause-tallied
-returns-in-Runs-clause-tallied g c sure some =
+pub returns-in-Runs-clause-refusals_counted : goal.returns-in-Runs-clause-refusals_counted
+returns-in-Runs-clause-refusals_counted g c sure some =
     let before = c.runs.ensures.sure sure in
     let same = c.in_ok-may.ensures.same before in
-    subst (λ n. CountsReply (reply_of c.runs.result) n (g.T.Tables.refusals c.runs.new.self.tables)) (c.in_ok-may.ensures.tallied before (reached_by c.args.self.now.seen some))
-    (c.runs.ensures.tallied sure (subst (λ (o : OfficeView). AreReached o.content) (sym same) (reached_by c.args.self.now.seen some)))
+    subst (λ n. CountsReply (reply_of c.runs.result) n (g.T.Tables.refusals c.runs.new.self.tables)) (c.in_ok-may.ensures.refusals_counted before (reached_by c.args.self.now.seen some))
+    (c.runs.ensures.refusals_counted sure (subst (λ (o : OfficeView). AreReached o.content) (sym same) (reached_by c.args.self.now.seen some)))

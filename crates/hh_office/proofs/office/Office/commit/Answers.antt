@@ -1,6 +1,6 @@
 use Rattle.std.proofs.Common.{refl, subst}
 use Rattle.std.specs.Prelude.{OnOk}
-use Rattle.hh_office.specs.Loads.{WritesLoad}
+use Rattle.hh_office.specs.steps.Loads.{WritesLoad}
 use Rattle.hh_office.specs.Views.{Kept, OfficeView}
 use Rattle.hh_office.proofs.StepLaws.{commit_writes}
 use Rattle.hh_office.proofs.office.Office.commit.Goals as goal

@@ -1,6 +1,6 @@
 use Rattle.std.proofs.Common.{refl, subst}
 use Rattle.std.specs.Prelude.{OnOk}
-use Rattle.hh_office.specs.Settling.{WritesRun}
+use Rattle.hh_office.specs.steps.Settling.{WritesRun}
 use Rattle.hh_office.specs.Views.{Kept, OfficeView}
 use Rattle.hh_office.proofs.RunLaws.{commit_writes_run}
 use Rattle.hh_office.proofs.office.Office.commit_run.Goals as goal

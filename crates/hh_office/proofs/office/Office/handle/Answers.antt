@@ -67,10 +67,10 @@ pub returns-in-Err-clause-foreign : goal.returns-in-Err-clause-foreign
 returns-in-Err-clause-foreign g c sure =
     forbids_others c.keys_never_meet.ensures c.args.self.now.seen c.act.new.self.seen c.args.moment c.args.request.now (reply.Refused c.in-Err.fault) (returns-in-Err-clause-step g c sure)
 
-pub returns-in-Ok-clause-tallied : goal.returns-in-Ok-clause-tallied
-returns-in-Ok-clause-tallied g c sure some =
-    subst (λ r. CountsReply (reply_of r) (g.T.Tables.refusals c.args.self.now.tables) (g.T.Tables.refusals c.act.new.self.tables)) c.in-Ok.is (c.act.ensures.tallied sure some)
+pub returns-in-Ok-clause-refusals_counted : goal.returns-in-Ok-clause-refusals_counted
+returns-in-Ok-clause-refusals_counted g c sure some =
+    subst (λ r. CountsReply (reply_of r) (g.T.Tables.refusals c.args.self.now.tables) (g.T.Tables.refusals c.act.new.self.tables)) c.in-Ok.is (c.act.ensures.refusals_counted sure some)
 
-pub returns-in-Err-clause-tallied : goal.returns-in-Err-clause-tallied
-returns-in-Err-clause-tallied g c sure some =
-    subst (λ r. CountsReply (reply_of r) (g.T.Tables.refusals c.args.self.now.tables) (g.T.Tables.refusals c.act.new.self.tables)) c.in-Err.is (c.act.ensures.tallied sure some)
+pub returns-in-Err-clause-refusals_counted : goal.returns-in-Err-clause-refusals_counted
+returns-in-Err-clause-refusals_counted g c sure some =
+    subst (λ r. CountsReply (reply_of r) (g.T.Tables.refusals c.args.self.now.tables) (g.T.Tables.refusals c.act.new.self.tables)) c.in-Err.is (c.act.ensures.refusals_counted sure some)

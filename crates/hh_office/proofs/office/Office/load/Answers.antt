@@ -33,16 +33,16 @@ returns-in-None-clause-makes g c sure s stands =
     comes_by_kept office s c.args.moment upload stands c.kept_files.ensures None (sym c.in-None.is ∙ c.in_ok-file.ensures.value before) small new (reply_of c.load_new.result)
     (subst (λ m. MakesTransition office new (reply_of c.load_new.result) (load_new (midnight_of office) s m upload)) (to_z-of_z w64 c.args.moment c.ranges.moment) (does s stands))
 
-pub returns-in-Some-clause-tallied : goal.returns-in-Some-clause-tallied
-returns-in-Some-clause-tallied g c sure some =
+pub returns-in-Some-clause-refusals_counted : goal.returns-in-Some-clause-refusals_counted
+returns-in-Some-clause-refusals_counted g c sure some =
     subst (λ r. CountsReply r (g.T.Tables.refusals c.args.self.now.tables) (g.T.Tables.refusals c.kept_under.new.self.tables)) (sym c.repeated.ensures)
     (subst (λ n. CountsReply (repeat_reply c.in-Some.file c.args.upload.now.body) (g.T.Tables.refusals c.args.self.now.tables) n)
-    (sym (c.in_ok-file.ensures.tallied sure (reached_by c.args.self.now.seen some)))
+    (sym (c.in_ok-file.ensures.refusals_counted sure (reached_by c.args.self.now.seen some)))
     (repeat_counts c.in-Some.file c.args.upload.now.body (g.T.Tables.refusals c.args.self.now.tables)))
 
-pub returns-in-None-clause-tallied : goal.returns-in-None-clause-tallied
-returns-in-None-clause-tallied g c sure some =
+pub returns-in-None-clause-refusals_counted : goal.returns-in-None-clause-refusals_counted
+returns-in-None-clause-refusals_counted g c sure some =
     let before = c.load_new.ensures.sure sure in
     let same = c.in_ok-file.ensures.same before in
-    subst (λ n. CountsReply (reply_of c.load_new.result) n (g.T.Tables.refusals c.load_new.new.self.tables)) (c.in_ok-file.ensures.tallied before (reached_by c.args.self.now.seen some))
-    (c.load_new.ensures.tallied sure (subst StandsForSome (sym same) some))
+    subst (λ n. CountsReply (reply_of c.load_new.result) n (g.T.Tables.refusals c.load_new.new.self.tables)) (c.in_ok-file.ensures.refusals_counted before (reached_by c.args.self.now.seen some))
+    (c.load_new.ensures.refusals_counted sure (subst StandsForSome (sym same) some))

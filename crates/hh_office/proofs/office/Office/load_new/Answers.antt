@@ -1,7 +1,7 @@
 use Rattle.std.proofs.Common.{subst, sym, Ok, Err, w64}
 use Rattle.std.proofs.lemmas.Int.{to_z-of_z}
 use Rattle.hh_requests.specs.declared.reply.Reply.TheVariants as reply
-use Rattle.hh_office.specs.Loads.{Accepts, Judges, writes_of}
+use Rattle.hh_office.specs.steps.Loads.{Accepts, Judges, writes_of}
 use Rattle.hh_office.specs.Machine.{load_new}
 use Rattle.hh_office.specs.Promises.{MakesTransition, reply_of}
 use Rattle.hh_office.specs.Views.{midnight_of}
@@ -30,13 +30,13 @@ returns-clause-makes g c sure s stands =
     (subst (λ o. Accepts o c.accept.new.self.seen (writes_of c.args.upload.now c.in_ok-judged.judged) (reply_of c.accept.result)) (c.in_ok-judged.ensures.same before) (c.accept.ensures.makes sure))
     (judged s stands)
 
-pub returns-in_err-judged-clause-tallied : goal.returns-in_err-judged-clause-tallied
-returns-in_err-judged-clause-tallied g c sure some =
-    refused_alike c.from_residual.result c.in_err-judged.field-0.0 _ _ c.from_residual.ensures (c.in_err-judged.ensures.tallied sure some)
+pub returns-in_err-judged-clause-refusals_counted : goal.returns-in_err-judged-clause-refusals_counted
+returns-in_err-judged-clause-refusals_counted g c sure some =
+    refused_alike c.from_residual.result c.in_err-judged.field-0.0 _ _ c.from_residual.ensures (c.in_err-judged.ensures.refusals_counted sure some)
 
-pub returns-clause-tallied : goal.returns-clause-tallied
-returns-clause-tallied g c sure some =
+pub returns-clause-refusals_counted : goal.returns-clause-refusals_counted
+returns-clause-refusals_counted g c sure some =
     let before = c.accept.ensures.sure sure in
     let same = c.in_ok-judged.ensures.same before in
-    subst (λ n. CountsReply (reply_of c.accept.result) n (g.T.Tables.refusals c.accept.new.self.tables)) (c.in_ok-judged.ensures.tallied before some)
-    (c.accept.ensures.tallied sure (subst (λ (o : OfficeView). AreReached o.content) (sym same) (reached_by c.args.self.now.seen some)))
+    subst (λ n. CountsReply (reply_of c.accept.result) n (g.T.Tables.refusals c.accept.new.self.tables)) (c.in_ok-judged.ensures.refusals_counted before some)
+    (c.accept.ensures.refusals_counted sure (subst (λ (o : OfficeView). AreReached o.content) (sym same) (reached_by c.args.self.now.seen some)))

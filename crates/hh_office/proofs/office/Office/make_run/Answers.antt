@@ -1,6 +1,6 @@
 use Rattle.std.proofs.Common.{subst, ◌∙◌}
 use Rattle.hh_day.specs.NewRuns.{IsWrittenFor}
-use Rattle.hh_office.specs.Settling.{WritesRun}
+use Rattle.hh_office.specs.steps.Settling.{WritesRun}
 use Rattle.hh_office.proofs.office.Office.make_run.Goals as goal
 
 pub returns-clause-made : goal.returns-clause-made

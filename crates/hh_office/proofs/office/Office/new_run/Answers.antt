@@ -3,7 +3,7 @@ use Rattle.std.proofs.lemmas.Int.{to_z-of_z}
 use Rattle.hh_requests.specs.declared.reply.Reply.TheVariants as reply
 use Rattle.hh_office.specs.Promises.{MakesTransition}
 use Rattle.hh_office.specs.Runs.{run}
-use Rattle.hh_office.specs.Settling.{IsRunMade, RefusesIn, SettlesIn}
+use Rattle.hh_office.specs.steps.Settling.{IsRunMade, RefusesIn, SettlesIn}
 use Rattle.hh_office.specs.Views.{midnight_of}
 use Rattle.hh_office.proofs.RunLaws.{comes_given_up, run_made, run_unsettled}
 use Rattle.hh_office.proofs.StepLaws.{comes_same, passed_reply}
@@ -13,7 +13,7 @@ use Rattle.hh_day.specs.RunLimits.{FitsRun}
 use Rattle.hh_requests.specs.declared.reply.Reply.{Reply}
 use Rattle.hh_store.specs.Reached.{AreReached}
 use Rattle.hh_store.specs.StoreFaults.{CountsRefusal, store_fault}
-use Rattle.hh_office.specs.Settling.{rows_before}
+use Rattle.hh_office.specs.steps.Settling.{rows_before}
 use Rattle.hh_office.specs.Views.{OfficeView}
 use Rattle.hh_office.proofs.RunLaws.{run_fits}
 use Rattle.hh_office.proofs.office.Office.new_run.Goals as goal
@@ -45,12 +45,12 @@ returns-clause-makes g c sure s stands =
     run_made office s stands c.kept_summaries.ensures c.kept_kinds_of_dates.ensures c.args.key c.args.moment (c.requires.next first) c.writes_the_run.ensures
     c.make_run.new.self.seen c.in_ok-settled.settled.items c.args.former c.in_ok-make_run.field-0 settles (c.requires.former first) makes
 
-pub returns-in_err-settled-clause-tallied : goal.returns-in_err-settled-clause-tallied
-returns-in_err-settled-clause-tallied g c sure some =
-    refused_alike c.from_residual.result c.in_err-settled.field-0.0 _ _ c.from_residual.ensures (c.in_err-settled.ensures.tallied sure (reached_by c.args.self.now.seen some))
+pub returns-in_err-settled-clause-refusals_counted : goal.returns-in_err-settled-clause-refusals_counted
+returns-in_err-settled-clause-refusals_counted g c sure some =
+    refused_alike c.from_residual.result c.in_err-settled.field-0.0 _ _ c.from_residual.ensures (c.in_err-settled.ensures.refusals_counted sure (reached_by c.args.self.now.seen some))
 
-pub returns-in_err-make_run-clause-tallied : goal.returns-in_err-make_run-clause-tallied
-returns-in_err-make_run-clause-tallied g c sure some =
+pub returns-in_err-make_run-clause-refusals_counted : goal.returns-in_err-make_run-clause-refusals_counted
+returns-in_err-make_run-clause-refusals_counted g c sure some =
     let office = c.args.self.now.seen in
     let before = c.in_err-make_run.ensures.sure sure in
     let first = c.in_ok-settled.ensures.sure before in
@@ -62,12 +62,12 @@ returns-in_err-make_run-clause-tallied g c sure some =
     c.in_ok-settled.settled.items c.args.former settles (c.requires.former first) in
     let told = subst (λ day. FitsRun c.args.key day (rows_before office.content c.args.former)) (sym c.deref.ensures.value) fits in
     refused_alike c.from_residual-in_err-make_run.result (store_fault e) _ _ c.from_residual-in_err-make_run.ensures
-    (store_counts Reply e _ _ (subst (λ n. CountsRefusal {A = Reply} (Err e) n (g.T.Tables.refusals c.make_run.new.self.tables)) (c.in_ok-settled.ensures.tallied before reached)
-    (c.in_err-make_run.ensures.tallied sure (subst (λ (o : OfficeView). AreReached o.content) (sym same) reached)
+    (store_counts Reply e _ _ (subst (λ n. CountsRefusal {A = Reply} (Err e) n (g.T.Tables.refusals c.make_run.new.self.tables)) (c.in_ok-settled.ensures.refusals_counted before reached)
+    (c.in_err-make_run.ensures.refusals_counted sure (subst (λ (o : OfficeView). AreReached o.content) (sym same) reached)
     (subst (λ (o : OfficeView). FitsRun c.args.key c.deref.result.now (rows_before o.content c.args.former)) (sym same) told))))
 
-pub returns-clause-tallied : goal.returns-clause-tallied
-returns-clause-tallied g c sure some =
+pub returns-clause-refusals_counted : goal.returns-clause-refusals_counted
+returns-clause-refusals_counted g c sure some =
     let office = c.args.self.now.seen in
     let before = c.in_ok-make_run.ensures.sure sure in
     let first = c.in_ok-settled.ensures.sure before in
@@ -79,6 +79,6 @@ returns-clause-tallied g c sure some =
     let told = subst (λ day. FitsRun c.args.key day (rows_before office.content c.args.former)) (sym c.deref.ensures.value) fits in
     let makes = c.in_ok-make_run.ensures.made sure in
     subst (λ given. CountsReply given (g.T.Tables.refusals c.args.self.now.tables) (g.T.Tables.refusals c.make_run.new.self.tables)) (sym makes.replied)
-    (c.in_ok-make_run.ensures.tallied sure (subst (λ (o : OfficeView). AreReached o.content) (sym same) reached)
+    (c.in_ok-make_run.ensures.refusals_counted sure (subst (λ (o : OfficeView). AreReached o.content) (sym same) reached)
     (subst (λ (o : OfficeView). FitsRun c.args.key c.deref.result.now (rows_before o.content c.args.former)) (sym same) told)
-    ∙ c.in_ok-settled.ensures.tallied before reached)
+    ∙ c.in_ok-settled.ensures.refusals_counted before reached)

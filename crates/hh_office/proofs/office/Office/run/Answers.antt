@@ -3,13 +3,13 @@ use Rattle.std.proofs.lemmas.Int.{to_z-of_z}
 use Rattle.hh_requests.specs.declared.reply.Reply.TheVariants as reply
 use Rattle.hh_states.specs.Reads.{runs_in}
 use Rattle.hh_office.specs.Promises.{MakesTransition, MakesInEachState, reply_of}
-use Rattle.hh_office.specs.Reads.{latest_key}
+use Rattle.hh_office.specs.steps.Reads.{latest_key}
 use Rattle.hh_office.specs.Runs.{run}
-use Rattle.hh_office.specs.Settling.{IsNext, TellsOrder}
+use Rattle.hh_office.specs.steps.Settling.{IsNext, TellsOrder}
 use Rattle.hh_office.specs.Views.{OfficeView, midnight_of}
 use Rattle.hh_office.proofs.RunLaws.{run_kept, run_out_of_order}
 use Rattle.hh_office.proofs.StepLaws.{comes_same, passed_reply}
-use Rattle.hh_office.proofs.RefusalLaws.{elsewhere_tallied, reached_by, refused_alike}
+use Rattle.hh_office.proofs.RefusalLaws.{elsewhere_counted, reached_by, refused_alike}
 use Rattle.hh_office.specs.Refusals.{CountsReply, StandsForSome}
 use Rattle.hh_office.proofs.office.Office.run.Goals as goal
 
@@ -51,15 +51,15 @@ returns-clause-makes g c sure s stands =
     let does = subst (λ o. MakesInEachState o new c.new_run.result (λ midnight s. run midnight s (to_z w64 (of_z w64 c.args.moment)) c.args.key)) (c.in_ok-runs.ensures.same at) (c.new_run.ensures.makes sure) in
     subst (λ m. MakesTransition office new (reply_of c.new_run.result) (run (midnight_of office) s m c.args.key)) (to_z-of_z w64 c.args.moment c.ranges.moment) (does s stands)
 
-pub returns-in_err-summary-clause-tallied : goal.returns-in_err-summary-clause-tallied
-returns-in_err-summary-clause-tallied g c sure some =
+pub returns-in_err-summary-clause-refusals_counted : goal.returns-in_err-summary-clause-refusals_counted
+returns-in_err-summary-clause-refusals_counted g c sure some =
     let fault = c.in_err-summary.field-0.0 in
     refused_alike c.from_residual-in_err-summary.result fault _ _ c.from_residual-in_err-summary.ensures
-    (elsewhere_tallied fault _ _ c.in_err-summary.ensures.elsewhere (c.in_ok-runs.ensures.tallied sure (reached_by c.args.self.now.seen some)))
+    (elsewhere_counted fault _ _ c.in_err-summary.ensures.elsewhere (c.in_ok-runs.ensures.refusals_counted sure (reached_by c.args.self.now.seen some)))
 
-pub returns-clause-tallied : goal.returns-clause-tallied
-returns-clause-tallied g c sure some =
+pub returns-clause-refusals_counted : goal.returns-clause-refusals_counted
+returns-clause-refusals_counted g c sure some =
     let before = c.new_run.ensures.sure sure in
     let same = c.in_ok-runs.ensures.same before in
-    subst (λ n. CountsReply (reply_of c.new_run.result) n (g.T.Tables.refusals c.new_run.new.self.tables)) (c.in_ok-runs.ensures.tallied before (reached_by c.args.self.now.seen some))
-    (c.new_run.ensures.tallied sure (subst StandsForSome (sym same) some))
+    subst (λ n. CountsReply (reply_of c.new_run.result) n (g.T.Tables.refusals c.new_run.new.self.tables)) (c.in_ok-runs.ensures.refusals_counted before (reached_by c.args.self.now.seen some))
+    (c.new_run.ensures.refusals_counted sure (subst StandsForSome (sym same) some))

@@ -1,7 +1,9 @@
 use Rattle.std.proofs.Common.{◌≡◌, ◌+◌, ◌∷◌, [], ◌++◌, length, take, subst, sym, ap, ◌∙◌, cond, arith, length-append}
 use Rattle.std.proofs.lemmas.List.{take_more}
 use Rattle.hh_office.specs.Promises.{RunAllStep}
-use Rattle.hh_office.proofs.HandleLaws.{conserves_after_all, stands_after_all}
+use Rattle.hh_office.specs.Refusals.{CountsReplies}
+use Rattle.hh_office.proofs.RefusalLaws.{counts_more}
+use Rattle.hh_office.proofs.HandleLaws.{conserves_after_all, stands_after_all, stands_for_some}
 use Rattle.hh_office.proofs.ListLaws.{all_named, run_more, run_to_the_end}
 use Rattle.hh_office.proofs.OnceLaws.{AreNamed, named_more}
 use Rattle.hh_office.proofs.office.Office.run_all.Goals as goal
@@ -23,6 +25,14 @@ loop-request-preserved g c =
           (subst (RunAllStep old c.handle_timed.new.self.seen (take i requests ++ t ∷ [])) (sym pushed)
           (run_more old c.loop-request.self.seen c.handle_timed.new.self.seen (take i requests) before t c.handle_timed.result c.loop-request.invariant.named (c.loop-request.invariant.run (c.handle_timed.ensures.sure sure)) (c.handle_timed.ensures.makes sure)));
       sure = λ sure. c.loop-request.invariant.sure (c.handle_timed.ensures.sure sure);
+      refusals_counted = λ sure some.
+          let standing = c.handle_timed.ensures.sure sure in
+          let ran = c.loop-request.invariant.run standing in
+          let first = g.T.Tables.refusals c.args.self.now.tables in
+          let last = g.T.Tables.refusals c.handle_timed.new.self.tables in
+          subst (λ given. CountsReplies given first last) (sym pushed)
+          (counts_more before c.handle_timed.result first (g.T.Tables.refusals c.loop-request.self.tables) last (c.loop-request.invariant.refusals_counted standing some)
+          (c.handle_timed.ensures.refusals_counted sure (stands_for_some old c.loop-request.self.seen (take i requests) before c.loop-request.invariant.named ran some)));
       count = ap length pushed ∙ length-append before (c.handle_timed.result ∷ []) ∙ ap (λ n. n + 1) c.loop-request.invariant.count;
       room = omega arith;
     }

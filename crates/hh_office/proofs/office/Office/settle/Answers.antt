@@ -3,11 +3,11 @@ use Rattle.std.specs.Prelude.{All}
 use Rattle.std.proofs.lemmas.Int.{to_z-of_z}
 use Rattle.hh_states.specs.DaySettlement.{periods_on}
 use Rattle.hh_day.specs.NewRuns.{SettlesDay}
-use Rattle.hh_office.specs.Settling.{IsOverDay, RefusesIn}
+use Rattle.hh_office.specs.steps.Settling.{IsOverDay, RefusesIn}
 use Rattle.hh_office.specs.Views.{Kept, midnight_of}
 use Rattle.hh_calc.specs.Ready.{IsReady}
 use Rattle.hh_store.specs.StoreFaults.{store_fault}
-use Rattle.hh_office.proofs.RefusalLaws.{memory_tallied, reached_ready, store_unless}
+use Rattle.hh_office.proofs.RefusalLaws.{memory_counted, reached_ready, store_unless}
 use Rattle.hh_office.proofs.RunLaws.{SettledAs, exceeds_refused, lacks, passed_err, settles}
 use Rattle.hh_office.proofs.office.Office.settle.Goals as goal
 
@@ -45,8 +45,8 @@ returns-in_err-periods-clause-refused g c sure =
     passed_err c.from_residual-in_err-periods.result (store_fault e) (RefusesIn office c.args.moment c.args.date) c.from_residual-in_err-periods.ensures
     (λ s stands. store_unless e _)
 
-pub returns-in_err-periods-clause-tallied : goal.returns-in_err-periods-clause-tallied
-returns-in_err-periods-clause-tallied g c sure reached =
+pub returns-in_err-periods-clause-refusals_counted : goal.returns-in_err-periods-clause-refusals_counted
+returns-in_err-periods-clause-refusals_counted g c sure reached =
     let ready = reached_ready c.terms_ready.ensures c.args.self.now.seen.content reached _ c.in_ok-terms.terms.items (c.in_ok-terms.ensures.terms sure).1 in
-    memory_tallied c.from_residual-in_err-periods.result c.in_err-periods.field-0.0 _ _ c.from_residual-in_err-periods.ensures
-    (c.in_err-periods.ensures.memory_alone (subst (All IsReady) (sym c.deref.ensures.value) ready)) (c.in_ok-terms.ensures.tallied sure reached)
+    memory_counted c.from_residual-in_err-periods.result c.in_err-periods.field-0.0 _ _ c.from_residual-in_err-periods.ensures
+    (c.in_err-periods.ensures.memory_alone (subst (All IsReady) (sym c.deref.ensures.value) ready)) (c.in_ok-terms.ensures.refusals_counted sure reached)

@@ -19,9 +19,9 @@ use Rattle.hh_office.specs.Promises.{MakesTransition, Stands, UnlessFailed}
 use Rattle.hh_office.specs.Views.{OfficeView, midnight_of}
 
 -- where a file is sent, its name is in its grammar
-abbrev pub IsNamed : Action → Type 0
-IsNamed (ask.Load upload) = IsTrue (is_file_name upload.name)
-IsNamed _ = Unit {0}
+abbrev pub NamesItsFile : Action → Type 0
+NamesItsFile (ask.Load upload) = IsTrue (is_file_name upload.name)
+NamesItsFile _ = Unit {0}
 
 -- what the rows of a new file come to in a state, or the first fault in it
 abbrev pub judged_upload : Midnights → State → ℤ → Upload → Result FileRowsView Fault

@@ -4,7 +4,7 @@ use Rattle.matchit.specs.Router.{RouteOf}
 use Rattle.matchit.specs.Rows.{RowsOf, param_token}
 use Rattle.hh_wire.specs.declared.router.Route.{Route}
 use Rattle.hh_wire.specs.declared.router.Route.TheVariants as route
-use Rattle.hh_wire.specs.Paths.{has_two, word_of}
+use Rattle.hh_wire.specs.steps.Paths.{has_two, word_of}
 
 -- the texts of the routes
 abbrev pub route_text : Route → List ℕ
