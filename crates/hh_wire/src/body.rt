@@ -2,7 +2,7 @@
 
 ghost use Rattle.std.specs.Prelude.{◌≡◌, ◌≤◌, ◌++◌, length, IfOk, IfSome};
 ghost use Rattle.hh_devices.specs.Devices.{CountsErr};
-ghost use Rattle.hh_wire.specs.steps.Stops.{CountsStop, Fills, ReadsBody};
+ghost use Rattle.hh_wire.specs.Stops.{CountsStop, Fills, ReadsBody};
 
 use crate::stop::Stop;
 use hh_devices::{DeviceFailed, Source};

@@ -4,7 +4,7 @@ ghost use Rattle.std.specs.Prelude.{◌≡◌, ℕ, List, ◌++◌, IfSome};
 ghost use Rattle.hh_heads.specs.Heads.{HoldsTerms, heading_in};
 ghost use Rattle.hh_wire.specs.Behind.{Asks, ReadsBehind};
 ghost use Rattle.hh_wire.specs.Message.{CountsRead, IsMessage, Message, Reads, asked_by, asked_with};
-ghost use Rattle.hh_wire.specs.steps.Stops.{CountsStop};
+ghost use Rattle.hh_wire.specs.Stops.{CountsStop};
 
 use crate::body::read_body;
 use crate::incoming::{Incoming, WireFault};
