@@ -6,7 +6,8 @@ use Rattle.hh_names.specs.declared.account.Account.{Account}
 use Rattle.hh_calc.specs.declared.data.Subsidiary.{Subsidiary}
 use Rattle.hh_calc.specs.declared.result.CreditRow.{CreditRow}
 use Rattle.hh_calc.specs.Formulas.{lead_credit, subsidiary_credit, unit_credits}
-use Rattle.hh_calc.specs.Ready.{IsCreditNamed, IsUnitNamed}
+use Rattle.hh_calc.specs.Ready.{IsUnitNamed}
+use Rattle.hh_calc.specs.steps.Ready.{IsCreditNamed}
 use Rattle.hh_calc.specs.Terms.{BmUnit}
 
 module _ (accounts : List Account) where

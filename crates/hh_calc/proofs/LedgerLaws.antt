@@ -12,7 +12,8 @@ use Rattle.hh_num.proofs.TotalLaws.{total-append}
 use Rattle.hh_names.specs.declared.account.Account.{Account}
 use Rattle.hh_calc.specs.declared.result.CreditRow.{CreditRow}
 use Rattle.hh_calc.specs.declared.sums.AccountSums.{AccountSums}
-use Rattle.hh_calc.specs.Formulas.{all_sums, balanced, balancing_of, credited_of, credits_of, net_contracts, period_sums, unit_credits, unit_sums, weighing, weight_of}
+use Rattle.hh_calc.specs.Formulas.{balanced, balancing_of, credited_of, credits_of, net_contracts, period_sums, unit_credits, unit_sums, weighing, weight_of}
+use Rattle.hh_calc.specs.steps.Formulas.{all_sums}
 use Rattle.hh_calc.specs.Ready.{most_subsidiaries, HasFewSubsidiaries}
 use Rattle.hh_calc.specs.steps.Sums.{balancing_amounts, greatest_credit, greatest_sum, greatest_volume, no_sums, with_amounts, with_contracts, with_credits, with_unit, AreChanged, AreGrown, IsWithin}
 use Rattle.hh_calc.specs.Terms.{BmUnit, PeriodTerms}

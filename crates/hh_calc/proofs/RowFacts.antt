@@ -12,7 +12,8 @@ use Rattle.hh_names.specs.declared.account.Account.{Account}
 use Rattle.hh_calc.specs.declared.sums.AccountSums.{AccountSums}
 use Rattle.hh_calc.specs.declared.result.Figures.{Figures}
 use Rattle.hh_calc.specs.Formulas.{charge_for, figures_from, imbalance_of}
-use Rattle.hh_calc.specs.Limits.{are_within, is_at_most, kept_where}
+use Rattle.hh_calc.specs.Limits.{are_within, is_at_most}
+use Rattle.hh_calc.specs.steps.Limits.{kept_where}
 use Rattle.hh_calc.specs.steps.Sums.{greatest_sum, IsWithin}
 use Rattle.hh_calc.proofs.WordFacts.{long_word, word}
 

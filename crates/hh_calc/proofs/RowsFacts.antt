@@ -13,7 +13,8 @@ use Rattle.hh_calc.specs.declared.result.Figures.{Figures}
 use Rattle.hh_calc.specs.declared.sums.AccountSums.{AccountSums}
 use Rattle.hh_calc.specs.Formulas.{figures, figures_from, period_sums}
 use Rattle.hh_calc.specs.steps.Sums.{no_sums}
-use Rattle.hh_calc.specs.Limits.{are_accounts_within, are_within, greatest_cash, is_account_within, kept_where}
+use Rattle.hh_calc.specs.Limits.{are_accounts_within, are_within, greatest_cash, is_account_within}
+use Rattle.hh_calc.specs.steps.Limits.{kept_where}
 use Rattle.hh_calc.specs.Terms.{PeriodTerms}
 use Rattle.hh_calc.proofs.RowFacts.{at_most}
 use Rattle.hh_calc.proofs.SumLaws.{total-more}

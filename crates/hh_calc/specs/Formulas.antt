@@ -126,10 +126,6 @@ module _ (p : PeriodTerms) where
   abbrev pub figures : Account → Figures
   figures a = figures_from a (period_sums a) p.price
 
-  -- the sums of all accounts, in their order
-  abbrev pub all_sums : List AccountSums
-  all_sums = map period_sums p.accounts
-
   -- the figures of all accounts, in their order
   abbrev pub all_figures : List Figures
   all_figures = map figures p.accounts

@@ -1,5 +1,5 @@
 -- The limits of a run: energy in ticks, cash in pence.
-use Rattle.std.specs.Prelude.{ℕ, ◌^◌, nat_le, unsigned_abs, ℤ, List, Bool, ◌&&◌, Option, Some, None, if◌then◌else◌}
+use Rattle.std.specs.Prelude.{ℕ, ◌^◌, nat_le, unsigned_abs, ℤ, List, Bool, ◌&&◌}
 use Rattle.std.specs.List.{list_all}
 use Rattle.hh_names.specs.declared.account.Account.{Account}
 use Rattle.hh_calc.specs.declared.result.Figures.{Figures}
@@ -23,10 +23,6 @@ abbrev pub are_within : Figures → Bool
 are_within f =
     is_at_most greatest_energy f.credited && is_at_most greatest_energy f.balancing && is_at_most greatest_energy f.contracts
     && is_at_most greatest_energy f.imbalance && is_at_most greatest_cash f.charge
-
--- a value, where a test holds
-abbrev pub kept_where : {A : Type 0} → Bool → A → Option A
-kept_where test value = if test then Some value else None
 
 module _ (p : PeriodTerms) where
   -- no figure of an account passes a limit, nor does its weight

@@ -5,7 +5,6 @@ use Rattle.hh_names.specs.declared.account.Account.{Account}
 use Rattle.hh_names.specs.declared.values.Contract.{Contract}
 use Rattle.hh_names.specs.Accounts.{account_cmp}
 use Rattle.hh_calc.specs.declared.data.Subsidiary.{Subsidiary}
-use Rattle.hh_calc.specs.declared.result.CreditRow.{CreditRow}
 use Rattle.hh_calc.specs.Terms.{PeriodTerms, BmUnit}
 
 -- the most subsidiaries that a unit may have
@@ -36,10 +35,6 @@ module _ (accounts : List Account) where
   -- the seller and the buyer of a contract are some of these
   abbrev pub IsContractNamed : Contract → Type 0
   IsContractNamed c = IsNamed c.counterparties.seller × IsNamed c.counterparties.buyer
-
-  -- the account of a credit is one of these
-  abbrev pub IsCreditNamed : CreditRow → Type 0
-  IsCreditNamed c = IsNamed c.account
 
 module _ (p : PeriodTerms) where
   abbrev pub AreInOrder : Type 0

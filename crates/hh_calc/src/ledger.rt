@@ -1,7 +1,8 @@
 //! The credits of a period, and the sums of its accounts, which are made together.
 
 ghost use Rattle.std.specs.Prelude.{◌≡◌, ◌+◌, ◌*◌, ◌++◌, [], length, map, replicate, All, IfOk, OnOk};
-ghost use Rattle.hh_calc.specs.Formulas.{all_sums, credits_of, unit_credits, unit_sums};
+ghost use Rattle.hh_calc.specs.Formulas.{credits_of, unit_credits, unit_sums};
+ghost use Rattle.hh_calc.specs.steps.Formulas.{all_sums};
 ghost use Rattle.hh_calc.specs.Ready.{AreAccountsInOrder, AreInOrder, AreNamed, AreSubsidiariesFew, HasFewSubsidiaries, IsUnitNamed};
 ghost use Rattle.hh_calc.specs.steps.Sums.{greatest_credit, greatest_sum, greatest_unit_sum, greatest_volume, no_sums, with_unit, AreChanged, AreGrown, IsWithin};
 

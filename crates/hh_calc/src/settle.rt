@@ -1,8 +1,10 @@
 //! The settlement of one period.
 
 ghost use Rattle.std.specs.Prelude.{◌≡◌, ◌≤◌, ◌^◌, ◌*◌, neg_ℤ, unsigned_abs, length, map, nat_le, All, IfOk, IsTrue, IsFalse, Err};
-ghost use Rattle.hh_calc.specs.Formulas.{all_figures, all_sums, charge_for, figures_from, residual, weights};
-ghost use Rattle.hh_calc.specs.Limits.{are_all_within, are_within, greatest_cash, greatest_energy, is_at_most, is_within_limits, kept_where};
+ghost use Rattle.hh_calc.specs.Formulas.{all_figures, charge_for, figures_from, residual, weights};
+ghost use Rattle.hh_calc.specs.steps.Formulas.{all_sums};
+ghost use Rattle.hh_calc.specs.Limits.{are_all_within, are_within, greatest_cash, greatest_energy, is_at_most, is_within_limits};
+ghost use Rattle.hh_calc.specs.steps.Limits.{kept_where};
 ghost use Rattle.hh_calc.specs.Ready.{AreInOrder, AreNamed, AreSubsidiariesFew};
 ghost use Rattle.hh_calc.specs.Settled.{figures_of, shares_shown, AddsUp, IsSettled, SharesDepartLeast};
 ghost use Rattle.hh_calc.specs.steps.Sums.{greatest_sum, IsWithin};

@@ -3,7 +3,8 @@
 ghost use Rattle.std.specs.Prelude.{◌≡◌, ◌<◌, ◌≤◌, ◌*◌, ◌+◌, ℕ, length, All, unsigned_abs};
 ghost use Rattle.std.specs.List.{HoldsAt};
 ghost use Rattle.hh_calc.specs.Formulas.{balanced, contracted};
-ghost use Rattle.hh_calc.specs.Ready.{most_subsidiaries, AreAccountsInOrder, IsContractNamed, IsCreditNamed, IsNamed};
+ghost use Rattle.hh_calc.specs.Ready.{most_subsidiaries, AreAccountsInOrder, IsContractNamed, IsNamed};
+ghost use Rattle.hh_calc.specs.steps.Ready.{IsCreditNamed};
 ghost use Rattle.hh_calc.specs.steps.Sums.{added_at, greatest_credit, greatest_sum, greatest_unit_sum, greatest_volume, balancing_amounts, contract_amounts, credit_amounts, no_sums, sums_plus, with_amounts, with_contract, with_contracts, with_credits, AreChanged, AreGrown, IsCreditSmall, IsWithin};
 
 use crate::data::UnitData;

@@ -17,7 +17,8 @@ use Rattle.hh_session.specs.declared.script.ScriptStop.TheVariants as script
 use Rattle.hh_session.specs.Script.{StopsAt}
 use Rattle.hh_words.specs.Lines.{Line, PeriodCommand, ScriptCommand, line_value}
 use Rattle.hh_command.specs.declared.program.Stop.TheVariants as stop
-use Rattle.hh_command.specs.Stops.{period_stop, script_stop, AreWrong, ComesTo, DeviceChange, DoesPeriod, HasUnreadable, IsOffAndTold, StopsBy, StopsLine, StopsPeriod, TellsOff}
+use Rattle.hh_command.specs.Stops.{period_stop, script_stop, AreWrong, ComesTo, DeviceChange, DoesPeriod, HasUnreadable, StopsBy, StopsLine, StopsPeriod, TellsOff}
+use Rattle.hh_command.specs.steps.Stops.{IsOffAndTold}
 use Rattle.hh_command.proofs.FrontFacts.{period_outcome-front}
 
 ByRefusal-map : (r : Refusal) (P Q R : Type 0) → (Q → R) → ByRefusal r P Q → ByRefusal r P R

@@ -2,7 +2,8 @@
 use Rattle.std.proofs.Common.{◌≡◌, inl, inr, refl, arith}
 use Rattle.hh_command.specs.declared.program.Stop.{Stop}
 use Rattle.hh_command.specs.declared.program.Stop.TheVariants as stop
-use Rattle.hh_command.specs.Stops.{DeviceChange, IsOffAndTold, IsTold, Tells, stop_line, stop_status}
+use Rattle.hh_command.specs.Stops.{DeviceChange, IsTold, Tells, stop_line, stop_status}
+use Rattle.hh_command.specs.steps.Stops.{IsOffAndTold}
 
 -- it is a line of a script off its form, whose number is told
 pub off_and_told : (device : DeviceChange) (s : Stop) → stop_status s ≡ 2 → Tells device s → IsOffAndTold device s

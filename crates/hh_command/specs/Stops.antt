@@ -93,10 +93,6 @@ TellsOff device line = HasFailed device ⊎ Appends device.old device.new (stop_
 abbrev pub HasStatusOne : Stop → Type 0
 HasStatusOne s = stop_status s ≡ 1
 
--- a stop is a line of a script off its form, whose number is told
-abbrev pub IsOffAndTold : DeviceChange → Stop → Type 0
-IsOffAndTold device s = (line : ℕ) × (s ≡ stop.Off line) × TellsOff device line
-
 -- An output had these bytes before and has those after, and it failed if this holds. What may come to these outcomes stops so,
 -- or because a file cannot be read if that holds: then, and where it is refused, nothing went out; where the output failed, a
 -- beginning of the text did. Memory may run out in the place of any rejection.

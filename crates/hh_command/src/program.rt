@@ -7,7 +7,8 @@ ghost use Rattle.hh_devices.specs.Devices.{Failed};
 ghost use Rattle.hh_rows.specs.RowKinds.{most_bytes};
 ghost use Rattle.hh_period.specs.Outcome.{memory_rejection};
 ghost use Rattle.hh_words.specs.Lines.{line_of};
-ghost use Rattle.hh_command.specs.Stops.{change, AreWrong, Does, DoesPeriod, DoesWords, HasStatusOne, IsOffAndTold, IsTold, Stops, StopsLine, StopsPeriod, Tells, stop_line, stop_status};
+ghost use Rattle.hh_command.specs.Stops.{change, AreWrong, Does, DoesPeriod, DoesWords, HasStatusOne, IsTold, Stops, StopsLine, StopsPeriod, Tells, stop_line, stop_status};
+ghost use Rattle.hh_command.specs.steps.Stops.{IsOffAndTold};
 
 use hh_devices::{DeviceFailed, Sink, write_whole};
 use hh_inputs::{InputFault, Inputs};

@@ -9,7 +9,8 @@ use Rattle.std.proofs.lemmas.List.Folds.{find-append}
 use Rattle.std.proofs.lemmas.Slice.Zip.{AllZip-long}
 use Rattle.hh_rows.specs.declared.settlement_period.SettlementPeriod.{SettlementPeriod}
 use Rattle.hh_rules.specs.History.{Registered}
-use Rattle.hh_calc.specs.Limits.{is_within_limits, kept_where}
+use Rattle.hh_calc.specs.Limits.{is_within_limits}
+use Rattle.hh_calc.specs.steps.Limits.{kept_where}
 use Rattle.hh_calc.specs.Settled.{IsSettled}
 use Rattle.hh_calc.specs.Terms.{PeriodTerms, Settled}
 use Rattle.hh_states.specs.DaySettlement.{settled_at, settled_day, too_large}

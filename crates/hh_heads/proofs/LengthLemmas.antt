@@ -3,7 +3,7 @@ use Rattle.std.proofs.Common.{◌≡◌, ◌∙◌, ℕ, ◌+◌, ◌-◌, ◌*�
 use Rattle.std.specs.Char.{digit_value, is_ascii_digit}
 use Rattle.std.proofs.lemmas.Bool.Decides.{nat_tests}
 use Rattle.std.proofs.lemmas.List.{at_drop_more}
-use Rattle.hh_num.specs.Fixed.{digits_behind}
+use Rattle.hh_num.specs.steps.Fixed.{digits_behind}
 use Rattle.hh_heads.specs.Lengths.{saturated}
 
 -- what digits write behind those of a number

@@ -1,12 +1,11 @@
 -- What the code keeps of a head.
-use Rattle.std.specs.Prelude.{◌≡◌, ℕ, List, [], ◌∷◌, false, map, Option, Some, None, Result, Ok, Err, option_map}
+use Rattle.std.specs.Prelude.{◌≡◌, ℕ, List, [], ◌∷◌, false, map, Option, Some, None, option_map}
 use Rattle.std.specs.Borrow.{Bor}
 use Rattle.httparse.specs.Spans.{header_bytes}
-use Rattle.hh_heads.specs.declared.head.BrokenRule.{BrokenRule}
 use Rattle.hh_heads.specs.declared.terms.Terms.{Terms}
 use Rattle.hh_heads.specs.declared.head.WholeHead.{WholeHead}
 use Rattle.hh_heads.specs.Headings.{Heading, is_bad, key_shown, length_given}
-use Rattle.hh_heads.specs.Lengths.{length_value, saturated}
+use Rattle.hh_heads.specs.Lengths.{saturated}
 
 -- what a head says
 abbrev pub heading_in : WholeHead → Heading
@@ -22,8 +21,3 @@ pub record HoldsTerms (h : Heading) (t : Terms) : Type 0 where
   pub kept : is_bad h ≡ false
   pub key : t.key.now ≡ key_shown h
   pub length : t.length ≡ option_map saturated (length_given h)
-
--- the length that a text gives, if there is one; a rule is broken where it gives none
-abbrev pub length_in : Option (Bor (List ℕ)) → Result (Option ℕ) BrokenRule
-length_in None = Ok None
-length_in (Some text) = elim (length_value text.now) [ None ↦ Err (record {}) | Some length ↦ Ok (Some length) ]

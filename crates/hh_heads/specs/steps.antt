@@ -1,2 +1,5 @@
 -- What contracts of private functions alone cite: the steps of proofs. No public contract names any of it, through whatever definition.
 pub mod Fields
+pub mod Found
+pub mod Heads
+pub mod Lengths

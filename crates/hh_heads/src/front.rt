@@ -3,7 +3,8 @@
 ghost use Rattle.std.specs.Prelude.{◌≡◌, ◌≤◌, length, take, IfOk};
 ghost use Rattle.hh_devices.specs.Devices.{CountsErr};
 ghost use Rattle.hh_heads.specs.Fronts.{most_head_bytes, most_headers};
-ghost use Rattle.hh_heads.specs.Found.{FindsFront, Parses};
+ghost use Rattle.hh_heads.specs.Found.{FindsFront};
+ghost use Rattle.hh_heads.specs.steps.Found.{Parses};
 
 use crate::piece::fill;
 use hh_devices::{DeviceFailed, Source};

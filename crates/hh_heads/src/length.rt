@@ -1,7 +1,7 @@
 //! The length that a head gives its body.
 
 ghost use Rattle.std.specs.Prelude.{◌≡◌};
-ghost use Rattle.hh_heads.specs.Lengths.{length_value};
+ghost use Rattle.hh_heads.specs.steps.Lengths.{length_value};
 
 /// The number that a text of one or more digits writes, or the greatest `u64` where it is larger.
 /// `None` for any other text.

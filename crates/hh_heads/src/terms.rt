@@ -2,7 +2,8 @@
 
 ghost use Rattle.std.specs.Prelude.{◌≡◌, true, IfOk, OnErr};
 ghost use Rattle.hh_heads.specs.Headings.{is_bad};
-ghost use Rattle.hh_heads.specs.Heads.{HoldsTerms, heading_in, length_in};
+ghost use Rattle.hh_heads.specs.Heads.{HoldsTerms, heading_in};
+ghost use Rattle.hh_heads.specs.steps.Heads.{length_in};
 
 use crate::head::{BrokenRule, WholeHead};
 use crate::length::read_length;

@@ -24,7 +24,8 @@ use Rattle.hh_rows.specs.declared.rows.Row.TheVariants as row
 use Rattle.hh_rows.proofs.KeyLaws.{exact_unit_periods, reallocation_key_total}
 use Rattle.hh_rules.specs.History.{Registered}
 use Rattle.hh_rules.specs.RegisterView.{AgreesOn, RegisterView, ServesFor, holding_reallocation, reallocations_at, tables_in}
-use Rattle.hh_kept_rows.specs.Parts.{AgreesOnNames, Grows, IsNamedIn, IsPartOf, is_named_in, whole_of, with_reallocations}
+use Rattle.hh_kept_rows.specs.Parts.{whole_of}
+use Rattle.hh_kept_rows.specs.steps.Parts.{AgreesOnNames, Grows, IsNamedIn, IsPartOf, is_named_in, with_reallocations}
 use Rattle.hh_kept_rows.proofs.PartLaws.{names_grown}
 
 module _ {K V : Type 0} (R : K → K → Ordering) where

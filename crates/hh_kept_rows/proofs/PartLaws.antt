@@ -23,7 +23,8 @@ use Rattle.hh_rows.specs.declared.settlement_period.SettlementPeriod.{Settlement
 use Rattle.hh_rows.proofs.KeyLaws.{contract_key_total, exact_contract_keys, exact_settlement_periods, exact_unit_periods, settlement_period_total, unit_period_total}
 use Rattle.hh_rules.specs.History.{Registered}
 use Rattle.hh_rules.specs.RegisterView.{AgreesOnParty, AgreesOnReference, AgreesOnUnit, RegisterView, empty_part, holding_contract, holding_party, holding_price, holding_reading, holding_reference, holding_unit, tables_in}
-use Rattle.hh_kept_rows.specs.Parts.{AgreesOnNames, Grows, GrowsTable, IsPartOf, IsPartOfTable, whole_of}
+use Rattle.hh_kept_rows.specs.Parts.{whole_of}
+use Rattle.hh_kept_rows.specs.steps.Parts.{AgreesOnNames, Grows, GrowsTable, IsPartOf, IsPartOfTable}
 
 module _ {K V : Type 0} {R : K → K → Ordering} (o : IsTotalOrder R) (exact : (x y : K) → R x y ≡ Equal → x ≡ y) (whole old : Table K V) (k : K) (v : V) (has : find R k whole ≡ Some v) where
   -- an entry of the whole that is put into the part

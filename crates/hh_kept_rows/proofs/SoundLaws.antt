@@ -21,8 +21,8 @@ use Rattle.hh_rows.proofs.KeyLaws.{unit_period_total}
 use Rattle.hh_rules.specs.History.{Registered}
 use Rattle.hh_rules.specs.Percents.{is_of_other, percent_of_others}
 use Rattle.hh_rules.specs.RegisterView.{RegisterView, held_reallocation, tables_in}
-use Rattle.hh_states.specs.Soundness.{AreSound, NoneNegative}
-use Rattle.hh_kept_rows.specs.Parts.{is_named_in, with_reallocations}
+use Rattle.hh_states.specs.Soundness.{AreSound}
+use Rattle.hh_kept_rows.specs.steps.Parts.{is_named_in, with_reallocations, NoneNegative}
 use Rattle.hh_kept_rows.proofs.NamedLaws.{put_so_far}
 
 module _ (key : ReallocationKey) where

@@ -12,7 +12,7 @@ use Rattle.hh_rows.specs.Keys.{settlement_period_cmp, unit_period_cmp}
 use Rattle.hh_rows.specs.declared.keys.UnitPeriod.{UnitPeriod}
 use Rattle.hh_rows.specs.declared.settlement_period.SettlementPeriod.{SettlementPeriod}
 use Rattle.hh_rows.proofs.KeyLaws.{exact_unit_periods, settlement_period_total}
-use Rattle.hh_kept_rows.specs.Parts.{AreUntil, is_after}
+use Rattle.hh_kept_rows.specs.steps.Parts.{AreUntil, is_after}
 
 -- where one Settlement Period is before another, that one is after it
 turned : (a b : SettlementPeriod) → is_lt (settlement_period_cmp a b) ≡ true → is_after b a ≡ true

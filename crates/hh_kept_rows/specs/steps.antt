@@ -2,3 +2,4 @@
 pub mod DayRolls
 pub mod KeptContracts
 pub mod KeptReallocations
+pub mod Parts

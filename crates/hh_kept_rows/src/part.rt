@@ -5,8 +5,9 @@ ghost use Rattle.std.specs.FinMap.{find};
 ghost use Rattle.hh_tables.specs.Tables.{IsTable, put_all};
 ghost use Rattle.hh_rows.specs.Keys.{contract_key_cmp, reallocation_key_cmp, settlement_period_cmp, unit_period_cmp};
 ghost use Rattle.hh_rules.specs.RegisterView.{held_reallocation, holding_reallocation, tables_in, AgreesOnParty, AgreesOnReference, AgreesOnUnit, ServesFor};
-ghost use Rattle.hh_states.specs.Soundness.{AreSound, NoneNegative};
-ghost use Rattle.hh_kept_rows.specs.Parts.{is_after, is_named_in, whole_of, with_reallocations, AgreesOnNames, AreUntil, Grows, IsNamedIn, IsPartOf};
+ghost use Rattle.hh_states.specs.Soundness.{AreSound};
+ghost use Rattle.hh_kept_rows.specs.Parts.{whole_of};
+ghost use Rattle.hh_kept_rows.specs.steps.Parts.{is_after, is_named_in, with_reallocations, AgreesOnNames, AreUntil, Grows, IsNamedIn, IsPartOf, NoneNegative};
 
 use crate::kept_register::KeptRegister;
 use hh_names::{PartyId, Reading, Reallocation, Reference, Refusal, UnitId};

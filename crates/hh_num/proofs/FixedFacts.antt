@@ -5,7 +5,8 @@ use Rattle.std.specs.Str.Parse.{digits_value_after}
 use Rattle.std.proofs.lemmas.Bool.Decides.{nat_tests}
 use Rattle.std.proofs.lemmas.List.{at_drop_more, drop-set, length-set}
 use Rattle.std.proofs.Math.Nat.{div-div-eq-div-mul, mul-le-mul_left, one-le-pow, pow-suc}
-use Rattle.hh_num.specs.Fixed.{units_of, all_digits, digits_behind, kept_if, fits_u64, fits_i64, last_digits, signed}
+use Rattle.hh_num.specs.Fixed.{units_of, all_digits, kept_if, fits_u64, fits_i64, last_digits, signed}
+use Rattle.hh_num.specs.steps.Fixed.{digits_behind}
 
 -- more digits make no smaller number
 pub digits_value_after_ge : (n : ℕ) (ds : List ℕ) → n ≤ digits_value_after 10 n ds

@@ -1,6 +1,6 @@
 -- Reading of numbers of digits alone.
 use Rattle.std.proofs.Common.{◌≡◌, ℕ, ◌<◌, List, [], ◌∷◌, length, None, refl, arith}
-use Rattle.hh_num.specs.Fixed.{digits_behind}
+use Rattle.hh_num.specs.steps.Fixed.{digits_behind}
 use Rattle.hh_num.specs.Naturals.{natural_value}
 
 -- no digits are no number

@@ -2,7 +2,7 @@
 use Rattle.std.specs.Prelude.{◌≡◌, ℕ, zero, suc, ◌/◌, ◌%◌, decimal, unsigned_abs, ◌+◌, ◌-◌, ◌*◌, ◌^◌, ◌≤◌, Bool, true, false, ◌&&◌, nat_lt, nat_le, ◌==◌, if◌then◌else◌, List, [], ◌∷◌, ◌++◌, length, take, drop, slice_index, Option, Some, None, option_map, ℤ, pos, negsuc, neg_ℤ}
 use Rattle.std.specs.Char.{is_ascii_digit}
 use Rattle.std.specs.List.{list_all, position}
-use Rattle.std.specs.Str.Parse.{digits_value_after, digits_value}
+use Rattle.std.specs.Str.Parse.{digits_value}
 
 abbrev pub is_point : ℕ → Bool
 is_point b = b == 46
@@ -53,10 +53,6 @@ abbrev pub fits_i64 : ℤ → Bool
 fits_i64 (pos n) = nat_lt n (2 ^ 63)
 fits_i64 (negsuc n) = nat_lt n (2 ^ 63)
 
--- the number that digits write behind the digits of front
-abbrev pub digits_behind : ℕ → List ℕ → Option ℕ
-digits_behind front text = if all_digits text then Some (digits_value_after 10 front text) else None
-
 -- a minus sign, or none
 abbrev pub minus_of : Bool → List ℕ
 minus_of true = 45 ∷ []
@@ -95,7 +91,3 @@ is_negative (negsuc n) = true
 abbrev pub fixed_text : ℕ → ℤ → List ℕ
 fixed_text decimals v =
     minus_of (is_negative v) ++ decimal (unsigned_abs v / 10 ^ decimals) ++ fraction_text decimals (unsigned_abs v)
-
--- the bytes of a vector, and more
-abbrev pub Extends : List ℕ → List ℕ → Type 0
-Extends old new = (more : List ℕ) × (new ≡ old ++ more)

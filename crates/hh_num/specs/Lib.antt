@@ -4,3 +4,4 @@ pub mod Quantities
 pub mod Ranges
 pub mod Rounding
 pub mod Totals
+pub mod steps

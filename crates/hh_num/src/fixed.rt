@@ -2,7 +2,8 @@
 
 ghost use Rattle.std.specs.Prelude.{◌≡◌, ◌≤◌, ◌<◌, ◌^◌, ◌++◌, ℤ, ℕ, List, position, Some, IfSome, IfNone, OnOk, OnErr, FitsSigned, length};
 ghost use Rattle.std.specs.Int.{w64};
-ghost use Rattle.hh_num.specs.Fixed.{fixed_value, unsigned_units, digits_behind, kept_if, fits_u64, fits_i64, units_of, is_point, signed, IsFixed, fixed_text, fraction_text, last_digits, minus_of, Extends};
+ghost use Rattle.hh_num.specs.Fixed.{fixed_value, unsigned_units, kept_if, fits_u64, fits_i64, units_of, is_point, signed, IsFixed, fixed_text, fraction_text, last_digits, minus_of};
+ghost use Rattle.hh_num.specs.steps.Fixed.{digits_behind, Extends};
 
 use itoa::Buffer;
 use std::alloc::AllocError;

@@ -25,7 +25,6 @@ use Rattle.hh_office.specs.Enquiries.{net_of_rows, rows_of_account}
 use Rattle.hh_office.specs.Promises.{Stands}
 use Rattle.hh_office.specs.steps.Reads.{latest_key}
 use Rattle.hh_office.specs.Views.{OfficeView, midnight_of}
-use Rattle.hh_store.specs.Reached.{AreReached}
 use Rattle.hh_office.proofs.EnquiryLaws.{latest_holds, latest_is}
 
 -- what an account's own rows come to is what it pays by all rows

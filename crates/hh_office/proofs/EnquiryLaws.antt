@@ -20,7 +20,8 @@ use Rattle.hh_states.specs.Runs.{Run, last_of, latest_run, runs_of_date}
 use Rattle.hh_states.specs.States.{State}
 use Rattle.hh_states.specs.Steps.{kinds_on}
 use Rattle.hh_office.specs.Enquiries.{account_reply, reply_by_rows, reply_by_run, rows_of_account}
-use Rattle.hh_office.specs.Promises.{MakesTransition, RepliesAs, Stands, reply_of}
+use Rattle.hh_office.specs.Promises.{MakesTransition, Stands}
+use Rattle.hh_office.specs.steps.Promises.{RepliesAs, reply_of}
 use Rattle.hh_office.specs.steps.Reads.{latest_key}
 use Rattle.hh_office.specs.Transitions.{unchanged}
 use Rattle.hh_office.specs.Views.{OfficeView, midnight_of}

@@ -38,9 +38,11 @@ use Rattle.hh_runs.specs.declared.next_run.NextRun.TheVariants.{Kept}
 use Rattle.hh_runs.specs.declared.run_kind.RunKind.{RunKind}
 use Rattle.hh_states.specs.States.{AcceptedFile}
 use Rattle.hh_office.specs.Machine.{loaded_reply, repeat_reply}
-use Rattle.hh_office.specs.Promises.{UnlessFailed, reply_of}
+use Rattle.hh_office.specs.Promises.{UnlessFailed}
+use Rattle.hh_office.specs.steps.Promises.{reply_of}
 use Rattle.hh_office.specs.Views.{OfficeView, midnight_of}
-use Rattle.hh_office.specs.Refusals.{CountsAnswer, CountsStoreFault, CountsReplies, CountsReply, IsElsewhere, IsNotOfStore, StandsForSome, is_of_store}
+use Rattle.hh_office.specs.Refusals.{CountsStoreFault, CountsReplies, CountsReply, IsElsewhere, IsNotOfStore, StandsForSome, is_of_store}
+use Rattle.hh_office.specs.steps.Refusals.{CountsAnswer}
 use Rattle.hh_devices.specs.Devices.{most_failures}
 
 -- ---- faults that are passed on

@@ -18,7 +18,8 @@ use Rattle.hh_states.specs.States.{State}
 use Rattle.hh_states.specs.Steps.{after_run, first_there, missing_meter_fault, period_fault, registered_at, CanRun, kept_summary, kinds_on, new_summary, run_fault, settle_fault}
 use Rattle.hh_day.specs.NewRuns.{day_in, IsSettledDay, SettlesDay, IsWrittenFor, WritesTheRun, former_rows}
 use Rattle.hh_day.specs.RunLimits.{FitsRun, RunsFit}
-use Rattle.hh_office.specs.Promises.{Stands, UnlessFailed, gives_up, MakesTransition, reply_of}
+use Rattle.hh_office.specs.Promises.{Stands, UnlessFailed, gives_up, MakesTransition}
+use Rattle.hh_office.specs.steps.Promises.{reply_of}
 use Rattle.hh_office.specs.steps.Settling.{Lacks, WritesRun, lack_fault, AreTermsOf, IsOverDay, TellsOrder, order_fault, IsNext, IsRunMade, RefusesIn, SettlesIn, rows_before}
 use Rattle.hh_office.specs.Views.{OfficeView, midnight_of}
 use Rattle.std.proofs.lemmas.Option.{none-some}

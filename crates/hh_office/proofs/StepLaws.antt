@@ -29,7 +29,8 @@ use Rattle.hh_states.specs.Steps.{after_load, timetable_at}
 use Rattle.hh_office.specs.steps.Loads.{Accepts, Answers, WritesLoad, accepted, judged_upload, writes_of}
 use Rattle.hh_office.specs.Machine.{act, key_of, load_new, may, step, load, load_beside, load_read_as, loaded_reply}
 use Rattle.hh_office.specs.Transitions.{Transition, refused, refused_for, unchanged}
-use Rattle.hh_office.specs.Promises.{MakesTransition, Stands, UnlessFailed, gives_up, is_given_up, reply_of, RepliesAs}
+use Rattle.hh_office.specs.Promises.{MakesTransition, Stands, UnlessFailed, gives_up, is_given_up}
+use Rattle.hh_office.specs.steps.Promises.{reply_of, RepliesAs}
 use Rattle.hh_office.specs.Views.{OfficeView, midnight_of}
 
 pub by_either : (b : Bool) (P Q : Type 0) → P → Q → MatchBool b P Q

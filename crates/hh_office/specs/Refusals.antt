@@ -31,11 +31,6 @@ StandsForSome office = (s : State) × Stands office s
 abbrev pub CountsStoreFault : Fault → ℕ → ℕ → Type 0
 CountsStoreFault fault old new = MatchBool (is_of_store fault.refusal) (CountsOneMore old new) (new ≡ old)
 
--- the same of a part of a request
-abbrev pub CountsAnswer : {A : Type 0} → Result A Fault → ℕ → ℕ → Type 0
-CountsAnswer (Ok x) old new = new ≡ old
-CountsAnswer (Err fault) old new = CountsStoreFault fault old new
-
 -- the same of a reply
 abbrev pub CountsReply : Reply → ℕ → ℕ → Type 0
 CountsReply (reply.Refused fault) old new = CountsStoreFault fault old new

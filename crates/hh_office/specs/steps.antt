@@ -2,3 +2,5 @@
 pub mod Loads
 pub mod Reads
 pub mod Settling
+pub mod Promises
+pub mod Refusals

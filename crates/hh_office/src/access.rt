@@ -4,7 +4,7 @@ ghost use Rattle.std.specs.Prelude.{◌≡◌, ◌||◌, IfOk};
 ghost use Rattle.hh_store.specs.Reached.{AreReached};
 ghost use Rattle.hh_store.specs.StoreFaults.{CountsRefusal};
 ghost use Rattle.hh_office.specs.Machine.{is_holder, is_operator, is_party_key, may};
-ghost use Rattle.hh_office.specs.Promises.{TellsTruly};
+ghost use Rattle.hh_office.specs.steps.Promises.{TellsTruly};
 ghost use Rattle.hh_office.specs.Views.{IsSure};
 
 use crate::office::Office;

@@ -10,7 +10,7 @@ ghost use Rattle.hh_store.specs.Reached.{AreReached};
 ghost use Rattle.hh_store.specs.StoreFaults.{CountsRefusal};
 ghost use Rattle.hh_office.specs.Refusals.{CountsReply, StandsForSome};
 ghost use Rattle.hh_office.specs.Enquiries.{account_reply, balance_reply, contracts_reply, net_of_rows, reply_by_rows, rows_of_account, runs_reply};
-ghost use Rattle.hh_office.specs.Promises.{RepliesAs, TellsInEachState, reply_of};
+ghost use Rattle.hh_office.specs.steps.Promises.{RepliesAs, TellsInEachState, reply_of};
 ghost use Rattle.hh_office.specs.steps.Reads.{latest_key};
 ghost use Rattle.hh_office.specs.Views.{IsSure};
 

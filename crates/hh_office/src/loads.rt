@@ -7,9 +7,11 @@ ghost use Rattle.hh_states.specs.Reads.{file_in, whole_register};
 ghost use Rattle.hh_store.specs.Reached.{AreReached};
 ghost use Rattle.hh_store.specs.StoreFaults.{CountsRefusal};
 ghost use Rattle.hh_office.specs.steps.Loads.{Accepts, NamesItsFile, Judges, WritesLoad, writes_of};
-ghost use Rattle.hh_office.specs.Refusals.{CountsAnswer, CountsReply, StandsForSome};
+ghost use Rattle.hh_office.specs.Refusals.{CountsReply, StandsForSome};
+ghost use Rattle.hh_office.specs.steps.Refusals.{CountsAnswer};
 ghost use Rattle.hh_office.specs.Machine.{load, load_new, loaded_reply, repeat_reply};
-ghost use Rattle.hh_office.specs.Promises.{MakesInEachState, RefusalLeaves, reply_of};
+ghost use Rattle.hh_office.specs.Promises.{RefusalLeaves};
+ghost use Rattle.hh_office.specs.steps.Promises.{MakesInEachState, reply_of};
 ghost use Rattle.hh_office.specs.Views.{IsSure};
 
 use crate::office::Office;

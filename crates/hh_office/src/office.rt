@@ -4,7 +4,8 @@ ghost use Rattle.std.specs.Prelude.{◌≡◌, IfOk, OnErr};
 ghost use Rattle.hh_office.specs.steps.Loads.{NamesItsFile};
 ghost use Rattle.hh_office.specs.Machine.{step};
 ghost use Rattle.hh_office.specs.PartyViews.{ForbidsOthers, ShowsByView};
-ghost use Rattle.hh_office.specs.Promises.{ConservesAfter, ConservesAfterAll, MakesInEachState, HandleStep, RefusalLeaves, RepeatsOnce, RunAllStep, StandsAfter, StandsAfterAll, reply_of};
+ghost use Rattle.hh_office.specs.Promises.{ConservesAfter, ConservesAfterAll, HandleStep, RefusalLeaves, RepeatsOnce, RunAllStep, StandsAfter, StandsAfterAll};
+ghost use Rattle.hh_office.specs.steps.Promises.{MakesInEachState, reply_of};
 ghost use Rattle.hh_office.specs.Refusals.{CountsReplies, CountsReply, StandsForSome};
 ghost use Rattle.hh_office.specs.Views.{IsSure};
 

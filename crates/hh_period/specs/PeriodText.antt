@@ -5,8 +5,7 @@ use Rattle.hh_num.specs.Fixed.{fixed_text}
 use Rattle.hh_names.specs.Accounts.{account_text}
 use Rattle.hh_calc.specs.declared.result.Figures.{Figures}
 use Rattle.hh_calc.specs.Formulas.{figures, residual}
-use Rattle.hh_calc.specs.Settled.{figures_of}
-use Rattle.hh_calc.specs.Terms.{PeriodTerms, Settled}
+use Rattle.hh_calc.specs.Terms.{PeriodTerms}
 
 -- a number behind its name
 abbrev pub named : List ℕ → ℕ → ℤ → List ℕ
@@ -23,10 +22,6 @@ account_line f = codes "account " ++ account_text f.account ++ figures_text f ++
 -- `residual T`
 abbrev pub residual_line : ℤ → List ℕ
 residual_line pence = named (codes "residual ") 0 pence ++ 10 ∷ []
-
--- the lines of settled figures
-abbrev pub settled_lines : Settled → List ℕ
-settled_lines s = flat_map (λ r. account_line (figures_of r)) s.accounts ++ residual_line s.residual
 
 -- a line for each account in order, then the residual
 abbrev pub period_text : PeriodTerms → List ℕ

@@ -1,5 +1,5 @@
 -- The period that the rows of two files and a price make.
-use Rattle.std.specs.Prelude.{◌≡◌, ℕ, ◌+◌, ℤ, List, [], ◌∷◌, ◌++◌, map, false, Option, Some, None, Result, Ok, Err}
+use Rattle.std.specs.Prelude.{ℕ, ◌+◌, ℤ, List, [], ◌∷◌, ◌++◌, map, false, Option, Some, None, Result, Ok, Err}
 use Rattle.std.specs.FinMap.{find}
 use Rattle.std.specs.List.{flat_map}
 use Rattle.hh_tables.specs.Tables.{table_of_last}
@@ -46,10 +46,6 @@ named_accounts meters contracts = map (λ r. r.lead) meters ++ flat_map seller_a
 -- the accounts of a period of these rows
 abbrev pub period_accounts : List PeriodMeterRow → List PeriodContractRow → List Account
 period_accounts meters contracts = in_account_order (named_accounts meters contracts)
-
--- a list holds the accounts of the names that another one holds and of more names
-abbrev pub NamesMore : List Account → List Account → List Account → Type 0
-NamesMore old new more = (names : List Account) → old ≡ in_account_order names → new ≡ in_account_order (names ++ more)
 
 -- the period of these rows and this price
 abbrev pub period_of : List PeriodMeterRow → List PeriodContractRow → ℤ → PeriodTerms

@@ -6,7 +6,8 @@ ghost use Rattle.std.specs.List.Sorted.{IsStrictlySortedBy};
 ghost use Rattle.hh_names.specs.Accounts.{account_cmp};
 ghost use Rattle.hh_names.specs.Faults.{faults, Gives};
 ghost use Rattle.hh_rows.specs.RowKinds.{most_rows};
-ghost use Rattle.hh_period.specs.Rows.{accepted_rows, bm_unit_entry, bm_unit_of, in_force, period_accounts, period_contract_entry, seller_and_buyer, NamesMore};
+ghost use Rattle.hh_period.specs.Rows.{accepted_rows, bm_unit_entry, bm_unit_of, in_force, period_accounts, period_contract_entry, seller_and_buyer};
+ghost use Rattle.hh_period.specs.steps.Rows.{NamesMore};
 
 use hh_calc::UnitData;
 use hh_names::{Account, Contract, Fault, Reference};

@@ -3,7 +3,8 @@
 ghost use Rattle.std.specs.Prelude.{◌≡◌, ◌++◌, OnOk};
 ghost use Rattle.hh_calc.specs.Settled.{figures_of};
 ghost use Rattle.hh_names.specs.Accounts.{account_text};
-ghost use Rattle.hh_period.specs.PeriodText.{account_line, figures_text, named, residual_line, settled_lines};
+ghost use Rattle.hh_period.specs.PeriodText.{account_line, figures_text, named, residual_line};
+ghost use Rattle.hh_period.specs.steps.PeriodText.{settled_lines};
 
 use hh_calc::{AccountRow, PeriodResult};
 use hh_names::Account;

@@ -1,17 +1,16 @@
 -- What tables in memory refuse for: memory alone. So they count no refusal.
-use Rattle.std.proofs.Common.{◌≡◌, ℕ, List, Option, Result, Ok, Err, refl, sym, ap, subst}
-use Rattle.std.specs.Prelude.{◌≢◌, IfErr, IsErrAnd, IsOk}
-use Rattle.hh_reports.specs.declared.fault.ReportFault.{ReportFault}
+use Rattle.std.proofs.Common.{◌≡◌, ℕ, List, Option, Result, Ok, Err, refl, sym, subst}
+use Rattle.std.specs.Prelude.{IfErr}
 use Rattle.hh_reports.specs.declared.fault.ReportFault.TheVariants as report
 use Rattle.hh_states.specs.Content.{Content}
 use Rattle.hh_states.specs.Soundness.{AreSound, SoundStates}
 use Rattle.hh_store.specs.Outputs.{CountsOutcome, Outputs}
 use Rattle.hh_store.specs.Reached.{AreReached}
-use Rattle.hh_store.specs.StoreFaults.{CountsRefusal, CountsReportRefusal, output_fault}
+use Rattle.hh_store.specs.StoreFaults.{CountsRefusal}
 use Rattle.hh_store.specs.declared.output_fault.OutputFault.{OutputFault}
 use Rattle.hh_store.specs.declared.output_fault.OutputFault.TheVariants as output
 use Rattle.hh_store.specs.declared.store_fault.StoreFault.{StoreFault}
-use Rattle.hh_store.specs.declared.store_fault.StoreFault.TheVariants.{Memory, Store}
+use Rattle.hh_store.specs.declared.store_fault.StoreFault.TheVariants.{Memory}
 
 -- a call that fails for memory alone counts no refusal
 pub memory_alone_counts : {A : Type 0} (n : ℕ) (result : Result A StoreFault) → IfErr result (λ fault. fault ≡ Memory) → CountsRefusal result n n

@@ -1,2 +1,1 @@
-pub mod KeptRuns
 pub mod steps

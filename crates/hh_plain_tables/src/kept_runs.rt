@@ -6,7 +6,7 @@ ghost use Rattle.hh_tables.specs.Tables.{put_all};
 ghost use Rattle.hh_states.specs.Content.{credit_key_cmp, posting_key_cmp, result_key_cmp};
 ghost use Rattle.hh_states.specs.Reads.{posting_to, result_in, summary_on};
 ghost use Rattle.hh_states.specs.Runs.{run_key_cmp};
-ghost use Rattle.hh_plain_tables.specs.KeptRuns.{kept_with, no_runs};
+ghost use Rattle.hh_plain_tables.specs.steps.KeptRuns.{kept_with, no_runs};
 
 use hh_calc::AccountRow;
 use hh_kept_rows::{postings_to, results_of, runs_on};
@@ -31,7 +31,7 @@ pub(crate) struct KeptRuns {
 }
 
 impl Model for KeptRuns {
-    ghost use Rattle.hh_plain_tables.specs.KeptRuns.{RunTables};
+    ghost use Rattle.hh_plain_tables.specs.steps.KeptRuns.{RunTables};
 
     ghost Value = { RunTables };
 

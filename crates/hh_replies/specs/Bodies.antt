@@ -1,6 +1,6 @@
 -- The bodies of replies: the keys of an object in the order of their bytes, energy and volumes as texts, cash as whole pence.
 use Rattle.std.specs.Prelude.{ℕ, ℤ, List, [], ◌∷◌, map, Option, Some, None, option_map, codes, if◌then◌else◌}
-use Rattle.serde_json.specs.Data.{Data, Members, array, member, no_members, number, object, put, string, unsigned}
+use Rattle.serde_json.specs.Data.{Data, Members, array, member, no_members, number, object, string, unsigned}
 use Rattle.serde_json.specs.Find.{of_integer}
 use Rattle.serde_json.specs.View.{items_of}
 use Rattle.hh_num.specs.Fixed.{fixed_text}
@@ -58,11 +58,6 @@ members (m ∷ ms) = member m.0 m.1 (members ms)
 abbrev pub placed : List ℕ → Option Data → Members → Members
 placed key None rest = rest
 placed key (Some place) rest = member key place rest
-
--- members with one more, where there is something to stand there
-abbrev pub with_place : List ℕ → Option Data → Members → Members
-with_place key None rest = rest
-with_place key (Some place) rest = put key place rest
 
 -- a file that was accepted
 abbrev pub loaded_body : Loaded → Data

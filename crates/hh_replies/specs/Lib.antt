@@ -3,3 +3,4 @@ pub mod Causes
 pub mod ReplyText
 pub mod Statuses
 pub mod Writes
+pub mod steps

@@ -37,7 +37,3 @@ allow_line cause = []
 -- the reply to a request that is refused before the office is asked
 abbrev pub refused_text : Refused → List ℕ
 refused_text r = reply_with (allow_line r.cause) (reply.Refused (plain_fault (refusal_of r.cause))) r.head_only
-
--- the reply where memory was refused
-abbrev pub memory_text : Bool → List ℕ
-memory_text head_only = refused_text (record { cause = refusal.Memory; head_only = head_only })

@@ -3,7 +3,8 @@
 ghost use Rattle.std.specs.Prelude.{◌≡◌, IfOk, OnOk, codes, option_map, string_bytes};
 ghost use Rattle.serde_json.specs.Data.{put as with_member, string};
 ghost use Rattle.serde_json.specs.View.{members_view, view};
-ghost use Rattle.hh_replies.specs.Bodies.{account_body, account_data, balance_body, contract_body, contracts_body, count_data, counterparty_of, date_data, energy_data, fault_body, kind_data, list_data, loaded_body, period_body, reply_body, role_of, run_body, runs_body, volume_data, with_place};
+ghost use Rattle.hh_replies.specs.Bodies.{account_body, account_data, balance_body, contract_body, contracts_body, count_data, counterparty_of, date_data, energy_data, fault_body, kind_data, list_data, loaded_body, period_body, reply_body, role_of, run_body, runs_body, volume_data};
+ghost use Rattle.hh_replies.specs.steps.Bodies.{with_place};
 
 use crate::member_text::{date_text, number_text};
 use hh_calc::AccountRow;

@@ -18,7 +18,8 @@ use Rattle.hh_names.specs.declared.account.Account.{Account}
 use Rattle.hh_names.specs.Accounts.{account_cmp}
 use Rattle.hh_names.proofs.AccountLaws.{account_total, exact_accounts}
 use Rattle.hh_calc.specs.Formulas.{of_account}
-use Rattle.hh_reports.specs.Nets.{greatest_amount, sum_for, sum_in, sums_of, Amounts}
+use Rattle.hh_reports.specs.Nets.{sum_for, sums_of, Amounts}
+use Rattle.hh_reports.specs.steps.Nets.{greatest_amount, sum_in}
 
 -- Tables with other values under their keys.
 module _ {K V W : Type 0} (R : K → K → Ordering) (value : K → W) where

@@ -7,7 +7,8 @@ use Rattle.std.proofs.lemmas.List.{append-nil, take-append-drop, take_more}
 use Rattle.std.proofs.lemmas.List.Concat.{flat_map-append}
 use Rattle.hh_devices.specs.Devices.{AppendsFront}
 use Rattle.hh_reports.specs.declared.fault.ReportFault.{ReportFault}
-use Rattle.hh_reports.specs.Output.{CountsFault, IsPassed, IsShort, Passes, Sends}
+use Rattle.hh_reports.specs.Output.{CountsFault, Sends}
+use Rattle.hh_reports.specs.steps.Output.{IsPassed, IsShort, Passes}
 
 appends_none : (a : Option (List ℕ)) → Appends a a []
 appends_none None = tt

@@ -13,7 +13,8 @@ use Rattle.std.proofs.lemmas.List.Elements.{filter_map-append}
 use Rattle.std.proofs.lemmas.List.FromFn.{get_or-range_with_len, length-range_with_len}
 use Rattle.hh_num.specs.Totals.{total}
 use Rattle.hh_calc.specs.declared.result.AccountRow.{AccountRow}
-use Rattle.hh_reports.specs.DayReport.{period_account_line, charge_in, row_lines, row_of_period, rows_of_period}
+use Rattle.hh_reports.specs.DayReport.{period_account_line, row_of_period, rows_of_period}
+use Rattle.hh_reports.specs.steps.DayReport.{charge_in, row_lines}
 use Rattle.hh_reports.proofs.NetLaws.{next_place, total_next}
 
 -- the lines of the rows of a period are those of all rows that are of it

@@ -1,5 +1,5 @@
 -- The day report of a run.
-use Rattle.std.specs.Prelude.{ℕ, ◌==◌, ℤ, pos, neg_ℤ, List, [], ◌∷◌, ◌++◌, map, filter_map, Option, Some, None, codes, decimal, if◌then◌else◌}
+use Rattle.std.specs.Prelude.{ℕ, ◌==◌, ℤ, neg_ℤ, List, [], ◌∷◌, ◌++◌, map, filter_map, Option, Some, None, codes, decimal, if◌then◌else◌}
 use Rattle.std.specs.List.{flat_map, range_with_len}
 use Rattle.hh_num.specs.Totals.{total}
 use Rattle.hh_time.specs.DateText.{date_text}
@@ -47,14 +47,6 @@ rows_of_period period rows = filter_map (row_of_period period) rows
 -- a line for each account, then the residual: minus the sum of the charges
 unfoldable pub period_lines : ℕ → List AccountRow → List ℕ
 period_lines period rows = flat_map (period_account_line period) rows ++ period_residual_line period (neg_ℤ (total (λ row. row.charge) rows))
-
--- the line of a row, if it is of this Settlement Period
-abbrev pub row_lines : ℕ → ℕ × AccountRow → List ℕ
-row_lines period e = if e.0 == period then period_account_line period e.1 else []
-
--- the charge of a row, if it is of this Settlement Period
-abbrev pub charge_in : ℕ → ℕ × AccountRow → ℤ
-charge_in period e = if e.0 == period then e.1.charge else pos 0
 
 -- the lines of so many Settlement Periods
 abbrev pub periods_lines : ℕ → List (ℕ × AccountRow) → List ℕ

@@ -3,3 +3,4 @@ pub mod Exports
 pub mod Fields
 pub mod Nets
 pub mod Output
+pub mod steps

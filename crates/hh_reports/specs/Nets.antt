@@ -1,6 +1,5 @@
 -- What amounts come to for accounts.
-use Rattle.std.specs.Prelude.{ℕ, ◌^◌, ℤ, pos, List, map, unwrap_or}
-use Rattle.std.specs.FinMap.{find}
+use Rattle.std.specs.Prelude.{ℕ, ℤ, List, map}
 use Rattle.hh_num.specs.Totals.{total}
 use Rattle.hh_tables.specs.Tables.{Table, table_of_last}
 use Rattle.hh_names.specs.declared.account.Account.{Account}
@@ -13,10 +12,6 @@ use Rattle.hh_calc.specs.Settled.{paid_by}
 abbrev pub Amounts : Type 0
 Amounts = List (Account × ℤ)
 
--- no amount is greater in size: it is two amounts of pence at most
-abbrev pub greatest_amount : ℕ
-greatest_amount = 2 ^ 64
-
 -- what the amounts come to for an account
 abbrev pub sum_for : Account → Amounts → ℤ
 sum_for a amounts = total (λ e. of_account a e.0 e.1) amounts
@@ -24,10 +19,6 @@ sum_for a amounts = total (λ e. of_account a e.0 e.1) amounts
 -- each account that has an amount, once and in account order, with what its amounts come to
 abbrev pub sums_of : Amounts → Table Account ℤ
 sums_of amounts = map (λ e. (e.0, sum_for e.0 amounts)) (table_of_last account_cmp amounts)
-
--- the sum that a table holds of an account; 0 stands for an account that is not there
-abbrev pub sum_in : Table Account ℤ → Account → ℤ
-sum_in sums a = unwrap_or (find account_cmp a sums) (pos 0)
 
 -- what a row moves for its account
 abbrev pub cash_moved : ℕ × AccountRow → Account × ℤ

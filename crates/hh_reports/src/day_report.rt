@@ -3,10 +3,12 @@
 ghost use Rattle.std.specs.Prelude.{◌≡◌, ◌≤◌, ◌^◌, ◌++◌, codes, decimal, unsigned_abs, IfOk, OnOk};
 ghost use Rattle.std.specs.List.{flat_map};
 ghost use Rattle.hh_num.specs.Totals.{total};
-ghost use Rattle.hh_reports.specs.DayReport.{period_account_line, charge_in, day_report_text, heads_line, net_line, period_lines, periods_lines, period_residual_line, row_lines, rows_of_period, title_line};
+ghost use Rattle.hh_reports.specs.DayReport.{period_account_line, day_report_text, heads_line, net_line, period_lines, periods_lines, period_residual_line, rows_of_period, title_line};
+ghost use Rattle.hh_reports.specs.steps.DayReport.{charge_in, row_lines};
 ghost use Rattle.hh_reports.specs.Fields.{cash_of, energies_of, energy_text, pence_text, flush_right};
 ghost use Rattle.hh_reports.specs.Nets.{nets_from_rows};
-ghost use Rattle.hh_reports.specs.Output.{IsShort, Passes, Sends};
+ghost use Rattle.hh_reports.specs.Output.{Sends};
+ghost use Rattle.hh_reports.specs.steps.Output.{IsShort, Passes};
 
 use crate::fault::ReportFault;
 use crate::page::Page;

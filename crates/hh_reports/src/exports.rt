@@ -6,8 +6,10 @@ ghost use Rattle.hh_time.specs.DateText.{date_text};
 ghost use Rattle.hh_runs.specs.RunKinds.{run_kind_code};
 ghost use Rattle.hh_reports.specs.Exports.{balance_line, balances_text, party_lines, result_line, results_text};
 ghost use Rattle.hh_reports.specs.Fields.{cash_of, energies_of, energy_text, pence_text};
-ghost use Rattle.hh_reports.specs.Nets.{sum_for, sum_in};
-ghost use Rattle.hh_reports.specs.Output.{IsShort, Passes, Sends};
+ghost use Rattle.hh_reports.specs.Nets.{sum_for};
+ghost use Rattle.hh_reports.specs.steps.Nets.{sum_in};
+ghost use Rattle.hh_reports.specs.Output.{Sends};
+ghost use Rattle.hh_reports.specs.steps.Output.{IsShort, Passes};
 
 use crate::fault::ReportFault;
 use crate::page::Page;

@@ -4,7 +4,8 @@ ghost use Rattle.std.specs.Prelude.{◌≡◌, ◌≤◌, ◌*◌, ◌^◌, ◌+
 ghost use Rattle.std.specs.FinMap.{put};
 ghost use Rattle.hh_names.specs.Accounts.{account_cmp};
 ghost use Rattle.hh_calc.specs.Settled.{paid_by};
-ghost use Rattle.hh_reports.specs.Nets.{cash_moved, greatest_amount, nets_from_rows, sum_in, sums_of};
+ghost use Rattle.hh_reports.specs.Nets.{cash_moved, nets_from_rows, sums_of};
+ghost use Rattle.hh_reports.specs.steps.Nets.{greatest_amount, sum_in};
 
 use hh_calc::AccountRow;
 use hh_names::{Account, PeriodNumber};
@@ -26,7 +27,7 @@ struct Amount {
 impl Model for Amount {
     ghost use Rattle.std.specs.Prelude.{◌≤◌, ℤ, unsigned_abs};
     ghost use Rattle.hh_names.specs.declared.account.Account.{Account};
-    ghost use Rattle.hh_reports.specs.Nets.{greatest_amount};
+    ghost use Rattle.hh_reports.specs.steps.Nets.{greatest_amount};
 
     ghost Value = { Account × ℤ };
 

@@ -1,5 +1,5 @@
 -- Which values the fields of rows and settings have: those in the grammars and within the ranges of their texts.
-use Rattle.std.specs.Prelude.{ℕ, ◌≤◌, ℤ, IsTrue}
+use Rattle.std.specs.Prelude.{◌≤◌, ℤ, IsTrue}
 use Rattle.hh_num.specs.Quantities.{Measure, multipliers, percentages, volumes}
 use Rattle.hh_num.specs.Ranges.{IsBetween}
 use Rattle.hh_time.specs.Days.{is_accepted}

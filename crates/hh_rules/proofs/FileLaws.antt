@@ -19,7 +19,8 @@ use Rattle.hh_rules.specs.declared.row_done.RowDone.{RowDone}
 use Rattle.hh_rules.specs.declared.row_done.RowDone.TheVariants.{Applied, Late}
 use Rattle.hh_rules.specs.Effects.{fixes_reference, row_done}
 use Rattle.hh_rules.specs.Entries.{reference_entry}
-use Rattle.hh_rules.specs.FileRows.{FileRowsView, JudgesFile, ServesAfterHistory, coming_at, file_outcome, first_fault, fixed_by, fixed_references, judged_file, judged_row, judged_row_at, late_count, no_rows, refusal_after, register_of, timely_rows, with_done, with_volumes_of}
+use Rattle.hh_rules.specs.FileRows.{FileRowsView, JudgesFile, ServesAfterHistory, coming_at, file_outcome, first_fault, fixed_by, fixed_references, judged_file, late_count, refusal_after, register_of, timely_rows}
+use Rattle.hh_rules.specs.steps.FileRows.{judged_row, judged_row_at, no_rows, with_done, with_volumes_of}
 use Rattle.hh_rules.specs.History.{History, Registered, registered_in}
 use Rattle.hh_rules.specs.Lateness.{Timetable, Accepted, accepted_at, is_in_time}
 use Rattle.hh_rules.specs.RegisterView.{AgreesOn, RegisterView, ServesAfter, ServesFor, done_at, refusal_at, register_after, tables_in, timetable_in, timetable_of}

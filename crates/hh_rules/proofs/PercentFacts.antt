@@ -17,7 +17,8 @@ use Rattle.hh_rows.proofs.KeyLaws.{unit_period_total, reallocation_key_total}
 use Rattle.hh_rows.specs.declared.keys.UnitPeriod.{UnitPeriod}
 use Rattle.hh_rows.specs.declared.keys.ReallocationKey.{ReallocationKey}
 use Rattle.hh_names.specs.declared.values.Reallocation.{Reallocation}
-use Rattle.hh_rules.specs.Percents.{SumsPercents, is_of_other, percent_at, percent_in, percent_of_others}
+use Rattle.hh_rules.specs.Percents.{SumsPercents, is_of_other, percent_at, percent_of_others}
+use Rattle.hh_rules.specs.steps.Percents.{percent_in}
 use Rattle.hh_rules.proofs.FilterFacts.{rising_of}
 use Rattle.hh_rules.proofs.SumFacts.{part_of, total-put-part, total-others, total-some, all-put}
 

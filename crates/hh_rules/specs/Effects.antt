@@ -1,5 +1,5 @@
 -- What an accepted row changes.
-use Rattle.std.specs.Prelude.{◌≡◌, ℕ, ◌+◌, ◌<◌, ◌≤ℤ◌, ◌+ℤ◌, List, [], ◌∷◌, ◌++◌, Bool, true, false, Option, Some, None, is_none, is_some, if◌then◌else◌}
+use Rattle.std.specs.Prelude.{◌≡◌, ℕ, ◌+◌, List, [], ◌∷◌, ◌++◌, Bool, true, false, Option, Some, None, is_none, is_some, if◌then◌else◌}
 use Rattle.std.specs.declared.cmp.Ordering.{Ordering}
 use Rattle.std.specs.FinMap.{find, put}
 use Rattle.std.specs.Ordering.{eq_by_cmp}
@@ -17,9 +17,7 @@ use Rattle.hh_rules.specs.declared.row_done.RowDone.TheVariants.{Applied, Late}
 use Rattle.hh_rules.specs.Entries.{party_entry, unit_entry, reference_entry, meter_entry, price_entry, contract_entry, reallocation_entry}
 use Rattle.hh_rules.specs.History.{History, Registered, registered_in}
 use Rattle.hh_rules.specs.Lateness.{Timetable, Accepted}
-use Rattle.hh_rules.specs.Percents.{percent_of_others}
-use Rattle.hh_num.specs.Quantities.{hundred_percent}
-use Rattle.hh_rules.specs.Refusals.{Standing, most_parties, most_units, whole_standing}
+use Rattle.hh_rules.specs.Refusals.{Standing, whole_standing}
 
 -- whether a row is the first of its reference, whose seller and buyer it fixes
 abbrev pub fixes_reference : Registered → Row → Bool
@@ -70,16 +68,6 @@ standing_with in_time r standing = record {
   party_count = count_new bytes_cmp (party_entry r) standing.tables.parties standing.party_count;
   unit_count = count_new bytes_cmp (unit_entry r) standing.tables.units standing.unit_count;
 }
-
--- with the row no limit is passed
-abbrev pub HasRoomFor : Bool → Row → Standing → Type 0
-HasRoomFor in_time (row.Party r) standing =
-    find bytes_cmp r.party standing.tables.parties ≡ None → standing.party_count < most_parties
-HasRoomFor in_time (row.Unit r) standing =
-    find bytes_cmp r.unit standing.tables.units ≡ None → standing.unit_count < most_units
-HasRoomFor in_time (row.Reallocation r) standing =
-    in_time ≡ true → (percent_of_others r.key standing.tables.reallocations +ℤ r.reallocation.percent) ≤ℤ hundred_percent
-HasRoomFor in_time _ standing = Unit {0}
 
 -- no row in force changes; references stand apart
 pub record KeepsRowsInForce (old new : Registered) : Type 0 where

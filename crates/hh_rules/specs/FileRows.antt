@@ -1,5 +1,5 @@
 -- What becomes of the rows of a file: each sees those before it.
-use Rattle.std.specs.Prelude.{ℕ, ◌+◌, ℤ, List, [], ◌∷◌, ◌++◌, map, filter, length, not, Bool, option_to_list, Option, Some, None, Result, Ok, Err, if◌then◌else◌}
+use Rattle.std.specs.Prelude.{ℕ, ◌+◌, ℤ, List, [], ◌∷◌, ◌++◌, map, filter, length, not, Bool, Option, Some, None, Result, Ok, Err, if◌then◌else◌}
 use Rattle.std.specs.List.{cons_option}
 use Rattle.jiff.specs.declared.tz.timezone.TimeZone.{TimeZone}
 use Rattle.hh_names.specs.Faults.{faults, first_met, row_fault, Gives}
@@ -7,14 +7,12 @@ use Rattle.hh_names.specs.declared.fault.Fault.{Fault}
 use Rattle.hh_names.specs.declared.fault.Refusal.{Refusal}
 use Rattle.hh_names.specs.declared.values.Counterparties.{Counterparties}
 use Rattle.hh_rows.specs.declared.rows.Row.{Row}
-use Rattle.hh_rules.specs.declared.row_done.RowDone.{RowDone}
-use Rattle.hh_rules.specs.declared.row_done.RowDone.TheVariants.{Applied, Late}
 use Rattle.hh_rules.specs.Effects.{fixes_reference}
 use Rattle.hh_rules.specs.Entries.{reference_entry}
 use Rattle.hh_rules.specs.History.{History, registered_in}
 use Rattle.hh_rules.specs.Lateness.{Timetable, Accepted, accepted_at, is_in_time, timing_of}
 use Rattle.hh_rules.specs.Refusals.{refusals_of, whole_standing}
-use Rattle.hh_rules.specs.RegisterView.{RegisterView, ServesFor, refusal_at, tables_in, timetable_of, with_tables}
+use Rattle.hh_rules.specs.RegisterView.{RegisterView, ServesFor, timetable_of}
 
 -- rows that come at one moment
 abbrev pub coming_at : ℤ → List Row → History
@@ -59,20 +57,6 @@ pub record FileRowsView : Type 0 where
   pub late : ℕ
   pub references : List (List ℕ × Counterparties)
 
--- no rows
-abbrev pub no_rows : FileRowsView
-no_rows = record { rows = []; late = 0; references = [] }
-
--- with the reference that a row fixes, if it fixes one
-abbrev pub with_fixed : Bool → Row → FileRowsView → FileRowsView
-with_fixed fixes r file =
-    record file { references = file.references ++ option_to_list (fixed_by fixes (reference_entry r)) }
-
--- with one more row, and what became of it
-abbrev pub with_done : Row → RowDone → FileRowsView → FileRowsView
-with_done r (Applied fixes) file = with_fixed fixes r (record file { rows = file.rows ++ r ∷ [] })
-with_done r (Late fixes) file = with_fixed fixes r (record file { late = file.late + 1 })
-
 -- what an accepted file's rows come to after a history
 abbrev pub file_outcome : Timetable → History → List Accepted → FileRowsView
 file_outcome timetable history rows = record {
@@ -93,14 +77,6 @@ abbrev pub register_of : Timetable → History → RegisterView
 register_of timetable history =
     record { lead_minutes = timetable.lead_minutes; standing = whole_standing (registered_in timetable history) }
 
--- the register with the readings, prices and contract volumes in force of another: no row is judged by them
-abbrev pub with_volumes_of : RegisterView → RegisterView → RegisterView
-with_volumes_of other register = with_tables (record (tables_in register) {
-  meters = (tables_in other).meters;
-  prices = (tables_in other).prices;
-  contracts = (tables_in other).contracts;
-}) register
-
 -- the register serves for the rows after this history
 abbrev pub ServesAfterHistory : TimeZone → RegisterView → List Row → History → Type 0
 ServesAfterHistory zone register rows history =
@@ -111,12 +87,3 @@ abbrev pub JudgesFile : TimeZone → RegisterView → ℤ → List Row → Resul
 JudgesFile zone register moment rows answer =
     (history : History) → ServesAfterHistory zone register rows history
     → Gives faults (λ file. file) answer (judged_file (timetable_of zone register) history (coming_at moment rows))
-
--- the answer to a row of this number in its file
-abbrev pub judged_row : ℕ → Option Refusal → Result (Unit {0}) Fault
-judged_row number None = Ok tt
-judged_row number (Some why) = Err (row_fault why number)
-
--- the same, of a row that comes to a register at a moment
-abbrev pub judged_row_at : TimeZone → RegisterView → ℤ → ℕ → Row → Result (Unit {0}) Fault
-judged_row_at zone register moment number r = judged_row number (refusal_at zone register moment r)

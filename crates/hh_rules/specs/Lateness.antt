@@ -50,11 +50,6 @@ is_in_time timetable a = elim a.row [
 abbrev pub timing_by : Bool → Bool → Timing
 timing_by has_period in_time = if has_period then (if in_time then InTime else Late) else NoSuchPeriod
 
--- the timing of a contract or reallocation row for a Settlement Period
-abbrev pub notification_timing : Timetable → ℤ → SettlementPeriod → Timing
-notification_timing timetable moment at =
-    timing_by (is_there timetable.midnight at) (is_before_deadline timetable moment at)
-
 -- the timing of a row
 abbrev pub timing_of : Timetable → Accepted → Timing
 timing_of timetable a = timing_by (has_its_period timetable.midnight a.row) (is_in_time timetable a)

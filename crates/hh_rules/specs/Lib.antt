@@ -7,3 +7,4 @@ pub mod Leads
 pub mod Percents
 pub mod Refusals
 pub mod RegisterView
+pub mod steps

@@ -1,5 +1,5 @@
 -- The percentages of reallocations in force, added up for each unit and Settlement Period.
-use Rattle.std.specs.Prelude.{◌≡◌, ℤ, pos, ◌≤ℤ◌, Bool, not, ◌&&◌, if◌then◌else◌, Option, Some, None, unwrap_or}
+use Rattle.std.specs.Prelude.{◌≡◌, ℤ, pos, ◌≤ℤ◌, Bool, not, ◌&&◌, if◌then◌else◌, unwrap_or}
 use Rattle.std.specs.FinMap.{find}
 use Rattle.std.specs.List.{AllByRecursion}
 use Rattle.std.specs.Ordering.{eq_by_cmp}
@@ -30,8 +30,3 @@ pub record SumsPercents (percents : Table UnitPeriod ℤ) (reallocations : Table
   pub sums : (at : UnitPeriod) → unwrap_or (find unit_period_cmp at percents) (pos 0) ≡ percent_at reallocations at
   pub rising : IsTable reallocation_key_cmp reallocations
   pub none_negative : AllByRecursion (λ e. pos 0 ≤ℤ e.1.percent) reallocations
-
--- the percentage of a reallocation, 0 where there is none
-abbrev pub percent_in : Option Reallocation → ℤ
-percent_in None = pos 0
-percent_in (Some r) = r.percent

@@ -5,8 +5,7 @@ use Rattle.std.specs.Ordering.{eq_by_cmp}
 use Rattle.jiff.specs.declared.tz.timezone.TimeZone.{TimeZone}
 use Rattle.jiff.specs.Words.{plain_zone}
 use Rattle.hh_tables.specs.Tables.{Table, IsTable}
-use Rattle.hh_time.specs.declared.day.Day.{Day}
-use Rattle.hh_time.specs.Zone.{count_in, midnight_in}
+use Rattle.hh_time.specs.Zone.{midnight_in}
 use Rattle.hh_names.specs.Accounts.{bytes_cmp}
 use Rattle.hh_names.specs.Faults.{first_met, plain_fault, IsLeast}
 use Rattle.hh_names.specs.declared.fault.Fault.{Fault}
@@ -59,12 +58,6 @@ tables_in register = register.standing.tables
 -- when local midnights fall in a zone, and so many minutes before a period
 abbrev pub timetable_in : TimeZone → ℕ → Timetable
 timetable_in zone lead_minutes = record { midnight = midnight_in (plain_zone zone); lead_minutes = lead_minutes }
-
--- a Settlement Day that is kept, if one is, is one of the zone's
-abbrev pub IsKeptIn : TimeZone → Option Day → Type 0
-IsKeptIn zone None = Unit {0}
-IsKeptIn zone (Some day) =
-    (day.start ≡ midnight_in (plain_zone zone) day.date) × (count_in (plain_zone zone) day.date ≡ Some day.count)
 
 -- the timetable by which a register judges rows
 abbrev pub timetable_of : TimeZone → RegisterView → Timetable
@@ -124,10 +117,6 @@ module _ (zone : TimeZone) (register : RegisterView) (moment : ℤ) (r : Row) wh
   abbrev pub in_time_at : Bool
   in_time_at = is_in_time (timetable_of zone register) (accepted_at moment r)
 
-  -- that a mark tells whether the row comes in time
-  abbrev pub TellsInTime : Bool → Type 0
-  TellsInTime in_time = in_time ≡ in_time_at
-
   -- the row's refusals with their conditions
   abbrev pub refusals_at : List (Refusal × Bool)
   refusals_at = refusals_of register.standing (timing_of (timetable_of zone register) (accepted_at moment r)) r
@@ -135,10 +124,6 @@ module _ (zone : TimeZone) (register : RegisterView) (moment : ℤ) (r : Row) wh
   -- why the row is refused, if it is
   abbrev pub refusal_at : Option Refusal
   refusal_at = first_met refusals_at
-
-  -- that the row is refused for this reason
-  abbrev pub IsRefusedFor : Refusal → Type 0
-  IsRefusedFor why = refusal_at ≡ Some why
 
   -- the answer to the row
   abbrev pub judged_at : Result (Unit {0}) Fault

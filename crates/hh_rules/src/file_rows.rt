@@ -3,9 +3,12 @@
 ghost use Rattle.std.specs.Prelude.{◌≡◌, ◌+◌, ◌<◌, false, length, IfOk, OnOk};
 ghost use Rattle.hh_names.specs.Faults.{faults, Gives};
 ghost use Rattle.hh_rows.specs.declared.rows.Row.TheVariants as rows;
-ghost use Rattle.hh_rules.specs.Effects.{HasRoomFor, fixes_reference, row_done};
-ghost use Rattle.hh_rules.specs.FileRows.{judged_row_at, with_volumes_of, JudgesFile};
-ghost use Rattle.hh_rules.specs.RegisterView.{after_row, done_at, register_after, tables_in, IsKeptIn};
+ghost use Rattle.hh_rules.specs.Effects.{fixes_reference, row_done};
+ghost use Rattle.hh_rules.specs.steps.Effects.{HasRoomFor};
+ghost use Rattle.hh_rules.specs.FileRows.{JudgesFile};
+ghost use Rattle.hh_rules.specs.steps.FileRows.{judged_row_at, with_volumes_of};
+ghost use Rattle.hh_rules.specs.RegisterView.{after_row, done_at, register_after, tables_in};
+ghost use Rattle.hh_rules.specs.steps.RegisterView.{IsKeptIn};
 
 use crate::register::Register;
 use crate::row_done::RowDone;
@@ -38,7 +41,7 @@ impl Model for FileRows {
 }
 
 impl FileRows {
-    ghost use Rattle.hh_rules.specs.FileRows.{no_rows, with_done, with_fixed};
+    ghost use Rattle.hh_rules.specs.steps.FileRows.{no_rows, with_done, with_fixed};
 
     /// No rows, with room for so many. `Err` only where memory is refused.
     fn with_room(alloc: Global, count: usize) -> Result<FileRows, AllocError>

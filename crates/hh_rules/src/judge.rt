@@ -4,9 +4,10 @@ ghost use Rattle.std.specs.Prelude.{◌≡◌, ◌∷◌, [], not, None, IfOk, I
 ghost use Rattle.hh_names.specs.declared.fault.Refusal.TheVariants.{ShrinksRange, UnitMoved};
 ghost use Rattle.hh_names.specs.Faults.{first_met};
 ghost use Rattle.hh_rows.specs.DateRanges.{is_inside};
-ghost use Rattle.hh_rules.specs.Effects.{HasRoomFor};
+ghost use Rattle.hh_rules.specs.steps.Effects.{HasRoomFor};
 ghost use Rattle.hh_rules.specs.Leads.{lead_on};
-ghost use Rattle.hh_rules.specs.RegisterView.{judged_at, refusal_at, tables_in, IsKeptIn, IsLeastFault, IsLeastRefusal, IsRefusedFor, JudgesAsWhole, TellsInTime};
+ghost use Rattle.hh_rules.specs.RegisterView.{judged_at, refusal_at, tables_in, IsLeastFault, IsLeastRefusal, JudgesAsWhole};
+ghost use Rattle.hh_rules.specs.steps.RegisterView.{IsKeptIn, IsRefusedFor, TellsInTime};
 ghost use Rattle.hh_rules.specs.Refusals.{contract_refusals, is_unit_moved, meter_refusals, party_refusals, passes_hundred, price_refusals, reallocation_refusals, refusals_of, unit_refusals};
 
 use crate::register::Register;

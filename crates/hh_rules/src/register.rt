@@ -8,8 +8,10 @@ ghost use Rattle.hh_rows.specs.Keys.{contract_key_cmp, reallocation_key_cmp, set
 ghost use Rattle.hh_rows.specs.declared.rows.Row.TheVariants as rows;
 ghost use Rattle.hh_names.specs.Accounts.{bytes_cmp};
 ghost use Rattle.hh_names.specs.Faults.{faults, Gives};
-ghost use Rattle.hh_rules.specs.Effects.{HasRoomFor, fixes_reference, row_done};
-ghost use Rattle.hh_rules.specs.Percents.{percent_in, percent_of_others};
+ghost use Rattle.hh_rules.specs.Effects.{fixes_reference, row_done};
+ghost use Rattle.hh_rules.specs.steps.Effects.{HasRoomFor};
+ghost use Rattle.hh_rules.specs.Percents.{percent_of_others};
+ghost use Rattle.hh_rules.specs.steps.Percents.{percent_in};
 ghost use Rattle.hh_rules.specs.RegisterView.{after_row, done_at, empty_part, empty_register, judged_at, register_after, tables_in, AddsOneRow, IsLeastFault, JudgesAsWhole, ServesAfter};
 
 use crate::row_done::RowDone;

@@ -3,8 +3,10 @@
 ghost use Rattle.std.specs.Prelude.{◌≡◌, true, not, Some, None, IfNone, IfSome};
 ghost use Rattle.jiff.specs.Words.{plain_zone};
 ghost use Rattle.hh_time.specs.Zone.{count_in, midnight_in};
-ghost use Rattle.hh_rules.specs.Lateness.{accepted_at, comes_in_time, lacks_period, notification_timing, timing_by, timing_of};
-ghost use Rattle.hh_rules.specs.RegisterView.{timetable_in, timetable_of, IsKeptIn};
+ghost use Rattle.hh_rules.specs.Lateness.{accepted_at, comes_in_time, lacks_period, timing_by, timing_of};
+ghost use Rattle.hh_rules.specs.steps.Lateness.{notification_timing};
+ghost use Rattle.hh_rules.specs.RegisterView.{timetable_in, timetable_of};
+ghost use Rattle.hh_rules.specs.steps.RegisterView.{IsKeptIn};
 
 use crate::register::Register;
 use hh_rows::{LeadMinutes, Row, SettlementPeriod};

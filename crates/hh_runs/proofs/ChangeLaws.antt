@@ -14,7 +14,8 @@ use Rattle.hh_names.specs.declared.account.Account.{Account}
 use Rattle.hh_names.specs.Accounts.{account_cmp}
 use Rattle.hh_names.proofs.AccountLaws.{account_total, exact_accounts}
 use Rattle.hh_runs.specs.DayNets.{DayNets, is_changed, with_change}
-use Rattle.hh_runs.specs.Postings.{entry_of, posting_for}
+use Rattle.hh_runs.specs.Postings.{entry_of}
+use Rattle.hh_runs.specs.steps.Postings.{posting_for}
 
 -- rows whose columns go by their keys
 module _ {K V W : Type 0} {R : K → K → Ordering} (o : IsTotalOrder R) (exact : (x y : K) → R x y ≡ Equal → x ≡ y) (f : K → V) where

@@ -1,13 +1,8 @@
 -- Postings: the changes that are not 0.
-use Rattle.std.specs.Prelude.{ℤ, if◌then◌else◌, Option, Some, None}
+use Rattle.std.specs.Prelude.{ℤ}
 use Rattle.hh_names.specs.declared.account.Account.{Account}
 use Rattle.hh_runs.specs.declared.posting.Posting.{Posting}
-use Rattle.hh_runs.specs.DayNets.{is_changed}
 
 -- the account of a posting with its pence
 abbrev pub entry_of : Posting → Account × ℤ
 entry_of p = (p.account, p.pence)
-
--- the posting of a change, if it is not 0
-abbrev pub posting_for : Account × ℤ → Option Posting
-posting_for e = if is_changed e then Some (record { account = e.0; pence = e.1 }) else None

@@ -5,7 +5,8 @@ ghost use Rattle.hh_names.specs.Accounts.{account_cmp};
 ghost use Rattle.hh_num.specs.Ranges.{IsBetween};
 ghost use Rattle.hh_tables.specs.Tables.{put_all};
 ghost use Rattle.hh_runs.specs.DayNets.{day_cash, day_net_of, differences, net_change, with_change};
-ghost use Rattle.hh_runs.specs.Postings.{entry_of, posting_for};
+ghost use Rattle.hh_runs.specs.Postings.{entry_of};
+ghost use Rattle.hh_runs.specs.steps.Postings.{posting_for};
 
 use crate::day_net::{DayNet, DayNetTable};
 use crate::posting::Posting;

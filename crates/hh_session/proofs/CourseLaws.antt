@@ -27,7 +27,8 @@ use Rattle.hh_script.specs.declared.script_line.ScriptLine.{ScriptLine}
 use Rattle.hh_script.specs.Steps.{LoadFile, LoadStep, MakeRun, RunStep, Serve, Step, WriteReport, step_of}
 use Rattle.hh_session.specs.declared.told.Told.{Told}
 use Rattle.hh_session.specs.declared.told.Told.TheVariants.{Replied}
-use Rattle.hh_session.specs.Course.{BeginsLine, FirstConserve, IsLineOf, LeavesRefused, LoadDoes, MakesRun, RunDoes, RunsLoad, RunsScript, RunsStep, ScriptConserves, ScriptDoes, StandsNow, StepDoes, StopsScript, StopsStep, TellsLine, no_memory, request_for, request_of}
+use Rattle.hh_session.specs.Course.{FirstConserve, IsLineOf, LoadDoes, RunDoes, RunsScript, ScriptConserves, ScriptDoes, StandsNow, StepDoes, StopsScript, no_memory, request_for, request_of}
+use Rattle.hh_session.specs.steps.Course.{BeginsLine, LeavesRefused, MakesRun, RunsLoad, RunsStep, StopsStep, TellsLine}
 use Rattle.hh_session.specs.Lines.{told_line}
 use Rattle.hh_session.specs.Reporting.{report_asked, report_begun}
 

@@ -1,6 +1,6 @@
 -- What goes out for a line that asks for a report, by what the office wrote and what was told behind it.
 use Rattle.std.proofs.Common.{◌≡◌, ◌⊎◌, ℕ, List, [], ◌++◌, refl, sym, ap, subst, ◌∙◌, Bool, true, false, Option, Result, Ok, Err, inl, inr}
-use Rattle.std.specs.Prelude.{IsTrue, MatchBool}
+use Rattle.std.specs.Prelude.{MatchBool}
 use Rattle.std.specs.Io.KnownBytes.{Appends}
 use Rattle.std.proofs.lemmas.List.{append_assoc}
 use Rattle.hh_devices.specs.Devices.{AppendsFront}
@@ -16,9 +16,11 @@ use Rattle.hh_office.specs.Views.{OfficeView}
 use Rattle.hh_script.specs.Reports.{ReportStep}
 use Rattle.hh_script.specs.Steps.{WriteReport}
 use Rattle.hh_session.specs.declared.told.Told.TheVariants.{Replied}
-use Rattle.hh_session.specs.Course.{BeginsLine, RunsStep, StandsNow, StopsStep, TellsLine}
+use Rattle.hh_session.specs.Course.{StandsNow}
+use Rattle.hh_session.specs.steps.Course.{BeginsLine, RunsStep, StopsStep, TellsLine}
 use Rattle.hh_session.specs.Lines.{refusal_line}
-use Rattle.hh_session.specs.Reporting.{BeginsReport, IsGivenUp, RunsReport, report_written}
+use Rattle.hh_session.specs.Reporting.{IsGivenUp, report_written}
+use Rattle.hh_session.specs.steps.Reporting.{BeginsReport, RunsReport}
 use Rattle.hh_session.proofs.CourseLaws.{appends_more}
 
 -- what may be written of a report

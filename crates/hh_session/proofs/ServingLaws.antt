@@ -1,22 +1,22 @@
 -- What connections that are served, one after the other, lead to.
-use Rattle.std.proofs.Common.{◌≡◌, ◌⊎◌, ℕ, ℤ, ◌+◌, ◌≤◌, List, [], ◌∷◌, ◌++◌, length, refl, sym, ap, subst, ◌∙◌, arith, Option, inl, inr}
-use Rattle.std.specs.Io.KnownBytes.{Appends}
-use Rattle.std.proofs.lemmas.List.{length-append, map-append}
+use Rattle.std.proofs.Common.{◌≡◌, ◌⊎◌, ℕ, ℤ, ◌+◌, ◌≤◌, List, [], ◌∷◌, ◌++◌, length, refl, ap, ◌∙◌, arith, Option, inl, inr}
+use Rattle.std.proofs.lemmas.List.{length-append}
 use Rattle.jiff.specs.Words.{plain_zone}
 use Rattle.hh_devices.specs.Devices.{AppendsFront}
 use Rattle.hh_time.specs.Days.{Midnights}
 use Rattle.hh_time.specs.Zone.{midnight_in}
 use Rattle.hh_requests.specs.declared.request.Request.{Request}
 use Rattle.hh_states.specs.States.{State}
-use Rattle.hh_office.specs.Machine.{Timed, next, state_after}
+use Rattle.hh_office.specs.Machine.{next, state_after}
 use Rattle.hh_office.specs.Promises.{Stands}
 use Rattle.hh_office.specs.Views.{OfficeView, midnight_of}
 use Rattle.hh_serve.specs.Serves.{StandsAfterOne}
 use Rattle.hh_sockets.specs.Ports.{IsPortFor}
 use Rattle.hh_script.specs.declared.serve.ServeLine.{ServeLine}
 use Rattle.hh_script.specs.Steps.{Serve}
-use Rattle.hh_session.specs.Course.{RunsStep, StopsStep}
-use Rattle.hh_session.specs.Serving.{IsServed, RunsServing, ServesUpTo, StopsServing, all_at, listening_line, no_socket_line}
+use Rattle.hh_session.specs.steps.Course.{RunsStep, StopsStep}
+use Rattle.hh_session.specs.Serving.{IsServed, all_at, listening_line, no_socket_line}
+use Rattle.hh_session.specs.steps.Serving.{RunsServing, ServesUpTo, StopsServing}
 
 -- the state after one more request
 after_last : (midnight : Midnights) (s : State) (requests : List Request) (moment : ℤ) (request : Request)

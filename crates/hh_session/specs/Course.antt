@@ -11,7 +11,7 @@ use Rattle.hh_states.specs.States.{State}
 use Rattle.hh_day.specs.Headline.{Conserves}
 use Rattle.hh_office.specs.Machine.{step}
 use Rattle.hh_office.specs.Transitions.{Transition}
-use Rattle.hh_office.specs.Promises.{Stands, is_given_up, is_refused}
+use Rattle.hh_office.specs.Promises.{Stands, is_given_up}
 use Rattle.hh_office.specs.Views.{OfficeView, midnight_of}
 use Rattle.hh_script.specs.Steps.{LoadFile, LoadStep, MakeRun, RunStep, Serve, Step, WriteReport}
 use Rattle.hh_session.specs.declared.told.Told.{Told}
@@ -23,21 +23,6 @@ use Rattle.hh_session.specs.Serving.{ServeDoes}
 -- memory was refused
 abbrev pub no_memory : Told
 no_memory = Replied (reply.Refused memory_fault)
-
--- a request was refused
-abbrev pub IsRefusal : Told → Type 0
-IsRefusal Unreadable = ⊥
-IsRefusal (Replied given) = IsTrue (is_refused given)
-
--- What goes out for a line that came to this: its text, or that of refused memory in the place of a refusal.
-module _ (before after : Option (List ℕ)) (told : Told) where
-  -- it went out
-  abbrev pub TellsLine : Type 0
-  TellsLine = Appends before after (told_line told) ⊎ (IsRefusal told × Appends before after (told_line no_memory))
-
-  -- a beginning of it went out
-  abbrev pub BeginsLine : Type 0
-  BeginsLine = AppendsFront before after (told_line told) ⊎ (IsRefusal told × AppendsFront before after (told_line no_memory))
 
 -- what a load asks of the office once its file is read
 abbrev pub request_of : LoadStep → List ℕ → Request
@@ -94,30 +79,8 @@ module _ (reads : List ℕ → Option (List ℕ) → Type 0) (refuses : ℕ → 
 abbrev pub StandsNow : OfficeView → OfficeView → State → Type 0
 StandsNow old new t = Stands new t × (new.zone ≡ old.zone)
 
--- what a load comes to, and the office after it
-abbrev pub RunsLoad : (List ℕ → Option (List ℕ) → Type 0) → OfficeView → OfficeView → LoadStep → Told → Type 0
-RunsLoad reads old new load told = (s : State) → Stands old s → (t : State) × LoadDoes reads (midnight_of old) s load told t × StandsNow old new t
-
--- what a run comes to, and the office after it
-abbrev pub MakesRun : OfficeView → OfficeView → RunStep → Told → Type 0
-MakesRun old new run told = (s : State) → Stands old s → (t : State) × RunDoes (midnight_of old) s run told t × StandsNow old new t
-
--- what is refused leaves the office as it is
-abbrev pub LeavesRefused : OfficeView → OfficeView → Told → Type 0
-LeavesRefused old new told = IsRefusal told → new ≡ old
-
 -- An output had these bytes before and has those after.
 module _ (reads : List ℕ → Option (List ℕ) → Type 0) (refuses : ℕ → Type 0) (old new : OfficeView) (before after : Option (List ℕ)) where
-  -- a step was run from each state that the office stood for, and what it writes went out
-  abbrev pub RunsStep : Step → Type 0
-  RunsStep step = (s : State) → Stands old s
-      → (text : List ℕ) × (t : State) × StepDoes reads refuses (midnight_of old) s step text t × Appends before after text × StandsNow old new t
-
-  -- a step was run from each state that the office stood for, and a beginning of what it writes went out
-  abbrev pub StopsStep : Step → Type 0
-  StopsStep step = (s : State) → Stands old s
-      → (text : List ℕ) × (t : State) × StepDoes reads refuses (midnight_of old) s step text t × AppendsFront before after text × StandsNow old new t
-
   -- steps were run from each state that the office stood for, and what they write went out
   abbrev pub RunsScript : List Step → Type 0
   RunsScript steps = (s : State) → Stands old s

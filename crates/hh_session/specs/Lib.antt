@@ -4,3 +4,4 @@ pub mod Reporting
 pub mod Script
 pub mod ScriptStops
 pub mod Serving
+pub mod steps

@@ -1,7 +1,5 @@
 -- What comes of the lines of a script that ask for a report.
-use Rattle.std.specs.Prelude.{◌≡◌, ◌⊎◌, ℕ, List, [], ◌++◌, Option, Result, Ok, Err, IsTrue}
-use Rattle.std.specs.Io.KnownBytes.{Appends}
-use Rattle.hh_devices.specs.Devices.{AppendsFront}
+use Rattle.std.specs.Prelude.{◌≡◌, ◌⊎◌, ℕ, List, [], ◌++◌, Result, Ok, Err, IsTrue}
 use Rattle.hh_time.specs.Days.{Midnights}
 use Rattle.hh_names.specs.declared.fault.Fault.{Fault}
 use Rattle.hh_names.specs.declared.fault.Refusal.{Refusal}
@@ -9,9 +7,8 @@ use Rattle.hh_names.specs.Faults.{plain_fault}
 use Rattle.hh_states.specs.States.{State}
 use Rattle.hh_office.specs.declared.report.Report.{Report}
 use Rattle.hh_office.specs.declared.report.Report.TheVariants.{Balances, Day, Results}
-use Rattle.hh_office.specs.Promises.{Stands, gives_up}
+use Rattle.hh_office.specs.Promises.{gives_up}
 use Rattle.hh_office.specs.Reports.{report_for}
-use Rattle.hh_office.specs.Views.{OfficeView, midnight_of}
 use Rattle.hh_script.specs.declared.report.AskedReport.{AskedReport}
 use Rattle.hh_script.specs.declared.report.AskedReport.TheVariants as asked
 use Rattle.hh_script.specs.Reports.{ReportStep}
@@ -44,13 +41,3 @@ abbrev pub ReportDoes : Midnights → State → ReportStep → List ℕ → Type
 ReportDoes midnight s step text =
     let report : Result (List ℕ) Refusal = report_for midnight s step.key (report_asked step.report) in
     (text ≡ report_written report) ⊎ IsGivenUp report text
-
--- An output had these bytes before and has those after.
-module _ (office : OfficeView) (before after : Option (List ℕ)) (step : ReportStep) where
-  -- what the line writes in each state that the office stands for went out
-  abbrev pub RunsReport : Type 0
-  RunsReport = (s : State) → Stands office s → (text : List ℕ) × ReportDoes (midnight_of office) s step text × Appends before after text
-
-  -- a beginning of it went out
-  abbrev pub BeginsReport : Type 0
-  BeginsReport = (s : State) → Stands office s → (text : List ℕ) × ReportDoes (midnight_of office) s step text × AppendsFront before after text

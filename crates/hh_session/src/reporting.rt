@@ -6,7 +6,8 @@ ghost use Rattle.hh_time.specs.Days.{is_accepted};
 ghost use Rattle.hh_office.specs.Reports.{CountsReport, Reports};
 ghost use Rattle.hh_office.specs.Views.{IsSure};
 ghost use Rattle.hh_script.specs.Reports.{IsOfAcceptedDate, report_of};
-ghost use Rattle.hh_session.specs.Reporting.{BeginsReport, RunsReport, report_asked};
+ghost use Rattle.hh_session.specs.Reporting.{report_asked};
+ghost use Rattle.hh_session.specs.steps.Reporting.{BeginsReport, RunsReport};
 
 use crate::tell::tell_refused;
 use hh_devices::{DeviceFailed, Sink};

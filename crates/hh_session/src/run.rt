@@ -4,7 +4,8 @@ ghost use Rattle.std.specs.Prelude.{◌≡◌, ℕ, List, Some, None, map, take,
 ghost use Rattle.hh_devices.specs.Devices.{Failed};
 ghost use Rattle.hh_office.specs.Views.{IsSure};
 ghost use Rattle.hh_script.specs.Steps.{IsWellNamed, LoadFile, MakeRun, load_of, run_of, step_of};
-ghost use Rattle.hh_session.specs.Course.{FirstConserve, LeavesRefused, MakesRun, RunsLoad, RunsScript, RunsStep, ScriptConserves, StopsScript, StopsStep, request_for, request_of};
+ghost use Rattle.hh_session.specs.Course.{FirstConserve, RunsScript, ScriptConserves, StopsScript, request_for, request_of};
+ghost use Rattle.hh_session.specs.steps.Course.{LeavesRefused, MakesRun, RunsLoad, RunsStep, StopsStep};
 
 use crate::lines::LINE_ROOM;
 use crate::reporting::write_report;

@@ -5,7 +5,8 @@ ghost use Rattle.std.specs.Io.KnownBytes.{Appends};
 ghost use Rattle.hh_devices.specs.Devices.{AppendsFront, Failed};
 ghost use Rattle.hh_serve.specs.Serves.{StandsAfterOne};
 ghost use Rattle.hh_office.specs.Views.{IsSure};
-ghost use Rattle.hh_session.specs.Serving.{RunsServing, ServesUpTo, StopsServing, listening_line};
+ghost use Rattle.hh_session.specs.Serving.{listening_line};
+ghost use Rattle.hh_session.specs.steps.Serving.{RunsServing, ServesUpTo, StopsServing};
 
 use crate::lines::push_listening;
 use hh_devices::{DeviceFailed, Sink, write_whole};

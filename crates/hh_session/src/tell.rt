@@ -4,7 +4,8 @@ ghost use Rattle.std.specs.Prelude.{◌≡◌, ◌≤◌, [], vec_capacity, OnEr
 ghost use Rattle.std.specs.Io.KnownBytes.{Appends};
 ghost use Rattle.hh_devices.specs.Devices.{AppendsFront, Failed};
 ghost use Rattle.hh_requests.specs.declared.reply.Reply.TheVariants.{Refused};
-ghost use Rattle.hh_session.specs.Course.{BeginsLine, TellsLine, no_memory};
+ghost use Rattle.hh_session.specs.Course.{no_memory};
+ghost use Rattle.hh_session.specs.steps.Course.{BeginsLine, TellsLine};
 ghost use Rattle.hh_session.specs.Lines.{told_line};
 ghost use Rattle.hh_session.specs.declared.told.Told.TheVariants.{Replied};
 

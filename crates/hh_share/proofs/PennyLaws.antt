@@ -10,9 +10,11 @@ use Rattle.std.proofs.lemmas.List.Sums.{sum_by-le, count_by-le-length}
 use Rattle.std.proofs.lemmas.List.Sorted.{All-permutation, Contains-permutation, length_permutation}
 use Rattle.std.proofs.Math.Nat.{mod-lt}
 use Rattle.hh_share.specs.declared.shares.Quota.{Quota}
-use Rattle.hh_share.specs.Shares.{lower_quota, remainder, leftover, rank, effective, shares, shares_by, share_of, share_size, sizes_by, with_sign_of}
+use Rattle.hh_share.specs.Shares.{lower_quota, remainder, leftover, rank, effective, shares, shares_by, share_of, share_size, with_sign_of}
+use Rattle.hh_share.specs.steps.Shares.{sizes_by}
 use Rattle.hh_share.specs.steps.Quotas.{quota_for}
-use Rattle.hh_share.specs.Ranking.{places_before, places_in, AreRanked, HasPennies}
+use Rattle.hh_share.specs.Ranking.{places_before, places_in, AreRanked}
+use Rattle.hh_share.specs.steps.Ranking.{HasPennies}
 use Rattle.hh_share.proofs.CountLaws.{claimant_is, count, count_by-count}
 use Rattle.hh_share.proofs.RankingLaws.{rank_is_before, listed}
 use Rattle.hh_share.proofs.ShareFacts.{length-quotas, lower_same, quota_is}

@@ -1,5 +1,5 @@
 -- The order in which leftover pence are given out: by rests, the largest first.
-use Rattle.std.specs.Prelude.{◌≡◌, ℕ, ◌+◌, ◌<◌, ℤ, pos, List, slice_index_or, length, map, count_by, ◌==◌}
+use Rattle.std.specs.Prelude.{◌≡◌, ℕ, ◌<◌, ℤ, pos, List, slice_index_or, length, map, count_by}
 use Rattle.std.specs.declared.cmp.Ordering.{Ordering}
 use Rattle.std.specs.Ordering.{is_lt, int_cmp, nat_cmp, on, then_cmp, flip_args}
 use Rattle.std.specs.List.{enumerate_from}
@@ -21,10 +21,3 @@ places_in xs = map (λ a. a.0) (enumerate_from 0 xs)
 abbrev pub AreRanked : List ℤ → List ℕ → Type 0
 AreRanked rests places =
     (k : ℕ) → k < length places → places_before rests (slice_index_or places k 0) ≡ k
-
--- these sizes are the whole pence, and one penny more each time that their place is listed
-abbrev pub HasPennies : List ℕ → List ℕ → List ℕ → Type 0
-HasPennies wholes places sizes =
-    (length sizes ≡ length wholes)
-    × ((place : ℕ) → place < length wholes
-    → slice_index_or sizes place 0 ≡ slice_index_or wholes place 0 + count_by (λ p. p == place) places)

@@ -34,10 +34,6 @@ module _ (size : ℕ) (weights : List ℕ) where
   abbrev pub share_size : ℕ × ℕ → ℕ
   share_size a = lower_quota a.1 + (if nat_lt (rank (map remainder weights) (a.0, remainder a.1)) leftover then 1 else 0)
 
-  -- the sizes of the shares, in their order
-  abbrev pub sizes_by : List ℕ
-  sizes_by = map share_size (enumerate_from 0 weights)
-
 -- n with the sign of z
 abbrev pub with_sign_of : ℤ → ℕ → ℤ
 with_sign_of z n = if int_lt z (pos 0) then neg_ℤ (pos n) else pos n

@@ -2,10 +2,11 @@
 
 ghost use Rattle.std.specs.Prelude.{◌≡◌, ◌==◌, ℕ, ◌<◌, ◌≤◌, ◌^◌, ◌-◌, ◌*◌, ◌/◌, ◌%◌, ◌≢◌, pos, unsigned_abs, nat_le, nat_lt, if◌then◌else◌, ◌+◌, length, map, replicate, count_by, sum, sum_by, All, IfOk};
 ghost use Rattle.std.specs.List.{list_all};
-ghost use Rattle.hh_share.specs.Shares.{effective, shares, sizes_by, with_sign_of, AreQuotasRounded, SumsTo};
+ghost use Rattle.hh_share.specs.Shares.{effective, shares, with_sign_of, AreQuotasRounded, SumsTo};
+ghost use Rattle.hh_share.specs.steps.Shares.{sizes_by};
 ghost use Rattle.hh_share.specs.Departure.{DepartsLeast};
 ghost use Rattle.hh_share.specs.steps.Quotas.{quota_for};
-ghost use Rattle.hh_share.specs.Ranking.{HasPennies};
+ghost use Rattle.hh_share.specs.steps.Ranking.{HasPennies};
 
 use crate::ranking::ranked;
 use std::alloc::{AllocError, Global};

@@ -1,7 +1,7 @@
 -- That the tables of each state that the machine reaches hold only values in the grammars and within the ranges of their fields,
 -- and that no party has the operator's key.
-use Rattle.std.proofs.Common.{◌≡◌, ◌≢◌, ℕ, ℤ, ◌+◌, ◌≤◌, List, [], ◌∷◌, ◌++◌, length, map, filter, refl, sym, ap, subst, ◌∙◌, Bool, true, false, cond, Option, Some, None, Ordering, arith}
-use Rattle.std.specs.Prelude.{IsTrue, drop, is_some, not, take, ◌&&◌, codes, nat_le}
+use Rattle.std.proofs.Common.{◌≡◌, ◌≢◌, ℕ, ℤ, ◌+◌, ◌≤◌, List, [], ◌∷◌, length, map, filter, refl, sym, ap, subst, ◌∙◌, Bool, true, false, cond, Option, Some, None, Ordering}
+use Rattle.std.specs.Prelude.{IsTrue, is_some, not, take, ◌&&◌, codes, nat_le}
 use Rattle.std.specs.FinMap.{find, put}
 use Rattle.std.specs.FinMap.Entries.{by_order}
 use Rattle.std.specs.List.{AllByRecursion, list_all}
@@ -21,7 +21,7 @@ use Rattle.hh_names.specs.declared.values.Reallocation.{Reallocation}
 use Rattle.hh_names.specs.Accounts.{bytes_cmp}
 use Rattle.hh_names.specs.Words.{is_access_key, is_letter_or_digit, is_operator_key, is_reference, is_word}
 use Rattle.hh_rows.specs.Keys.{contract_key_cmp, reallocation_key_cmp, settlement_period_cmp, unit_period_cmp}
-use Rattle.hh_rows.specs.RowKinds.{IsFileOf, IsMeterRow, IsPartyRow, IsPriceRow, IsReallocationRow, IsRow, IsUnitRow, most_rows}
+use Rattle.hh_rows.specs.RowKinds.{IsMeterRow, IsPartyRow, IsPriceRow, IsReallocationRow, IsRow, IsUnitRow, most_rows}
 use Rattle.hh_rows.specs.Values.{AreCounterparties, AreSettings, IsContractKey, IsQuantity}
 use Rattle.hh_rows.specs.declared.keys.ContractKey.{ContractKey}
 use Rattle.hh_rows.specs.declared.keys.ReallocationKey.{ReallocationKey}
@@ -30,18 +30,16 @@ use Rattle.hh_rows.specs.declared.rows.PartyRegistration.{PartyRegistration}
 use Rattle.hh_rows.specs.declared.rows.Row.{Row}
 use Rattle.hh_rows.specs.declared.rows.Row.TheVariants as row
 use Rattle.hh_rows.specs.declared.rows.UnitRegistration.{UnitRegistration}
-use Rattle.hh_rows.specs.declared.settings.Settings.{Settings}
 use Rattle.hh_rows.specs.declared.settlement_period.SettlementPeriod.{SettlementPeriod}
 use Rattle.hh_rules.specs.Effects.{put_entry, put_in_time, put_new, with_row}
 use Rattle.hh_rules.specs.Entries.{contract_entry, meter_entry, party_entry, price_entry, reallocation_entry, reference_entry, unit_entry}
-use Rattle.hh_rules.specs.FileRows.{coming_at, late_count, refusal_after, timely_rows}
+use Rattle.hh_rules.specs.FileRows.{coming_at, late_count, timely_rows}
 use Rattle.hh_rules.specs.History.{History, Registered, nothing_registered, registered_in}
-use Rattle.hh_rules.specs.Lateness.{Accepted, Timetable, accepted_at, is_in_time}
+use Rattle.hh_rules.specs.Lateness.{Timetable, accepted_at, is_in_time}
 use Rattle.hh_rules.proofs.HistoryLaws.{looks_back}
-use Rattle.hh_states.specs.Content.{tables_of}
-use Rattle.hh_states.specs.Ranges.{AreInRange, AreOfRows, IsKeptFile, KeysNeverMeet, ReachedFiles, ReachedInRange}
+use Rattle.hh_states.specs.Ranges.{AreOfRows, IsKeptFile, KeysNeverMeet, ReachedFiles, ReachedInRange}
 use Rattle.hh_states.specs.States.{AcceptedFile, State, file_key_cmp}
-use Rattle.hh_states.specs.Steps.{IsReached, at_first, by_load, by_run, kept_file, rows_coming, timetable_at}
+use Rattle.hh_states.specs.Steps.{IsReached, at_first, by_load, by_run, kept_file, timetable_at}
 use Rattle.hh_states.specs.declared.file_key.FileKey.{FileKey}
 use Rattle.hh_state_laws.proofs.AcceptedLaws.{reached_holds}
 use Rattle.hh_state_laws.proofs.ApartLaws.{all-append}

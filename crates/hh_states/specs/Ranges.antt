@@ -1,6 +1,6 @@
 -- That the tables of each state that the machine reaches hold only values in the grammars and within the ranges of their fields,
 -- and that no party has the operator's key.
-use Rattle.std.specs.Prelude.{◌≢◌, ℕ, ◌+◌, ◌≤◌, ℤ, List, length, IsTrue}
+use Rattle.std.specs.Prelude.{◌≢◌, ◌+◌, ◌≤◌, length, IsTrue}
 use Rattle.std.specs.List.{AllByRecursion}
 use Rattle.hh_num.specs.Quantities.{volumes}
 use Rattle.hh_time.specs.Days.{Midnights}

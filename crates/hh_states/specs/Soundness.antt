@@ -1,12 +1,11 @@
 -- What holds of all that is registered and in force, however the files came.
-use Rattle.std.specs.Prelude.{◌≡◌, ◌≢◌, ℕ, pos, ◌≤◌, ◌≤ℤ◌, List, length, Some, IsSome, IsTrue}
+use Rattle.std.specs.Prelude.{◌≡◌, ◌≢◌, ℕ, ◌≤◌, ◌≤ℤ◌, List, length, Some, IsSome, IsTrue}
 use Rattle.std.specs.FinMap.{find}
 use Rattle.std.specs.List.{AllByRecursion}
 use Rattle.hh_num.specs.Quantities.{hundred_percent}
-use Rattle.hh_tables.specs.Tables.{IsTable, Table}
+use Rattle.hh_tables.specs.Tables.{IsTable}
 use Rattle.hh_time.specs.Days.{Midnights}
 use Rattle.hh_names.specs.declared.values.Counterparties.{Counterparties}
-use Rattle.hh_names.specs.declared.values.Reallocation.{Reallocation}
 use Rattle.hh_names.specs.Accounts.{bytes_cmp}
 use Rattle.hh_rows.specs.DateRanges.{holds, is_inside}
 use Rattle.hh_rows.specs.Keys.{contract_key_cmp, reallocation_key_cmp, settlement_period_cmp, unit_period_cmp}
@@ -31,10 +30,6 @@ pub record AreSound (tables : Registered) : Type 0 where
   pub fixed : (key : ContractKey) → IsSome (find contract_key_cmp key tables.contracts)
       → IsSome (find bytes_cmp key.reference tables.references)
   pub percents : (at : UnitPeriod) → percent_at tables.reallocations at ≤ℤ hundred_percent
-
--- no percentage in force is negative
-abbrev pub NoneNegative : Table ReallocationKey Reallocation → Type 0
-NoneNegative reallocations = AllByRecursion (λ e. pos 0 ≤ℤ e.1.percent) reallocations
 
 -- a party is registered, and its range holds a date
 pub record IsPartyEffective (tables : Registered) (party : List ℕ) (date : ℕ) : Type 0 where

@@ -17,7 +17,7 @@ use Rattle.hh_time.proofs.DateTextLaws.{text_of_value}
 use Rattle.hh_names.specs.declared.account.Account.{Account}
 use Rattle.hh_names.specs.declared.account.Side.{Side}
 use Rattle.hh_names.specs.declared.fault.Fault.{Fault}
-use Rattle.hh_names.specs.declared.fault.Refusal.TheVariants.{BadHeader, BadRecord, FileTooLarge, TooManyRows}
+use Rattle.hh_names.specs.declared.fault.Refusal.TheVariants.{BadRecord, FileTooLarge, TooManyRows}
 use Rattle.hh_names.specs.Faults.{Gives, faults, plain_fault, row_fault}
 use Rattle.hh_names.specs.Accounts.{account_from, account_value, side_value}
 use Rattle.hh_names.specs.Fields.{period_value, yes_no_value}

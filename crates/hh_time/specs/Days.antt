@@ -1,6 +1,6 @@
 -- Settlement Days and their half-hourly periods. A date is its number of days since 1970-01-01, an instant its
 -- seconds since that day began in UTC.
-use Rattle.std.specs.Prelude.{ℕ, ◌+◌, ◌-◌, ◌*◌, nat_le, ℤ, pos, ◌+ℤ◌, ◌-ℤ◌, int_le, Bool, ◌&&◌, ◌||◌, ◌==◌, if◌then◌else◌, Option, Some, None, is_some, unwrap_or}
+use Rattle.std.specs.Prelude.{ℕ, ◌+◌, ◌-◌, ◌*◌, nat_le, ℤ, pos, ◌+ℤ◌, ◌-ℤ◌, int_le, Bool, ◌&&◌, if◌then◌else◌, Option, Some, None, is_some, unwrap_or}
 use Rattle.std.specs.Ordering.{int_eq}
 
 -- the instant of the local midnight that begins each date, as a zone has it
@@ -18,10 +18,6 @@ last_date = 47_481
 -- no date before 2001 or after 2099 is accepted
 abbrev pub is_accepted : ℕ → Bool
 is_accepted d = nat_le first_date d && nat_le d last_date
-
--- the numbers of periods that a date can have
-abbrev pub is_count : ℕ → Bool
-is_count n = (n == 46) || (n == 48) || (n == 50)
 
 -- how many half hours a day of so many seconds has, if it is 46, 48 or 50
 abbrev pub half_hours : ℤ → Option ℕ

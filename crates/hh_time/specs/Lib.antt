@@ -3,3 +3,4 @@ pub mod DateText
 pub mod Days
 pub mod TimeFaults
 pub mod Zone
+pub mod steps

@@ -2,7 +2,8 @@
 
 ghost use Rattle.std.specs.Prelude.{◌≡◌, ◌≢◌, ◌↔◌, ◌+◌, ◌*◌, ◌-◌, ◌≤◌, ◌&&◌, nat_le, int_le, pos, ◌+ℤ◌, ◌-ℤ◌, Some, None, Err, IfOk, IsErrOf, IfSome, IfNone, IsTrue, unsigned_abs};
 ghost use Rattle.jiff.specs.Words.{epoch_day, plain_zone, IsBetween};
-ghost use Rattle.hh_time.specs.Days.{Midnights, begins, count_of, has_period, half_hours, is_count, is_over};
+ghost use Rattle.hh_time.specs.Days.{Midnights, begins, count_of, has_period, half_hours, is_over};
+ghost use Rattle.hh_time.specs.steps.Days.{is_count};
 ghost use Rattle.hh_time.specs.Days as words;
 ghost use Rattle.hh_time.specs.Zone.{IsAccepted, count_in, midnight_in};
 

@@ -2,7 +2,7 @@
 use Rattle.std.proofs.Common.{◌≡◌, ◌∙◌, ℕ, ◌≤◌, ◌<◌, min, Bool, true, ◌⊎◌, inl, inr, List, ◌++◌, length, take, Option, Some, None, IfSome, sym, ap, subst, arith}
 use Rattle.std.proofs.lemmas.Bool.{cases_lt}
 use Rattle.std.proofs.lemmas.List.{length-append, length-take, take-append-le, take_all, take_at}
-use Rattle.hh_wire.specs.Stops.{Fills}
+use Rattle.hh_wire.specs.steps.Stops.{Fills}
 
 -- a buffer that the bytes at hand and the rest fill, by whether those at hand are enough
 module _ (behind rest items after : List ℕ) (size : ℕ) (long : length items ≡ size) (same : take (min (length behind) size) behind ++ rest ≡ items ++ after) where

@@ -12,7 +12,8 @@ use Rattle.hh_heads.specs.Fronts.{IsFront}
 use Rattle.hh_heads.specs.Headings.{Heading, asks_head, heading_of}
 use Rattle.hh_replies.specs.declared.refusal.RequestRefusal.{RequestRefusal}
 use Rattle.hh_replies.specs.declared.refusal.RequestRefusal.TheVariants as refusal
-use Rattle.hh_wire.specs.Behind.{ReadsBehind, fault_behind}
+use Rattle.hh_wire.specs.Behind.{ReadsBehind}
+use Rattle.hh_wire.specs.steps.Behind.{fault_behind}
 use Rattle.hh_wire.specs.Message.{ByCause, Message, IsMessage, Reads, asked_by}
 use Rattle.hh_wire.specs.declared.incoming.Incoming.TheVariants.{Asked}
 use Rattle.hh_wire.specs.declared.stop.Stop.{Stop}

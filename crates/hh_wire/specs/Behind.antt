@@ -1,11 +1,9 @@
 -- What reading on behind a head comes to.
 use Rattle.std.specs.Prelude.{◌≡◌, Result, Ok, Err}
 use Rattle.hh_requests.specs.declared.request.Request.{Request}
-use Rattle.hh_heads.specs.Headings.{Heading, asks_head}
+use Rattle.hh_heads.specs.Headings.{Heading}
 use Rattle.hh_replies.specs.declared.refusal.RequestRefusal.{RequestRefusal}
 use Rattle.hh_wire.specs.declared.incoming.Incoming.TheVariants.{Asked}
-use Rattle.hh_wire.specs.declared.incoming.WireFault.{WireFault}
-use Rattle.hh_wire.specs.declared.incoming.WireFault.TheVariants as fault
 use Rattle.hh_wire.specs.declared.stop.Stop.{Stop}
 use Rattle.hh_wire.specs.declared.stop.Stop.TheVariants.{Read, Refused}
 use Rattle.hh_wire.specs.Message.{ByCause, Message, refusal_message}
@@ -20,8 +18,3 @@ abbrev pub ReadsBehind : Heading → Message → Result Request Stop → Type 0
 ReadsBehind h message (Ok request) = Asks h message (Ok request)
 ReadsBehind h message (Err Read) = Unit {0}
 ReadsBehind h message (Err (Refused cause)) = Asks h message (Err cause)
-
--- the fault of a request whose head was read
-abbrev pub fault_behind : Heading → Stop → WireFault
-fault_behind h Read = fault.Read
-fault_behind h (Refused cause) = fault.Refused (record { cause = cause; head_only = asks_head h })

@@ -1,8 +1,6 @@
 -- Where reading ends before a request is whole, by the count of the source's failures, and of a body by its bytes.
-use Rattle.std.specs.Prelude.{◌≡◌, ℕ, ◌<◌, ◌≤◌, Bool, true, false, List, ◌++◌, length, take, Result, Ok, Err}
-use Rattle.std.specs.declared.vec.Vec.{Vec}
+use Rattle.std.specs.Prelude.{◌≡◌, ℕ, Result, Ok, Err}
 use Rattle.hh_devices.specs.Devices.{Failed}
-use Rattle.hh_replies.specs.declared.refusal.RequestRefusal.TheVariants as refusal
 use Rattle.hh_wire.specs.declared.stop.Stop.{Stop}
 use Rattle.hh_wire.specs.declared.stop.Stop.TheVariants.{Read, Refused}
 
@@ -11,16 +9,3 @@ abbrev pub CountsStop : {X : Type 0} → Result X Stop → ℕ → ℕ → Type 
 CountsStop (Ok x) old new = new ≡ old
 CountsStop (Err Read) old new = Failed old new
 CountsStop (Err (Refused r)) old new = new ≡ old
-
--- bytes begin with those of a buffer, or they are fewer
-abbrev pub Fills : List ℕ → List ℕ → Bool → Type 0
-Fills bytes buffer true = (after : List ℕ) × (bytes ≡ buffer ++ after)
-Fills bytes buffer false = length bytes < length buffer
-
--- the first so many of these bytes, or a refusal where they are fewer, or where memory is refused
-abbrev pub ReadsBody : {A : Type 0} → List ℕ → ℕ → Result (Vec ℕ A) Stop → Type 0
-ReadsBody bytes len (Ok body) = (len ≤ length bytes) × (body.items ≡ take len bytes)
-ReadsBody bytes len (Err Read) = Unit {0}
-ReadsBody bytes len (Err (Refused refusal.Memory)) = Unit {0}
-ReadsBody bytes len (Err (Refused refusal.BadRequest)) = length bytes < len
-ReadsBody bytes len (Err (Refused _)) = ⊥

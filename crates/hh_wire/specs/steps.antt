@@ -2,3 +2,4 @@
 pub mod Paths
 pub mod RouteRows
 pub mod Stops
+pub mod Behind

@@ -2,7 +2,8 @@
 
 ghost use Rattle.std.specs.Prelude.{◌≡◌, ◌≤◌, ◌++◌, length, IfOk, IfSome};
 ghost use Rattle.hh_devices.specs.Devices.{CountsErr};
-ghost use Rattle.hh_wire.specs.Stops.{CountsStop, Fills, ReadsBody};
+ghost use Rattle.hh_wire.specs.Stops.{CountsStop};
+ghost use Rattle.hh_wire.specs.steps.Stops.{Fills, ReadsBody};
 
 use crate::stop::Stop;
 use hh_devices::{DeviceFailed, Source};

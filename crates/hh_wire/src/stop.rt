@@ -60,7 +60,7 @@ impl From<BrokenRule> for Stop {
 }
 
 impl Stop {
-    ghost use Rattle.hh_wire.specs.Behind.{fault_behind};
+    ghost use Rattle.hh_wire.specs.steps.Behind.{fault_behind};
     ghost use Rattle.hh_heads.specs.Heads.{heading_in};
 
     /// The fault of a request whose head was read.

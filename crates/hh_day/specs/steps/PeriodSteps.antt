@@ -2,7 +2,8 @@
 use Rattle.std.specs.Prelude.{◌≡◌, Option}
 use Rattle.hh_rows.specs.declared.settlement_period.SettlementPeriod.{SettlementPeriod}
 use Rattle.hh_rules.specs.History.{Registered}
-use Rattle.hh_calc.specs.Limits.{is_within_limits, kept_where}
+use Rattle.hh_calc.specs.Limits.{is_within_limits}
+use Rattle.hh_calc.specs.steps.Limits.{kept_where}
 use Rattle.hh_calc.specs.Terms.{PeriodTerms, Settled}
 use Rattle.hh_states.specs.DaySettlement.{settled_at}
 use Rattle.hh_states.specs.PeriodSettlement.{terms_at}

@@ -1,6 +1,6 @@
 use Rattle.std.proofs.Common.{◌∙◌, ◌≡◌, length, rules, sym, subst}
 use Rattle.std.specs.Prelude.{All}
-use Rattle.hh_calc.specs.Ready.{IsCreditNamed}
+use Rattle.hh_calc.specs.steps.Ready.{IsCreditNamed}
 use Rattle.hh_calc.specs.steps.Sums.{greatest_volume}
 use Rattle.hh_calc.proofs.CreditLaws.{unit_named}
 use Rattle.hh_calc.proofs.LedgerLaws.{appended, unit_added, unit_grown, unit_room}

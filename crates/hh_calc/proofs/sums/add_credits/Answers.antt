@@ -1,5 +1,5 @@
 use Rattle.std.proofs.Common.{◌∙◌, ◌*◌, ◌+◌, [], ap, arith, length, take}
-use Rattle.hh_calc.specs.Ready.{IsCreditNamed}
+use Rattle.hh_calc.specs.steps.Ready.{IsCreditNamed}
 use Rattle.hh_calc.specs.steps.Sums.{greatest_credit, greatest_sum, with_amounts, with_credits}
 use Rattle.hh_calc.proofs.SumLaws.{all_read, all_within, changed_on, credit_step, grown_on, no_credits, not_grown, unchanged}
 use Rattle.hh_calc.proofs.sums.add_credits.Goals as goal

@@ -2,7 +2,7 @@ use Rattle.std.proofs.Common.{◌≡◌, ◌+◌, ◌∙◌, ap, arith, false, s
 use Rattle.std.proofs.lemmas.List.{take_all}
 use Rattle.std.specs.Ordering.{is_lt}
 use Rattle.std.specs.Prelude.{Some}
-use Rattle.hh_kept_rows.specs.Parts.{AreUntil, is_after}
+use Rattle.hh_kept_rows.specs.steps.Parts.{AreUntil, is_after}
 use Rattle.hh_kept_rows.proofs.UntilLaws.{before_not_after, not_after_both, not_after_itself, not_before, until_more}
 use Rattle.hh_kept_rows.proofs.part.last_period.Goals as goal
 use Rattle.hh_kept_rows.proofs.part.last_period.Goals.{then-is_lt, else-is_lt}

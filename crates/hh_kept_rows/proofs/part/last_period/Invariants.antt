@@ -1,5 +1,5 @@
 use Rattle.std.proofs.Common.{◌≡◌, Some, false, take}
-use Rattle.hh_kept_rows.specs.Parts.{AreUntil, is_after}
+use Rattle.hh_kept_rows.specs.steps.Parts.{AreUntil, is_after}
 use Rattle.hh_kept_rows.proofs.part.last_period.Given as goal
 
 -- neither the first Settlement Period nor those of the readings so far are after the last

@@ -1,5 +1,5 @@
 use Rattle.std.proofs.Common.{take}
-use Rattle.hh_states.specs.Soundness.{NoneNegative}
+use Rattle.hh_kept_rows.specs.steps.Parts.{NoneNegative}
 use Rattle.hh_kept_rows.proofs.part.none_negative.Given as goal
 
 -- so far none is

@@ -1,6 +1,6 @@
 use Rattle.std.proofs.Common.{subst, sym, take, ◌+◌}
 use Rattle.std.specs.List.{All}
-use Rattle.hh_kept_rows.specs.Parts.{IsNamedIn}
+use Rattle.hh_kept_rows.specs.steps.Parts.{IsNamedIn}
 use Rattle.hh_kept_rows.proofs.NamedLaws.{named_more, not_named, still_named}
 use Rattle.hh_kept_rows.proofs.part.periods_named.Goals as goal
 use Rattle.hh_kept_rows.proofs.part.periods_named.Goals.{in-Reallocation+in_ok-insert, in_default}

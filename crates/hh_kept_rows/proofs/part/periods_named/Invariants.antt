@@ -1,6 +1,6 @@
 use Rattle.std.proofs.Common.{take}
 use Rattle.std.specs.List.{All}
-use Rattle.hh_kept_rows.specs.Parts.{IsNamedIn}
+use Rattle.hh_kept_rows.specs.steps.Parts.{IsNamedIn}
 use Rattle.hh_kept_rows.proofs.part.periods_named.Given as goal
 
 -- the rows so far are named

@@ -1,7 +1,8 @@
 use Rattle.std.proofs.Common.{◌<◌, ◌^◌, arith}
 use Rattle.std.proofs.lemmas.Bool.Decides.{nat_tests}
 use Rattle.std.proofs.lemmas.List.{at_drop_all}
-use Rattle.hh_num.specs.Fixed.{digits_behind, kept_if, fits_u64}
+use Rattle.hh_num.specs.Fixed.{kept_if, fits_u64}
+use Rattle.hh_num.specs.steps.Fixed.{digits_behind}
 use Rattle.hh_num.proofs.fixed.digits_behind_front.Goals as goal
 
 pub returns : goal.returns

@@ -1,5 +1,6 @@
 use Rattle.std.proofs.Common.{◌≡◌, ◌<◌, ◌^◌, drop}
-use Rattle.hh_num.specs.Fixed.{digits_behind, kept_if, fits_u64}
+use Rattle.hh_num.specs.Fixed.{kept_if, fits_u64}
+use Rattle.hh_num.specs.steps.Fixed.{digits_behind}
 use Rattle.hh_num.proofs.fixed.digits_behind_front.Given as goal
 
 -- the number so far, with the digits that are left, is the number

@@ -1,6 +1,7 @@
 use Rattle.std.proofs.Common.{take}
 use Rattle.std.specs.List.{flat_map}
-use Rattle.hh_period.specs.Rows.{seller_and_buyer, NamesMore}
+use Rattle.hh_period.specs.Rows.{seller_and_buyer}
+use Rattle.hh_period.specs.steps.Rows.{NamesMore}
 use Rattle.hh_period.proofs.gather.add_counterparties.Given as goal
 
 -- the accounts before, and both of each row so far

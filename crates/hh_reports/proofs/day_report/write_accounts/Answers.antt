@@ -1,7 +1,7 @@
 use Rattle.std.proofs.Common.{◌≤◌, ◌^◌, ◌∙◌, arith, to_z}
 use Rattle.std.specs.Int.{w128}
 use Rattle.std.specs.Prelude.{unsigned_abs}
-use Rattle.hh_reports.specs.DayReport.{charge_in, row_lines}
+use Rattle.hh_reports.specs.steps.DayReport.{charge_in, row_lines}
 use Rattle.hh_reports.proofs.OutputLaws.{lines_more, lines_stopped, told_on}
 use Rattle.hh_reports.proofs.ReportLaws.{added, charges_next, sum_grows}
 use Rattle.hh_reports.proofs.day_report.write_accounts.Goals as goal

@@ -1,4 +1,3 @@
-use Rattle.std.proofs.Common.{List, ℕ}
 use Rattle.std.specs.Prelude.{codes}
 use Rattle.std.specs.List.{flat_map}
 use Rattle.hh_reports.specs.DayReport.{day_report_text, heads_line, net_line, periods_lines, title_line}

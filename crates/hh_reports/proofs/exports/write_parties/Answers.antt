@@ -1,5 +1,5 @@
 use Rattle.hh_reports.specs.Exports.{party_lines}
-use Rattle.hh_reports.specs.Nets.{sum_in}
+use Rattle.hh_reports.specs.steps.Nets.{sum_in}
 use Rattle.hh_reports.proofs.OutputLaws.{lines_more, lines_stopped, told_on}
 use Rattle.hh_reports.proofs.exports.write_parties.Goals as goal
 

@@ -1,8 +1,8 @@
 use Rattle.std.proofs.Common.{◌++◌, take}
 use Rattle.std.specs.List.{flat_map}
 use Rattle.hh_reports.specs.Exports.{party_lines}
-use Rattle.hh_reports.specs.Nets.{sum_in}
-use Rattle.hh_reports.specs.Output.{IsPassed}
+use Rattle.hh_reports.specs.steps.Nets.{sum_in}
+use Rattle.hh_reports.specs.steps.Output.{IsPassed}
 use Rattle.hh_reports.proofs.exports.write_parties.Given as goal
 
 -- the lines of the parties so far went out or are held back

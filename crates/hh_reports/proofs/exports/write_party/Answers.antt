@@ -2,7 +2,7 @@ use Rattle.std.proofs.Common.{[], ◌++◌}
 use Rattle.hh_names.specs.declared.account.Account.{Account}
 use Rattle.hh_names.specs.declared.account.Side.TheVariants.{Consumption, Production}
 use Rattle.hh_reports.specs.Exports.{balance_line}
-use Rattle.hh_reports.specs.Nets.{sum_in}
+use Rattle.hh_reports.specs.steps.Nets.{sum_in}
 use Rattle.hh_reports.proofs.OutputLaws.{at_the_end, stopped_before, told_on, written_on}
 use Rattle.hh_reports.proofs.exports.write_party.Goals as goal
 

@@ -1,7 +1,7 @@
 use Rattle.std.proofs.Common.{◌++◌, take}
 use Rattle.std.specs.List.{flat_map}
 use Rattle.hh_reports.specs.Exports.{result_line}
-use Rattle.hh_reports.specs.Output.{IsPassed}
+use Rattle.hh_reports.specs.steps.Output.{IsPassed}
 use Rattle.hh_reports.proofs.exports.write_rows.Given as goal
 
 -- the lines of the rows so far went out or are held back

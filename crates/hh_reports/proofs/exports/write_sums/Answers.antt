@@ -1,7 +1,7 @@
 use Rattle.std.specs.Prelude.{codes}
 use Rattle.std.specs.List.{flat_map}
 use Rattle.hh_reports.specs.Exports.{balances_text, party_lines}
-use Rattle.hh_reports.specs.Nets.{sum_in}
+use Rattle.hh_reports.specs.steps.Nets.{sum_in}
 use Rattle.hh_reports.proofs.OutputLaws.{stopped_before, told_on, written_on}
 use Rattle.hh_reports.proofs.exports.write_sums.Goals as goal
 

@@ -1,5 +1,5 @@
 use Rattle.std.proofs.Common.{ap, arith}
-use Rattle.hh_reports.specs.Nets.{sum_in}
+use Rattle.hh_reports.specs.steps.Nets.{sum_in}
 use Rattle.hh_reports.proofs.NetLaws.{bounded_first, bounded_next, sum_found, sums_next}
 use Rattle.hh_reports.proofs.sums.sums_of.Goals as goal
 

@@ -1,4 +1,4 @@
-use Rattle.std.proofs.Common.{◌≡◌, ◌∷◌, [], ◌++◌, decimal, ap, ◌∙◌, List, ℕ}
+use Rattle.std.proofs.Common.{◌∷◌, [], ◌++◌, decimal, ap, ◌∙◌, List, ℕ}
 use Rattle.std.proofs.lemmas.List.{append_assoc}
 use Rattle.std.specs.Prelude.{codes}
 use Rattle.hh_session.proofs.lines.push_listening.Goals as goal

@@ -3,7 +3,8 @@ use Rattle.std.specs.Prelude.{OnErr, OnOk}
 use Rattle.hh_script.specs.Reports.{report_of}
 use Rattle.hh_script.specs.Steps.{load_of, run_of, step_of}
 use Rattle.hh_office.specs.Views.{midnight_of}
-use Rattle.hh_session.specs.Course.{LoadDoes, RunDoes, RunsStep, StopsStep}
+use Rattle.hh_session.specs.Course.{LoadDoes, RunDoes}
+use Rattle.hh_session.specs.steps.Course.{RunsStep, StopsStep}
 use Rattle.hh_session.proofs.CourseLaws.{OnErr-map, OnOk-map, line_cut, line_done, load_gives_up, memory_cut, memory_done, run_gives_up}
 use Rattle.hh_session.proofs.ReportingLaws.{report_step, report_stop}
 use Rattle.hh_session.proofs.ServingLaws.{served_step, served_stop}

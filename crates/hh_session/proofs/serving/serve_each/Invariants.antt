@@ -1,5 +1,5 @@
 use Rattle.hh_office.specs.Views.{IsSure}
-use Rattle.hh_session.specs.Serving.{ServesUpTo}
+use Rattle.hh_session.specs.steps.Serving.{ServesUpTo}
 use Rattle.hh_session.proofs.serving.serve_each.Given as goal
 
 -- so many connections were served

@@ -1,7 +1,7 @@
 use Rattle.std.proofs.Common.{◌≡◌, ◌++◌, inl, ◌∙◌, ap, sym, subst}
 use Rattle.std.specs.Prelude.{OnErr}
 use Rattle.hh_devices.specs.Devices.{AppendsFront}
-use Rattle.hh_session.specs.Course.{BeginsLine}
+use Rattle.hh_session.specs.steps.Course.{BeginsLine}
 use Rattle.hh_session.specs.Lines.{run_line}
 use Rattle.hh_session.specs.declared.told.Told.TheVariants.{Replied}
 use Rattle.hh_session.proofs.CourseLaws.{OnErr-map}

@@ -2,7 +2,8 @@ use Rattle.std.proofs.Common.{◌≡◌, ◌∙◌, ◌≤◌, ◌<◌, All, ap,
 use Rattle.std.specs.Int.{w64}
 use Rattle.std.proofs.lemmas.Int.{to_z-of_z}
 use Rattle.std.proofs.lemmas.Result.{IfOk-weaker}
-use Rattle.hh_share.specs.Shares.{effective, sizes_by, with_sign_of, AreQuotasRounded, SumsTo}
+use Rattle.hh_share.specs.Shares.{effective, with_sign_of, AreQuotasRounded, SumsTo}
+use Rattle.hh_share.specs.steps.Shares.{sizes_by}
 use Rattle.std.specs.Prelude.{sum}
 use Rattle.hh_share.specs.Departure.{DepartsLeast}
 use Rattle.hh_share.proofs.DepartureLaws.{shares_depart_least}

@@ -1,7 +1,7 @@
 use Rattle.std.proofs.Common.{◌≡◌, ◌∙◌, ◌<◌, ◌≤◌, ◌-◌, ◌^◌, ℕ, All, length, map, take, ap, subst, sym, arith, pos, sum_by}
 use Rattle.std.proofs.lemmas.List.{length-map, length-take-le}
 use Rattle.std.proofs.lemmas.List.Elements.{All-map}
-use Rattle.hh_share.specs.Ranking.{HasPennies}
+use Rattle.hh_share.specs.steps.Ranking.{HasPennies}
 use Rattle.hh_share.proofs.PennyLaws.{length-places, places_within, left_within, sizes_are}
 use Rattle.hh_share.proofs.ShareFacts.{length-quotas, lower_within, one_lower_within}
 use Rattle.hh_share.proofs.shares.sizes_of.Goals as goal

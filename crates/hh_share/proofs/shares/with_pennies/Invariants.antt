@@ -1,5 +1,5 @@
 use Rattle.std.proofs.Common.{take}
-use Rattle.hh_share.specs.Ranking.{HasPennies}
+use Rattle.hh_share.specs.steps.Ranking.{HasPennies}
 use Rattle.hh_share.proofs.shares.with_pennies.Given as goal
 
 -- a penny for each place so far

@@ -3,7 +3,7 @@ use Rattle.std.specs.FinMap.{find}
 use Rattle.hh_rows.specs.Keys.{contract_key_cmp}
 use Rattle.hh_rules.specs.History.{Registered}
 use Rattle.hh_rules.specs.RegisterView.{tables_in}
-use Rattle.hh_kept_rows.specs.Parts.{Grows}
+use Rattle.hh_kept_rows.specs.steps.Parts.{Grows}
 use Rattle.hh_kept_rows.proofs.PartLaws.{agrees_contract, grows_contract, grows_none, no_contract}
 use Rattle.hh_kept_rows.proofs.kept_register.KeptRegister.hold_contract.Goals as goal
 

@@ -2,7 +2,7 @@ use Rattle.std.proofs.Common.{subst, sym}
 use Rattle.std.specs.Prelude.{OnOk}
 use Rattle.std.proofs.lemmas.Result.{on_ok_weaker}
 use Rattle.hh_rules.specs.RegisterView.{tables_in}
-use Rattle.hh_kept_rows.specs.Parts.{AgreesOnNames}
+use Rattle.hh_kept_rows.specs.steps.Parts.{AgreesOnNames}
 use Rattle.hh_kept_rows.proofs.PartLaws.{grows_twice, part_grown, party_grown, reference_grown, unit_grown, where_both}
 use Rattle.hh_kept_rows.proofs.kept_register.KeptRegister.hold_names.Goals as goal
 

@@ -1,6 +1,6 @@
 use Rattle.std.proofs.Common.{subst, sym}
 use Rattle.hh_rules.specs.RegisterView.{AgreesOnParty, tables_in}
-use Rattle.hh_kept_rows.specs.Parts.{Grows}
+use Rattle.hh_kept_rows.specs.steps.Parts.{Grows}
 use Rattle.hh_kept_rows.proofs.PartLaws.{agrees_party, grows_party, grows_none, no_party}
 use Rattle.hh_kept_rows.proofs.kept_register.KeptRegister.hold_party.Goals as goal
 

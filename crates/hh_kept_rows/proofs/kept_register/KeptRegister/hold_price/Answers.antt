@@ -3,7 +3,7 @@ use Rattle.std.specs.FinMap.{find}
 use Rattle.hh_rows.specs.Keys.{settlement_period_cmp}
 use Rattle.hh_rules.specs.History.{Registered}
 use Rattle.hh_rules.specs.RegisterView.{tables_in}
-use Rattle.hh_kept_rows.specs.Parts.{Grows}
+use Rattle.hh_kept_rows.specs.steps.Parts.{Grows}
 use Rattle.hh_kept_rows.proofs.PartLaws.{agrees_price, grows_price, grows_none, no_price}
 use Rattle.hh_kept_rows.proofs.kept_register.KeptRegister.hold_price.Goals as goal
 

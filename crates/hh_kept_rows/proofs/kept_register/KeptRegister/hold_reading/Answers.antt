@@ -2,7 +2,7 @@ use Rattle.std.proofs.Common.{◌≡◌, subst, sym}
 use Rattle.std.specs.FinMap.{find}
 use Rattle.hh_rows.specs.Keys.{unit_period_cmp}
 use Rattle.hh_rules.specs.RegisterView.{tables_in}
-use Rattle.hh_kept_rows.specs.Parts.{Grows}
+use Rattle.hh_kept_rows.specs.steps.Parts.{Grows}
 use Rattle.hh_kept_rows.proofs.PartLaws.{agrees_reading, grows_reading, grows_none, no_reading}
 use Rattle.hh_kept_rows.proofs.kept_register.KeptRegister.hold_reading.Goals as goal
 

@@ -1,7 +1,7 @@
 use Rattle.std.proofs.Common.{◌≡◌, ◌∙◌, arith, rules, subst, sym}
 use Rattle.std.specs.Prelude.{IsOk}
 use Rattle.hh_rules.specs.RegisterView.{held_reallocation}
-use Rattle.hh_states.specs.Soundness.{NoneNegative}
+use Rattle.hh_kept_rows.specs.steps.Parts.{NoneNegative}
 use Rattle.hh_store.specs.declared.store_fault.StoreFault.TheVariants.{Memory}
 use Rattle.hh_kept_rows.proofs.NamedLaws.{holds_more, skips_more}
 use Rattle.hh_kept_rows.proofs.SoundLaws.{takes_more}

@@ -3,7 +3,7 @@ use Rattle.std.specs.Prelude.{filter}
 use Rattle.hh_tables.specs.Tables.{put_all}
 use Rattle.hh_rows.specs.Keys.{reallocation_key_cmp}
 use Rattle.hh_rules.specs.RegisterView.{tables_in}
-use Rattle.hh_kept_rows.specs.Parts.{is_named_in, with_reallocations}
+use Rattle.hh_kept_rows.specs.steps.Parts.{is_named_in, with_reallocations}
 use Rattle.hh_kept_rows.proofs.kept_register.KeptRegister.hold_reallocations.Given as goal
 
 -- the reallocations so far that are of what is named are held

@@ -1,6 +1,6 @@
 use Rattle.std.proofs.Common.{subst, sym}
 use Rattle.hh_rules.specs.RegisterView.{AgreesOnReference, tables_in}
-use Rattle.hh_kept_rows.specs.Parts.{Grows}
+use Rattle.hh_kept_rows.specs.steps.Parts.{Grows}
 use Rattle.hh_kept_rows.proofs.PartLaws.{agrees_reference, grows_reference}
 use Rattle.hh_kept_rows.proofs.kept_register.KeptRegister.hold_reference.Goals as goal
 

@@ -1,6 +1,7 @@
 use Rattle.std.proofs.Common.{◌∙◌, ap, arith, length, subst, sym}
 use Rattle.hh_rules.specs.History.{Registered}
-use Rattle.hh_kept_rows.specs.Parts.{IsPartOf, whole_of}
+use Rattle.hh_kept_rows.specs.Parts.{whole_of}
+use Rattle.hh_kept_rows.specs.steps.Parts.{IsPartOf}
 use Rattle.hh_kept_rows.proofs.NamedLaws.{names_more}
 use Rattle.hh_kept_rows.proofs.PartLaws.{empty_is_part, part_grown}
 use Rattle.hh_kept_rows.proofs.kept_register.KeptRegister.names_of.Goals as goal

@@ -1,7 +1,8 @@
 use Rattle.std.proofs.Common.{take}
 use Rattle.std.specs.List.{All}
 use Rattle.hh_rules.specs.RegisterView.{tables_in}
-use Rattle.hh_kept_rows.specs.Parts.{AgreesOnNames, IsPartOf, whole_of}
+use Rattle.hh_kept_rows.specs.Parts.{whole_of}
+use Rattle.hh_kept_rows.specs.steps.Parts.{AgreesOnNames, IsPartOf}
 use Rattle.hh_kept_rows.proofs.kept_register.KeptRegister.names_of.Given as goal
 
 -- the part has nothing but what the whole has, and what the rows so far name

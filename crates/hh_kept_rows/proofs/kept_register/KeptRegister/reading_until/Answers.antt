@@ -1,6 +1,6 @@
 use Rattle.std.proofs.Common.{◌∙◌, ap, subst, sym}
 use Rattle.std.specs.Ordering.{is_lt}
-use Rattle.hh_kept_rows.specs.Parts.{AreUntil}
+use Rattle.hh_kept_rows.specs.steps.Parts.{AreUntil}
 use Rattle.hh_kept_rows.proofs.UntilLaws.{none_after}
 use Rattle.hh_kept_rows.proofs.kept_register.KeptRegister.reading_until.Goals as goal
 

@@ -4,7 +4,8 @@ use Rattle.hh_names.specs.Faults.{plain_fault}
 use Rattle.hh_requests.specs.declared.reply.Reply.TheVariants as reply
 use Rattle.hh_states.specs.Reads.{runs_in}
 use Rattle.hh_office.specs.Enquiries.{account_reply}
-use Rattle.hh_office.specs.Promises.{MakesTransition, TellsInEachState}
+use Rattle.hh_office.specs.Promises.{MakesTransition}
+use Rattle.hh_office.specs.steps.Promises.{TellsInEachState}
 use Rattle.hh_office.specs.steps.Reads.{latest_key}
 use Rattle.hh_office.specs.Transitions.{unchanged}
 use Rattle.hh_office.specs.Views.{OfficeView, midnight_of}
@@ -12,7 +13,7 @@ use Rattle.hh_office.proofs.EnquiryLaws.{account_none}
 use Rattle.hh_office.proofs.StepLaws.{comes_same}
 use Rattle.hh_office.proofs.RefusalLaws.{reached_by}
 use Rattle.hh_office.specs.Refusals.{CountsReply, StandsForSome}
-use Rattle.hh_office.specs.Promises.{reply_of}
+use Rattle.hh_office.specs.steps.Promises.{reply_of}
 use Rattle.hh_office.proofs.office.Office.account.Goals as goal
 
 pub account_in-requires : goal.account_in-requires

@@ -1,6 +1,6 @@
 use Rattle.std.proofs.Common.{subst, sym, ◌∙◌}
 use Rattle.hh_office.specs.Enquiries.{account_reply, net_of_rows, reply_by_rows, rows_of_account}
-use Rattle.hh_office.specs.Promises.{RepliesAs, reply_of}
+use Rattle.hh_office.specs.steps.Promises.{RepliesAs, reply_of}
 use Rattle.hh_office.specs.Transitions.{unchanged}
 use Rattle.hh_office.specs.Views.{midnight_of}
 use Rattle.hh_office.proofs.EnquiryLaws.{account_found}

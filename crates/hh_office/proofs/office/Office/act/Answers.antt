@@ -1,7 +1,8 @@
 use Rattle.std.proofs.Common.{subst, sym, ◌∙◌, w64, to_z, of_z}
 use Rattle.std.proofs.lemmas.Int.{to_z-of_z}
 use Rattle.hh_office.specs.Machine.{act, load}
-use Rattle.hh_office.specs.Promises.{MakesTransition, MakesInEachState, TellsInEachState, reply_of}
+use Rattle.hh_office.specs.Promises.{MakesTransition}
+use Rattle.hh_office.specs.steps.Promises.{MakesInEachState, TellsInEachState, reply_of}
 use Rattle.hh_office.specs.Views.{midnight_of}
 use Rattle.hh_office.specs.Enquiries.{account_reply, balance_reply, contracts_reply, runs_reply}
 use Rattle.hh_office.specs.Runs.{run}

@@ -2,7 +2,8 @@ use Rattle.std.proofs.Common.{subst, Ok, Err, w64, to_z, of_z}
 use Rattle.hh_requests.specs.declared.reply.Reply.TheVariants as reply
 use Rattle.std.proofs.lemmas.Int.{to_z-of_z}
 use Rattle.hh_office.specs.Machine.{step}
-use Rattle.hh_office.specs.Promises.{MakesInEachState, RefusalLeaves, reply_of}
+use Rattle.hh_office.specs.Promises.{RefusalLeaves}
+use Rattle.hh_office.specs.steps.Promises.{MakesInEachState, reply_of}
 use Rattle.hh_office.proofs.HandleLaws.{conserves_after, stands_after}
 use Rattle.hh_office.proofs.OnceLaws.{repeats}
 use Rattle.hh_office.proofs.ViewLaws.{forbids_others, shows_by_view}

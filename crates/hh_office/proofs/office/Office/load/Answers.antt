@@ -4,7 +4,8 @@ use Rattle.std.proofs.lemmas.Int.{to_z-of_z}
 use Rattle.hh_rows.specs.RowKinds.{most_bytes}
 use Rattle.hh_office.specs.Machine.{load_beside, load_new, repeat_reply}
 use Rattle.hh_office.specs.Transitions.{unchanged}
-use Rattle.hh_office.specs.Promises.{MakesTransition, MakesInEachState, reply_of}
+use Rattle.hh_office.specs.Promises.{MakesTransition}
+use Rattle.hh_office.specs.steps.Promises.{MakesInEachState, reply_of}
 use Rattle.hh_office.specs.Views.{midnight_of}
 use Rattle.hh_office.proofs.StepLaws.{comes_by_kept, comes_same, comes_unchanged}
 use Rattle.hh_office.proofs.RefusalLaws.{reached_by, repeat_counts}

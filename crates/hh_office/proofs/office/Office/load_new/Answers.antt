@@ -3,7 +3,8 @@ use Rattle.std.proofs.lemmas.Int.{to_z-of_z}
 use Rattle.hh_requests.specs.declared.reply.Reply.TheVariants as reply
 use Rattle.hh_office.specs.steps.Loads.{Accepts, Judges, writes_of}
 use Rattle.hh_office.specs.Machine.{load_new}
-use Rattle.hh_office.specs.Promises.{MakesTransition, reply_of}
+use Rattle.hh_office.specs.Promises.{MakesTransition}
+use Rattle.hh_office.specs.steps.Promises.{reply_of}
 use Rattle.hh_office.specs.Views.{midnight_of}
 use Rattle.hh_office.proofs.StepLaws.{comes_same, load_accepted, load_refused, passed_reply}
 use Rattle.hh_office.proofs.RefusalLaws.{reached_by, refused_alike}

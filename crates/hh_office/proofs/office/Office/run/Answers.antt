@@ -2,7 +2,8 @@ use Rattle.std.proofs.Common.{ap, subst, sym, ◌∙◌, w64, to_z, of_z, Err, O
 use Rattle.std.proofs.lemmas.Int.{to_z-of_z}
 use Rattle.hh_requests.specs.declared.reply.Reply.TheVariants as reply
 use Rattle.hh_states.specs.Reads.{runs_in}
-use Rattle.hh_office.specs.Promises.{MakesTransition, MakesInEachState, reply_of}
+use Rattle.hh_office.specs.Promises.{MakesTransition}
+use Rattle.hh_office.specs.steps.Promises.{MakesInEachState, reply_of}
 use Rattle.hh_office.specs.steps.Reads.{latest_key}
 use Rattle.hh_office.specs.Runs.{run}
 use Rattle.hh_office.specs.steps.Settling.{IsNext, TellsOrder}

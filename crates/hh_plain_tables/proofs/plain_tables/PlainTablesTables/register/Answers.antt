@@ -1,4 +1,4 @@
-use Rattle.std.proofs.Common.{ap, subst, sym}
+use Rattle.std.proofs.Common.{subst, sym}
 use Rattle.hh_states.specs.Content.{Content}
 use Rattle.hh_states.specs.Soundness.{AreSound}
 use Rattle.hh_plain_tables.proofs.RefusalLaws.{memory_alone_counts, reached_sound}

@@ -1,6 +1,6 @@
 use Rattle.std.proofs.Common.{◌∙◌, sym, subst, w64}
 use Rattle.std.proofs.lemmas.Int.{to_z-of_z}
-use Rattle.hh_rules.specs.Effects.{HasRoomFor}
+use Rattle.hh_rules.specs.steps.Effects.{HasRoomFor}
 use Rattle.hh_rules.specs.RegisterView.{timetable_of}
 use Rattle.hh_rules.proofs.JudgeFacts.{accepted_has_room, in_time_told, least_told}
 use Rattle.hh_rules.proofs.register.Register.judge.Goals as goal

@@ -1,5 +1,5 @@
 use Rattle.std.proofs.Common.{◌≡◌, ◌+◌, length}
-use Rattle.hh_rules.specs.RegisterView.{IsKeptIn}
+use Rattle.hh_rules.specs.steps.RegisterView.{IsKeptIn}
 use Rattle.hh_rules.proofs.FileLaws.{AreJudgedBut}
 use Rattle.hh_rules.proofs.register.Register.judge_file.Given as goal
 

@@ -1,6 +1,6 @@
 use Rattle.std.proofs.Common.{◌∙◌, sym, ap, w64}
 use Rattle.std.proofs.lemmas.Int.{to_z-of_z}
-use Rattle.hh_rules.specs.FileRows.{judged_row}
+use Rattle.hh_rules.specs.steps.FileRows.{judged_row}
 use Rattle.hh_rules.specs.Lateness.{accepted_at, timing_of}
 use Rattle.hh_rules.specs.RegisterView.{refusal_at, timetable_of}
 use Rattle.hh_rules.proofs.JudgeFacts.{by_row_refusal}

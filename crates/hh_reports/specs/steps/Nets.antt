@@ -1,0 +1,14 @@
+-- The sums of accounts while charges are added to them.
+use Rattle.std.specs.Prelude.{ℕ, ◌^◌, ℤ, pos, unwrap_or}
+use Rattle.std.specs.FinMap.{find}
+use Rattle.hh_tables.specs.Tables.{Table}
+use Rattle.hh_names.specs.declared.account.Account.{Account}
+use Rattle.hh_names.specs.Accounts.{account_cmp}
+
+-- no amount is greater in size: it is two amounts of pence at most
+abbrev pub greatest_amount : ℕ
+greatest_amount = 2 ^ 64
+
+-- the sum that a table holds of an account; 0 where it holds none
+abbrev pub sum_in : Table Account ℤ → Account → ℤ
+sum_in sums a = unwrap_or (find account_cmp a sums) (pos 0)

@@ -1,0 +1,6 @@
+-- What contracts of private functions alone cite: the steps of proofs. No public contract names any of it, through whatever definition.
+pub mod Effects
+pub mod FileRows
+pub mod Lateness
+pub mod Percents
+pub mod RegisterView

@@ -1,0 +1,8 @@
+-- The percentage of a reallocation that may not be there.
+use Rattle.std.specs.Prelude.{ℤ, pos, Option, Some, None}
+use Rattle.hh_names.specs.declared.values.Reallocation.{Reallocation}
+
+-- the percentage of a reallocation, 0 where there is none
+abbrev pub percent_in : Option Reallocation → ℤ
+percent_in None = pos 0
+percent_in (Some r) = r.percent
