@@ -1,5 +1,5 @@
 -- Dates as texts, YYYY-MM-DD.
-use Rattle.std.specs.Prelude.{◌≡◌, ◌<◌, ℕ, ◌+◌, ◌-◌, ◌*◌, ◌/◌, ◌%◌, nat_le, ◌==◌, pos, unsigned_abs, List, [], ◌∷◌, ◌&&◌, if◌then◌else◌, Option, Some, None}
+use Rattle.std.specs.Prelude.{ℕ, ◌+◌, ◌-◌, ◌*◌, ◌/◌, ◌%◌, nat_le, ◌==◌, pos, unsigned_abs, List, [], ◌∷◌, ◌&&◌, if◌then◌else◌, Option, Some, None}
 use Rattle.std.specs.List.{list_all}
 use Rattle.std.specs.Char.{is_ascii_digit}
 use Rattle.jiff.specs.Types.{Date}
@@ -13,10 +13,6 @@ two_digits n rest = (48 + n / 10) ∷ (48 + n % 10) ∷ rest
 -- NNNN-NN-NN, of four numbers below 100
 abbrev pub dashed : ℕ → ℕ → ℕ → ℕ → List ℕ
 dashed a b c d = two_digits a (two_digits b (45 ∷ two_digits c (45 ∷ two_digits d [])))
-
--- the text is NNNN-NN-NN, of these four numbers below 100
-abbrev pub IsDashed : List ℕ → ℕ → ℕ → ℕ → ℕ → Type 0
-IsDashed text a b c d = (a < 100) × (b < 100) × (c < 100) × (d < 100) × (text ≡ dashed a b c d)
 
 -- the text of a date with a year of four digits
 abbrev pub text_of : Date → List ℕ

@@ -2,7 +2,8 @@
 
 ghost use Rattle.std.specs.Prelude.{◌≡◌, ℕ, ◌+◌, ◌<◌, ◌/◌, ◌%◌, List, [], Some, IfSome, IfNone, IsTrue};
 ghost use Rattle.jiff.specs.Types.{Date as PlainDate};
-ghost use Rattle.hh_time.specs.DateText.{date_text, date_value, text_of, two_digits, IsDashed};
+ghost use Rattle.hh_time.specs.DateText.{date_text, date_value, text_of, two_digits};
+ghost use Rattle.hh_time.specs.steps.DateText.{IsDashed};
 ghost use Rattle.hh_time.specs.Days.{is_accepted};
 ghost use Rattle.hh_time.specs.Zone.{IsAccepted};
 

@@ -1,0 +1,90 @@
+"""The definitions that must be believed: outside of specs/steps/ each is reached from a contract that a crate offers."""
+import collections
+import re
+import unittest
+
+from programs import HOME
+
+NAME = re.compile(r"[A-Za-z_][\w']*")
+DEFINES = re.compile(
+    r"^(?:\s*(?:abbrev|unfoldable|opaque) pub|\s*pub record|\s*pub data|pub) (?!mod |use |record |data |module )(\S+)"
+)
+FUNCTION = re.compile(r"(\s*)(pub )?(?:pub\(\w+\) )?(?:const )?fn \w+")
+TYPE = re.compile(r"^pub (?:struct|enum|trait|type) (\w+)", re.M)
+BLOCK = re.compile(r"(?:pub )?(impl|trait)\b(?:<.*?>)? (\w+)")
+FOR = re.compile(r" for (\w+)")
+# Operators that `do` reaches without naming them.
+UNNAMED = {"◌>>=◌"}
+
+
+def names_by_definition(text):
+    """What each definition of a file of specs/ names."""
+    found, current = collections.defaultdict(set), None
+    for line in text.split("\n"):
+        defines = DEFINES.match(line)
+        current = defines.group(1) if defines else current
+        if current and not line.startswith(("use ", "--")):
+            found[current].update(NAME.findall(line))
+    return found
+
+
+def header(lines, at, indent):
+    """The lines of a function from its first to the brace of its body, or to the end of its declaration."""
+    for end in range(at, len(lines)):
+        line = lines[end]
+        if line == indent + "{" or line.endswith(";") or (line.endswith(" {") and "ensures" not in line):
+            return lines[at : end + 1]
+    return lines[at:]
+
+
+def offered_names(text, types):
+    """What the contracts name that a file offers: those of public functions, and of traits and models of public types."""
+    names, block, lines, at = set(), None, text.split("\n"), 0
+    while at < len(lines):
+        line = lines[at]
+        begins = BLOCK.match(line)
+        if begins:
+            of = FOR.search(line)
+            block = (begins[1] == "trait" or of is not None, (of or begins)[1 if of else 2] in types)
+        elif line == "}":
+            block = None
+        function = FUNCTION.match(line)
+        if function:
+            said = header(lines, at, function.group(1))
+            of_trait, is_offered = block or (False, True)
+            if is_offered and (of_trait or function.group(2)):
+                names.update(NAME.findall("\n".join(said)))
+            at += len(said)
+            continue
+        if not line.lstrip().startswith(("ghost use", "//", "use ", "pub use", "mod ")) and (not block or block[1]):
+            names.update(NAME.findall(line))
+        at += 1
+    return names
+
+
+class Definitions(unittest.TestCase):
+    def test_steps_are_of_private_contracts(self):
+        defined, places, todo = {}, {}, []
+        for file in sorted(HOME.glob("crates/*/specs/**/*.antt")):
+            if "declared" not in file.parts:
+                for name, names in names_by_definition(file.read_text(encoding="utf-8")).items():
+                    defined.setdefault(name, set()).update(names)
+                    places.setdefault(name, file)
+        for folder in sorted(HOME.glob("crates/*/src")):
+            texts = [file.read_text(encoding="utf-8") for file in folder.rglob("*.rt") if "tests" not in file.name]
+            types = {name for text in texts for name in TYPE.findall(text)}
+            todo += [name for text in texts for name in offered_names(text, types)]
+        reached = set()
+        while todo:
+            name = todo.pop()
+            if name in defined and name not in reached:
+                reached.add(name)
+                todo += defined[name]
+        self.assertGreater(len(reached), 700)
+        apart = {name for name, file in places.items() if file.parent.name == "steps"}
+        out_of_reach = set(defined) - reached - apart - UNNAMED
+        self.assertEqual([], sorted(f"{name}: {places[name].relative_to(HOME)}" for name in out_of_reach))
+
+
+if __name__ == "__main__":
+    unittest.main()
