@@ -1,4 +1,5 @@
 pub mod Behind
 pub mod Message
 pub mod Routes
+pub mod Stops
 pub mod steps
