@@ -57,20 +57,6 @@ impl LoadChange {
         }
     }
 
-    /// The file's kind.
-    pub fn kind(&self) -> FileKind
-        ensures { result ≡ self.now.key.kind }
-    {
-        self.kind
-    }
-
-    /// The name under which the file is kept.
-    pub fn name(&self) -> FileName
-        ensures { result ≡ self.now.key.name }
-    {
-        self.name
-    }
-
     /// The key under which the file is kept.
     pub fn key(&self) -> FileKey
         ensures { result ≡ self.now.key }
