@@ -1,9 +1,7 @@
 -- What accounts have and pay, by the tables of a state that the machine reaches, fits the types of replies.
-use Rattle.std.proofs.Common.{◌≡◌, ℕ, List, [], ◌∷◌, sym, ap, subst, ◌∙◌, true, arith, Option, Some, None}
+use Rattle.std.proofs.Common.{◌≡◌, ℕ, List, [], ◌∷◌, sym, ap, subst, ◌∙◌, true, Option, Some, None}
 use Rattle.std.specs.Prelude.{ℤ, ◌+ℤ◌, ◌==◌, IfSome, is_some, option_map, unwrap_or}
 use Rattle.std.specs.List.{AllByRecursion}
-use Rattle.std.proofs.lemmas.Int.{ints}
-use Rattle.hh_num.specs.Quantities.{amounts_of_cash}
 use Rattle.hh_num.specs.Ranges.{IsBetween}
 use Rattle.hh_num.specs.Totals.{total}
 use Rattle.hh_num.proofs.TotalLaws.{total-filter}
@@ -12,12 +10,12 @@ use Rattle.hh_names.specs.declared.account.Account.{Account}
 use Rattle.hh_names.specs.Accounts.{is_same_account}
 use Rattle.hh_calc.specs.declared.result.AccountRow.{AccountRow}
 use Rattle.hh_runs.specs.DayNets.{day_cash}
-use Rattle.hh_states.specs.Amounts.{BalancesWithin, PaidWithin, balances}
+use Rattle.hh_states.specs.Amounts.{PaidWithin}
 use Rattle.hh_runs.specs.declared.run_key.RunKey.{RunKey}
 use Rattle.hh_tables.proofs.TableLaws.{false_is_not_true}
 use Rattle.hh_states.specs.Content.{Content, tables_of}
-use Rattle.hh_states.specs.Reads.{postings_in, results_in, runs_in}
-use Rattle.hh_states.specs.RunReads.{HoldsPostings, HoldsRuns, paid_in}
+use Rattle.hh_states.specs.Reads.{results_in, runs_in}
+use Rattle.hh_states.specs.RunReads.{HoldsRuns, paid_in}
 use Rattle.hh_states.specs.Runs.{Run, latest_run}
 use Rattle.hh_states.specs.States.{State}
 use Rattle.hh_states.specs.Steps.{IsReached}
@@ -42,15 +40,6 @@ module _ (midnight : Midnights) (s : State) (reached : IsReached midnight s) whe
           → AllByRecursion (λ r. IsBetween day_cash.least day_cash.most (net_of_rows (rows_of_account a (results_in (tables_of midnight s) r.key)))) runs
       each [] within = tt
       each (r ∷ runs) within = (subst (IsBetween day_cash.least day_cash.most) (sym (own_rows a (results_in (tables_of midnight s) r.key))) within.0, each runs within.1)
-
-  -- what its postings come to is an amount of cash
-  pub balance_fits : HoldsPostings → BalancesWithin → (a : Account) → IsBetween amounts_of_cash.least amounts_of_cash.most (total (λ e. e.1) (postings_in (tables_of midnight s) a))
-  balance_fits held within a =
-      let narrow = subst (IsBetween balances.least balances.most) (sym (held midnight s a reached)) (within midnight s a reached) in
-      wider (total (λ e. e.1) (postings_in (tables_of midnight s) a)) narrow
-    where
-      wider : (z : ℤ) → IsBetween balances.least balances.most z → IsBetween amounts_of_cash.least amounts_of_cash.most z
-      wider z narrow = let low = narrow.0 in let high = narrow.1 in (omega (arith, ints), omega (arith, ints))
 
 -- what an account pays by the rows of the latest run of a date is a day net, in the tables of an office that stands for a state
 pub net_fits : (office : OfficeView) (s : State) → Stands office s → HoldsRuns → PaidWithin → (a : Account) (date : ℕ) (key : RunKey)
