@@ -61,6 +61,14 @@ impl DateRange {
         self.to
     }
 
+    /// The first and the last date. The last isn't before the first.
+    pub fn ends(self) -> (SettlementDate, SettlementDate)
+        ensures value { result ≡ (self.from, self.to) }
+        ensures rising { self.from ≤ self.to }
+    {
+        (self.from, self.to)
+    }
+
     /// Whether the date is one of the range.
     pub fn holds(self, date: SettlementDate) -> bool
         ensures { result ≡ holds self date }
