@@ -1,0 +1,113 @@
+-- What each text that makes a table means after those before it.
+use Rattle.std.proofs.Common.{◌≡◌, ◌++◌, ◌+◌, ◌<◌, ℕ, zero, suc, List, [], ◌∷◌, slice_index_or, Ok, false, arith, refl}
+use Rattle.sqlite_schema.specs.declared.schema.Table.{Table}
+use Rattle.sqlite_schema.specs.declared.command.Command.TheVariants.{CreateTable}
+use Rattle.sqlite_resolve.specs.Compile.{table_defined_by}
+use Rattle.sqlite_catalog.specs.Change.{created, next_tree}
+use Rattle.sqlite_tied.specs.Compute.{everything}
+use Rattle.sqlite.specs.Does.{lacks_sequence}
+use Rattle.sqlite.specs.Listing.{understood}
+use Rattle.sqlite.proofs.Callers.{IsPlain, command_of, statement_of}
+use Rattle.hh_sqlrows.specs.OfficeSchema.{office, settings_table, parties_table, units_table, meters_table, prices_table, refs_table, contracts_table, reallocations_table, files_table, runs_table, results_table, credits_table, postings_table, positions_table, touched_table, marks_table}
+use Rattle.hh_sqlrows.specs.Making.{schema_up_to}
+use Rattle.hh_sqlrows.specs.steps.MakingTexts.{texts, settings_text, parties_text, units_text, meters_text, prices_text, refs_text, contracts_text, reallocations_text, files_text, runs_text, results_text, credits_text, postings_text, positions_text, touched_text, marks_text}
+
+-- the text makes a table after so many others
+pub record Defines (at : ℕ) (sql : List ℕ) : Type 0 where
+  pub table : Table
+  pub command : command_of (understood (schema_up_to at) sql) ≡ CreateTable
+  pub whole : statement_of sql (understood (schema_up_to at) sql) ≡ sql
+  pub plain : IsPlain (understood (schema_up_to at) sql)
+  pub defined : table_defined_by sql ≡ Ok table
+  pub makes : created (schema_up_to at) table ≡ schema_up_to (at + 1)
+  pub extends : (schema_up_to (at + 1)).tables ≡ (schema_up_to at).tables ++ record table { tree = next_tree (schema_up_to at) } ∷ []
+  pub uncounted : lacks_sequence (schema_up_to (at + 1)) ≡ false
+
+settings_is : Defines 0 settings_text
+unfolding understood everything
+settings_is = record { table = record settings_table { tree = 0 }; command = refl; whole = refl; plain = (refl, refl); defined = refl; makes = refl; extends = refl; uncounted = refl }
+
+parties_is : Defines 1 parties_text
+unfolding understood everything
+parties_is = record { table = record parties_table { tree = 0 }; command = refl; whole = refl; plain = (refl, refl); defined = refl; makes = refl; extends = refl; uncounted = refl }
+
+units_is : Defines 2 units_text
+unfolding understood everything
+units_is = record { table = record units_table { tree = 0 }; command = refl; whole = refl; plain = (refl, refl); defined = refl; makes = refl; extends = refl; uncounted = refl }
+
+meters_is : Defines 3 meters_text
+unfolding understood everything
+meters_is = record { table = record meters_table { tree = 0 }; command = refl; whole = refl; plain = (refl, refl); defined = refl; makes = refl; extends = refl; uncounted = refl }
+
+prices_is : Defines 4 prices_text
+unfolding understood everything
+prices_is = record { table = record prices_table { tree = 0 }; command = refl; whole = refl; plain = (refl, refl); defined = refl; makes = refl; extends = refl; uncounted = refl }
+
+refs_is : Defines 5 refs_text
+unfolding understood everything
+refs_is = record { table = record refs_table { tree = 0 }; command = refl; whole = refl; plain = (refl, refl); defined = refl; makes = refl; extends = refl; uncounted = refl }
+
+contracts_is : Defines 6 contracts_text
+unfolding understood everything
+contracts_is = record { table = record contracts_table { tree = 0 }; command = refl; whole = refl; plain = (refl, refl); defined = refl; makes = refl; extends = refl; uncounted = refl }
+
+reallocations_is : Defines 7 reallocations_text
+unfolding understood everything
+reallocations_is = record { table = record reallocations_table { tree = 0 }; command = refl; whole = refl; plain = (refl, refl); defined = refl; makes = refl; extends = refl; uncounted = refl }
+
+files_is : Defines 8 files_text
+unfolding understood everything
+files_is = record { table = record files_table { tree = 0 }; command = refl; whole = refl; plain = (refl, refl); defined = refl; makes = refl; extends = refl; uncounted = refl }
+
+runs_is : Defines 9 runs_text
+unfolding understood everything
+runs_is = record { table = record runs_table { tree = 0 }; command = refl; whole = refl; plain = (refl, refl); defined = refl; makes = refl; extends = refl; uncounted = refl }
+
+results_is : Defines 10 results_text
+unfolding understood everything
+results_is = record { table = record results_table { tree = 0 }; command = refl; whole = refl; plain = (refl, refl); defined = refl; makes = refl; extends = refl; uncounted = refl }
+
+credits_is : Defines 11 credits_text
+unfolding understood everything
+credits_is = record { table = record credits_table { tree = 0 }; command = refl; whole = refl; plain = (refl, refl); defined = refl; makes = refl; extends = refl; uncounted = refl }
+
+postings_is : Defines 12 postings_text
+unfolding understood everything
+postings_is = record { table = record postings_table { tree = 0 }; command = refl; whole = refl; plain = (refl, refl); defined = refl; makes = refl; extends = refl; uncounted = refl }
+
+positions_is : Defines 13 positions_text
+unfolding understood everything
+positions_is = record { table = record positions_table { tree = 0 }; command = refl; whole = refl; plain = (refl, refl); defined = refl; makes = refl; extends = refl; uncounted = refl }
+
+touched_is : Defines 14 touched_text
+unfolding understood everything
+touched_is = record { table = record touched_table { tree = 0 }; command = refl; whole = refl; plain = (refl, refl); defined = refl; makes = refl; extends = refl; uncounted = refl }
+
+marks_is : Defines 15 marks_text
+unfolding understood everything
+marks_is = record { table = record marks_table { tree = 0 }; command = refl; whole = refl; plain = (refl, refl); defined = refl; makes = refl; extends = refl; uncounted = refl }
+
+-- each text makes its table after those before it
+pub defines : (at : ℕ) → at < 16 → Defines at (slice_index_or texts at [])
+defines zero h = settings_is
+defines (suc zero) h = parties_is
+defines (suc (suc zero)) h = units_is
+defines (suc (suc (suc zero))) h = meters_is
+defines (suc (suc (suc (suc zero)))) h = prices_is
+defines (suc (suc (suc (suc (suc zero))))) h = refs_is
+defines (suc (suc (suc (suc (suc (suc zero)))))) h = contracts_is
+defines (suc (suc (suc (suc (suc (suc (suc zero))))))) h = reallocations_is
+defines (suc (suc (suc (suc (suc (suc (suc (suc zero)))))))) h = files_is
+defines (suc (suc (suc (suc (suc (suc (suc (suc (suc zero))))))))) h = runs_is
+defines (suc (suc (suc (suc (suc (suc (suc (suc (suc (suc zero)))))))))) h = results_is
+defines (suc (suc (suc (suc (suc (suc (suc (suc (suc (suc (suc zero))))))))))) h = credits_is
+defines (suc (suc (suc (suc (suc (suc (suc (suc (suc (suc (suc (suc zero)))))))))))) h = postings_is
+defines (suc (suc (suc (suc (suc (suc (suc (suc (suc (suc (suc (suc (suc zero))))))))))))) h = positions_is
+defines (suc (suc (suc (suc (suc (suc (suc (suc (suc (suc (suc (suc (suc (suc zero)))))))))))))) h = touched_is
+defines (suc (suc (suc (suc (suc (suc (suc (suc (suc (suc (suc (suc (suc (suc (suc zero))))))))))))))) h = marks_is
+defines (suc (suc (suc (suc (suc (suc (suc (suc (suc (suc (suc (suc (suc (suc (suc (suc at)))))))))))))))) h = absurd (omega (arith, h))
+
+-- the tables made in turn are those of an office
+pub all_made : schema_up_to 16 ≡ office
+unfolding everything
+all_made = refl

@@ -1,0 +1,36 @@
+-- Tables of an office as tables of a database: the form of their rows, and what a statement makes of them.
+use Rattle.std.specs.Prelude.{◌≡◌, ◌≢◌, ℕ}
+use Rattle.std.specs.List.{AllByRecursion}
+use Rattle.std.specs.FinMap.{put}
+use Rattle.std.specs.declared.cmp.Ordering.{Ordering}
+use Rattle.sqlite_schema.specs.declared.schema.Table.{Table}
+use Rattle.sqlite_trees.specs.Tree.{Trees}
+use Rattle.sqlite.specs.Effect.{Database}
+use Rattle.hh_tables.specs.Tables as tables
+use Rattle.hh_keyed_rows.specs.Codecs.{Codec}
+use Rattle.hh_keyed_rows.specs.KeyedRows.{entry_of, table_in}
+use Rattle.hh_sqlrows.specs.OfficeSchema.{office}
+use Rattle.hh_sqlrows.specs.Office.{IsOffice}
+
+-- a table of the schema and its place there, the order of its keys, and how keys and values stand in columns
+pub record Form (K V : Type 0) : Type 0 where
+  pub at : ℕ
+  pub table : Table
+  pub order : K → K → Ordering
+  pub key : Codec K
+  pub value : Codec V
+
+module _ {K V : Type 0} (form : Form K V) where
+  -- the rows of the table under their keys, in the order of these
+  abbrev pub rows_of : Trees → tables.Table K V
+  rows_of trees = table_in form.order (entry_of form.key form.value) (trees form.table.tree)
+
+-- each table of an office but the one in this tree is as it was
+abbrev pub KeepsOthers : ℕ → Trees → Trees → Type 0
+KeepsOthers tree old new = AllByRecursion (λ t. t.tree ≢ tree → new t.tree ≡ old t.tree) office.tables
+
+-- The row stands under its key, in the place of the one there, and the other tables are as they were.
+pub record Puts {K V : Type 0} (form : Form K V) (key : K) (value : V) (old new : Database) : Type 0 where
+  pub is_office : IsOffice new
+  pub rows : rows_of form new.trees ≡ put form.order key value (rows_of form old.trees)
+  pub others : KeepsOthers form.table.tree old.trees new.trees

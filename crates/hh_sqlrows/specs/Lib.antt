@@ -1,0 +1,6 @@
+pub mod Forms
+pub mod Making
+pub mod Office
+pub mod OfficeSchema
+pub mod Statements
+pub mod steps
