@@ -246,6 +246,7 @@ impl KeptRegister {
         ensures rising { IsTable reallocation_key_cmp self.now.reallocations }
     {
         let rows = self.reallocations.rows();
+        // Finds what is known, but carries for the proof that the rows of a table rise.
         if let Some(first) = rows.first() {
             let _first = self.reallocations.get(&first.0);
         }
