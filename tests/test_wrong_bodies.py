@@ -17,8 +17,12 @@ from programs import HOME
 
 FOLDER = HOME / "wrong-bodies"
 FUNCTION = re.compile(r"(?m)^( *)(?:pub(?:\([a-z]+\))? )?(?:const )?fn (\w+)")
-# Calls that `settle` doesn't make: of a row by itself, of a list of requests, of a date, and of devices in memory.
-OFFERED = {"check_row", "apply_row", "run_all", "day_of", "day_number", "date_at", "in_pieces"}
+# Calls that `settle` doesn't make: of a row by itself, of a list of requests, of a date, of devices in memory, and of rows of a
+# database.
+OFFERED = {
+    "check_row", "apply_row", "run_all", "day_of", "day_number", "date_at", "in_pieces",
+    "to_columns", "from_columns", "read_entry", "read_entries", "ends",
+}
 # What the language calls without naming it.
 UNNAMED = {"main", "fmt", "cmp", "partial_cmp", "eq", "from", "next", "clone", "drop", "default"}
 

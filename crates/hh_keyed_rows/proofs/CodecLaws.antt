@@ -8,7 +8,7 @@ use Rattle.sqlite_value.specs.declared.value.Value.{Value}
 use Rattle.sqlite_value.specs.declared.value.Value.TheVariants.{Null, Int, Real, Text, Blob}
 use Rattle.sqlite_value.specs.Order.{Row}
 use Rattle.hh_keyed_rows.specs.Codecs.{Codec, IsCodec, is_plain, at_front, int_in, nat_in, text_in, blob_in, int_column, nat_column, text_column, blob_column, both, via, coded, within}
-use Rattle.hh_keyed_rows.specs.KeyedRows.{entry_in, entry_of, whole}
+use Rattle.hh_keyed_rows.specs.KeyedRows.{columns_of, entry_in, entry_of, whole}
 
 pub same_some : {A : Type 0} {a b : A} → Some a ≡ Some b → a ≡ b
 same_some e = cc
@@ -17,7 +17,7 @@ same_some e = cc
 abbrev got : {A : Type 0} → A → Row → Option (A × Row)
 got a rest = Some (a, rest)
 
-none_is_not_some : {A : Type 0} {a : A} → ◌≡◌ {A = Option A} None (Some a) → ⊥
+pub none_is_not_some : {A : Type 0} {a : A} → ◌≡◌ {A = Option A} None (Some a) → ⊥
 none_is_not_some e = cc
 
 -- ---- one column
@@ -261,15 +261,12 @@ module _ {A : Type 0} (in_range : A → Bool) (c : Codec A) (is_c : IsCodec c) w
 -- ---- the entry of a row
 
 module _ {K V : Type 0} (key : Codec K) (value : Codec V) (is_key : IsCodec key) (is_value : IsCodec value) where
-  abbrev pub columns_of : K × V → Row
-  columns_of e = key.write e.0 ++ value.write e.1
-
-  pub written_in : (k : K) (v : V) → key.fits k ≡ true → value.fits v ≡ true → entry_in key value (columns_of (k, v)) ≡ Some (k, v)
+  pub written_in : (k : K) (v : V) → key.fits k ≡ true → value.fits v ≡ true → entry_in key value (columns_of key value (k, v)) ≡ Some (k, v)
   written_in k v fit_key fit_value =
-      ap (λ row. option_and_then (λ x. whole x.0 x.1) ((both key value).read row)) (sym (append-nil (columns_of (k, v))))
+      ap (λ row. option_and_then (λ x. whole x.0 x.1) ((both key value).read row)) (sym (append-nil (columns_of key value (k, v))))
       ∙ ap (option_and_then (λ (x : (K × V) × Row). whole x.0 x.1)) ((both_codec key value is_key is_value).back (k, v) [] (and_from (key.fits k) (value.fits v) fit_key fit_value))
 
-  pub entry_written : (id : Value) (k : K) (v : V) → key.fits k ≡ true → value.fits v ≡ true → entry_of key value (id ∷ columns_of (k, v)) ≡ Some (k, v)
+  pub entry_written : (id : Value) (k : K) (v : V) → key.fits k ≡ true → value.fits v ≡ true → entry_of key value (id ∷ columns_of key value (k, v)) ≡ Some (k, v)
   entry_written id k v = written_in k v
 
   entry_read : (columns : Row) (e : K × V) → entry_in key value columns ≡ Some e → (both key value).read columns ≡ got e []
@@ -283,14 +280,14 @@ module _ {K V : Type 0} (key : Codec K) (value : Codec V) (is_key : IsCodec key)
       by_read None at f = absurd (none_is_not_some f)
       by_read (Some x) at f = by_rest x.0 x.1 at f
 
-  pub read_only : (columns : Row) (e : K × V) → entry_in key value columns ≡ Some e → columns ≡ columns_of e
-  read_only columns e is = (both_codec key value is_key is_value).only columns e [] (entry_read columns e is) ∙ append-nil (columns_of e)
+  pub read_only : (columns : Row) (e : K × V) → entry_in key value columns ≡ Some e → columns ≡ columns_of key value e
+  read_only columns e is = (both_codec key value is_key is_value).only columns e [] (entry_read columns e is) ∙ append-nil (columns_of key value e)
 
-  pub entry_only : (id : Value) (columns : Row) (e : K × V) → entry_of key value (id ∷ columns) ≡ Some e → columns ≡ columns_of e
+  pub entry_only : (id : Value) (columns : Row) (e : K × V) → entry_of key value (id ∷ columns) ≡ Some e → columns ≡ columns_of key value e
   entry_only id columns e is = read_only columns e is
 
   pub entry_fits : (columns : Row) (e : K × V) → entry_in key value columns ≡ Some e → (key.fits e.0 ≡ true) × (value.fits e.1 ≡ true)
   entry_fits columns e is = and_parts (key.fits e.0) (value.fits e.1) ((both_codec key value is_key is_value).fitting columns e [] (entry_read columns e is))
 
-  pub entry_apart : (d e : K × V) → columns_of d ≡ columns_of e → d ≡ e
+  pub entry_apart : (d e : K × V) → columns_of key value d ≡ columns_of key value e → d ≡ e
   entry_apart = (both_codec key value is_key is_value).apart

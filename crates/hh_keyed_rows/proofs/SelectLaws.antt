@@ -54,7 +54,7 @@ same_map f apart (x ∷ xs) (y ∷ ys) e =
     let q = same_map f apart xs ys t in
     λ i. p i ∷ q i
 
-has_permuted : {X : Type 0} (xs ys : List X) (x : X) → IsPermutation xs ys → Has ys x → Has xs x
+pub has_permuted : {X : Type 0} (xs ys : List X) (x : X) → IsPermutation xs ys → Has ys x → Has xs x
 has_permuted xs ys x same = all_has (Has xs) ys x (all-permutation (Has xs) xs ys same (all_from (Has xs) xs (λ e h. h)))
 
 is_so : (b : Bool) → T b → b ≡ true

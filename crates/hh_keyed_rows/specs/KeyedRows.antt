@@ -1,5 +1,5 @@
 -- The table of an office that the rows of a table of a database stand for.
-use Rattle.std.specs.Prelude.{List, [], ◌∷◌, filter_map, Option, Some, None, option_and_then}
+use Rattle.std.specs.Prelude.{◌++◌, List, [], ◌∷◌, filter_map, Option, Some, None, option_and_then}
 use Rattle.std.specs.declared.cmp.Ordering.{Ordering}
 use Rattle.hh_tables.specs.Tables.{Table, in_key_order}
 use Rattle.sqlite_value.specs.Order.{Row}
@@ -13,6 +13,10 @@ whole a (v ∷ rest) = None
 -- The key and the value that columns are read as: those of the key come first. None where they are off their form or range.
 abbrev pub entry_in : {K V : Type 0} → Codec K → Codec V → Row → Option (K × V)
 entry_in key value columns = option_and_then (λ x. whole x.0 x.1) ((both key value).read columns)
+
+-- the columns of a key and its value
+abbrev pub columns_of : {K V : Type 0} → Codec K → Codec V → K × V → Row
+columns_of key value e = key.write e.0 ++ value.write e.1
 
 -- the key and the value of a row of a tree, which begins with its rowid
 abbrev pub entry_of : {K V : Type 0} → Codec K → Codec V → Row → Option (K × V)

@@ -1,6 +1,26 @@
-//! Rows of a table of a database as the rows of an office's table: definitions and laws, which crates
-//! above cite.
+//! Rows of a table of a database as the rows of an office's table: which columns stand for a key and a
+//! value, in which ranges, and what rows come to, in the order of their keys.
 #![tactic(auto)]
 
-/// Does nothing: what this crate has is in its definitions and laws.
-pub fn nothing() {}
+mod accounts;
+mod amounts;
+mod columned;
+mod columns;
+mod entries;
+mod fields;
+mod keys;
+mod laws;
+mod one_row;
+mod row_fault;
+mod values;
+
+pub use amounts::Amounts;
+pub use columned::Columned;
+pub use columns::Columns;
+pub use entries::{columns_of, read_entries, read_entry};
+pub use laws::{
+    column_codecs, gets_find, key_codecs, keys_told_apart, puts_replace, rows_in_any_order,
+    rows_read_back, value_codecs,
+};
+pub use one_row::OneRow;
+pub use row_fault::RowFault;

@@ -1,0 +1,136 @@
+-- What rows of a database say of a table, for any key and value that have columns.
+use Rattle.std.specs.Prelude.{◌≡◌, ◌↔◌, ℕ, List, [], ◌∷◌, Bool, true, None, Option, Some, filter, filter_map, ⊤}
+use Rattle.std.specs.List.{AllByRecursion, list_any}
+use Rattle.std.specs.List.Sorted.{IsPermutation}
+use Rattle.std.specs.Cmp.{IsTotalOrder}
+use Rattle.std.specs.declared.cmp.Ordering.{Ordering}
+use Rattle.std.specs.declared.cmp.Ordering.TheVariants.{Equal}
+use Rattle.std.specs.FinMap.{find, put}
+use Rattle.std.specs.Ordering.{is_eq}
+use Rattle.hh_num.specs.Quantities.{Measure}
+use Rattle.hh_tables.specs.Tables.{Table, put_all}
+use Rattle.sqlite_value.specs.Keys.{plain}
+use Rattle.sqlite_value.specs.Order.{Row}
+use Rattle.sqlite_schema.specs.Rules.{agree}
+use Rattle.sqlite_schema.specs.declared.schema.Schema.{Schema}
+use Rattle.sqlite_schema.specs.declared.schema.Table as schema
+use Rattle.sqlite_rules.specs.Keys.{shares}
+use Rattle.sqlite_trees.specs.Tree.{Trees}
+use Rattle.sqlite_trees.specs.View.{IsShaped}
+use Rattle.sqlite_trees.specs.declared.store.Shape.TheVariants as shape
+use Rattle.hh_keyed_rows.specs.Codecs.{Codec, IsCodec, blob_column, places_from}
+use Rattle.hh_keyed_rows.specs.Fields.{account_columns, counterparties_columns, date_column, file_kind_column, lead_minutes_column, mark_column, number_column, operator_key_column, period_column, quantity_column, range_columns, run_kind_column, settlement_period_columns, side_column, word_column}
+use Rattle.hh_keyed_rows.specs.KeyedRows.{columns_of, entry_in, entry_of, table_in}
+use Rattle.hh_keyed_rows.specs.Keys.{contract_key_columns, credit_key_columns, file_key_columns, one_row_column, posting_key_columns, reallocation_key_columns, result_key_columns, run_key_columns, unit_period_columns}
+use Rattle.hh_keyed_rows.specs.Puts.{PutsRow}
+use Rattle.hh_keyed_rows.specs.Values.{amounts_columns, file_columns, party_columns, reading_columns, reallocation_columns, settings_columns, summary_columns, unit_columns}
+
+-- ---- that columns are codecs
+
+-- those of single values
+pub record AreColumnCodecs : Type 0 where
+  pub words : (allows : ℕ → Bool) (least most : ℕ) → IsCodec (word_column allows least most)
+  pub operator_keys : IsCodec operator_key_column
+  pub numbers : (most : ℕ) → IsCodec (number_column most)
+  pub quantities : (measure : Measure) → IsCodec (quantity_column measure)
+  pub dates : IsCodec date_column
+  pub periods : IsCodec period_column
+  pub lead_minutes : IsCodec lead_minutes_column
+  pub sides : IsCodec side_column
+  pub marks : IsCodec mark_column
+  pub run_kinds : IsCodec run_kind_column
+  pub file_kinds : IsCodec file_kind_column
+  pub bytes : IsCodec blob_column
+
+-- those of keys
+pub record AreKeyCodecs : Type 0 where
+  pub one_row : IsCodec one_row_column
+  pub accounts : IsCodec account_columns
+  pub settlement_periods : IsCodec settlement_period_columns
+  pub unit_periods : IsCodec unit_period_columns
+  pub contracts : IsCodec contract_key_columns
+  pub reallocations : IsCodec reallocation_key_columns
+  pub files : IsCodec file_key_columns
+  pub runs : IsCodec run_key_columns
+  pub results : IsCodec result_key_columns
+  pub credits : IsCodec credit_key_columns
+  pub postings : IsCodec posting_key_columns
+
+-- those of values
+pub record AreValueCodecs : Type 0 where
+  pub settings : IsCodec settings_columns
+  pub ranges : IsCodec range_columns
+  pub parties : IsCodec party_columns
+  pub units : IsCodec unit_columns
+  pub counterparties : IsCodec counterparties_columns
+  pub readings : IsCodec reading_columns
+  pub reallocations : IsCodec reallocation_columns
+  pub files : IsCodec file_columns
+  pub summaries : IsCodec summary_columns
+  pub amounts : IsCodec amounts_columns
+
+-- ---- of any table
+
+-- an order that is total and tells each two keys apart
+abbrev pub IsKeyOrder : {K : Type 0} → (K → K → Ordering) → Type 0
+IsKeyOrder {K} R = IsTotalOrder R × ((a b : K) → R a b ≡ Equal → a ≡ b)
+
+module _ {K V : Type 0} (key : Codec K) (value : Codec V) where
+  -- the key and the value are in their ranges
+  abbrev pub Fits : K × V → Type 0
+  Fits e = (key.fits e.0 ≡ true) × (value.fits e.1 ≡ true)
+
+  -- A row that is written for a key and a value in their ranges is read as these. A row that is read as a key and a value is
+  -- the one that is written for them, and they are in their ranges.
+  abbrev pub RowsReadBack : Type 0
+  RowsReadBack = IsCodec key → IsCodec value
+      → ((e : K × V) → Fits e → entry_in key value (columns_of key value e) ≡ Some e)
+      × ((columns : Row) (e : K × V) → entry_in key value columns ≡ Some e → (columns ≡ columns_of key value e) × Fits e)
+
+  -- two rows agree at the places of the key just where they have one key
+  abbrev pub KeysToldApart : Type 0
+  KeysToldApart = IsCodec key → IsCodec value → (r s : Row) (d e : K × V) → entry_of key value r ≡ Some d → entry_of key value s ≡ Some e
+      → (agree plain (places_from 1 key.width) r (places_from 1 key.width) s ≡ true) ↔ (d.0 ≡ e.0)
+
+  -- a table and its indexes ask that no two rows have one key, and for nothing else
+  abbrev pub IsKeyed : Schema → schema.Table → Type 0
+  IsKeyed as_schema table = (r new : Row)
+      → list_any (shares None table new r) as_schema.indexes ≡ agree plain (places_from 1 key.width) r (places_from 1 key.width) new
+
+module _ {K V : Type 0} (R : K → K → Ordering) where
+  -- no key stands twice in these
+  abbrev pub AreOfOneEach : List (K × V) → Type 0
+  AreOfOneEach [] = ⊤
+  AreOfOneEach (e ∷ es) = (find R e.0 es ≡ None) × AreOfOneEach es
+
+-- the value of the first entry, if there is one
+abbrev pub first_value : {K V : Type 0} → List (K × V) → Option V
+first_value [] = None
+first_value (e ∷ es) = Some e.1
+
+-- what is found under a key is the value of the first entry that has it
+abbrev pub GetsFind : Type 0 → Type 0 → Type 0
+GetsFind K V = (R : K → K → Ordering) (k : K) (table : Table K V) → find R k table ≡ first_value (filter (λ e. is_eq (R k e.0)) table)
+
+module _ {K V : Type 0} (key : Codec K) (value : Codec V) where
+  -- Rows of which no two have one key stand for one table, in whatever order they are.
+  abbrev pub RowsInAnyOrder : Type 0
+  RowsInAnyOrder = (R : K → K → Ordering) → IsKeyOrder R → (rows others : List Row) → IsPermutation rows others
+      → AreOfOneEach R (filter_map (entry_of key value) rows) → table_in R (entry_of key value) others ≡ table_in R (entry_of key value) rows
+
+  module _ (as_schema : Schema) (table : schema.Table) where
+    -- each of the entries is put, the first of them first
+    abbrev pub PutsRows : List (K × V) → Trees → Trees → Type 0
+    PutsRows [] old new = new table.tree ≡ old table.tree
+    PutsRows (e ∷ es) old new = (middle : Trees) × PutsRow as_schema table old (columns_of key value e) middle × PutsRows es middle new
+
+    -- the rows have rising rowids, and stand for this table
+    abbrev pub HoldsTable : (K → K → Ordering) → Trees → Table K V → Type 0
+    HoldsTable R trees entries = IsShaped shape.Table (trees table.tree) × (table_in R (entry_of key value) (trees table.tree) ≡ entries)
+
+  -- A row that is put takes the place of the one of its key, and so do rows that are put one after the other.
+  abbrev pub PutsReplace : Type 0
+  PutsReplace = IsCodec key → IsCodec value → (R : K → K → Ordering) → IsKeyOrder R
+      → (as_schema : Schema) (table : schema.Table) → IsKeyed key value as_schema table → (entries : Table K V) (old new : Trees) → HoldsTable as_schema table R old entries
+      → ((e : K × V) → Fits key value e → PutsRow as_schema table old (columns_of key value e) new → HoldsTable as_schema table R new (put R e.0 e.1 entries))
+      × ((es : List (K × V)) → AllByRecursion (Fits key value) es → PutsRows as_schema table es old new → HoldsTable as_schema table R new (put_all R es entries))

@@ -1,0 +1,93 @@
+-- The columns of the values of tables, in the order in which the tables have them behind their keys.
+use Rattle.std.specs.Prelude.{ℕ}
+use Rattle.hh_num.specs.Quantities.{amounts_of_cash, energies, multipliers, percentages, volumes}
+use Rattle.hh_names.specs.declared.account.Account.{Account}
+use Rattle.hh_names.specs.declared.values.Reading.{Reading}
+use Rattle.hh_names.specs.declared.values.Reallocation.{Reallocation}
+use Rattle.hh_rows.specs.declared.rows.PartyRegistration.{PartyRegistration}
+use Rattle.hh_rows.specs.declared.rows.UnitRegistration.{UnitRegistration}
+use Rattle.hh_rows.specs.declared.settings.Settings.{Settings}
+use Rattle.hh_calc.specs.declared.result.AccountRow.{AccountRow}
+use Rattle.hh_runs.specs.declared.summary.Summary.{Summary}
+use Rattle.hh_states.specs.States.{AcceptedFile}
+use Rattle.hh_keyed_rows.specs.declared.amounts.Amounts.{Amounts}
+use Rattle.hh_keyed_rows.specs.Codecs.{Codec, blob_column, both, via}
+use Rattle.hh_keyed_rows.specs.Fields.{access_key_column, account_columns, lead_minutes_column, mark_column, number_column, only_number, operator_key_column, quantity_column, range_columns}
+
+-- the greatest numbers of 8, 16 and 32 bits
+abbrev pub most_of_8_bits : ℕ
+most_of_8_bits = 255
+
+abbrev pub most_of_16_bits : ℕ
+most_of_16_bits = 65_535
+
+abbrev pub most_of_32_bits : ℕ
+most_of_32_bits = 4_294_967_295
+
+-- first date, last date, access key
+abbrev pub party_columns : Codec PartyRegistration
+party_columns = via (λ p. record { range = p.0; key = p.1 }) (λ r. (r.range, r.key)) (both range_columns access_key_column)
+
+-- party and side of the lead account, whether it is an interconnector, first date, last date
+abbrev pub unit_columns : Codec UnitRegistration
+unit_columns =
+    via (λ p. record { lead = p.0; interconnector = p.1.0; range = p.1.1 }) (λ r. (r.lead, (r.interconnector, r.range)))
+    (both account_columns (both mark_column range_columns))
+
+-- metered volume, loss multiplier, balancing volume
+abbrev pub reading_columns : Codec Reading
+reading_columns =
+    via (λ p. record { metered = p.0; tlm = p.1.0; balancing = p.1.1 }) (λ r. (r.metered, (r.tlm, r.balancing)))
+    (both (quantity_column volumes) (both (quantity_column multipliers) (quantity_column volumes)))
+
+-- percentage, fixed volume
+abbrev pub reallocation_columns : Codec Reallocation
+reallocation_columns =
+    via (λ p. record { percent = p.0; fixed = p.1 }) (λ r. (r.percent, r.fixed)) (both (quantity_column percentages) (quantity_column volumes))
+
+-- bytes, rows that were applied, rows that came late
+abbrev pub file_columns : Codec AcceptedFile
+file_columns =
+    via (λ p. record { body = p.0; applied = p.1.0; late = p.1.1 }) (λ f. (f.body, (f.applied, f.late)))
+    (both blob_column (both (number_column most_of_32_bits) (number_column most_of_32_bits)))
+
+-- Settlement Periods, accounts, residual, postings
+abbrev pub summary_columns : Codec Summary
+summary_columns =
+    via (λ p. record { periods = p.0; accounts = p.1.0; residual = p.1.1.0; postings = p.1.1.1 }) (λ s. (s.periods, (s.accounts, (s.residual, s.postings))))
+    (both (number_column most_of_8_bits) (both (number_column most_of_16_bits) (both (quantity_column amounts_of_cash) (number_column most_of_16_bits))))
+
+-- energy credited, balancing energy, energy of contracts, imbalance, charge, share
+abbrev pub amounts_columns : Codec Amounts
+amounts_columns =
+    via (λ p. record { credited = p.0; balancing = p.1.0; contracts = p.1.1.0; imbalance = p.1.1.1.0; charge = p.1.1.1.1.0; share = p.1.1.1.1.1 })
+    (λ a. (a.credited, (a.balancing, (a.contracts, (a.imbalance, (a.charge, a.share))))))
+    (both (quantity_column energies) (both (quantity_column energies) (both (quantity_column energies)
+    (both (quantity_column energies) (both (quantity_column amounts_of_cash) (quantity_column amounts_of_cash))))))
+
+-- the version of the tables
+abbrev pub version : ℕ
+version = 1
+
+-- version, lead minutes, the operator's key
+abbrev pub settings_columns : Codec Settings
+settings_columns =
+    via (λ p. record { lead_minutes = p.1.0; operator_key = p.1.1 }) (λ s. (tt, (s.lead_minutes, s.operator_key)))
+    (both (only_number version) (both lead_minutes_column operator_key_column))
+
+-- the amounts of an account's row
+abbrev pub amounts_of : AccountRow → Amounts
+amounts_of r =
+    record { credited = r.credited; balancing = r.balancing; contracts = r.contracts; imbalance = r.imbalance; charge = r.charge; share = r.share }
+
+-- an account's row from its amounts
+abbrev pub row_with : Account → Amounts → AccountRow
+row_with account a = record {
+  account = account;
+  credited = a.credited;
+  balancing = a.balancing;
+  contracts = a.contracts;
+  imbalance = a.imbalance;
+  charge = a.charge;
+  share = a.share;
+}

@@ -1,0 +1,52 @@
+//! What an account's row of a run has beside its key.
+
+ghost use Rattle.std.specs.Prelude.{◌≡◌};
+ghost use Rattle.hh_keyed_rows.specs.Values.{amounts_of, row_with};
+
+use hh_calc::AccountRow;
+use hh_names::Account;
+use hh_num::{Pence, Ticks};
+
+/// What an account has, pays and bears in a Settlement Period of a run, without the account, which its
+/// key has: energy in ticks, cash in pence.
+#[derive(Clone, Copy, Debug, PartialEq, Eq)]
+pub struct Amounts {
+    pub credited: Ticks,
+    pub balancing: Ticks,
+    pub contracts: Ticks,
+    pub imbalance: Ticks,
+    pub charge: Pence,
+    /// The account's share of the residual.
+    pub share: Pence,
+}
+
+impl Amounts {
+    /// Those of an account's row.
+    pub fn of(row: &AccountRow) -> Amounts
+        ensures { result ≡ amounts_of row.now }
+    {
+        Amounts {
+            credited: row.credited,
+            balancing: row.balancing,
+            contracts: row.contracts,
+            imbalance: row.imbalance,
+            charge: row.charge,
+            share: row.share,
+        }
+    }
+
+    /// The row of an account that has these.
+    pub fn with(self, account: Account) -> AccountRow
+        ensures { result ≡ row_with account self }
+    {
+        AccountRow {
+            account,
+            credited: self.credited,
+            balancing: self.balancing,
+            contracts: self.contracts,
+            imbalance: self.imbalance,
+            charge: self.charge,
+            share: self.share,
+        }
+    }
+}
