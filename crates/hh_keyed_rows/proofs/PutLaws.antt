@@ -23,12 +23,12 @@ use Rattle.sqlite.specs.Cast.{cast, cast_row, cast_all}
 use Rattle.sqlite.specs.declared.error.Error.{Error}
 use Rattle.sqlite.specs.Rows.{Written, Task, stamped, mended, mended_from, nothing, rowids_for, count_of, TriesEach, Tries, Clears, Puts, Counts, InsertsOr}
 use Rattle.sqlite.specs.Does.{Tally, OnRows, Does, AtPlace}
-use Rattle.sqlite.specs.State.{State, Executes}
+use Rattle.sqlite.specs.State.{State, Shows, Executes}
 use Rattle.sqlite.specs.Listing.{understood}
 use Rattle.sqlite.specs.declared.run.Mode.{Mode}
-use Rattle.sqlite.specs.Effect.{Database, value_rows, edit_error}
+use Rattle.sqlite.specs.Effect.{Database, IsDatabase, value_rows, edit_error}
 use Rattle.sqlite.proofs.Callers.{one_step, IsPlain, command_of, statement_of, runs_as}
-use Rattle.hh_keyed_rows.specs.Puts.{stored_in, PutsRow, PutsOne}
+use Rattle.hh_keyed_rows.specs.Puts.{stored_in, PutsRow}
 
 -- a part that gave a value did not stop on the way
 pub went : {B E R : Type 0} {b : B} {Stops : E → Type 0} → ((stop : E) × Stops stop × (Ok b ≡ Err stop)) ⊎ R → R
@@ -121,6 +121,14 @@ module _ (task : Task) (free : (olds news : List Row) → works task.schema task
           (each (count_of counted.0) tried.0 (subst (λ (rows : List Row). TriesEach task Replace [] rows (count_of counted.0) (nothing old) (Ok tried.0)) (sourced.1.1 ∙ values) tried.1))
 
 -- ---- as a statement
+
+-- The statement put the row. Outside a transaction it is committed.
+pub record PutsOne (as_schema : Schema) (table : Table) (columns : Row) (old new : State) : Type 0 where
+  pub schema : new.now.schema ≡ as_schema
+  pub row : PutsRow as_schema table old.now.trees columns new.now.trees
+  pub shown : Shows old new new.now (if old.in_transaction then old.committed else new.now) old.in_transaction
+  pub sound : IsDatabase new.now
+  pub marks : new.marks ≡ old.marks
 
 module _ (schema : Schema) (at : ℕ) (table : Table) (listed : slice_get schema.tables at ≡ Some table) (uncounted : table.is_counted ≡ false)
     (free : (olds news : List Row) → works schema Enforced 0 table.tree olds news ≡ [])

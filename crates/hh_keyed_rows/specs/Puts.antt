@@ -1,13 +1,11 @@
 -- What putting one row makes of the trees.
-use Rattle.std.specs.Prelude.{◌≡◌, ◌≢◌, List, ◌∷◌, None, if◌then◌else◌}
+use Rattle.std.specs.Prelude.{◌≡◌, ◌≢◌, List, ◌∷◌, None}
 use Rattle.std.specs.List.{AllByRecursion}
 use Rattle.sqlite_value.specs.declared.value.Value.TheVariants.{Int}
 use Rattle.sqlite_value.specs.Order.{Row}
 use Rattle.sqlite_trees.specs.Tree.{Trees, put_row}
 use Rattle.sqlite.specs.Table.{Table}
 use Rattle.sqlite.specs.Schema.{Schema}
-use Rattle.sqlite.specs.Effect.{IsDatabase}
-use Rattle.sqlite.specs.State.{State, Shows}
 use Rattle.sqlite_rules.specs.Keys.{AreConflicts}
 use Rattle.sqlite_rules.specs.Calls.{ids_of}
 use Rattle.sqlite.specs.Edit.{next_rowid, without_all}
@@ -22,11 +20,3 @@ pub record PutsRow (schema : Schema) (table : Table) (old : Trees) (columns : Ro
   pub conflicts : AreConflicts None schema.indexes table (old table.tree) (stored_in (old table.tree) columns) found
   pub rows : new table.tree ≡ put_row (stored_in (old table.tree) columns) (without_all (old table.tree) (ids_of found))
   pub others : AllByRecursion (λ t. t.tree ≢ table.tree → new t.tree ≡ old t.tree) schema.tables
-
--- The statement put the row. Outside a transaction it is committed.
-pub record PutsOne (as_schema : Schema) (table : Table) (columns : Row) (old new : State) : Type 0 where
-  pub schema : new.now.schema ≡ as_schema
-  pub row : PutsRow as_schema table old.now.trees columns new.now.trees
-  pub shown : Shows old new new.now (if old.in_transaction then old.committed else new.now) old.in_transaction
-  pub sound : IsDatabase new.now
-  pub marks : new.marks ≡ old.marks
