@@ -1,19 +1,21 @@
 -- What serving comes to, by what was read, handled and written.
-use Rattle.std.proofs.Common.{◌≡◌, ◌⊎◌, ℕ, ℤ, List, Bool, true, false, cond, Option, Result, Ok, Err, inl, inr, refl, sym, subst, ap}
+use Rattle.std.proofs.Common.{◌≡◌, ◌≤◌, ◌⊎◌, ℕ, ℤ, List, Bool, true, false, cond, Option, Result, Ok, Err, inl, inr, refl, sym, subst, ap, arith}
 use Rattle.std.specs.Prelude.{MatchBool, IsErrAnd}
 use Rattle.hh_requests.specs.declared.reply.Reply.{Reply}
+use Rattle.hh_requests.specs.declared.reply.Reply.TheVariants as reply
 use Rattle.hh_requests.specs.declared.request.Request.{Request}
 use Rattle.hh_states.specs.Content.{tables_of}
 use Rattle.hh_states.specs.States.{State}
 use Rattle.hh_office.specs.Machine.{next, step}
 use Rattle.hh_office.specs.PartyViews.{ForbidsOthers, ShowsByView}
 use Rattle.hh_office.specs.Promises.{ConservesAfter, HandleStep, RefusalLeaves, RepeatsOnce, Stands, StandsAfter, is_given_up}
-use Rattle.hh_office.specs.Refusals.{CountsReply, StandsForSome}
+use Rattle.hh_office.specs.Refusals.{CountsReply, StandsForSome, is_of_store}
 use Rattle.hh_office.specs.Transitions.{Transition}
 use Rattle.hh_office.specs.Views.{OfficeView, midnight_of}
 use Rattle.hh_replies.specs.declared.reply.WriteFault.{WriteFault}
 use Rattle.hh_replies.specs.declared.reply.WriteFault.TheVariants as write
 use Rattle.hh_replies.specs.Writes.{WritesReply}
+use Rattle.hh_store.specs.StoreFaults.{CountsOneMore}
 use Rattle.hh_wire.specs.declared.incoming.Incoming.{Incoming}
 use Rattle.hh_wire.specs.declared.incoming.Incoming.TheVariants.{Asked}
 use Rattle.hh_serve.specs.declared.serve.ServeFault.{ServeFault}
@@ -21,6 +23,20 @@ use Rattle.hh_serve.specs.declared.serve.Served.{Served}
 use Rattle.hh_serve.specs.declared.serve.Served.TheVariants.{Replied}
 use Rattle.hh_serve.specs.ServeFaults.{serve_fault}
 use Rattle.hh_serve.specs.Serves.{Answer, IsAnswer, IsReadOf, Serves, StandsAfterOne, TellsNoMemory, answer_text}
+
+-- the store counts no fewer refusals after a reply
+counts_up : (b : Bool) (old new : ℕ) → MatchBool b (CountsOneMore old new) (new ≡ old) → old ≤ new
+counts_up true old new counts = counts.0
+counts_up false old new same = omega (arith, same)
+
+pub reply_up : (given : Reply) (old new : ℕ) → CountsReply given old new → old ≤ new
+reply_up (reply.Refused fault) old new counts = counts_up (is_of_store fault.refusal) old new counts
+reply_up (reply.Loaded x) old new same = omega (arith, same)
+reply_up (reply.Ran x y) old new same = omega (arith, same)
+reply_up (reply.Account x) old new same = omega (arith, same)
+reply_up (reply.Balance x y) old new same = omega (arith, same)
+reply_up (reply.Contracts x) old new same = omega (arith, same)
+reply_up (reply.Runs x) old new same = omega (arith, same)
 
 -- an answer is that the reply was not written
 passed_on : (result : Result Served ServeFault) (fault : WriteFault) → IsErrAnd result (λ served. served ≡ serve_fault fault) → Err (serve_fault fault) ≡ result

@@ -1,5 +1,5 @@
 -- What serving a connection comes to: a request is read, the office handles it, and one reply goes out.
-use Rattle.std.specs.Prelude.{◌≡◌, ◌⊎◌, ℕ, ℤ, List, false, Option, IfSome, Result, Ok, Err}
+use Rattle.std.specs.Prelude.{◌≡◌, ◌≤◌, ◌⊎◌, ℕ, ℤ, List, false, Option, IfSome, Result, Ok, Err}
 use Rattle.std.specs.Io.KnownBytes.{Appends, Keeps}
 use Rattle.hh_devices.specs.Devices.{AppendsFront, Failed}
 use Rattle.hh_names.specs.Faults.{memory_fault}
@@ -11,7 +11,7 @@ use Rattle.hh_office.specs.Machine.{next}
 use Rattle.hh_office.specs.PartyViews.{ForbidsOthers, ShowsByView}
 use Rattle.hh_office.specs.Promises.{ConservesAfter, HandleStep, RefusalLeaves, RepeatsOnce, Stands, StandsAfter}
 use Rattle.hh_office.specs.Refusals.{CountsReply, StandsForSome}
-use Rattle.hh_office.specs.Views.{OfficeView, midnight_of}
+use Rattle.hh_office.specs.Views.{Kept, OfficeView, midnight_of}
 use Rattle.hh_replies.specs.declared.refusal.Refused.{Refused}
 use Rattle.hh_replies.specs.declared.refusal.RequestRefusal.TheVariants as refusal
 use Rattle.hh_replies.specs.ReplyText.{refused_text, reply_text}
@@ -79,6 +79,11 @@ abbrev pub StandsAfterOne : OfficeView → OfficeView → ℤ → Type 0
 StandsAfterOne old new moment =
     (s : State) → Stands old s
     → (new.zone ≡ old.zone) × (Stands new s ⊎ ((request : Request) × Stands new (next (midnight_of old) s moment request)))
+
+-- the store of an office counts no fewer refusals after a call than before it, if the office stood for some state that the machine
+-- reaches
+abbrev pub CountsUp : {T : Type 0} → (T → ℕ) → Kept T → Kept T → Type 0
+CountsUp refusals old new = StandsForSome old.seen → refusals old.tables ≤ refusals new.tables
 
 -- a source counts one failure where a call answers that a read failed, and none elsewhere
 abbrev pub CountsReading : Result Served ServeFault → ℕ → ℕ → Type 0

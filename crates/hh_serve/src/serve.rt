@@ -1,7 +1,7 @@
 //! Connections that are served: a request is read, the office handles it, and one reply is written.
 
 ghost use Rattle.hh_office.specs.Views.{IsSure};
-ghost use Rattle.hh_serve.specs.Serves.{CountsReading, CountsWriting, Serves, StandsAfterOne};
+ghost use Rattle.hh_serve.specs.Serves.{CountsReading, CountsUp, CountsWriting, Serves, StandsAfterOne};
 
 use hh_devices::{Sink, Source};
 use hh_office::Office;
@@ -66,6 +66,7 @@ pub fn serve_one<T: Tables, I: Source, O: Sink>(
         (O.taken sink.old) (O.taken sink.new) result }
     ensures stands { IsSure T.is_open office.new
         → StandsAfterOne office.old.seen office.new.seen moment }
+    ensures refusals_up { IsSure T.is_open office.new → CountsUp T.refusals office.old office.new }
     ensures sure { IsSure T.is_open office.new → IsSure T.is_open office.old }
     ensures read { CountsReading result (I.failures source.old) (I.failures source.new) }
     ensures written { CountsWriting result (O.failures sink.old) (O.failures sink.new) }

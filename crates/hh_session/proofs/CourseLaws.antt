@@ -1,5 +1,5 @@
 -- What becomes of the lines of a script, by what its parts do.
-use Rattle.std.proofs.Common.{◌≡◌, ℕ, ◌+◌, ◌<◌, List, [], ◌∷◌, ◌++◌, length, map, take, refl, sym, ap, subst, ◌∙◌, Bool, true, false, cond, Option, Some, None, Result, Ok, Err, inl, inr, arith, ltb}
+use Rattle.std.proofs.Common.{◌≡◌, ℕ, ◌+◌, ◌<◌, ◌≤◌, List, [], ◌∷◌, ◌++◌, length, map, take, refl, sym, ap, subst, ◌∙◌, Bool, true, false, cond, Option, Some, None, Result, Ok, Err, inl, inr, arith, ltb}
 use Rattle.std.specs.Prelude.{MatchBool, OnErr, OnOk, slice_index_or}
 use Rattle.std.specs.FinMap.{find}
 use Rattle.std.specs.Io.KnownBytes.{Appends}
@@ -21,6 +21,7 @@ use Rattle.hh_day.specs.Headline.{Conserves, ReachedConserve}
 use Rattle.hh_office.specs.Machine.{key_of, load_beside, may, step}
 use Rattle.hh_office.specs.Transitions.{Transition, refused_for}
 use Rattle.hh_office.specs.Promises.{HandleStep, Stands, StandsAfter, is_given_up}
+use Rattle.hh_office.specs.Refusals.{CountsReply, StandsForSome}
 use Rattle.hh_office.specs.Reports.{report_for}
 use Rattle.hh_office.specs.Views.{OfficeView, midnight_of}
 use Rattle.hh_script.specs.declared.script_line.ScriptLine.{ScriptLine}
@@ -29,8 +30,10 @@ use Rattle.hh_session.specs.declared.told.Told.{Told}
 use Rattle.hh_session.specs.declared.told.Told.TheVariants.{Replied}
 use Rattle.hh_session.specs.Course.{FirstConserve, IsLineOf, LoadDoes, RunDoes, RunsScript, ScriptConserves, ScriptDoes, StandsNow, StepDoes, StopsScript, no_memory, request_for, request_of}
 use Rattle.hh_session.specs.steps.Course.{BeginsLine, LeavesRefused, MakesRun, RunsLoad, RunsStep, StopsStep, TellsLine}
+use Rattle.hh_session.specs.GivingUp.{CountsMore}
 use Rattle.hh_session.specs.Lines.{told_line}
 use Rattle.hh_session.specs.Reporting.{report_asked, report_begun}
+use Rattle.hh_session.proofs.GivingUpLaws.{more_at_first, more_later, reply_where, script_then, step_then}
 
 -- A load asks the machine for the same by so many bytes of its file that a larger one is told.
 module _ (midnight : Midnights) (s : State) (l : LoadStep) (all : List ℕ) where
@@ -63,55 +66,62 @@ module _ (midnight : Midnights) (s : State) (l : LoadStep) (all : List ℕ) wher
           ∙ sym (too_large all (lt-ltb most_bytes (length all) (omega (arith, enough))))
 
 -- What a load does that the office answered.
-module _ (reads : List ℕ → Option (List ℕ) → Type 0) (old new : OfficeView) (l : LoadStep) (all : List ℕ) (most : ℕ) (enough : most_bytes < most)
-    (read : reads l.path (Some all)) (request : Request) (is : request ≡ request_of l (take most all)) (given : Reply) where
-  answered_by : (s t : State) (reply : Reply) (b : Bool) → is_given_up given ≡ b → (record { reply = reply; state = t }) ≡ step (midnight_of old) s l.moment (request_of l all)
+module _ (reads : List ℕ → Option (List ℕ) → Type 0) (old new : OfficeView) (counted counts : ℕ) (l : LoadStep) (all : List ℕ) (most : ℕ)
+    (enough : most_bytes < most) (read : reads l.path (Some all)) (request : Request) (is : request ≡ request_of l (take most all)) (given : Reply)
+    (counting : StandsForSome old → CountsReply given counted counts) where
+  answered_by : (s t : State) (reply : Reply) (b : Bool) → Stands old s → is_given_up given ≡ b
+      → (record { reply = reply; state = t }) ≡ step (midnight_of old) s l.moment (request_of l all)
       → MatchBool b (new ≡ old) ((given ≡ reply) × (new ≡ record old { content = tables_of (midnight_of old) t })) → Stands new (cond b s t)
-      → (u : State) × LoadDoes reads (midnight_of old) s l (Replied given) u × StandsNow old new u
-  answered_by s t reply true up transition same stands = (s, inr (up, refl), (stands, ap (λ (o : OfficeView). o.zone) same))
-  answered_by s t reply false up transition comes stands = (
+      → (u : State) × LoadDoes reads (CountsMore counted counts) (midnight_of old) s l (Replied given) u × StandsNow old new u
+  answered_by s t reply true before up transition same stands = (s, inr (reply_where counted counts given up (counting (s, before)), refl), (stands, ap (λ (o : OfficeView). o.zone) same))
+  answered_by s t reply false before up transition comes stands = (
     t,
     inl (all, read, (ap Replied (comes.0 ∙ ap (λ (o : Transition). o.reply) transition), ap (λ (o : Transition). o.state) transition)),
     (stands, ap (λ (o : OfficeView). o.zone) comes.1),
   )
 
-  pub load_answered : HandleStep old new l.moment request given → StandsAfter old new l.moment request given → RunsLoad reads old new l (Replied given)
+  pub load_answered : HandleStep old new l.moment request given → StandsAfter old new l.moment request given → RunsLoad (CountsMore counted counts) reads old new l (Replied given)
   load_answered steps after s stands =
       let transition : Transition = step (midnight_of old) s l.moment request in
-      answered_by s transition.state transition.reply (is_given_up given) refl
+      answered_by s transition.state transition.reply (is_given_up given) stands refl
       (ap (step (midnight_of old) s l.moment) is ∙ by_front (midnight_of old) s l all most enough) (steps s stands) (after s stands)
 
 -- What a run does that the office answered.
-module _ (old new : OfficeView) (run : RunStep) (request : Request) (is : request ≡ request_for run) (given : Reply) where
-  made_by : (s t : State) (reply : Reply) (b : Bool) → is_given_up given ≡ b → (record { reply = reply; state = t }) ≡ step (midnight_of old) s run.moment (request_for run)
+module _ (old new : OfficeView) (counted counts : ℕ) (run : RunStep) (request : Request) (is : request ≡ request_for run) (given : Reply)
+    (counting : StandsForSome old → CountsReply given counted counts) where
+  made_by : (s t : State) (reply : Reply) (b : Bool) → Stands old s → is_given_up given ≡ b
+      → (record { reply = reply; state = t }) ≡ step (midnight_of old) s run.moment (request_for run)
       → MatchBool b (new ≡ old) ((given ≡ reply) × (new ≡ record old { content = tables_of (midnight_of old) t })) → Stands new (cond b s t)
-      → (u : State) × RunDoes (midnight_of old) s run (Replied given) u × StandsNow old new u
-  made_by s t reply true up transition same stands = (s, inr (up, refl), (stands, ap (λ (o : OfficeView). o.zone) same))
-  made_by s t reply false up transition comes stands = (
+      → (u : State) × RunDoes (CountsMore counted counts) (midnight_of old) s run (Replied given) u × StandsNow old new u
+  made_by s t reply true before up transition same stands = (s, inr (reply_where counted counts given up (counting (s, before)), refl), (stands, ap (λ (o : OfficeView). o.zone) same))
+  made_by s t reply false before up transition comes stands = (
     t,
     inl (comes.0 ∙ ap (λ (o : Transition). o.reply) transition, ap (λ (o : Transition). o.state) transition),
     (stands, ap (λ (o : OfficeView). o.zone) comes.1),
   )
 
-  pub run_answered : HandleStep old new run.moment request given → StandsAfter old new run.moment request given → MakesRun old new run (Replied given)
+  pub run_answered : HandleStep old new run.moment request given → StandsAfter old new run.moment request given → MakesRun (CountsMore counted counts) old new run (Replied given)
   run_answered steps after s stands =
       let transition : Transition = step (midnight_of old) s run.moment request in
-      made_by s transition.state transition.reply (is_given_up given) refl
+      made_by s transition.state transition.reply (is_given_up given) stands refl
       (ap (step (midnight_of old) s run.moment) is) (steps s stands) (after s stands)
 
 -- a load and a run that are given up as memory ran out leave the state
-pub load_gives_up : (reads : List ℕ → Option (List ℕ) → Type 0) (midnight : Midnights) (load : LoadStep) (s : State) → LoadDoes reads midnight s load no_memory s
-load_gives_up reads midnight load s = inr (refl, refl)
+pub load_gives_up : (reads : List ℕ → Option (List ℕ) → Type 0) (fails : Type 0) (midnight : Midnights) (load : LoadStep) (s : State)
+    → LoadDoes reads fails midnight s load no_memory s
+load_gives_up reads fails midnight load s = inr (inl refl, refl)
 
-pub run_gives_up : (midnight : Midnights) (run : RunStep) (s : State) → RunDoes midnight s run no_memory s
-run_gives_up midnight run s = inr (refl, refl)
+pub run_gives_up : (fails : Type 0) (midnight : Midnights) (run : RunStep) (s : State) → RunDoes fails midnight s run no_memory s
+run_gives_up fails midnight run s = inr (inl refl, refl)
 
 -- and so does each step
-gives_up : (reads : List ℕ → Option (List ℕ) → Type 0) (refuses : ℕ → Type 0) (midnight : Midnights) (s : State) (step : Step) → StepDoes reads refuses midnight s step (told_line no_memory) s
-gives_up reads refuses midnight s (LoadFile load) = (no_memory, inr (refl, refl), refl)
-gives_up reads refuses midnight s (MakeRun run) = (no_memory, inr (refl, refl), refl)
-gives_up reads refuses midnight s (WriteReport asked) = (inr ([], report_begun (report_for midnight s asked.key (report_asked asked.report)), memory_fault, refl, refl, refl), refl)
-gives_up reads refuses midnight s (Serve line) = inl (inr refl, refl)
+gives_up : (reads : List ℕ → Option (List ℕ) → Type 0) (refuses : ℕ → Type 0) (fails : Type 0) (midnight : Midnights) (s : State) (step : Step)
+    → StepDoes reads refuses fails midnight s step (told_line no_memory) s
+gives_up reads refuses fails midnight s (LoadFile load) = (no_memory, load_gives_up reads fails midnight load s, refl)
+gives_up reads refuses fails midnight s (MakeRun run) = (no_memory, run_gives_up fails midnight run s, refl)
+gives_up reads refuses fails midnight s (WriteReport asked) =
+    (inr ([], report_begun (report_for midnight s asked.key (report_asked asked.report)), memory_fault, refl, inl refl, refl), refl)
+gives_up reads refuses fails midnight s (Serve line) = inl (inr refl, refl)
 
 -- What a line that is told in a line of its own does, by what it came to and what went out.
 module _ (old new : OfficeView) (before after : Option (List ℕ)) (told : Told) (does : State → Told → State → Type 0) (up : (s : State) → does s no_memory s)
@@ -131,13 +141,12 @@ module _ (old new : OfficeView) (before after : Option (List ℕ)) (told : Told)
       (told_line no_memory, s, (no_memory, up s, refl), went, (subst (λ o. Stands o s) (sym same) stands, ap (λ (o : OfficeView). o.zone) same))
 
 -- a line for which memory is refused before anything is done
-pub memory_done : (reads : List ℕ → Option (List ℕ) → Type 0) (refuses : ℕ → Type 0) (old : OfficeView) (before after : Option (List ℕ)) (step : Step)
-    → Appends before after (told_line no_memory) → RunsStep reads refuses old old before after step
-memory_done reads refuses old before after step went s stands = (told_line no_memory, s, gives_up reads refuses (midnight_of old) s step, went, (stands, refl))
+module _ (reads : List ℕ → Option (List ℕ) → Type 0) (refuses : ℕ → Type 0) (fails : Type 0) (old : OfficeView) (before after : Option (List ℕ)) (step : Step) where
+  pub memory_done : Appends before after (told_line no_memory) → RunsStep reads refuses fails old old before after step
+  memory_done went s stands = (told_line no_memory, s, gives_up reads refuses fails (midnight_of old) s step, went, (stands, refl))
 
-pub memory_cut : (reads : List ℕ → Option (List ℕ) → Type 0) (refuses : ℕ → Type 0) (old : OfficeView) (before after : Option (List ℕ)) (step : Step)
-    → AppendsFront before after (told_line no_memory) → StopsStep reads refuses old old before after step
-memory_cut reads refuses old before after step went s stands = (told_line no_memory, s, gives_up reads refuses (midnight_of old) s step, went, (stands, refl))
+  pub memory_cut : AppendsFront before after (told_line no_memory) → StopsStep reads refuses fails old old before after step
+  memory_cut went s stands = (told_line no_memory, s, gives_up reads refuses fails (midnight_of old) s step, went, (stands, refl))
 
 -- ---- lines one after the other
 
@@ -147,14 +156,14 @@ appends_more (Some xs) None after text line first second = absurd first
 appends_more (Some xs) (Some ys) None text line first second = absurd second
 appends_more (Some xs) (Some ys) (Some zs) text line first second = second ∙ ap (λ bytes. bytes ++ line) first ∙ append_assoc xs text line
 
-module _ (reads : List ℕ → Option (List ℕ) → Type 0) (refuses : ℕ → Type 0) (midnight : Midnights) where
-  does_more : (s t u : State) (steps : List Step) (text : List ℕ) (step : Step) (line : List ℕ) → ScriptDoes reads refuses midnight s steps text t → StepDoes reads refuses midnight t step line u
-      → ScriptDoes reads refuses midnight s (steps ++ step ∷ []) (text ++ line) u
+module _ (reads : List ℕ → Option (List ℕ) → Type 0) (refuses : ℕ → Type 0) (fails : Type 0) (midnight : Midnights) where
+  does_more : (s t u : State) (steps : List Step) (text : List ℕ) (step : Step) (line : List ℕ) → ScriptDoes reads refuses fails midnight s steps text t
+      → StepDoes reads refuses fails midnight t step line u → ScriptDoes reads refuses fails midnight s (steps ++ step ∷ []) (text ++ line) u
   does_more s t u [] text step line (none, same) does = (
     line,
     u,
     [],
-    subst (λ v. StepDoes reads refuses midnight v step line u) same does,
+    subst (λ v. StepDoes reads refuses fails midnight v step line u) same does,
     (refl, refl),
     ap (λ bytes. bytes ++ line) none ∙ sym (append-nil line),
   )
@@ -167,50 +176,72 @@ module _ (reads : List ℕ → Option (List ℕ) → Type 0) (refuses : ℕ → 
     ap (λ bytes. bytes ++ line) is ∙ append_assoc line0 rest line,
   )
 
-module _ (reads : List ℕ → Option (List ℕ) → Type 0) (refuses : ℕ → Type 0) (old now new : OfficeView) (before between after : Option (List ℕ)) (steps : List Step) (step : Step)
-    (ran : RunsScript reads refuses old now before between steps) where
-  -- one more line of a script
-  pub script_more : RunsStep reads refuses now new between after step → RunsScript reads refuses old new before after (steps ++ step ∷ [])
-  script_more runs s stands =
-      let (text, t, does, went, (now_stands, zone)) = ran s stands in
-      let (line, u, done, line_went, (new_stands, new_zone)) = runs t now_stands in (
-        text ++ line,
-        u,
-        does_more reads refuses (midnight_of old) s t u steps text step line does (subst (λ z. StepDoes reads refuses (midnight_in (plain_zone z)) t step line u) zone done),
-        appends_more before between after text line went line_went,
-        (new_stands, new_zone ∙ zone),
-      )
+-- The office's store had counted so many refusals at first, so many then, and counts so many in the end.
+module _ (reads : List ℕ → Option (List ℕ) → Type 0) (refuses : ℕ → Type 0) (old now new : OfficeView) (first mid last : ℕ) (before between after : Option (List ℕ))
+    (steps : List Step) (step : Step) (ran : RunsScript reads refuses (CountsMore first mid) old now before between steps) where
+  -- the office stands for some state after the lines so far
+  pub some_between : StandsForSome old → StandsForSome now
+  some_between (s, stands) = let (text, t, does, went, (now_stands, zone)) = ran s stands in (t, now_stands)
 
-  -- a line that stops a script
-  pub script_stops : (all : List Step) (count : ℕ) → take count all ≡ steps ++ step ∷ [] → StopsStep reads refuses now new between after step → StopsScript reads refuses old new before after all
-  script_stops all count is stops s stands =
-      let (text, t, does, went, (now_stands, zone)) = ran s stands in
-      let (line, u, done, (front, rest, cut, line_went), (new_stands, new_zone)) = stops t now_stands in (
-        count,
-        text ++ line,
-        u,
-        subst (λ xs. ScriptDoes reads refuses (midnight_of old) s xs (text ++ line) u) (sym is)
-            (does_more reads refuses (midnight_of old) s t u steps text step line does (subst (λ z. StepDoes reads refuses (midnight_in (plain_zone z)) t step line u) zone done)),
-        (
-          text ++ front,
-          rest,
-          ap (λ bytes. text ++ bytes) cut ∙ sym (append_assoc text front rest),
-          appends_more before between after text front went line_went,
-        ),
-        (new_stands, new_zone ∙ zone),
-      )
+  module _ (up : StandsForSome old → first ≤ mid) (further : StandsForSome now → mid ≤ last) where
+    -- the count does not fall by all of them and one more
+    pub up_more : StandsForSome old → first ≤ last
+    up_more some = omega (arith, up some, further (some_between some))
+
+    does_both : (s t u : State) (text line : List ℕ) → Stands old s → Stands now t → now.zone ≡ old.zone
+        → ScriptDoes reads refuses (CountsMore first mid) (midnight_of old) s steps text t
+        → StepDoes reads refuses (CountsMore mid last) (midnight_of now) t step line u
+        → ScriptDoes reads refuses (CountsMore first last) (midnight_of old) s (steps ++ step ∷ []) (text ++ line) u
+    does_both s t u text line stands now_stands zone does done =
+        does_more reads refuses (CountsMore first last) (midnight_of old) s t u steps text step line
+        (script_then (CountsMore first mid) (CountsMore first last) (more_at_first first mid last (up (s, stands)) (further (t, now_stands))) reads refuses (midnight_of old) s steps text t does)
+        (step_then (CountsMore mid last) (CountsMore first last) (more_later first mid last (up (s, stands)) (further (t, now_stands))) reads refuses (midnight_of old) t step line u
+        (subst (λ z. StepDoes reads refuses (CountsMore mid last) (midnight_in (plain_zone z)) t step line u) zone done))
+
+    -- one more line of a script
+    pub script_more : RunsStep reads refuses (CountsMore mid last) now new between after step
+        → RunsScript reads refuses (CountsMore first last) old new before after (steps ++ step ∷ [])
+    script_more runs s stands =
+        let (text, t, does, went, (now_stands, zone)) = ran s stands in
+        let (line, u, done, line_went, (new_stands, new_zone)) = runs t now_stands in (
+          text ++ line,
+          u,
+          does_both s t u text line stands now_stands zone does done,
+          appends_more before between after text line went line_went,
+          (new_stands, new_zone ∙ zone),
+        )
+
+    -- a line that stops a script
+    pub script_stops : (all : List Step) (count : ℕ) → take count all ≡ steps ++ step ∷ [] → StopsStep reads refuses (CountsMore mid last) now new between after step
+        → StopsScript reads refuses (CountsMore first last) old new before after all
+    script_stops all count is stops s stands =
+        let (text, t, does, went, (now_stands, zone)) = ran s stands in
+        let (line, u, done, (front, rest, cut, line_went), (new_stands, new_zone)) = stops t now_stands in (
+          count,
+          text ++ line,
+          u,
+          subst (λ xs. ScriptDoes reads refuses (CountsMore first last) (midnight_of old) s xs (text ++ line) u) (sym is)
+              (does_both s t u text line stands now_stands zone does done),
+          (
+            text ++ front,
+            rest,
+            ap (λ bytes. text ++ bytes) cut ∙ sym (append_assoc text front rest),
+            appends_more before between after text front went line_went,
+          ),
+          (new_stands, new_zone ∙ zone),
+        )
 
 -- The tables of a state that an office stands for add up.
-module _ (conserve : ReachedConserve) (reads : List ℕ → Option (List ℕ) → Type 0) (refuses : ℕ → Type 0) (old new : OfficeView) (before after : Option (List ℕ)) (steps : List Step) where
+module _ (conserve : ReachedConserve) (reads : List ℕ → Option (List ℕ) → Type 0) (refuses : ℕ → Type 0) (fails : Type 0) (old new : OfficeView) (before after : Option (List ℕ)) (steps : List Step) where
   sums_now : (t : State) → StandsNow old new t → Conserves (midnight_of old) t new.content
   sums_now t ((reached, is), zone) =
       subst (λ z. Conserves (midnight_in (plain_zone z)) t new.content) zone
       (subst (λ content. Conserves (midnight_of new) t content) (sym is) (conserve (midnight_of new) t reached))
 
-  pub script_conserves : RunsScript reads refuses old new before after steps → ScriptConserves reads refuses old new steps
+  pub script_conserves : RunsScript reads refuses fails old new before after steps → ScriptConserves reads refuses fails old new steps
   script_conserves runs s stands = let (text, t, does, went, now) = runs s stands in (text, t, does, sums_now t now)
 
-  pub first_conserve : StopsScript reads refuses old new before after steps → FirstConserve reads refuses old new steps
+  pub first_conserve : StopsScript reads refuses fails old new before after steps → FirstConserve reads refuses fails old new steps
   first_conserve stops s stands = let (count, text, t, does, cut, now) = stops s stands in (count, text, t, does, sums_now t now)
 
 -- ---- results

@@ -1,4 +1,5 @@
 pub mod CourseLaws
+pub mod GivingUpLaws
 pub mod ReportingLaws
 pub mod ScriptLaws
 pub mod ServingLaws

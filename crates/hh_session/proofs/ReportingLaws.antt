@@ -9,23 +9,31 @@ use Rattle.hh_names.specs.declared.fault.Refusal.{Refusal}
 use Rattle.hh_names.specs.Faults.{memory_fault, plain_fault}
 use Rattle.hh_requests.specs.declared.reply.Reply.TheVariants as reply
 use Rattle.hh_states.specs.States.{State}
+use Rattle.hh_store.specs.Reached.{AreReached}
 use Rattle.hh_office.specs.declared.report.ReportStop.TheVariants.{Refused, Write}
 use Rattle.hh_office.specs.Promises.{Stands, gives_up}
+use Rattle.hh_office.specs.Refusals.{CountsStoreFault, StandsForSome}
 use Rattle.hh_office.specs.Reports.{ReportsAs}
-use Rattle.hh_office.specs.Views.{OfficeView}
+use Rattle.hh_office.specs.Views.{OfficeView, midnight_of}
 use Rattle.hh_script.specs.Reports.{ReportStep}
 use Rattle.hh_script.specs.Steps.{WriteReport}
 use Rattle.hh_session.specs.declared.told.Told.TheVariants.{Replied}
 use Rattle.hh_session.specs.Course.{StandsNow}
 use Rattle.hh_session.specs.steps.Course.{BeginsLine, RunsStep, StopsStep, TellsLine}
+use Rattle.hh_session.specs.GivingUp.{CountsMore}
 use Rattle.hh_session.specs.Lines.{refusal_line}
 use Rattle.hh_session.specs.Reporting.{IsGivenUp, report_written}
 use Rattle.hh_session.specs.steps.Reporting.{BeginsReport, RunsReport}
 use Rattle.hh_session.proofs.CourseLaws.{appends_more}
+use Rattle.hh_session.proofs.GivingUpLaws.{fault_where}
+
+-- an office that stands for a state has the tables of one
+pub reached_by : (office : OfficeView) → StandsForSome office → AreReached office.content
+reached_by office (s, stands) = (midnight_of office, s, stands)
 
 -- what may be written of a report
-abbrev IsOut : Result (List ℕ) Refusal → List ℕ → Type 0
-IsOut report text = (text ≡ report_written report) ⊎ IsGivenUp report text
+abbrev IsOut : Type 0 → Result (List ℕ) Refusal → List ℕ → Type 0
+IsOut fails report text = (text ≡ report_written report) ⊎ IsGivenUp fails report text
 
 front_behind : (before between after : Option (List ℕ)) (text line : List ℕ) → Appends before between text → AppendsFront between after line → AppendsFront before after (text ++ line)
 front_behind before between after text line went (front, rest, cut, more) =
@@ -33,46 +41,50 @@ front_behind before between after text line went (front, rest, cut, more) =
 
 -- An output had these bytes before, these once the office was done, and these in the end.
 module _ (before between after : Option (List ℕ)) (counted counts : ℕ) where
-  pub cut_report : (report : Result (List ℕ) Refusal) → ReportsAs before between counted counts {A = Unit {0}} report (Err Write)
-      → (text : List ℕ) × IsOut report text × AppendsFront before between text
-  cut_report (Ok text) (went, failed) = (text, inl refl, went)
-  cut_report (Err why) none = absurd none
+  pub cut_report : (fails : Type 0) (report : Result (List ℕ) Refusal) → ReportsAs before between counted counts {A = Unit {0}} report (Err Write)
+      → (text : List ℕ) × IsOut fails report text × AppendsFront before between text
+  cut_report fails (Ok text) (went, failed) = (text, inl refl, went)
+  cut_report fails (Err why) none = absurd none
 
-  module _ (fault : Fault) where
+  -- The store had counted so many refusals before and counts so many.
+  module _ (fault : Fault) (earlier later : ℕ) (store : CountsStoreFault fault earlier later) where
+    abbrev fails : Type 0
+    fails = CountsMore earlier later
+
     -- the refusal of the whole, where it isn't one that gives up
-    refused_as : (b : Bool) → gives_up fault ≡ b → (why : Refusal) → MatchBool b (Unit {0}) (fault ≡ plain_fault why) → IsOut (Err why) (refusal_line fault)
-    refused_as true up why is = inr ([], [], fault, refl, up, refl)
+    refused_as : (b : Bool) → gives_up fault ≡ b → (why : Refusal) → MatchBool b (Unit {0}) (fault ≡ plain_fault why) → IsOut fails (Err why) (refusal_line fault)
+    refused_as true up why is = inr ([], [], fault, refl, fault_where earlier later fault up store, refl)
     refused_as false up why is = inl (ap refusal_line is)
 
     pub told_report : (report : Result (List ℕ) Refusal) → ReportsAs before between counted counts {A = Unit {0}} report (Err (Refused fault))
-        → TellsLine between after (Replied (reply.Refused fault)) → (text : List ℕ) × IsOut report text × Appends before after text
+        → TellsLine between after (Replied (reply.Refused fault)) → (text : List ℕ) × IsOut fails report text × Appends before after text
     told_report (Ok text) ((front, rest, cut, went), (up, same)) (inl told) =
-        (front ++ refusal_line fault, inr (front, rest, fault, cut, up, refl), appends_more before between after front (refusal_line fault) went told)
+        (front ++ refusal_line fault, inr (front, rest, fault, cut, fault_where earlier later fault up store, refl), appends_more before between after front (refusal_line fault) went told)
     told_report (Ok text) ((front, rest, cut, went), (up, same)) (inr (refusal, told)) =
-        (front ++ refusal_line memory_fault, inr (front, rest, memory_fault, cut, refl, refl), appends_more before between after front (refusal_line memory_fault) went told)
+        (front ++ refusal_line memory_fault, inr (front, rest, memory_fault, cut, inl refl, refl), appends_more before between after front (refusal_line memory_fault) went told)
     told_report (Err why) (is, (none, same)) (inl told) =
         (refusal_line fault, refused_as (gives_up fault) refl why is, subst (λ b. Appends b after (refusal_line fault)) none told)
     told_report (Err why) (is, (none, same)) (inr (refusal, told)) =
-        (refusal_line memory_fault, inr ([], [], memory_fault, refl, refl, refl), subst (λ b. Appends b after (refusal_line memory_fault)) none told)
+        (refusal_line memory_fault, inr ([], [], memory_fault, refl, inl refl, refl), subst (λ b. Appends b after (refusal_line memory_fault)) none told)
 
     pub begun_report : (report : Result (List ℕ) Refusal) → ReportsAs before between counted counts {A = Unit {0}} report (Err (Refused fault))
-        → BeginsLine between after (Replied (reply.Refused fault)) → (text : List ℕ) × IsOut report text × AppendsFront before after text
+        → BeginsLine between after (Replied (reply.Refused fault)) → (text : List ℕ) × IsOut fails report text × AppendsFront before after text
     begun_report (Ok text) ((front, rest, cut, went), (up, same)) (inl told) =
-        (front ++ refusal_line fault, inr (front, rest, fault, cut, up, refl), front_behind before between after front (refusal_line fault) went told)
+        (front ++ refusal_line fault, inr (front, rest, fault, cut, fault_where earlier later fault up store, refl), front_behind before between after front (refusal_line fault) went told)
     begun_report (Ok text) ((front, rest, cut, went), (up, same)) (inr (refusal, told)) =
-        (front ++ refusal_line memory_fault, inr (front, rest, memory_fault, cut, refl, refl), front_behind before between after front (refusal_line memory_fault) went told)
+        (front ++ refusal_line memory_fault, inr (front, rest, memory_fault, cut, inl refl, refl), front_behind before between after front (refusal_line memory_fault) went told)
     begun_report (Err why) (is, (none, same)) (inl told) =
         (refusal_line fault, refused_as (gives_up fault) refl why is, subst (λ b. AppendsFront b after (refusal_line fault)) none told)
     begun_report (Err why) (is, (none, same)) (inr (refusal, told)) =
-        (refusal_line memory_fault, inr ([], [], memory_fault, refl, refl, refl), subst (λ b. AppendsFront b after (refusal_line memory_fault)) none told)
+        (refusal_line memory_fault, inr ([], [], memory_fault, refl, inl refl, refl), subst (λ b. AppendsFront b after (refusal_line memory_fault)) none told)
 
 -- A line that asks for a report is a step of a script, which leaves the office.
-module _ (reads : List ℕ → Option (List ℕ) → Type 0) (refuses : ℕ → Type 0) (old new : OfficeView) (same : new ≡ old) (before after : Option (List ℕ)) (step : ReportStep) where
+module _ (reads : List ℕ → Option (List ℕ) → Type 0) (refuses : ℕ → Type 0) (fails : Type 0) (old new : OfficeView) (same : new ≡ old) (before after : Option (List ℕ)) (step : ReportStep) where
   stays : (s : State) → Stands old s → StandsNow old new s
   stays s stands = (subst (λ o. Stands o s) (sym same) stands, ap (λ (o : OfficeView). o.zone) same)
 
-  pub report_step : RunsReport old before after step → RunsStep reads refuses old new before after (WriteReport step)
+  pub report_step : RunsReport fails old before after step → RunsStep reads refuses fails old new before after (WriteReport step)
   report_step runs s stands = let (text, does, went) = runs s stands in (text, s, (does, refl), went, stays s stands)
 
-  pub report_stop : BeginsReport old before after step → StopsStep reads refuses old new before after (WriteReport step)
+  pub report_stop : BeginsReport fails old before after step → StopsStep reads refuses fails old new before after (WriteReport step)
   report_stop begins s stands = let (text, does, went) = begins s stands in (text, s, (does, refl), went, stays s stands)

@@ -14,8 +14,10 @@ use Rattle.hh_states.specs.Steps.{IsReached, at_first}
 use Rattle.hh_day.specs.Headline.{Conserves, ReachedConserve}
 use Rattle.hh_office.specs.Views.{OfficeView, midnight_of}
 use Rattle.hh_script.specs.Steps.{Step}
-use Rattle.hh_session.specs.Course.{RunsScript, StandsNow, StopsScript}
+use Rattle.hh_session.specs.Course.{RunsScript, ScriptDoes, StandsNow, StopsScript}
+use Rattle.hh_session.specs.GivingUp.{CountsMore}
 use Rattle.hh_session.specs.Script.{IsMarketZone, NewOfficeCuts, NewOfficeWrites}
+use Rattle.hh_session.proofs.GivingUpLaws.{script_then}
 
 -- So many bytes were read of a file, or all of it.
 module _ (most : ℕ) (all bytes : List ℕ) (front : bytes ≡ take (most + 1) all) where
@@ -52,12 +54,18 @@ module _ (reads : List ℕ → Option (List ℕ) → Type 0) (refuses : ℕ → 
   sums_now t ((reached, is), same) =
       conserve (midnight_of first) t (subst (λ z. IsReached (midnight_in (plain_zone z)) t) same reached)
 
-  pub new_office_writes : RunsScript reads refuses first new before after steps → NewOfficeWrites reads refuses settings before after steps
+  -- what the steps do where a store that counts no refusal may have failed, they do where it never fails
+  never_fails : (ran : List Step) (text : List ℕ) (t : State) → ScriptDoes reads refuses (CountsMore 0 0) (midnight_of first) (empty_state settings) ran text t
+      → ScriptDoes reads refuses ⊥ (midnight_of first) (empty_state settings) ran text t
+  never_fails ran text t does =
+      script_then (CountsMore 0 0) ⊥ (λ more. absurd (omega (arith, more (omega arith)))) reads refuses (midnight_of first) (empty_state settings) ran text t does
+
+  pub new_office_writes : RunsScript reads refuses (CountsMore 0 0) first new before after steps → NewOfficeWrites reads refuses settings before after steps
   new_office_writes runs =
       let (text, t, does, went, now) = runs (empty_state settings) (at_first settings fine, stands (midnight_of first)) in
-      (text, (zone, market, (t, does, sums_now t now)), went)
+      (text, (zone, market, (t, never_fails steps text t does, sums_now t now)), went)
 
-  pub new_office_cuts : StopsScript reads refuses first new before after steps → NewOfficeCuts reads refuses settings before after steps
+  pub new_office_cuts : StopsScript reads refuses (CountsMore 0 0) first new before after steps → NewOfficeCuts reads refuses settings before after steps
   new_office_cuts stops =
       let (count, text, t, does, went, now) = stops (empty_state settings) (at_first settings fine, stands (midnight_of first)) in
-      (count, text, (zone, market, (t, does, sums_now t now)), went)
+      (count, text, (zone, market, (t, never_fails (take count steps) text t does, sums_now t now)), went)

@@ -9,6 +9,7 @@ use Rattle.hh_requests.specs.declared.request.Request.{Request}
 use Rattle.hh_states.specs.States.{State}
 use Rattle.hh_office.specs.Machine.{next, state_after}
 use Rattle.hh_office.specs.Promises.{Stands}
+use Rattle.hh_office.specs.Refusals.{StandsForSome}
 use Rattle.hh_office.specs.Views.{OfficeView, midnight_of}
 use Rattle.hh_serve.specs.Serves.{StandsAfterOne}
 use Rattle.hh_sockets.specs.Ports.{IsPortFor}
@@ -48,6 +49,10 @@ serves_more old now new moment count served one s stands =
       new_zone ∙ zone,
     )
 
+-- the office stands for some state after so many connections
+pub some_served : (old new : OfficeView) (moment : ℤ) (count : ℕ) → ServesUpTo old new moment count → StandsForSome old → StandsForSome new
+some_served old new moment count served (s, stands) = let (t, is, now, zone) = served s stands in (t, now)
+
 -- A line that serves was begun, and the office stays.
 module _ (refuses : ℕ → Type 0) (office : OfficeView) (before after : Option (List ℕ)) (line : ServeLine) where
   pub serving_cut : (port : ℕ) → IsPortFor line.port port → AppendsFront before after (listening_line port) → StopsServing refuses office office before after line
@@ -57,9 +62,9 @@ module _ (refuses : ℕ → Type 0) (office : OfficeView) (before after : Option
   no_socket_cut refused went s stands = (no_socket_line, s, inl (inl (refused, refl), refl), went, stands, refl)
 
 -- A line that serves is a step of a script.
-module _ (reads : List ℕ → Option (List ℕ) → Type 0) (refuses : ℕ → Type 0) (old new : OfficeView) (before after : Option (List ℕ)) (line : ServeLine) where
-  pub served_step : RunsServing refuses old new before after line → RunsStep reads refuses old new before after (Serve line)
+module _ (reads : List ℕ → Option (List ℕ) → Type 0) (refuses : ℕ → Type 0) (fails : Type 0) (old new : OfficeView) (before after : Option (List ℕ)) (line : ServeLine) where
+  pub served_step : RunsServing refuses old new before after line → RunsStep reads refuses fails old new before after (Serve line)
   served_step runs s stands = let (text, t, does, went, now, zone) = runs s stands in (text, t, does, went, (now, zone))
 
-  pub served_stop : StopsServing refuses old new before after line → StopsStep reads refuses old new before after (Serve line)
+  pub served_stop : StopsServing refuses old new before after line → StopsStep reads refuses fails old new before after (Serve line)
   served_stop stops s stands = let (text, t, does, went, now, zone) = stops s stands in (text, t, does, went, (now, zone))

@@ -1,5 +1,5 @@
 -- What becomes of an office, and what is written, while the lines of a script are run.
-use Rattle.std.specs.Prelude.{◌≡◌, ◌⊎◌, ℕ, List, [], ◌∷◌, ◌++◌, take, Option, Some, None, IsTrue}
+use Rattle.std.specs.Prelude.{◌≡◌, ◌⊎◌, ℕ, List, [], ◌∷◌, ◌++◌, take, Option, Some, None}
 use Rattle.std.specs.Io.KnownBytes.{Appends}
 use Rattle.hh_devices.specs.Devices.{AppendsFront}
 use Rattle.hh_time.specs.Days.{Midnights}
@@ -11,11 +11,12 @@ use Rattle.hh_states.specs.States.{State}
 use Rattle.hh_day.specs.Headline.{Conserves}
 use Rattle.hh_office.specs.Machine.{step}
 use Rattle.hh_office.specs.Transitions.{Transition}
-use Rattle.hh_office.specs.Promises.{Stands, is_given_up}
+use Rattle.hh_office.specs.Promises.{Stands}
 use Rattle.hh_office.specs.Views.{OfficeView, midnight_of}
 use Rattle.hh_script.specs.Steps.{LoadFile, LoadStep, MakeRun, RunStep, Serve, Step, WriteReport}
 use Rattle.hh_session.specs.declared.told.Told.{Told}
 use Rattle.hh_session.specs.declared.told.Told.TheVariants.{Replied, Unreadable}
+use Rattle.hh_session.specs.GivingUp.{IsGivenUpWhere}
 use Rattle.hh_session.specs.Lines.{told_line}
 use Rattle.hh_session.specs.Reporting.{ReportDoes}
 use Rattle.hh_session.specs.Serving.{ServeDoes}
@@ -35,37 +36,40 @@ request_of load body = record {
 abbrev pub request_for : RunStep → Request
 request_for run = record { key = run.key; action = ask.Run (record { date = run.date; kind = run.kind }) }
 
--- what a run comes to in a state, and the state after it: it is answered, or it is given up
-abbrev pub RunDoes : Midnights → State → RunStep → Told → State → Type 0
-RunDoes midnight s run Unreadable t = ⊥
-RunDoes midnight s run (Replied given) t =
+-- What a run comes to in a state, and the state after it: it is answered, or it is given up. The store may have failed only where this
+-- holds.
+abbrev pub RunDoes : Type 0 → Midnights → State → RunStep → Told → State → Type 0
+RunDoes fails midnight s run Unreadable t = ⊥
+RunDoes fails midnight s run (Replied given) t =
     (let transition : Transition = step midnight s run.moment (request_for run) in (given ≡ transition.reply) × (t ≡ transition.state))
-    ⊎ (IsTrue (is_given_up given) × (t ≡ s))
+    ⊎ (IsGivenUpWhere fails given × (t ≡ s))
 
 -- a text is the line that tells what was done
 abbrev pub IsLineOf : (Told → Type 0) → List ℕ → Type 0
 IsLineOf does text = (told : Told) × does told × (text ≡ told_line told)
 
 -- What a path may read as: the bytes of its file, or nothing where it cannot be read.
-module _ (reads : List ℕ → Option (List ℕ) → Type 0) (midnight : Midnights) where
+module _ (reads : List ℕ → Option (List ℕ) → Type 0) where
   -- the file of a load was read, and the machine answered
-  abbrev pub IsAnswered : State → LoadStep → Told → State → Type 0
-  IsAnswered s load told t =
+  abbrev pub IsAnswered : Midnights → State → LoadStep → Told → State → Type 0
+  IsAnswered midnight s load told t =
       (body : List ℕ) × reads load.path (Some body)
       × (let transition : Transition = step midnight s load.moment (request_of load body) in (told ≡ Replied transition.reply) × (t ≡ transition.state))
 
-  -- what a load comes to in a state, and the state after it: its file cannot be read, it is answered, or it is given up
-  abbrev pub LoadDoes : State → LoadStep → Told → State → Type 0
-  LoadDoes s load Unreadable t = reads load.path None × (t ≡ s)
-  LoadDoes s load (Replied given) t = IsAnswered s load (Replied given) t ⊎ (IsTrue (is_given_up given) × (t ≡ s))
+  -- What a load comes to in a state, and the state after it: its file cannot be read, it is answered, or it is given up. The store may
+  -- have failed only where this holds.
+  abbrev pub LoadDoes : Type 0 → Midnights → State → LoadStep → Told → State → Type 0
+  LoadDoes fails midnight s load Unreadable t = reads load.path None × (t ≡ s)
+  LoadDoes fails midnight s load (Replied given) t =
+      IsAnswered midnight s load (Replied given) t ⊎ (IsGivenUpWhere fails given × (t ≡ s))
 
--- What a path may read as, and which ports may not be listened on.
-module _ (reads : List ℕ → Option (List ℕ) → Type 0) (refuses : ℕ → Type 0) (midnight : Midnights) where
+-- What a path may read as, and which ports may not be listened on. The store may have failed only where this holds.
+module _ (reads : List ℕ → Option (List ℕ) → Type 0) (refuses : ℕ → Type 0) (fails : Type 0) (midnight : Midnights) where
   -- what a step writes in a state, and the state after it
   abbrev pub StepDoes : State → Step → List ℕ → State → Type 0
-  StepDoes s (LoadFile load) text t = IsLineOf (λ told. LoadDoes reads midnight s load told t) text
-  StepDoes s (MakeRun run) text t = IsLineOf (λ told. RunDoes midnight s run told t) text
-  StepDoes s (WriteReport asked) text t = ReportDoes midnight s asked text × (t ≡ s)
+  StepDoes s (LoadFile load) text t = IsLineOf (λ told. LoadDoes reads fails midnight s load told t) text
+  StepDoes s (MakeRun run) text t = IsLineOf (λ told. RunDoes fails midnight s run told t) text
+  StepDoes s (WriteReport asked) text t = ReportDoes fails midnight s asked text × (t ≡ s)
   StepDoes s (Serve line) text t = ServeDoes refuses midnight s line text t
 
   -- what the steps of a script write, one after the other, and the state after them
@@ -79,27 +83,28 @@ module _ (reads : List ℕ → Option (List ℕ) → Type 0) (refuses : ℕ → 
 abbrev pub StandsNow : OfficeView → OfficeView → State → Type 0
 StandsNow old new t = Stands new t × (new.zone ≡ old.zone)
 
--- An output had these bytes before and has those after.
-module _ (reads : List ℕ → Option (List ℕ) → Type 0) (refuses : ℕ → Type 0) (old new : OfficeView) (before after : Option (List ℕ)) where
+-- An output had these bytes before and has those after. The store may have failed only where this holds.
+module _ (reads : List ℕ → Option (List ℕ) → Type 0) (refuses : ℕ → Type 0) (fails : Type 0) (old new : OfficeView) (before after : Option (List ℕ)) where
   -- steps were run from each state that the office stood for, and what they write went out
   abbrev pub RunsScript : List Step → Type 0
   RunsScript steps = (s : State) → Stands old s
-      → (text : List ℕ) × (t : State) × ScriptDoes reads refuses (midnight_of old) s steps text t × Appends before after text × StandsNow old new t
+      → (text : List ℕ) × (t : State) × ScriptDoes reads refuses fails (midnight_of old) s steps text t × Appends before after text × StandsNow old new t
 
   -- the first of the steps were run and no more, and a beginning of what they write went out
   abbrev pub StopsScript : List Step → Type 0
   StopsScript steps = (s : State) → Stands old s
-      → (count : ℕ) × (text : List ℕ) × (t : State) × ScriptDoes reads refuses (midnight_of old) s (take count steps) text t × AppendsFront before after text × StandsNow old new t
+      → (count : ℕ) × (text : List ℕ) × (t : State) × ScriptDoes reads refuses fails (midnight_of old) s (take count steps) text t × AppendsFront before after text × StandsNow old new t
 
--- What a path may read as, and which ports may not be listened on. An office was the one before and is the other after the lines.
-module _ (reads : List ℕ → Option (List ℕ) → Type 0) (refuses : ℕ → Type 0) (old new : OfficeView) where
+-- What a path may read as, and which ports may not be listened on. The store may have failed only where this holds. An office was the
+-- one before and is the other after the lines.
+module _ (reads : List ℕ → Option (List ℕ) → Type 0) (refuses : ℕ → Type 0) (fails : Type 0) (old new : OfficeView) where
   -- steps were run from each state that the office stood for, and in the state after them its tables add up: each run's rows,
   -- contracts, charges with shares, the credits of units, and postings
   abbrev pub ScriptConserves : List Step → Type 0
   ScriptConserves steps = (s : State) → Stands old s
-      → (text : List ℕ) × (t : State) × ScriptDoes reads refuses (midnight_of old) s steps text t × Conserves (midnight_of old) t new.content
+      → (text : List ℕ) × (t : State) × ScriptDoes reads refuses fails (midnight_of old) s steps text t × Conserves (midnight_of old) t new.content
 
   -- so it is in the state after the first of the steps
   abbrev pub FirstConserve : List Step → Type 0
   FirstConserve steps = (s : State) → Stands old s
-      → (count : ℕ) × (text : List ℕ) × (t : State) × ScriptDoes reads refuses (midnight_of old) s (take count steps) text t × Conserves (midnight_of old) t new.content
+      → (count : ℕ) × (text : List ℕ) × (t : State) × ScriptDoes reads refuses fails (midnight_of old) s (take count steps) text t × Conserves (midnight_of old) t new.content

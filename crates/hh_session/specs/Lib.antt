@@ -1,4 +1,5 @@
 pub mod Course
+pub mod GivingUp
 pub mod Lines
 pub mod Reporting
 pub mod Script

@@ -1,5 +1,5 @@
 -- What comes of the lines of a script that ask for a report.
-use Rattle.std.specs.Prelude.{◌≡◌, ◌⊎◌, ℕ, List, [], ◌++◌, Result, Ok, Err, IsTrue}
+use Rattle.std.specs.Prelude.{◌≡◌, ◌⊎◌, ℕ, List, [], ◌++◌, Result, Ok, Err}
 use Rattle.hh_time.specs.Days.{Midnights}
 use Rattle.hh_names.specs.declared.fault.Fault.{Fault}
 use Rattle.hh_names.specs.declared.fault.Refusal.{Refusal}
@@ -7,11 +7,11 @@ use Rattle.hh_names.specs.Faults.{plain_fault}
 use Rattle.hh_states.specs.States.{State}
 use Rattle.hh_office.specs.declared.report.Report.{Report}
 use Rattle.hh_office.specs.declared.report.Report.TheVariants.{Balances, Day, Results}
-use Rattle.hh_office.specs.Promises.{gives_up}
 use Rattle.hh_office.specs.Reports.{report_for}
 use Rattle.hh_script.specs.declared.report.AskedReport.{AskedReport}
 use Rattle.hh_script.specs.declared.report.AskedReport.TheVariants as asked
 use Rattle.hh_script.specs.Reports.{ReportStep}
+use Rattle.hh_session.specs.GivingUp.{GivesUpWhere}
 use Rattle.hh_session.specs.Lines.{refusal_line}
 
 -- the report that the words of a line ask for
@@ -30,14 +30,16 @@ abbrev pub report_begun : Result (List ℕ) Refusal → List ℕ
 report_begun (Ok text) = text
 report_begun (Err why) = []
 
--- a report was given up: a beginning of it was written, and the line that tells why
-abbrev pub IsGivenUp : Result (List ℕ) Refusal → List ℕ → Type 0
-IsGivenUp report text =
-    (front rest : List ℕ) × (fault : Fault)
-    × (report_begun report ≡ front ++ rest) × IsTrue (gives_up fault) × (text ≡ front ++ refusal_line fault)
+-- The store may have failed only where this holds.
+module _ (fails : Type 0) where
+  -- a report was given up: a beginning of it was written, and the line that tells why
+  abbrev pub IsGivenUp : Result (List ℕ) Refusal → List ℕ → Type 0
+  IsGivenUp report text =
+      (front rest : List ℕ) × (fault : Fault)
+      × (report_begun report ≡ front ++ rest) × GivesUpWhere fails fault × (text ≡ front ++ refusal_line fault)
 
--- what a line that asks for a report writes in a state
-abbrev pub ReportDoes : Midnights → State → ReportStep → List ℕ → Type 0
-ReportDoes midnight s step text =
-    let report : Result (List ℕ) Refusal = report_for midnight s step.key (report_asked step.report) in
-    (text ≡ report_written report) ⊎ IsGivenUp report text
+  -- what a line that asks for a report writes in a state
+  abbrev pub ReportDoes : Midnights → State → ReportStep → List ℕ → Type 0
+  ReportDoes midnight s step text =
+      let report : Result (List ℕ) Refusal = report_for midnight s step.key (report_asked step.report) in
+      (text ≡ report_written report) ⊎ IsGivenUp report text

@@ -30,13 +30,14 @@ IsMarketZone zone = IsPosixZone (codes "GMT0BST,M3.5.0/1,M10.5.0") (plain_zone z
 -- What a path may read as: the bytes of its file, or nothing where it cannot be read; and which ports may not be listened on. An
 -- office has these settings.
 module _ (reads : List ℕ → Option (List ℕ) → Type 0) (refuses : ℕ → Type 0) (settings : Settings) where
-  -- what steps write over a new office of the market's zone, whose tables in the state after them add up: each run's rows,
-  -- contracts, charges with shares, the credits of units, and postings
+  -- What steps write over a new office of the market's zone, whose tables in the state after them add up: each run's rows,
+  -- contracts, charges with shares, the credits of units, and postings. The tables are in memory, so no line tells that a store
+  -- refused.
   abbrev pub NewOfficeDoes : List Step → List ℕ → Type 0
   NewOfficeDoes steps text =
       (zone : TimeZone) × IsMarketZone zone
       × (let midnight : Midnights = midnight_in (plain_zone zone) in
-      (t : State) × ScriptDoes reads refuses midnight (empty_state settings) steps text t × Conserves midnight t (tables_of midnight t))
+      (t : State) × ScriptDoes reads refuses ⊥ midnight (empty_state settings) steps text t × Conserves midnight t (tables_of midnight t))
 
   -- An output had these bytes before and has those after.
   module _ (old new : Option (List ℕ)) (steps : List Step) where

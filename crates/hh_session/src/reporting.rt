@@ -3,9 +3,13 @@
 ghost use Rattle.std.specs.Prelude.{◌≡◌, IsTrue, OnErr, OnOk};
 ghost use Rattle.hh_devices.specs.Devices.{Failed};
 ghost use Rattle.hh_time.specs.Days.{is_accepted};
+ghost use Rattle.hh_store.specs.Reached.{AreReached};
+ghost use Rattle.hh_office.specs.Refusals.{CountsReportStop};
 ghost use Rattle.hh_office.specs.Reports.{CountsReport, Reports};
 ghost use Rattle.hh_office.specs.Views.{IsSure};
+ghost use Rattle.hh_serve.specs.Serves.{CountsUp};
 ghost use Rattle.hh_script.specs.Reports.{IsOfAcceptedDate, report_of};
+ghost use Rattle.hh_session.specs.GivingUp.{HasRefused};
 ghost use Rattle.hh_session.specs.Reporting.{report_asked};
 ghost use Rattle.hh_session.specs.steps.Reporting.{BeginsReport, RunsReport};
 
@@ -26,14 +30,15 @@ pub(crate) fn write_report<T: Tables, O: Sink>(
 ) -> Result<(), DeviceFailed>
     requires { IsOfAcceptedDate line.now.report }
     ensures done { IsSure T.is_open office.new
-        → OnOk result (RunsReport office.old.seen (O.taken out.old) (O.taken out.new)
-        (report_of line.now)) }
+        → OnOk result (RunsReport (HasRefused T.refusals office.old office.new)
+        office.old.seen (O.taken out.old) (O.taken out.new) (report_of line.now)) }
     ensures well { OnOk result (O.failures out.new ≡ O.failures out.old) }
     ensures cut { IsSure T.is_open office.new
-        → OnErr result (BeginsReport office.old.seen (O.taken out.old) (O.taken out.new)
-        (report_of line.now)) }
+        → OnErr result (BeginsReport (HasRefused T.refusals office.old office.new)
+        office.old.seen (O.taken out.old) (O.taken out.new) (report_of line.now)) }
     ensures failed { OnErr result (Failed (O.failures out.old) (O.failures out.new)) }
     ensures same { IsSure T.is_open office.new → office.new.seen ≡ office.old.seen }
+    ensures refusals_up { IsSure T.is_open office.new → CountsUp T.refusals office.old office.new }
     ensures sure { IsSure T.is_open office.new → IsSure T.is_open office.old }
 {
     match ask(office, line.key, line.report, out) {
@@ -56,6 +61,8 @@ fn ask<T: Tables, O: Sink>(
         (report_asked asked) result }
     ensures counted { CountsReport result (O.failures out.old) (O.failures out.new) }
     ensures same { IsSure T.is_open office.new → office.new.seen ≡ office.old.seen }
+    ensures refusals_counted { IsSure T.is_open office.new → AreReached office.old.seen.content
+        → CountsReportStop result (T.refusals office.old.tables) (T.refusals office.new.tables) }
     ensures sure { IsSure T.is_open office.new → IsSure T.is_open office.old }
 {
     match asked {

@@ -3,8 +3,10 @@
 ghost use Rattle.std.specs.Prelude.{◌≡◌, ℕ, List, Some, None, map, take, All, IfOk, IsErrOf, OnErr, OnOk};
 ghost use Rattle.hh_devices.specs.Devices.{Failed};
 ghost use Rattle.hh_office.specs.Views.{IsSure};
+ghost use Rattle.hh_serve.specs.Serves.{CountsUp};
 ghost use Rattle.hh_script.specs.Steps.{IsWellNamed, LoadFile, MakeRun, load_of, run_of, step_of};
 ghost use Rattle.hh_session.specs.Course.{FirstConserve, RunsScript, ScriptConserves, StopsScript, request_for, request_of};
+ghost use Rattle.hh_session.specs.GivingUp.{HasRefused};
 ghost use Rattle.hh_session.specs.steps.Course.{LeavesRefused, MakesRun, RunsLoad, RunsStep, StopsStep};
 
 use crate::lines::LINE_ROOM;
@@ -50,20 +52,23 @@ pub fn run_lines<T: Tables, I: Inputs, L: Loopback, O: Sink>(
     requires { All (λ line. IsWellNamed (step_of line)) lines.now }
     ensures done { IsSure T.is_open office.new
         → OnOk result (RunsScript (I.reads_as inputs.now) (L.may_refuse loopback.now)
-        office.old.seen office.new.seen (O.taken out.old) (O.taken out.new)
-        (map step_of lines.now)) }
+        (HasRefused T.refusals office.old office.new) office.old.seen office.new.seen
+        (O.taken out.old) (O.taken out.new) (map step_of lines.now)) }
     ensures well { OnOk result (O.failures out.new ≡ O.failures out.old) }
     ensures cut { IsSure T.is_open office.new
         → OnErr result (StopsScript (I.reads_as inputs.now) (L.may_refuse loopback.now)
-        office.old.seen office.new.seen (O.taken out.old) (O.taken out.new)
-        (map step_of lines.now)) }
+        (HasRefused T.refusals office.old office.new) office.old.seen office.new.seen
+        (O.taken out.old) (O.taken out.new) (map step_of lines.now)) }
     ensures sums { IsSure T.is_open office.new
         → OnOk result (ScriptConserves (I.reads_as inputs.now) (L.may_refuse loopback.now)
-        office.old.seen office.new.seen (map step_of lines.now)) }
+        (HasRefused T.refusals office.old office.new) office.old.seen office.new.seen
+        (map step_of lines.now)) }
     ensures sums_cut { IsSure T.is_open office.new
         → OnErr result (FirstConserve (I.reads_as inputs.now) (L.may_refuse loopback.now)
-        office.old.seen office.new.seen (map step_of lines.now)) }
+        (HasRefused T.refusals office.old office.new) office.old.seen office.new.seen
+        (map step_of lines.now)) }
     ensures failed { OnErr result (Failed (O.failures out.old) (O.failures out.new)) }
+    ensures refusals_up { IsSure T.is_open office.new → CountsUp T.refusals office.old office.new }
     ensures sure { IsSure T.is_open office.new → IsSure T.is_open office.old }
 {
     // Does nothing, but carries a law for the proof: the tables of the machine's states add up.
@@ -86,12 +91,15 @@ fn run_line<T: Tables, I: Inputs, L: Loopback, O: Sink>(
     requires { IsWellNamed (step_of line.now) }
     ensures done { IsSure T.is_open office.new
         → OnOk result (RunsStep (I.reads_as inputs.now) (L.may_refuse loopback.now)
-        office.old.seen office.new.seen (O.taken out.old) (O.taken out.new) (step_of line.now)) }
+        (HasRefused T.refusals office.old office.new) office.old.seen office.new.seen
+        (O.taken out.old) (O.taken out.new) (step_of line.now)) }
     ensures well { OnOk result (O.failures out.new ≡ O.failures out.old) }
     ensures cut { IsSure T.is_open office.new
         → OnErr result (StopsStep (I.reads_as inputs.now) (L.may_refuse loopback.now)
-        office.old.seen office.new.seen (O.taken out.old) (O.taken out.new) (step_of line.now)) }
+        (HasRefused T.refusals office.old office.new) office.old.seen office.new.seen
+        (O.taken out.old) (O.taken out.new) (step_of line.now)) }
     ensures failed { OnErr result (Failed (O.failures out.old) (O.failures out.new)) }
+    ensures refusals_up { IsSure T.is_open office.new → CountsUp T.refusals office.old office.new }
     ensures sure { IsSure T.is_open office.new → IsSure T.is_open office.old }
 {
     // Room for the line of what is done, taken before the office acts.
@@ -116,9 +124,11 @@ fn run_line<T: Tables, I: Inputs, L: Loopback, O: Sink>(
 fn make_run<T: Tables>(alloc: Global, office: &mut Office<'_, T>, run: &RunLine<'_>) -> Told
     requires { IsWellNamed (MakeRun (run_of run.now)) }
     ensures runs { IsSure T.is_open office.new
-        → MakesRun office.old.seen office.new.seen (run_of run.now) result }
+        → MakesRun (HasRefused T.refusals office.old office.new)
+        office.old.seen office.new.seen (run_of run.now) result }
     ensures untouched { IsSure T.is_open office.new
         → LeavesRefused office.old.seen office.new.seen result }
+    ensures refusals_up { IsSure T.is_open office.new → CountsUp T.refusals office.old office.new }
     ensures sure { IsSure T.is_open office.new → IsSure T.is_open office.old }
 {
     match run_request(alloc, run) {
@@ -154,10 +164,11 @@ fn run_load<T: Tables, I: Inputs>(
 ) -> Told
     requires { IsWellNamed (LoadFile (load_of load.now)) }
     ensures runs { IsSure T.is_open office.new
-        → RunsLoad (I.reads_as inputs.now) office.old.seen office.new.seen
-        (load_of load.now) result }
+        → RunsLoad (HasRefused T.refusals office.old office.new) (I.reads_as inputs.now)
+        office.old.seen office.new.seen (load_of load.now) result }
     ensures untouched { IsSure T.is_open office.new
         → LeavesRefused office.old.seen office.new.seen result }
+    ensures refusals_up { IsSure T.is_open office.new → CountsUp T.refusals office.old office.new }
     ensures sure { IsSure T.is_open office.new → IsSure T.is_open office.old }
 {
     match read_request(alloc, inputs, load) {

@@ -3,7 +3,7 @@
 ghost use Rattle.std.specs.Prelude.{◌≡◌, ◌≤◌, [], vec_capacity, OnErr, OnOk};
 ghost use Rattle.std.specs.Io.KnownBytes.{Appends};
 ghost use Rattle.hh_devices.specs.Devices.{AppendsFront, Failed};
-ghost use Rattle.hh_serve.specs.Serves.{StandsAfterOne};
+ghost use Rattle.hh_serve.specs.Serves.{CountsUp, StandsAfterOne};
 ghost use Rattle.hh_office.specs.Views.{IsSure};
 ghost use Rattle.hh_session.specs.Serving.{listening_line};
 ghost use Rattle.hh_session.specs.steps.Serving.{RunsServing, ServesUpTo, StopsServing};
@@ -37,6 +37,7 @@ pub(crate) fn serve_connections<T: Tables, L: Loopback, O: Sink>(
         → OnErr result (StopsServing (L.may_refuse loopback.now) office.old.seen office.new.seen
         (O.taken out.old) (O.taken out.new) line.now) }
     ensures failed { OnErr result (Failed (O.failures out.old) (O.failures out.new)) }
+    ensures refusals_up { IsSure T.is_open office.new → CountsUp T.refusals office.old office.new }
     ensures sure { IsSure T.is_open office.new → IsSure T.is_open office.old }
 {
     match loopback.listen(line.port) {
@@ -74,6 +75,7 @@ fn serve_each<T: Tables, L: Listener>(
 )
     ensures serves { IsSure T.is_open office.new
         → ServesUpTo office.old.seen office.new.seen moment count }
+    ensures refusals_up { IsSure T.is_open office.new → CountsUp T.refusals office.old office.new }
     ensures sure { IsSure T.is_open office.new → IsSure T.is_open office.old }
 {
     for _ in 0..count {
@@ -90,6 +92,7 @@ fn serve_next<T: Tables, L: Listener>(
 )
     ensures stands { IsSure T.is_open office.new
         → StandsAfterOne office.old.seen office.new.seen moment }
+    ensures refusals_up { IsSure T.is_open office.new → CountsUp T.refusals office.old office.new }
     ensures sure { IsSure T.is_open office.new → IsSure T.is_open office.old }
 {
     if let Ok(mut connection) = listener.accept() {

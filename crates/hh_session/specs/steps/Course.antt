@@ -27,26 +27,29 @@ module _ (before after : Option (List ℕ)) (told : Told) where
   abbrev pub BeginsLine : Type 0
   BeginsLine = AppendsFront before after (told_line told) ⊎ (IsRefusal told × AppendsFront before after (told_line no_memory))
 
--- what a load comes to, and the office after it
-abbrev pub RunsLoad : (List ℕ → Option (List ℕ) → Type 0) → OfficeView → OfficeView → LoadStep → Told → Type 0
-RunsLoad reads old new load told = (s : State) → Stands old s → (t : State) × LoadDoes reads (midnight_of old) s load told t × StandsNow old new t
+-- The store may have failed only where this holds.
+module _ (fails : Type 0) where
+  -- what a load comes to, and the office after it
+  abbrev pub RunsLoad : (List ℕ → Option (List ℕ) → Type 0) → OfficeView → OfficeView → LoadStep → Told → Type 0
+  RunsLoad reads old new load told =
+      (s : State) → Stands old s → (t : State) × LoadDoes reads fails (midnight_of old) s load told t × StandsNow old new t
 
--- what a run comes to, and the office after it
-abbrev pub MakesRun : OfficeView → OfficeView → RunStep → Told → Type 0
-MakesRun old new run told = (s : State) → Stands old s → (t : State) × RunDoes (midnight_of old) s run told t × StandsNow old new t
+  -- what a run comes to, and the office after it
+  abbrev pub MakesRun : OfficeView → OfficeView → RunStep → Told → Type 0
+  MakesRun old new run told = (s : State) → Stands old s → (t : State) × RunDoes fails (midnight_of old) s run told t × StandsNow old new t
 
 -- what is refused leaves the office as it is
 abbrev pub LeavesRefused : OfficeView → OfficeView → Told → Type 0
 LeavesRefused old new told = IsRefusal told → new ≡ old
 
--- An output had these bytes before and has those after.
-module _ (reads : List ℕ → Option (List ℕ) → Type 0) (refuses : ℕ → Type 0) (old new : OfficeView) (before after : Option (List ℕ)) where
+-- An output had these bytes before and has those after. The store may have failed only where this holds.
+module _ (reads : List ℕ → Option (List ℕ) → Type 0) (refuses : ℕ → Type 0) (fails : Type 0) (old new : OfficeView) (before after : Option (List ℕ)) where
   -- a step was run from each state that the office stood for, and what it writes went out
   abbrev pub RunsStep : Step → Type 0
   RunsStep step = (s : State) → Stands old s
-      → (text : List ℕ) × (t : State) × StepDoes reads refuses (midnight_of old) s step text t × Appends before after text × StandsNow old new t
+      → (text : List ℕ) × (t : State) × StepDoes reads refuses fails (midnight_of old) s step text t × Appends before after text × StandsNow old new t
 
   -- a step was run from each state that the office stood for, and a beginning of what it writes went out
   abbrev pub StopsStep : Step → Type 0
   StopsStep step = (s : State) → Stands old s
-      → (text : List ℕ) × (t : State) × StepDoes reads refuses (midnight_of old) s step text t × AppendsFront before after text × StandsNow old new t
+      → (text : List ℕ) × (t : State) × StepDoes reads refuses fails (midnight_of old) s step text t × AppendsFront before after text × StandsNow old new t

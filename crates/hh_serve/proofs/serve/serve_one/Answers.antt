@@ -2,7 +2,7 @@ use Rattle.std.proofs.Common.{Ok, Err, refl, rules, subst, w64, SFits}
 use Rattle.std.proofs.lemmas.Int.{to_z-of_z}
 use Rattle.hh_wire.specs.declared.incoming.WireFault.{WireFault}
 use Rattle.hh_serve.specs.Serves.{IsReadOf}
-use Rattle.hh_serve.proofs.ServeLemmas.{handled, not_replied, replied, stands_after_one}
+use Rattle.hh_serve.proofs.ServeLemmas.{handled, not_replied, replied, reply_up, stands_after_one}
 use Rattle.hh_serve.proofs.serve.serve_one.Goals as goal
 
 pub returns-in_err-write_reply-in-Ok-Asked-clause-served :
@@ -65,3 +65,13 @@ returns-in_ok-write_refused-in-Err-Refused-clause-served g c sure =
     let old = c.args.office.now.seen in
     let message = subst (λ (w : WireFault). IsReadOf source (Err w)) c.in-Err-Refused.field-0-is c.in-Err-Refused.ensures.message in
     replied source old old _ _ c.args.moment _ _ _ _ (Err c.in-Err-Refused.refused) (message, refl) c.in_ok-write_refused-in-Err-Refused.ensures.reply
+
+pub returns-in_err-write_reply-in-Ok-Asked-clause-refusals_up :
+    goal.returns-in_err-write_reply-in-Ok-Asked-clause-refusals_up
+returns-in_err-write_reply-in-Ok-Asked-clause-refusals_up g c sure some =
+    reply_up c.handle-reply.result _ _ (c.handle-reply.ensures.refusals_counted sure some)
+
+pub returns-in_ok-write_reply-in-Ok-Asked-clause-refusals_up :
+    goal.returns-in_ok-write_reply-in-Ok-Asked-clause-refusals_up
+returns-in_ok-write_reply-in-Ok-Asked-clause-refusals_up g c sure some =
+    reply_up c.handle-reply.result _ _ (c.handle-reply.ensures.refusals_counted sure some)
