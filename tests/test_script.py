@@ -13,7 +13,7 @@ import unittest
 
 from programs import CONTRACTS, EXAMPLE, HOME, METER, as_nobody, link_tools
 
-# hh_settle stands on three crates of the repository, and on one that isn't its; `other` is beside it.
+# hh_settle depends on three crates of the repository, and on one that isn't its; `other` is beside it.
 CRATES = """\
 # lowest first
 low: itoa

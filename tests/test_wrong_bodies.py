@@ -100,7 +100,7 @@ class WrongBodies(unittest.TestCase):
         return counts
 
     def test_a_crate_has_its_own_bodies_again(self):
-        """The crates above stand on it when theirs are tried; `tried` sees it."""
+        """The crates above depend on it when theirs are tried; `tried` sees it."""
         seen = []
         self.tried(lambda files: seen.append(files["date_range.rt"]) or "")
         self.assertTrue(set(seen) - {(HOME / "crates" / "hh_rows" / "src" / "date_range.rt").read_text()})
