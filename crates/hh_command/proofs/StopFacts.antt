@@ -1,6 +1,7 @@
 -- How a line stops, or is done, by what was read of its files.
 use Rattle.std.proofs.Common.{◌≡◌, ◌<◌, ℕ, List, Option, Some, inr, Result, Ok, Err, IfErr, take, refl, sym, subst, ◌∙◌}
 use Rattle.std.specs.Result.{IsErrAnd}
+use Rattle.hh_devices.specs.DeviceChanges.{DeviceChange, HasFailed}
 use Rattle.hh_names.specs.declared.fault.Refusal.{Refusal}
 use Rattle.hh_names.specs.declared.fault.Refusal.TheVariants as refusal
 use Rattle.hh_names.specs.Faults.{ByRefusal, Refuses}
@@ -17,7 +18,7 @@ use Rattle.hh_session.specs.declared.script.ScriptStop.TheVariants as script
 use Rattle.hh_session.specs.Script.{StopsAt}
 use Rattle.hh_words.specs.Lines.{Line, PeriodCommand, ScriptCommand, line_value}
 use Rattle.hh_command.specs.declared.program.Stop.TheVariants as stop
-use Rattle.hh_command.specs.Stops.{period_stop, script_stop, AreWrong, ComesTo, DeviceChange, DoesPeriod, HasUnreadable, StopsBy, StopsLine, StopsPeriod, TellsOff}
+use Rattle.hh_command.specs.Stops.{period_stop, script_stop, AreWrong, ComesTo, DoesPeriod, HasUnreadable, StopsBy, StopsLine, StopsPeriod, TellsOff}
 use Rattle.hh_command.specs.steps.Stops.{IsOffAndTold}
 use Rattle.hh_command.proofs.FrontFacts.{period_outcome-front}
 
@@ -42,33 +43,33 @@ module _ (reads : List ℕ → Option (List ℕ) → Type 0) (most : ℕ) (enoug
     sym (period_outcome-front most enough meter_read.0 contracts_read.0 price) ∙ sym (λ i. period_outcome (meter_read.2 i) (contracts_read.2 i) price) ∙ is,
   )
 
-  pub done_by_period : (old new : Option (List ℕ)) → Writes (period_outcome m c price) old new → DoesPeriod reads meter contracts price old new
-  done_by_period old new (text, is, went) = (text, comes_to (Ok text) is, went)
+  pub done_by_period : (device : DeviceChange) → Writes (period_outcome m c price) device → DoesPeriod reads meter contracts price device
+  done_by_period device (text, is, went) = (text, comes_to (Ok text) is, went)
 
-  -- An output had these bytes before and has those after, and it failed if this holds.
-  module _ (old new : Option (List ℕ)) (failed : Type 0) where
+  -- What changes in an output.
+  module _ (device : DeviceChange) where
     -- a period's fault, as its contract tells it
     pub record IsPeriodFault (fault : PeriodFault) : Type 0 where
       pub refused : (e : Rejection) → fault ≡ Refused e → Refuses rejections e (period_outcome m c price)
-      pub untouched : (e : Rejection) → fault ≡ Refused e → new ≡ old
-      pub cut : fault ≡ Write → WritesFront (period_outcome m c price) old new
-      pub failed_then : fault ≡ Write → failed
+      pub untouched : (e : Rejection) → fault ≡ Refused e → device.new ≡ device.old
+      pub cut : fault ≡ Write → WritesFront (period_outcome m c price) device
+      pub failed_then : fault ≡ Write → HasFailed device
 
     -- the line stops as the fault says
-    line_stops : (fault : PeriodFault) → IsPeriodFault fault → StopsPeriod reads old new failed meter contracts price (period_stop fault)
+    line_stops : (fault : PeriodFault) → IsPeriodFault fault → StopsPeriod reads device meter contracts price (period_stop fault)
     line_stops (Refused e) h = (h.untouched e refl, ByRefusal-map e.fault.refusal _ _ _ (comes_to (Err e)) (h.refused e refl))
     line_stops Write h = let (text, is, went) = h.cut refl in (h.failed_then refl, (text, comes_to (Ok text) is, went))
 
     pub stopped_by_period : {T : Type 0} (fault : PeriodFault) → IsPeriodFault fault
         → (result : Result T Stop) → IsErrAnd result (λ s. s ≡ period_stop fault)
-        → IfErr result (λ s. StopsPeriod reads old new failed meter contracts price s)
+        → IfErr result (λ s. StopsPeriod reads device meter contracts price s)
     stopped_by_period fault h (Ok x) passed = tt
-    stopped_by_period fault h (Err s) passed = subst (StopsPeriod reads old new failed meter contracts price) (sym passed) (line_stops fault h)
+    stopped_by_period fault h (Err s) passed = subst (StopsPeriod reads device meter contracts price) (sym passed) (line_stops fault h)
 
 -- A line stops as one of a script that is off its form, and that is told: the words are wrong.
-module _ (reads : List ℕ → Option (List ℕ) → Type 0) (refuses : ℕ → Type 0) (words : List Text) (old new : Option (List ℕ)) (failed : Type 0) (err : DeviceChange) where
+module _ (reads : List ℕ → Option (List ℕ) → Type 0) (refuses : ℕ → Type 0) (words : List Text) (out err : DeviceChange) where
   off_at : (settings : Settings) (file : Text) → line_value words ≡ Some (ScriptCommand settings file) → (line : ℕ) → TellsOff err line
-      → (why : ScriptStop) → script_stop why ≡ stop.Off line → StopsAt reads file refuses settings old new failed why → AreWrong reads words err
+      → (why : ScriptStop) → script_stop why ≡ stop.Off line → StopsAt reads file refuses settings out why → AreWrong reads words err
   off_at settings file is line told script.File same at = cc same
   off_at settings file is line told (script.Off n) same at =
       let number : n ≡ line = cc same in
@@ -76,7 +77,7 @@ module _ (reads : List ℕ → Option (List ℕ) → Type 0) (refuses : ℕ → 
   off_at settings file is line told (script.Refused fault) same at = cc same
   off_at settings file is line told script.Output same at = cc same
 
-  pub wrong_by_off : (l : Line) → line_value words ≡ Some l → (s : Stop) → StopsLine reads refuses old new failed l s → IsOffAndTold err s → AreWrong reads words err
+  pub wrong_by_off : (l : Line) → line_value words ≡ Some l → (s : Stop) → StopsLine reads refuses out l s → IsOffAndTold err s → AreWrong reads words err
   wrong_by_off (PeriodCommand meter contracts price) is s stops (line, same, told) =
-      absurd (subst (StopsBy old new failed (ComesTo reads meter contracts price) (HasUnreadable reads meter contracts)) same stops)
+      absurd (subst (StopsBy out (ComesTo reads meter contracts price) (HasUnreadable reads meter contracts)) same stops)
   wrong_by_off (ScriptCommand settings file) is s (why, from, at) (line, same, told) = off_at settings file is line told why (sym from ∙ same) at

@@ -1,8 +1,9 @@
 -- How a stop with status 2 is told.
 use Rattle.std.proofs.Common.{◌≡◌, inl, inr, refl, arith}
+use Rattle.hh_devices.specs.DeviceChanges.{DeviceChange}
 use Rattle.hh_command.specs.declared.program.Stop.{Stop}
 use Rattle.hh_command.specs.declared.program.Stop.TheVariants as stop
-use Rattle.hh_command.specs.Stops.{DeviceChange, IsTold, Tells, stop_line, stop_status}
+use Rattle.hh_command.specs.Stops.{IsTold, Tells, stop_line, stop_status}
 use Rattle.hh_command.specs.steps.Stops.{IsOffAndTold}
 
 -- it is a line of a script off its form, whose number is told

@@ -2,7 +2,8 @@
 use Rattle.std.specs.Prelude.{◌≡◌, ◌≢◌, ◌⊎◌, ℕ, List, [], ◌++◌, Option, Some, None, Ok, Err, codes, decimal}
 use Rattle.std.specs.Io.KnownBytes.{Appends}
 use Rattle.clap.specs.Words.{Text}
-use Rattle.hh_devices.specs.Devices.{AppendsFront, Failed}
+use Rattle.hh_devices.specs.DeviceChanges.{DeviceChange, HasFailed}
+use Rattle.hh_devices.specs.Devices.{AppendsFront}
 use Rattle.hh_names.specs.Faults.{ByRefusal}
 use Rattle.hh_rows.specs.declared.settings.Settings.{Settings}
 use Rattle.hh_inputs.specs.declared.inputs.InputFault.{InputFault}
@@ -54,21 +55,6 @@ stop_status stop.File = 1
 stop_status stop.Output = 1
 stop_status (stop.Off line) = 2
 
--- what changes in a device by a command: the bytes that it tells, and its count of failures
-pub record DeviceChange : Type 0 where
-  pub old : Option (List ℕ)
-  pub new : Option (List ℕ)
-  pub old_failures : ℕ
-  pub new_failures : ℕ
-
--- what changes in a device from one state to another
-abbrev pub change : {S : Type 0} → (S → Option (List ℕ)) → (S → ℕ) → S → S → DeviceChange
-change taken failures old new = record { old = taken old; new = taken new; old_failures = failures old; new_failures = failures new }
-
--- the device failed
-abbrev pub HasFailed : DeviceChange → Type 0
-HasFailed device = Failed device.old_failures device.new_failures
-
 -- a text went out that is not empty, unless the device failed
 abbrev pub IsTold : DeviceChange → Type 0
 IsTold device = HasFailed device ⊎ ((text : List ℕ) × (text ≢ []) × Appends device.old device.new text)
@@ -93,14 +79,14 @@ TellsOff device line = HasFailed device ⊎ Appends device.old device.new (stop_
 abbrev pub HasStatusOne : Stop → Type 0
 HasStatusOne s = stop_status s ≡ 1
 
--- An output had these bytes before and has those after, and it failed if this holds. What may come to these outcomes stops so,
--- or because a file cannot be read if that holds: then, and where it is refused, nothing went out; where the output failed, a
--- beginning of the text did. Memory may run out in the place of any rejection.
-module _ (old new : Option (List ℕ)) (failed : Type 0) where
+-- What changes in an output. What may come to these outcomes stops so, or because a file cannot be read if that holds: then, and
+-- where it is refused, nothing went out; where the output failed, a beginning of the text did. Memory may run out in the place of
+-- any rejection.
+module _ (device : DeviceChange) where
   abbrev pub StopsBy : (Outcome (List ℕ) → Type 0) → Type 0 → Stop → Type 0
-  StopsBy Comes unread (stop.Refused e) = (new ≡ old) × ByRefusal e.fault.refusal (e ≡ memory_rejection) (Comes (Err e))
-  StopsBy Comes unread stop.File = (new ≡ old) × unread
-  StopsBy Comes unread stop.Output = failed × ((text : List ℕ) × Comes (Ok text) × AppendsFront old new text)
+  StopsBy Comes unread (stop.Refused e) = (device.new ≡ device.old) × ByRefusal e.fault.refusal (e ≡ memory_rejection) (Comes (Err e))
+  StopsBy Comes unread stop.File = (device.new ≡ device.old) × unread
+  StopsBy Comes unread stop.Output = HasFailed device × ((text : List ℕ) × Comes (Ok text) × AppendsFront device.old device.new text)
   StopsBy Comes unread (stop.Off line) = ⊥
 
 -- What a path may read as: the bytes of its file, or nothing where it cannot be read.
@@ -115,33 +101,33 @@ module _ (reads : List ℕ → Option (List ℕ) → Type 0) where
   HasUnreadable meter contracts = reads meter None ⊎ ((m : List ℕ) × reads meter (Some m) × reads contracts None)
 
   -- a period is settled, and known bytes grow by its text
-  abbrev pub DoesPeriod : Text → Text → Text → Option (List ℕ) → Option (List ℕ) → Type 0
-  DoesPeriod meter contracts price old new = (text : List ℕ) × ComesTo meter contracts price (Ok text) × Appends old new text
+  abbrev pub DoesPeriod : Text → Text → Text → DeviceChange → Type 0
+  DoesPeriod meter contracts price device = (text : List ℕ) × ComesTo meter contracts price (Ok text) × Appends device.old device.new text
 
-  -- it stops so, where the output had these bytes and has those, and failed if this holds
-  abbrev pub StopsPeriod : Option (List ℕ) → Option (List ℕ) → Type 0 → Text → Text → Text → Stop → Type 0
-  StopsPeriod old new failed meter contracts price = StopsBy old new failed (ComesTo meter contracts price) (HasUnreadable meter contracts)
+  -- it stops so, where this changes in the output
+  abbrev pub StopsPeriod : DeviceChange → Text → Text → Text → Stop → Type 0
+  StopsPeriod device meter contracts price = StopsBy device (ComesTo meter contracts price) (HasUnreadable meter contracts)
 
 -- What a path may read as, and which ports may not be listened on.
 module _ (reads : List ℕ → Option (List ℕ) → Type 0) (refuses : ℕ → Type 0) where
   -- the line is done, and known bytes grow by its text
-  abbrev pub Does : Line → Option (List ℕ) → Option (List ℕ) → Type 0
-  Does (PeriodCommand meter contracts price) old new = DoesPeriod reads meter contracts price old new
-  Does (ScriptCommand settings file) old new = WritesScript reads file refuses settings old new
+  abbrev pub Does : Line → DeviceChange → Type 0
+  Does (PeriodCommand meter contracts price) device = DoesPeriod reads meter contracts price device
+  Does (ScriptCommand settings file) device = WritesScript reads file refuses settings device
 
-  -- a line stops so, where the output had these bytes and has those, and failed if this holds
-  abbrev pub StopsLine : Option (List ℕ) → Option (List ℕ) → Type 0 → Line → Stop → Type 0
-  StopsLine old new failed (PeriodCommand meter contracts price) = StopsPeriod reads old new failed meter contracts price
-  StopsLine old new failed (ScriptCommand settings file) = λ s. (why : ScriptStop) × (s ≡ script_stop why) × StopsAt reads file refuses settings old new failed why
+  -- a line stops so, where this changes in the output
+  abbrev pub StopsLine : DeviceChange → Line → Stop → Type 0
+  StopsLine device (PeriodCommand meter contracts price) = StopsPeriod reads device meter contracts price
+  StopsLine device (ScriptCommand settings file) = λ s. (why : ScriptStop) × (s ≡ script_stop why) × StopsAt reads file refuses settings device why
 
   -- words form a line, and it is done
-  abbrev pub DoesWords : List Text → Option (List ℕ) → Option (List ℕ) → Type 0
-  DoesWords words old new = (line : Line) × (line_value words ≡ Some line) × Does line old new
+  abbrev pub DoesWords : List Text → DeviceChange → Type 0
+  DoesWords words device = (line : Line) × (line_value words ≡ Some line) × Does line device
 
   -- words stop as the line that they form, or because memory ran out before they were read
   abbrev pub StopsWords : List Text → DeviceChange → Stop → Type 0
   StopsWords words out s = ((s ≡ stop.Refused memory_rejection) × (out.new ≡ out.old))
-      ⊎ ((line : Line) × (line_value words ≡ Some line) × StopsLine out.old out.new (HasFailed out) line s)
+      ⊎ ((line : Line) × (line_value words ≡ Some line) × StopsLine out line s)
 
   -- words stop with status 1, and why is told
   abbrev pub Stops : List Text → DeviceChange → DeviceChange → Type 0

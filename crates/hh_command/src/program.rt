@@ -3,11 +3,12 @@
 ghost use Rattle.std.specs.Prelude.{◌≡◌, ◌≢◌, ◌≤◌, ◌<◌, IfErr, OnErr, OnOk, List, map, string_bytes};
 ghost use Rattle.std.specs.Io.KnownBytes.{Appends};
 ghost use Rattle.clap.specs.Words.{Text};
+ghost use Rattle.hh_devices.specs.DeviceChanges.{change};
 ghost use Rattle.hh_devices.specs.Devices.{Failed};
 ghost use Rattle.hh_rows.specs.RowKinds.{most_bytes};
 ghost use Rattle.hh_period.specs.Outcome.{memory_rejection};
 ghost use Rattle.hh_words.specs.Lines.{line_of};
-ghost use Rattle.hh_command.specs.Stops.{change, AreWrong, Does, DoesPeriod, DoesWords, HasStatusOne, IsTold, Stops, StopsLine, StopsPeriod, Tells, stop_line, stop_status};
+ghost use Rattle.hh_command.specs.Stops.{AreWrong, Does, DoesPeriod, DoesWords, HasStatusOne, IsTold, Stops, StopsLine, StopsPeriod, Tells, stop_line, stop_status};
 ghost use Rattle.hh_command.specs.steps.Stops.{IsOffAndTold};
 
 use hh_devices::{DeviceFailed, Sink, write_whole};
@@ -126,7 +127,7 @@ pub fn run<R: Env + AllocGlobal, I: Inputs, L: Loopback, O: Sink, E: Sink>(
     // Some words form a line, and it was done.
     ensures done { result ≡ 0 → (words : List Text)
         × DoesWords (I.reads_as inputs.now) (L.may_refuse loopback.now) words
-        (O.taken out.old) (O.taken out.new) }
+        (change O.taken O.failures out.old out.new) }
     ensures well { result ≡ 0 → O.failures out.new ≡ O.failures out.old }
     ensures silent { result ≡ 0 → err.new ≡ err.old }
 
@@ -171,7 +172,7 @@ pub fn command<I: Inputs, L: Loopback, O: Sink, E: Sink>(
 
     // Done is what the words ask for, and nothing is said on `err` then.
     ensures done { result ≡ 0 → DoesWords (I.reads_as inputs.now) (L.may_refuse loopback.now)
-        (map string_bytes words.now) (O.taken out.old) (O.taken out.new) }
+        (map string_bytes words.now) (change O.taken O.failures out.old out.new) }
     ensures well { result ≡ 0 → O.failures out.new ≡ O.failures out.old }
     ensures silent { result ≡ 0 → err.new ≡ err.old }
 
@@ -206,11 +207,11 @@ fn perform<I: Inputs, L: Loopback, O: Sink>(
     out: &mut O,
 ) -> Result<(), Stop>
     ensures done { OnOk result (Does (I.reads_as inputs.now) (L.may_refuse loopback.now)
-        (line_of command.now) (O.taken out.old) (O.taken out.new)) }
+        (line_of command.now) (change O.taken O.failures out.old out.new)) }
     ensures well { OnOk result (O.failures out.new ≡ O.failures out.old) }
     ensures stopped { IfErr result (λ stop. StopsLine (I.reads_as inputs.now)
-        (L.may_refuse loopback.now) (O.taken out.old) (O.taken out.new)
-        (Failed (O.failures out.old) (O.failures out.new)) (line_of command.now) stop) }
+        (L.may_refuse loopback.now) (change O.taken O.failures out.old out.new)
+        (line_of command.now) stop) }
     ensures untouched { IfErr result (λ stop. stop ≢ Stop.Output → out.new ≡ out.old) }
 {
     match command {
@@ -232,10 +233,11 @@ fn settle_files<I: Inputs, O: Sink>(
 ) -> Result<(), Stop>
     requires { most_bytes < most }
     ensures done { OnOk result (DoesPeriod (I.reads_as inputs.now) words.entry.meter.now
-        words.entry.contracts.now words.entry.price.now (O.taken out.old) (O.taken out.new)) }
+        words.entry.contracts.now words.entry.price.now
+        (change O.taken O.failures out.old out.new)) }
     ensures well { OnOk result (O.failures out.new ≡ O.failures out.old) }
     ensures stopped { IfErr result (λ stop. StopsPeriod (I.reads_as inputs.now)
-        (O.taken out.old) (O.taken out.new) (Failed (O.failures out.old) (O.failures out.new))
+        (change O.taken O.failures out.old out.new)
         words.entry.meter.now words.entry.contracts.now words.entry.price.now stop) }
     ensures untouched { IfErr result (λ stop. stop ≢ Stop.Output → out.new ≡ out.old) }
 {

@@ -1,3 +1,4 @@
+pub mod DeviceChanges
 pub mod Devices
 pub mod MemorySink
 pub mod MemorySource

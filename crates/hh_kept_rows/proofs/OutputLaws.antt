@@ -1,8 +1,9 @@
 -- Reports that are written, as the tables tell it; and the balances that are written from all postings.
-use Rattle.std.proofs.Common.{◌≡◌, ℕ, List, map, Option, Result, Ok, Err, sym, ap, subst, ◌∙◌}
+use Rattle.std.proofs.Common.{◌≡◌, ℕ, List, map, Result, Ok, Err, sym, ap, subst, ◌∙◌}
 use Rattle.std.specs.Prelude.{ℤ, IsErrAnd, filter_map}
 use Rattle.hh_num.specs.Totals.{total}
 use Rattle.hh_num.proofs.TotalLaws.{total-map}
+use Rattle.hh_devices.specs.DeviceChanges.{DeviceChange}
 use Rattle.hh_devices.specs.Devices.{AppendsFront}
 use Rattle.hh_tables.specs.Tables.{Table}
 use Rattle.hh_names.specs.declared.account.Account.{Account}
@@ -20,15 +21,15 @@ use Rattle.hh_store.specs.declared.output_fault.OutputFault.{OutputFault}
 use Rattle.hh_store.specs.Outputs.{CountsOutput, Outputs}
 use Rattle.hh_store.specs.StoreFaults.{output_fault}
 
-counted_alike : (fault : ReportFault) (f g : ℕ) → CountsFault fault f g → CountsOutput (output_fault fault) f g
-counted_alike report.Memory f g counts = counts
-counted_alike report.Write f g counts = counts
+counted_alike : (device : DeviceChange) (fault : ReportFault) → CountsFault device fault → CountsOutput device (output_fault fault)
+counted_alike device report.Memory counts = counts
+counted_alike device report.Write counts = counts
 
 -- the fault of a writer is told on
-pub told_as_output : {A : Type 0} (a b : Option (List ℕ)) (f g : ℕ) (text : List ℕ) (fault : ReportFault) (r : Result A OutputFault)
-    → IsErrAnd r (λ e. e ≡ output_fault fault) → AppendsFront a b text × CountsFault fault f g → Outputs a b f g text r
-told_as_output a b f g text fault (Ok x) is sent = absurd is
-told_as_output a b f g text fault (Err e) is sent = (sent.0, subst (λ x. CountsOutput x f g) (sym is) (counted_alike fault f g sent.1))
+pub told_as_output : {A : Type 0} (device : DeviceChange) (text : List ℕ) (fault : ReportFault) (r : Result A OutputFault)
+    → IsErrAnd r (λ e. e ≡ output_fault fault) → AppendsFront device.old device.new text × CountsFault device fault → Outputs device text r
+told_as_output device text fault (Ok x) is sent = absurd is
+told_as_output device text fault (Err e) is sent = (sent.0, subst (CountsOutput device) (sym is) (counted_alike device fault sent.1))
 
 -- all postings, each under its account
 abbrev amounts_posted : Table PostingKey ℤ → Amounts

@@ -1,6 +1,7 @@
 //! The reports, from rows in the order of their keys.
 
 ghost use Rattle.std.specs.Prelude.{◌≡◌, ◌≢◌, map, IfErr, IfOk};
+ghost use Rattle.hh_devices.specs.DeviceChanges.{change};
 ghost use Rattle.hh_reports.specs.DayReport.{day_report_text};
 ghost use Rattle.hh_reports.specs.Exports.{results_text};
 ghost use Rattle.hh_store.specs.Outputs.{Outputs, reported_as};
@@ -30,8 +31,7 @@ pub fn write_results_of<S: Sink>(
     rows: &[(PeriodNumber, AccountRow)],
     out: &mut S,
 ) -> Result<(), OutputFault>
-    ensures writes { Outputs (S.taken out.old) (S.taken out.new)
-        (S.failures out.old) (S.failures out.new)
+    ensures writes { Outputs (change S.taken S.failures out.old out.new)
         (results_text (reported_as run.now summary.now) rows.now) result }
     ensures never_store { IfErr result (λ fault. fault ≢ OutputFault.Store) }
 {
@@ -51,8 +51,7 @@ pub fn write_day_report_of<S: Sink>(
     rows: &[(PeriodNumber, AccountRow)],
     out: &mut S,
 ) -> Result<(), OutputFault>
-    ensures writes { Outputs (S.taken out.old) (S.taken out.new)
-        (S.failures out.old) (S.failures out.new)
+    ensures writes { Outputs (change S.taken S.failures out.old out.new)
         (day_report_text (reported_as run.now summary.now) rows.now) result }
     ensures never_store { IfErr result (λ fault. fault ≢ OutputFault.Store) }
 {
@@ -71,8 +70,8 @@ pub fn write_balances_of<S: Sink>(
     postings: &[(PostingKey, Pence)],
     out: &mut S,
 ) -> Result<(), OutputFault>
-    ensures writes { Outputs (S.taken out.old) (S.taken out.new)
-        (S.failures out.old) (S.failures out.new) (balances_by parties.now postings.now) result }
+    ensures writes { Outputs (change S.taken S.failures out.old out.new)
+        (balances_by parties.now postings.now) result }
     ensures never_store { IfErr result (λ fault. fault ≢ OutputFault.Store) }
 {
     let ids = party_ids(alloc, parties)?;

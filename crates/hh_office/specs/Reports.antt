@@ -1,7 +1,8 @@
 -- Reports: what is written of a state, for whom, and why not.
 use Rattle.std.specs.Prelude.{◌≡◌, ℕ, List, Option, Some, None, Result, Ok, Err, IsTrue, if◌then◌else◌}
 use Rattle.std.specs.Io.KnownBytes.{Appends}
-use Rattle.hh_devices.specs.Devices.{AppendsFront, Failed}
+use Rattle.hh_devices.specs.DeviceChanges.{DeviceChange, HasFailed, IsWell}
+use Rattle.hh_devices.specs.Devices.{AppendsFront}
 use Rattle.hh_time.specs.Days.{Midnights}
 use Rattle.hh_names.specs.declared.fault.Refusal.{Refusal}
 use Rattle.hh_names.specs.declared.fault.Refusal.TheVariants as refusal
@@ -41,27 +42,27 @@ stop_for output.Memory = Refused (plain_fault refusal.Memory)
 stop_for output.Store = Refused (plain_fault refusal.Store)
 stop_for output.Write = Write
 
--- a report stops where it is given up, and the sink counts no failure, or where the sink failed or took nothing
-abbrev pub StopsReport : ReportStop → ℕ → ℕ → Type 0
-StopsReport (Refused fault) old new = IsTrue (gives_up fault) × (new ≡ old)
-StopsReport Write old new = Failed old new
+-- What changes in a sink by a call.
+module _ (device : DeviceChange) where
+  -- a report stops where it is given up, and the sink counts no failure, or where the sink failed or took nothing
+  abbrev pub StopsReport : ReportStop → Type 0
+  StopsReport (Refused fault) = IsTrue (gives_up fault) × IsWell device
+  StopsReport Write = HasFailed device
 
--- a sink counts one failure where a report stops for it, and none elsewhere
-abbrev pub CountsReport : {A : Type 0} → Result A ReportStop → ℕ → ℕ → Type 0
-CountsReport (Ok x) old new = new ≡ old
-CountsReport (Err (Refused fault)) old new = new ≡ old
-CountsReport (Err Write) old new = Failed old new
+  -- the sink counts one failure where a report stops for it, and none elsewhere
+  abbrev pub CountsReport : {A : Type 0} → Result A ReportStop → Type 0
+  CountsReport (Ok x) = IsWell device
+  CountsReport (Err (Refused fault)) = IsWell device
+  CountsReport (Err Write) = HasFailed device
 
--- A sink had taken these bytes before and has taken those after, and had counted so many failures and counts so many.
-module _ (before after : Option (List ℕ)) (counted counts : ℕ) where
   -- nothing was written
   abbrev pub IsUntouched : Type 0
-  IsUntouched = (after ≡ before) × (counts ≡ counted)
+  IsUntouched = (device.new ≡ device.old) × IsWell device
 
   -- the text went out and nothing else, or a beginning of it before the report stopped
   abbrev pub WritesReport : {A : Type 0} → List ℕ → Result A ReportStop → Type 0
-  WritesReport text (Ok x) = Appends before after text × (counts ≡ counted)
-  WritesReport text (Err stop) = AppendsFront before after text × StopsReport stop counted counts
+  WritesReport text (Ok x) = Appends device.old device.new text × IsWell device
+  WritesReport text (Err stop) = AppendsFront device.old device.new text × StopsReport stop
 
   -- the report is refused for this, unless it is given up, and nothing was written
   abbrev pub RefusesReport : {A : Type 0} → Refusal → Result A ReportStop → Type 0

@@ -201,7 +201,7 @@ fn reply_by_rows(
         (reply_by_rows account.now run (rows_of_account account.now rows.now)) }
     ensures refusals_counted { let net = net_of_rows (rows_of_account account.now rows.now) in
         IsBetween day_cash.least day_cash.most net
-            → (count : ℕ) → CountsReply (reply_of result) count count }
+        → (count : ℕ) → CountsReply (reply_of result) count count }
 {
     let found = rows_of(alloc, account, rows)?;
     if found.is_empty() {

@@ -2,6 +2,7 @@
 
 ghost use Rattle.std.specs.Prelude.{◌≡◌, IfOk};
 ghost use Rattle.std.specs.FinMap.{find};
+ghost use Rattle.hh_devices.specs.DeviceChanges.{change};
 ghost use Rattle.hh_states.specs.Runs.{run_key_cmp};
 ghost use Rattle.hh_store.specs.Outputs.{balances_in, day_report_in, export_in};
 ghost use Rattle.hh_store.specs.Reached.{AreReached};
@@ -37,9 +38,10 @@ impl<'z, T: Tables> Office<'z, T> {
         report: &Report,
         out: &mut S,
     ) -> Result<(), ReportStop>
-        ensures reports { IsSure T.is_open self.new → Reports (S.taken out.old) (S.taken out.new)
-            (S.failures out.old) (S.failures out.new) self.old.seen key.now report.now result }
-        ensures counted { CountsReport result (S.failures out.old) (S.failures out.new) }
+        ensures reports { IsSure T.is_open self.new
+            → Reports (change S.taken S.failures out.old out.new)
+            self.old.seen key.now report.now result }
+        ensures counted { CountsReport (change S.taken S.failures out.old out.new) result }
         ensures same { IsSure T.is_open self.new → self.new.seen ≡ self.old.seen }
         ensures refusals_counted { IsSure T.is_open self.new → AreReached self.old.seen.content
             → CountsReportStop result (T.refusals self.old.tables) (T.refusals self.new.tables) }
@@ -69,10 +71,10 @@ impl<'z, T: Tables> Office<'z, T> {
         kind: RunKind,
         out: &mut S,
     ) -> Result<(), ReportStop>
-        ensures reports { IsSure T.is_open self.new → Reports (S.taken out.old) (S.taken out.new)
-            (S.failures out.old) (S.failures out.new) self.old.seen key.now
+        ensures reports { IsSure T.is_open self.new
+            → Reports (change S.taken S.failures out.old out.new) self.old.seen key.now
             (Day (record { date = date; kind = kind })) result }
-        ensures counted { CountsReport result (S.failures out.old) (S.failures out.new) }
+        ensures counted { CountsReport (change S.taken S.failures out.old out.new) result }
         ensures same { IsSure T.is_open self.new → self.new.seen ≡ self.old.seen }
         ensures refusals_counted { IsSure T.is_open self.new → AreReached self.old.seen.content
             → CountsReportStop result (T.refusals self.old.tables) (T.refusals self.new.tables) }
@@ -93,10 +95,10 @@ impl<'z, T: Tables> Office<'z, T> {
         kind: RunKind,
         out: &mut S,
     ) -> Result<(), ReportStop>
-        ensures reports { IsSure T.is_open self.new → Reports (S.taken out.old) (S.taken out.new)
-            (S.failures out.old) (S.failures out.new) self.old.seen key.now
+        ensures reports { IsSure T.is_open self.new
+            → Reports (change S.taken S.failures out.old out.new) self.old.seen key.now
             (Results (record { date = date; kind = kind })) result }
-        ensures counted { CountsReport result (S.failures out.old) (S.failures out.new) }
+        ensures counted { CountsReport (change S.taken S.failures out.old out.new) result }
         ensures same { IsSure T.is_open self.new → self.new.seen ≡ self.old.seen }
         ensures refusals_counted { IsSure T.is_open self.new → AreReached self.old.seen.content
             → CountsReportStop result (T.refusals self.old.tables) (T.refusals self.new.tables) }
@@ -111,9 +113,10 @@ impl<'z, T: Tables> Office<'z, T> {
     ///
     /// As of `report`, but never refusal 63.
     pub fn report_balances<S: Sink>(&mut self, key: &[u8], out: &mut S) -> Result<(), ReportStop>
-        ensures reports { IsSure T.is_open self.new → Reports (S.taken out.old) (S.taken out.new)
-            (S.failures out.old) (S.failures out.new) self.old.seen key.now Balances result }
-        ensures counted { CountsReport result (S.failures out.old) (S.failures out.new) }
+        ensures reports { IsSure T.is_open self.new
+            → Reports (change S.taken S.failures out.old out.new)
+            self.old.seen key.now Balances result }
+        ensures counted { CountsReport (change S.taken S.failures out.old out.new) result }
         ensures same { IsSure T.is_open self.new → self.new.seen ≡ self.old.seen }
         ensures refusals_counted { IsSure T.is_open self.new → AreReached self.old.seen.content
             → CountsReportStop result (T.refusals self.old.tables) (T.refusals self.new.tables) }
@@ -124,10 +127,10 @@ impl<'z, T: Tables> Office<'z, T> {
 
     /// Writes the day report of a run that is there.
     fn write_day_report<S: Sink>(&mut self, run: &RunKey, out: &mut S) -> Result<(), ReportStop>
-        ensures reports { IsSure T.is_open self.new → ReportsAs (S.taken out.old) (S.taken out.new)
-            (S.failures out.old) (S.failures out.new)
+        ensures reports { IsSure T.is_open self.new
+            → ReportsAs (change S.taken S.failures out.old out.new)
             (or_no_run (day_report_in self.old.seen.content run.now)) result }
-        ensures counted { CountsReport result (S.failures out.old) (S.failures out.new) }
+        ensures counted { CountsReport (change S.taken S.failures out.old out.new) result }
         ensures same { IsSure T.is_open self.new → self.new.seen ≡ self.old.seen }
         ensures refusals_counted { IsSure T.is_open self.new → AreReached self.old.seen.content
             → CountsReportStop result (T.refusals self.old.tables) (T.refusals self.new.tables) }
@@ -141,10 +144,10 @@ impl<'z, T: Tables> Office<'z, T> {
 
     /// Writes the results of a run that is there.
     fn write_results<S: Sink>(&mut self, run: &RunKey, out: &mut S) -> Result<(), ReportStop>
-        ensures reports { IsSure T.is_open self.new → ReportsAs (S.taken out.old) (S.taken out.new)
-            (S.failures out.old) (S.failures out.new)
+        ensures reports { IsSure T.is_open self.new
+            → ReportsAs (change S.taken S.failures out.old out.new)
             (or_no_run (export_in self.old.seen.content run.now)) result }
-        ensures counted { CountsReport result (S.failures out.old) (S.failures out.new) }
+        ensures counted { CountsReport (change S.taken S.failures out.old out.new) result }
         ensures same { IsSure T.is_open self.new → self.new.seen ≡ self.old.seen }
         ensures refusals_counted { IsSure T.is_open self.new → AreReached self.old.seen.content
             → CountsReportStop result (T.refusals self.old.tables) (T.refusals self.new.tables) }
@@ -159,9 +162,9 @@ impl<'z, T: Tables> Office<'z, T> {
     /// Writes the balances of both accounts of every registered party.
     fn write_balances<S: Sink>(&mut self, out: &mut S) -> Result<(), ReportStop>
         ensures writes { IsSure T.is_open self.new
-            → WritesReport (S.taken out.old) (S.taken out.new)
-            (S.failures out.old) (S.failures out.new) (balances_in self.old.seen.content) result }
-        ensures counted { CountsReport result (S.failures out.old) (S.failures out.new) }
+            → WritesReport (change S.taken S.failures out.old out.new)
+            (balances_in self.old.seen.content) result }
+        ensures counted { CountsReport (change S.taken S.failures out.old out.new) result }
         ensures same { IsSure T.is_open self.new → self.new.seen ≡ self.old.seen }
         ensures refusals_counted { IsSure T.is_open self.new → AreReached self.old.seen.content
             → CountsReportStop result (T.refusals self.old.tables) (T.refusals self.new.tables) }

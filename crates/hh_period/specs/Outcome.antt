@@ -1,6 +1,7 @@
 -- What the inputs of `settle period` give: the text of the settled period, or the first refusal.
 use Rattle.std.specs.Prelude.{◌≡◌, ℕ, ℤ, List, Option, Some, None, Result, Ok, Err, if◌then◌else◌}
 use Rattle.std.specs.Io.KnownBytes.{Appends}
+use Rattle.hh_devices.specs.DeviceChanges.{DeviceChange}
 use Rattle.hh_devices.specs.Devices.{AppendsFront}
 use Rattle.hh_names.specs.declared.fault.Fault.{Fault}
 use Rattle.hh_names.specs.declared.fault.Refusal.TheVariants.{BadField, TooLarge}
@@ -64,9 +65,9 @@ abbrev pub rejections : Refusing Rejection
 rejections = record { refusal = λ e. e.fault.refusal; memory = memory_rejection }
 
 -- the outcome is a text, and known bytes grow by it
-abbrev pub Writes : Outcome (List ℕ) → Option (List ℕ) → Option (List ℕ) → Type 0
-Writes outcome old new = (text : List ℕ) × (outcome ≡ Ok text) × Appends old new text
+abbrev pub Writes : Outcome (List ℕ) → DeviceChange → Type 0
+Writes outcome device = (text : List ℕ) × (outcome ≡ Ok text) × Appends device.old device.new text
 
 -- the outcome is a text, and known bytes grow by a beginning of it
-abbrev pub WritesFront : Outcome (List ℕ) → Option (List ℕ) → Option (List ℕ) → Type 0
-WritesFront outcome old new = (text : List ℕ) × (outcome ≡ Ok text) × AppendsFront old new text
+abbrev pub WritesFront : Outcome (List ℕ) → DeviceChange → Type 0
+WritesFront outcome device = (text : List ℕ) × (outcome ≡ Ok text) × AppendsFront device.old device.new text

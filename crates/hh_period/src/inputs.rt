@@ -1,6 +1,7 @@
 //! One Settlement Period from the texts of its inputs.
 
 ghost use Rattle.std.specs.Prelude.{◌≡◌, ◌≤◌, length, map, Err, IfOk, OnOk, IsErrOf};
+ghost use Rattle.hh_devices.specs.DeviceChanges.{change};
 ghost use Rattle.hh_calc.specs.Ready.{AreInOrder, AreNamed, AreSubsidiariesFew};
 ghost use Rattle.hh_devices.specs.Devices.{Failed};
 ghost use Rattle.hh_names.specs.Faults.{Gives, Refuses};
@@ -59,7 +60,7 @@ pub fn period<S: Sink>(
 ) -> Result<(), PeriodFault>
     // The text of the settled period went out, and nothing else.
     ensures written { OnOk result (Writes (period_outcome meter.now contracts.now price.now)
-        (S.taken out.old) (S.taken out.new)) }
+        (change S.taken S.failures out.old out.new)) }
     ensures well { OnOk result (S.failures out.new ≡ S.failures out.old) }
 
     // The first refusal, or that of memory, and then nothing was written.
@@ -70,7 +71,7 @@ pub fn period<S: Sink>(
     // The device failed in this call, and a beginning of the text went out.
     ensures cut { IsErrOf result PeriodFault.Write
         → WritesFront (period_outcome meter.now contracts.now price.now)
-        (S.taken out.old) (S.taken out.new) }
+        (change S.taken S.failures out.old out.new) }
     ensures failed { IsErrOf result PeriodFault.Write
         → Failed (S.failures out.old) (S.failures out.new) }
 {

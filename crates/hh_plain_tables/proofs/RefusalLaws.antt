@@ -1,14 +1,13 @@
 -- What tables in memory refuse for: memory alone. So they count no refusal.
-use Rattle.std.proofs.Common.{◌≡◌, ℕ, List, Option, Result, Ok, Err, refl, sym, subst}
+use Rattle.std.proofs.Common.{◌≡◌, ℕ, List, Result, Ok, Err, refl, sym, subst}
 use Rattle.std.specs.Prelude.{IfErr}
-use Rattle.hh_reports.specs.declared.fault.ReportFault.TheVariants as report
+use Rattle.hh_devices.specs.DeviceChanges.{DeviceChange}
 use Rattle.hh_states.specs.Content.{Content}
 use Rattle.hh_states.specs.Soundness.{AreSound, SoundStates}
 use Rattle.hh_store.specs.Outputs.{CountsOutcome, Outputs}
 use Rattle.hh_store.specs.Reached.{AreReached}
 use Rattle.hh_store.specs.StoreFaults.{CountsRefusal}
 use Rattle.hh_store.specs.declared.output_fault.OutputFault.{OutputFault}
-use Rattle.hh_store.specs.declared.output_fault.OutputFault.TheVariants as output
 use Rattle.hh_store.specs.declared.store_fault.StoreFault.{StoreFault}
 use Rattle.hh_store.specs.declared.store_fault.StoreFault.TheVariants.{Memory}
 
@@ -23,7 +22,7 @@ reached_sound law content (midnight, s, stands) =
     subst (λ (c : Content). AreSound c.registered) (sym stands.1) (law midnight s stands.0)
 
 -- what a sink counts where a report is written from rows
-pub outputs_count : {A : Type 0} (before after : Option (List ℕ)) (counted counts : ℕ) (text : List ℕ) (result : Result A OutputFault)
-    → Outputs before after counted counts text result → CountsOutcome result counted counts
-outputs_count before after counted counts text (Ok x) went = went.1
-outputs_count before after counted counts text (Err fault) went = went.1
+pub outputs_count : {A : Type 0} (device : DeviceChange) (text : List ℕ) (result : Result A OutputFault)
+    → Outputs device text result → CountsOutcome device result
+outputs_count device text (Ok x) went = went.1
+outputs_count device text (Err fault) went = went.1

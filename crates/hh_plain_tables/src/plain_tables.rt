@@ -1,6 +1,7 @@
 //! The tables of an office, kept in memory.
 
 ghost use Rattle.std.specs.Prelude.{◌≡◌, ◌≢◌, IfErr, IfOk, IfSome, IsOk, OnErr, OnOk, true};
+ghost use Rattle.hh_devices.specs.DeviceChanges.{change};
 ghost use Rattle.hh_time.specs.Days.{Midnights};
 ghost use Rattle.hh_rules.specs.RegisterView.{ServesFor};
 ghost use Rattle.hh_states.specs.Changes.{IsLoadFrom, IsRunFrom, effect_of_load, effect_of_run};
@@ -197,9 +198,8 @@ impl Tables for PlainTables {
 
     fn export<S: Sink>(&mut self, run: &RunKey, out: &mut S) -> Result<(), OutputFault>
         ensures writes { IfSome (export_in self.old run.now) (λ text.
-            Outputs (S.taken out.old) (S.taken out.new)
-            (S.failures out.old) (S.failures out.new) text result) }
-        ensures counted { CountsOutcome result (S.failures out.old) (S.failures out.new) }
+            Outputs (change S.taken S.failures out.old out.new) text result) }
+        ensures counted { CountsOutcome (change S.taken S.failures out.old out.new) result }
         ensures never_store { IfErr result (λ fault. fault ≢ OutputFault.Store) }
         ensures same { self.new ≡ self.old }
     {
@@ -212,9 +212,8 @@ impl Tables for PlainTables {
 
     fn day_report<S: Sink>(&mut self, run: &RunKey, out: &mut S) -> Result<(), OutputFault>
         ensures writes { IfSome (day_report_in self.old run.now) (λ text.
-            Outputs (S.taken out.old) (S.taken out.new)
-            (S.failures out.old) (S.failures out.new) text result) }
-        ensures counted { CountsOutcome result (S.failures out.old) (S.failures out.new) }
+            Outputs (change S.taken S.failures out.old out.new) text result) }
+        ensures counted { CountsOutcome (change S.taken S.failures out.old out.new) result }
         ensures never_store { IfErr result (λ fault. fault ≢ OutputFault.Store) }
         ensures same { self.new ≡ self.old }
     {
@@ -226,9 +225,9 @@ impl Tables for PlainTables {
     }
 
     fn balances<S: Sink>(&mut self, out: &mut S) -> Result<(), OutputFault>
-        ensures writes { Outputs (S.taken out.old) (S.taken out.new)
-            (S.failures out.old) (S.failures out.new) (balances_in self.old) result }
-        ensures counted { CountsOutcome result (S.failures out.old) (S.failures out.new) }
+        ensures writes { Outputs (change S.taken S.failures out.old out.new)
+            (balances_in self.old) result }
+        ensures counted { CountsOutcome (change S.taken S.failures out.old out.new) result }
         ensures never_store { IfErr result (λ fault. fault ≢ OutputFault.Store) }
         ensures same { self.new ≡ self.old }
     {

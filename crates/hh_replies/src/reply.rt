@@ -1,6 +1,7 @@
 //! Replies, written to connections.
 
 ghost use Rattle.std.specs.Prelude.{◌≡◌, ◌≢◌, Err, IsTrue};
+ghost use Rattle.hh_devices.specs.DeviceChanges.{change};
 ghost use Rattle.hh_names.specs.Faults.{memory_fault};
 ghost use Rattle.hh_replies.specs.Writes.{WritesReply};
 ghost use Rattle.hh_replies.specs.ReplyText.{refused_text, reply_text};
@@ -44,8 +45,8 @@ pub fn write_reply<S: Sink>(
     head_only: bool,
     sink: &mut S,
 ) -> Result<(), WriteFault>
-    ensures reply { WritesReply (S.taken sink.old) (S.taken sink.new) (S.failures sink.old)
-        (S.failures sink.new) (reply_text reply.now head_only) result }
+    ensures reply { WritesReply (change S.taken S.failures sink.old sink.new)
+        (reply_text reply.now head_only) result }
     ensures no_memory { reply.now ≡ Reply.Refused memory_fault → result ≢ Err WriteFault.Memory }
 {
     if tells_no_memory(reply) {
@@ -84,8 +85,8 @@ pub fn write_refused<S: Sink>(
     refused: &Refused,
     sink: &mut S,
 ) -> Result<(), WriteFault>
-    ensures reply { WritesReply (S.taken sink.old) (S.taken sink.new) (S.failures sink.old)
-        (S.failures sink.new) (refused_text refused.now) result }
+    ensures reply { WritesReply (change S.taken S.failures sink.old sink.new)
+        (refused_text refused.now) result }
     ensures no_memory { refused.now.cause ≡ RequestRefusal.Memory → result ≢ Err WriteFault.Memory }
 {
     if let RequestRefusal::Memory = refused.cause {
@@ -97,8 +98,7 @@ pub fn write_refused<S: Sink>(
 
 /// Writes a reply that is built.
 fn send<S: Sink>(sink: &mut S, text: &[u8]) -> Result<(), WriteFault>
-    ensures reply { WritesReply (S.taken sink.old) (S.taken sink.new) (S.failures sink.old)
-        (S.failures sink.new) text.now result }
+    ensures reply { WritesReply (change S.taken S.failures sink.old sink.new) text.now result }
     ensures no_memory { result ≢ Err WriteFault.Memory }
 {
     match write_whole(sink, text) {

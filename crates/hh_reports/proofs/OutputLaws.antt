@@ -5,8 +5,10 @@ use Rattle.std.specs.Prelude.{IsErrAnd, OnOk}
 use Rattle.std.specs.List.{flat_map}
 use Rattle.std.proofs.lemmas.List.{append-nil, take-append-drop, take_more}
 use Rattle.std.proofs.lemmas.List.Concat.{flat_map-append}
-use Rattle.hh_devices.specs.Devices.{AppendsFront}
+use Rattle.hh_devices.specs.DeviceChanges.{DeviceChange}
+use Rattle.hh_devices.specs.Devices.{AppendsFront, Failed}
 use Rattle.hh_reports.specs.declared.fault.ReportFault.{ReportFault}
+use Rattle.hh_reports.specs.declared.fault.ReportFault.TheVariants.{Memory, Write}
 use Rattle.hh_reports.specs.Output.{CountsFault, Sends}
 use Rattle.hh_reports.specs.steps.Output.{IsPassed, IsShort, Passes}
 
@@ -20,25 +22,30 @@ appends_more (Some x) None c s t h k = absurd h
 appends_more (Some x) (Some y) None s t h k = absurd k
 appends_more (Some x) (Some y) (Some z) s t h k = rw (k, h) (append_assoc x s t)
 
--- a beginning of a text went out, and then a fault is told
-abbrev pub Stops : Option (List ℕ) → Option (List ℕ) → ℕ → ℕ → List ℕ → ReportFault → Type 0
-Stops a b f g text fault = AppendsFront a b text × CountsFault fault f g
+-- a sink told these bytes and then those, and counted so many failures and then so many
+abbrev pub changed : Option (List ℕ) → Option (List ℕ) → ℕ → ℕ → DeviceChange
+changed a b f g = record { old = a; new = b; old_failures = f; new_failures = g }
 
-counted_on : (fault : ReportFault) (f g h : ℕ) → g ≡ f → CountsFault fault g h → CountsFault fault f h
-counted_on fault f g h same counts = subst (λ n. CountsFault fault n h) same counts
+-- a beginning of a text went out, and then a fault is told
+abbrev pub Stops : DeviceChange → List ℕ → ReportFault → Type 0
+Stops device text fault = AppendsFront device.old device.new text × CountsFault device fault
+
+counted_on : (fault : ReportFault) (a b c : Option (List ℕ)) (f g n : ℕ) → g ≡ f → CountsFault (changed b c g n) fault → CountsFault (changed a c f n) fault
+counted_on Memory a b c f g n same counts = counts ∙ same
+counted_on Write a b c f g n same counts = subst (λ m. Failed m n) same counts
 
 -- nothing went out
-pub held_back : (a : Option (List ℕ)) (h : List ℕ) (f : ℕ) → IsShort h → IsPassed a a h f f h
-held_back a h f short = record { gone = []; went = appends_none a; rest = refl; short = short; same = refl }
+pub held_back : (a : Option (List ℕ)) (h : List ℕ) (f : ℕ) → IsShort h → IsPassed (changed a a f f) h h
+held_back a h f short = record { gone = []; went = appends_none a; rest = refl; short = short; well = refl }
 
 -- a page that went out
-pub passed : {A : Type 0} (a b : Option (List ℕ)) (h k : List ℕ) (f g : ℕ) (r : Result A ReportFault) → Sends a b f g h r → OnOk r (k ≡ []) → Passes a b k f g h r
-passed a b h k f g (Ok x) now empty = record { gone = h; went = now.0; rest = sym (append-nil h) ∙ ap (λ u. h ++ u) (sym empty); short = subst IsShort (sym empty) (omega arith); same = now.1 }
-passed a b h k f g (Err fault) now empty = now
+pub passed : {A : Type 0} (device : DeviceChange) (h k : List ℕ) (r : Result A ReportFault) → Sends device h r → OnOk r (k ≡ []) → Passes device k h r
+passed device h k (Ok x) now empty = record { gone = h; went = now.0; rest = sym (append-nil h) ∙ ap (λ u. h ++ u) (sym empty); short = subst IsShort (sym empty) (omega arith); well = now.1 }
+passed device h k (Err fault) now empty = now
 
 -- a text behind one that went out or is held back
 pub stopped_on : (a b c : Option (List ℕ)) (h k : List ℕ) (f g n : ℕ) (s t : List ℕ) (fault : ReportFault)
-    → IsPassed a b k f g (h ++ s) → Stops b c g n (k ++ t) fault → Stops a c f n (h ++ (s ++ t)) fault
+    → IsPassed (changed a b f g) k (h ++ s) → Stops (changed b c g n) (k ++ t) fault → Stops (changed a c f n) (h ++ (s ++ t)) fault
 stopped_on a b c h k f g n s t fault before now =
     let (front, rest, cut, sent) = now.0 in (
       (
@@ -48,11 +55,11 @@ stopped_on a b c h k f g n s t fault before now =
             ∙ sym (append_assoc before.gone front rest),
         appends_more a b c before.gone front before.went sent,
       ),
-      counted_on fault f g n before.same now.1,
+      counted_on fault a b c f g n before.well now.1,
     )
 
 pub went_on : (a b c : Option (List ℕ)) (h k m : List ℕ) (f g n : ℕ) (s t : List ℕ)
-    → IsPassed a b k f g (h ++ s) → IsPassed b c m g n (k ++ t) → IsPassed a c m f n (h ++ (s ++ t))
+    → IsPassed (changed a b f g) k (h ++ s) → IsPassed (changed b c g n) m (k ++ t) → IsPassed (changed a c f n) m (h ++ (s ++ t))
 went_on a b c h k m f g n s t before now =
     record {
       gone = before.gone ++ now.gone;
@@ -60,38 +67,38 @@ went_on a b c h k m f g n s t before now =
       rest = sym (append_assoc h s t) ∙ ap (λ u. u ++ t) before.rest ∙ append_assoc before.gone k t ∙ ap (λ u. before.gone ++ u) now.rest
           ∙ sym (append_assoc before.gone now.gone m);
       short = now.short;
-      same = now.same ∙ before.same;
+      well = now.well ∙ before.well;
     }
 
 pub written_on : {A : Type 0} (a b c : Option (List ℕ)) (h k m : List ℕ) (f g n : ℕ) (s t : List ℕ) (r : Result A ReportFault)
-    → IsPassed a b k f g (h ++ s) → Passes b c m g n (k ++ t) r → Passes a c m f n (h ++ (s ++ t)) r
+    → IsPassed (changed a b f g) k (h ++ s) → Passes (changed b c g n) m (k ++ t) r → Passes (changed a c f n) m (h ++ (s ++ t)) r
 written_on a b c h k m f g n s t (Ok x) before now = went_on a b c h k m f g n s t before now
 written_on a b c h k m f g n s t (Err fault) before now = stopped_on a b c h k f g n s t fault before now
 
 -- a text that is not written to its end, and more behind it
-pub stopped_before : (a b : Option (List ℕ)) (h : List ℕ) (f g : ℕ) (s t : List ℕ) (fault : ReportFault)
-    → Stops a b f g (h ++ s) fault → Stops a b f g (h ++ (s ++ t)) fault
-stopped_before a b h f g s t fault now =
+pub stopped_before : (device : DeviceChange) (h s t : List ℕ) (fault : ReportFault)
+    → Stops device (h ++ s) fault → Stops device (h ++ (s ++ t)) fault
+stopped_before device h s t fault now =
     let (front, rest, cut, sent) = now.0 in
     ((front, rest ++ t, sym (append_assoc h s t) ∙ ap (λ u. u ++ t) cut ∙ append_assoc front rest t, sent), now.1)
 
 -- the fault of a call that is told on
-pub told_on : {A : Type 0} (a b : Option (List ℕ)) (k : List ℕ) (f g : ℕ) (all : List ℕ) (fault : ReportFault) (r : Result A ReportFault)
-    → IsErrAnd r (λ e. e ≡ fault) → Stops a b f g all fault → Passes a b k f g all r
-told_on a b k f g all fault (Ok x) is now = absurd is
-told_on a b k f g all fault (Err e) is now = (now.0, subst (λ x. CountsFault x f g) (sym is) now.1)
+pub told_on : {A : Type 0} (device : DeviceChange) (k all : List ℕ) (fault : ReportFault) (r : Result A ReportFault)
+    → IsErrAnd r (λ e. e ≡ fault) → Stops device all fault → Passes device k all r
+told_on device k all fault (Ok x) is now = absurd is
+told_on device k all fault (Err e) is now = (now.0, subst (CountsFault device) (sym is) now.1)
 
 -- a fault that ends a report
-pub told_out : {A : Type 0} (a b : Option (List ℕ)) (f g : ℕ) (text : List ℕ) (fault : ReportFault) (r : Result A ReportFault)
-    → IsErrAnd r (λ e. e ≡ fault) → Stops a b f g text fault → Sends a b f g text r
-told_out a b f g text fault (Ok x) is now = absurd is
-told_out a b f g text fault (Err e) is now = (now.0, subst (λ x. CountsFault x f g) (sym is) now.1)
+pub told_out : {A : Type 0} (device : DeviceChange) (text : List ℕ) (fault : ReportFault) (r : Result A ReportFault)
+    → IsErrAnd r (λ e. e ≡ fault) → Stops device text fault → Sends device text r
+told_out device text fault (Ok x) is now = absurd is
+told_out device text fault (Err e) is now = (now.0, subst (CountsFault device) (sym is) now.1)
 
 -- the last page of a text
 pub finished : {A : Type 0} (a b c : Option (List ℕ)) (k : List ℕ) (f g n : ℕ) (text : List ℕ) (r : Result A ReportFault)
-    → IsPassed a b k f g text → Sends b c g n k r → Sends a c f n text r
+    → IsPassed (changed a b f g) k text → Sends (changed b c g n) k r → Sends (changed a c f n) text r
 finished a b c k f g n text (Ok x) before now =
-    (subst (λ u. Appends a c u) (sym before.rest) (appends_more a b c before.gone k before.went now.0), now.1 ∙ before.same)
+    (subst (λ u. Appends a c u) (sym before.rest) (appends_more a b c before.gone k before.went now.0), now.1 ∙ before.well)
 finished a b c k f g n text (Err fault) before now =
     let (front, rest, cut, sent) = now.0 in (
       (
@@ -100,13 +107,13 @@ finished a b c k f g n text (Err fault) before now =
         before.rest ∙ ap (λ u. before.gone ++ u) cut ∙ sym (append_assoc before.gone front rest),
         appends_more a b c before.gone front before.went sent,
       ),
-      counted_on fault f g n before.same now.1,
+      counted_on fault a b c f g n before.well now.1,
     )
 
 -- nothing more behind a text
-pub at_the_end : {A : Type 0} (a b : Option (List ℕ)) (h k : List ℕ) (f g : ℕ) (text : List ℕ) (r : Result A ReportFault)
-    → Passes a b k f g (h ++ text) r → Passes a b k f g (h ++ (text ++ [])) r
-at_the_end a b h k f g text r now = rw (append-nil text) now
+pub at_the_end : {A : Type 0} (device : DeviceChange) (h k text : List ℕ) (r : Result A ReportFault)
+    → Passes device k (h ++ text) r → Passes device k (h ++ (text ++ [])) r
+at_the_end device h k text r now = rw (append-nil text) now
 
 -- The lines of the elements of a list, one after the other.
 module _ {X : Type 0} (line : X → List ℕ) (xs : List X) (i : ℕ) (x : X) (inside : i < length xs) (is : x ≡ get_or xs i x) where
@@ -121,15 +128,17 @@ module _ {X : Type 0} (line : X → List ℕ) (xs : List X) (i : ℕ) (x : X) (i
       ∙ ap (λ first. first ++ flat_map line (drop (i + 1) xs)) lines_next
 
   -- the line of one more
-  pub lines_more : (a b c : Option (List ℕ)) (h k m : List ℕ) (f g n : ℕ) → IsPassed a b k f g (h ++ flat_map line (take i xs)) → IsPassed b c m g n (k ++ line x)
-      → IsPassed a c m f n (h ++ flat_map line (take (i + 1) xs))
+  pub lines_more : (a b c : Option (List ℕ)) (h k m : List ℕ) (f g n : ℕ)
+      → IsPassed (changed a b f g) k (h ++ flat_map line (take i xs)) → IsPassed (changed b c g n) m (k ++ line x)
+      → IsPassed (changed a c f n) m (h ++ flat_map line (take (i + 1) xs))
   lines_more a b c h k m f g n before now =
       rw lines_next (went_on a b c h k m f g n (flat_map line (take i xs)) (line x) before now)
 
   -- a beginning of it went out, and the rest never
-  pub lines_stopped : (a b c : Option (List ℕ)) (h k : List ℕ) (f g n : ℕ) (fault : ReportFault) → IsPassed a b k f g (h ++ flat_map line (take i xs))
-      → Stops b c g n (k ++ line x) fault → Stops a c f n (h ++ flat_map line xs) fault
+  pub lines_stopped : (a b c : Option (List ℕ)) (h k : List ℕ) (f g n : ℕ) (fault : ReportFault)
+      → IsPassed (changed a b f g) k (h ++ flat_map line (take i xs)) → Stops (changed b c g n) (k ++ line x) fault
+      → Stops (changed a c f n) (h ++ flat_map line xs) fault
   lines_stopped a b c h k f g n fault before now =
       rw lines_whole
-      (stopped_before a c h f n (flat_map line (take i xs) ++ line x) (flat_map line (drop (i + 1) xs)) fault
+      (stopped_before (changed a c f n) h (flat_map line (take i xs) ++ line x) (flat_map line (drop (i + 1) xs)) fault
       (stopped_on a b c h k f g n (flat_map line (take i xs)) (line x) fault before now))

@@ -3,6 +3,7 @@
 ghost use Rattle.std.specs.Prelude.{◌≡◌, ◌≤◌, ◌^◌, ◌++◌, codes, decimal, unsigned_abs, IfOk, OnOk};
 ghost use Rattle.std.specs.List.{flat_map};
 ghost use Rattle.hh_num.specs.Totals.{total};
+ghost use Rattle.hh_devices.specs.DeviceChanges.{change};
 ghost use Rattle.hh_reports.specs.DayReport.{period_account_line, day_report_text, heads_line, net_line, period_lines, periods_lines, period_residual_line, rows_of_period, title_line};
 ghost use Rattle.hh_reports.specs.steps.DayReport.{charge_in, row_lines};
 ghost use Rattle.hh_reports.specs.Fields.{cash_of, energies_of, energy_text, pence_text, flush_right};
@@ -40,8 +41,7 @@ pub fn write_day_report<S: Sink>(
     rows: &[(PeriodNumber, AccountRow)],
     out: &mut S,
 ) -> Result<(), ReportFault>
-    ensures writes { Sends (S.taken out.old) (S.taken out.new)
-        (S.failures out.old) (S.failures out.new)
+    ensures writes { Sends (change S.taken S.failures out.old out.new)
         (day_report_text run.now rows.now) result }
 {
     let nets = day_nets(alloc, rows)?;
@@ -59,8 +59,7 @@ fn write_day<S: Sink>(
     out: &mut S,
 ) -> Result<(), ReportFault>
     requires { nets.now ≡ nets_from_rows rows.now }
-    ensures { Passes (S.taken out.old) (S.taken out.new) page.new
-        (S.failures out.old) (S.failures out.new)
+    ensures { Passes (change S.taken S.failures out.old out.new) page.new
         (page.old ++ day_report_text run.now rows.now) result }
 {
     write_title(page, run, out)?;
@@ -80,8 +79,8 @@ fn heads() -> &'static [u8]
 
 /// Writes the line that tells the run.
 fn write_title<S: Sink>(page: &mut Page, run: &ReportedRun, out: &mut S) -> Result<(), ReportFault>
-    ensures { Passes (S.taken out.old) (S.taken out.new) page.new
-        (S.failures out.old) (S.failures out.new) (page.old ++ title_line run.now) result }
+    ensures { Passes (change S.taken S.failures out.old out.new) page.new
+        (page.old ++ title_line run.now) result }
 {
     push_title(page, run)?;
     page.pass(out)
@@ -107,8 +106,7 @@ fn write_periods<S: Sink>(
     out: &mut S,
 ) -> Result<(), ReportFault>
     requires { IsShort page.old }
-    ensures { Passes (S.taken out.old) (S.taken out.new) page.new
-        (S.failures out.old) (S.failures out.new)
+    ensures { Passes (change S.taken S.failures out.old out.new) page.new
         (page.old ++ periods_lines periods rows.now) result }
 {
     let rising = is_rising(rows);
@@ -128,8 +126,7 @@ fn write_period<S: Sink>(
     out: &mut S,
 ) -> Result<(), ReportFault>
     requires { IsShort page.old }
-    ensures { Passes (S.taken out.old) (S.taken out.new) page.new
-        (S.failures out.old) (S.failures out.new)
+    ensures { Passes (change S.taken S.failures out.old out.new) page.new
         (page.old ++ period_lines period (rows_of_period period rows.now)) result }
 {
     let charges = write_accounts(page, period, rows, out)?;
@@ -144,8 +141,7 @@ fn write_accounts<S: Sink>(
     out: &mut S,
 ) -> Result<i128, ReportFault>
     requires { IsShort page.old }
-    ensures writes { Passes (S.taken out.old) (S.taken out.new) page.new
-        (S.failures out.old) (S.failures out.new)
+    ensures writes { Passes (change S.taken S.failures out.old out.new) page.new
         (page.old ++ flat_map (row_lines period) rows.now) result }
     ensures charges { IfOk result (λ charges. charges ≡ total (charge_in period) rows.now) }
     ensures small { IfOk result (λ charges. unsigned_abs charges ≤ 2 ^ 126) }
@@ -166,8 +162,8 @@ fn write_row<S: Sink>(
     out: &mut S,
 ) -> Result<i128, ReportFault>
     requires { IsShort page.old }
-    ensures writes { Passes (S.taken out.old) (S.taken out.new) page.new
-        (S.failures out.old) (S.failures out.new) (page.old ++ row_lines period entry.now) result }
+    ensures writes { Passes (change S.taken S.failures out.old out.new) page.new
+        (page.old ++ row_lines period entry.now) result }
     ensures charge { IfOk result (λ charge. charge ≡ charge_in period entry.now) }
     ensures small { IfOk result (λ charge. unsigned_abs charge ≤ 2 ^ 63) }
 {
@@ -186,8 +182,7 @@ fn write_account<S: Sink>(
     row: &AccountRow,
     out: &mut S,
 ) -> Result<(), ReportFault>
-    ensures { Passes (S.taken out.old) (S.taken out.new) page.new
-        (S.failures out.old) (S.failures out.new)
+    ensures { Passes (change S.taken S.failures out.old out.new) page.new
         (page.old ++ period_account_line period row.now) result }
 {
     push_account_line(page, period, row)?;
@@ -248,8 +243,7 @@ fn write_residual<S: Sink>(
     residual: i128,
     out: &mut S,
 ) -> Result<(), ReportFault>
-    ensures { Passes (S.taken out.old) (S.taken out.new) page.new
-        (S.failures out.old) (S.failures out.new)
+    ensures { Passes (change S.taken S.failures out.old out.new) page.new
         (page.old ++ period_residual_line period residual) result }
 {
     push_residual_line(page, period, residual)?;
@@ -275,8 +269,8 @@ fn write_nets<S: Sink>(
     out: &mut S,
 ) -> Result<(), ReportFault>
     requires { IsShort page.old }
-    ensures { Passes (S.taken out.old) (S.taken out.new) page.new
-        (S.failures out.old) (S.failures out.new) (page.old ++ flat_map net_line nets.now) result }
+    ensures { Passes (change S.taken S.failures out.old out.new) page.new
+        (page.old ++ flat_map net_line nets.now) result }
 {
     for net in nets {
         write_net(page, net, out)?;
@@ -290,8 +284,8 @@ fn write_net<S: Sink>(
     net: &(Account, i128),
     out: &mut S,
 ) -> Result<(), ReportFault>
-    ensures { Passes (S.taken out.old) (S.taken out.new) page.new
-        (S.failures out.old) (S.failures out.new) (page.old ++ net_line net.now) result }
+    ensures { Passes (change S.taken S.failures out.old out.new) page.new
+        (page.old ++ net_line net.now) result }
 {
     push_net_line(page, net)?;
     page.pass(out)

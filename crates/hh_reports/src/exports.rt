@@ -2,6 +2,7 @@
 
 ghost use Rattle.std.specs.Prelude.{◌≡◌, ◌++◌, codes, decimal, OnOk};
 ghost use Rattle.std.specs.List.{flat_map};
+ghost use Rattle.hh_devices.specs.DeviceChanges.{change};
 ghost use Rattle.hh_time.specs.DateText.{date_text};
 ghost use Rattle.hh_runs.specs.RunKinds.{run_kind_code};
 ghost use Rattle.hh_reports.specs.Exports.{balance_line, balances_text, party_lines, result_line, results_text};
@@ -43,8 +44,7 @@ pub fn write_results<S: Sink>(
     rows: &[(PeriodNumber, AccountRow)],
     out: &mut S,
 ) -> Result<(), ReportFault>
-    ensures writes { Sends (S.taken out.old) (S.taken out.new)
-        (S.failures out.old) (S.failures out.new)
+    ensures writes { Sends (change S.taken S.failures out.old out.new)
         (results_text run.now rows.now) result }
 {
     let mut page = Page::new(alloc);
@@ -59,8 +59,7 @@ fn write_export<S: Sink>(
     rows: &[(PeriodNumber, AccountRow)],
     out: &mut S,
 ) -> Result<(), ReportFault>
-    ensures { Passes (S.taken out.old) (S.taken out.new) page.new
-        (S.failures out.old) (S.failures out.new)
+    ensures { Passes (change S.taken S.failures out.old out.new) page.new
         (page.old ++ results_text run.now rows.now) result }
 {
     page.put(RESULTS_HEADER, out)?;
@@ -75,8 +74,7 @@ fn write_rows<S: Sink>(
     out: &mut S,
 ) -> Result<(), ReportFault>
     requires { IsShort page.old }
-    ensures { Passes (S.taken out.old) (S.taken out.new) page.new
-        (S.failures out.old) (S.failures out.new)
+    ensures { Passes (change S.taken S.failures out.old out.new) page.new
         (page.old ++ flat_map (result_line run.now) rows.now) result }
 {
     for row in rows {
@@ -92,8 +90,8 @@ fn write_result<S: Sink>(
     row: &(PeriodNumber, AccountRow),
     out: &mut S,
 ) -> Result<(), ReportFault>
-    ensures { Passes (S.taken out.old) (S.taken out.new) page.new
-        (S.failures out.old) (S.failures out.new) (page.old ++ result_line run.now row.now) result }
+    ensures { Passes (change S.taken S.failures out.old out.new) page.new
+        (page.old ++ result_line run.now row.now) result }
 {
     push_result_line(page, run, row)?;
     page.pass(out)
@@ -176,8 +174,7 @@ pub fn write_balances<S: Sink>(
     postings: &[(Account, Pence)],
     out: &mut S,
 ) -> Result<(), ReportFault>
-    ensures writes { Sends (S.taken out.old) (S.taken out.new)
-        (S.failures out.old) (S.failures out.new)
+    ensures writes { Sends (change S.taken S.failures out.old out.new)
         (balances_text parties.now (λ a. sum_for a postings.now)) result }
 {
     let sums = posted_sums(alloc, postings)?;
@@ -193,8 +190,7 @@ fn write_sums<S: Sink>(
     sums: &SumTable,
     out: &mut S,
 ) -> Result<(), ReportFault>
-    ensures { Passes (S.taken out.old) (S.taken out.new) page.new
-        (S.failures out.old) (S.failures out.new)
+    ensures { Passes (change S.taken S.failures out.old out.new) page.new
         (page.old ++ balances_text parties.now (sum_in sums.now)) result }
 {
     page.put(BALANCES_HEADER, out)?;
@@ -209,8 +205,7 @@ fn write_parties<S: Sink>(
     out: &mut S,
 ) -> Result<(), ReportFault>
     requires { IsShort page.old }
-    ensures { Passes (S.taken out.old) (S.taken out.new) page.new
-        (S.failures out.old) (S.failures out.new)
+    ensures { Passes (change S.taken S.failures out.old out.new) page.new
         (page.old ++ flat_map (party_lines (sum_in sums.now)) parties.now) result }
 {
     for party in parties {
@@ -226,8 +221,7 @@ fn write_party<S: Sink>(
     sums: &SumTable,
     out: &mut S,
 ) -> Result<(), ReportFault>
-    ensures { Passes (S.taken out.old) (S.taken out.new) page.new
-        (S.failures out.old) (S.failures out.new)
+    ensures { Passes (change S.taken S.failures out.old out.new) page.new
         (page.old ++ party_lines (sum_in sums.now) party) result }
 {
     let (production, consumption) = (Side::Production, Side::Consumption);
@@ -258,8 +252,7 @@ fn write_balance<S: Sink>(
     sums: &SumTable,
     out: &mut S,
 ) -> Result<(), ReportFault>
-    ensures { Passes (S.taken out.old) (S.taken out.new) page.new
-        (S.failures out.old) (S.failures out.new)
+    ensures { Passes (change S.taken S.failures out.old out.new) page.new
         (page.old ++ balance_line account (sum_in sums.now account)) result }
 {
     push_balance_line(page, &account, sums.get(&account).unwrap_or(0))?;

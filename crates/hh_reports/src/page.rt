@@ -1,6 +1,7 @@
 //! Pages: lines of reports that are made and not out yet.
 
 ghost use Rattle.std.specs.Prelude.{◌≡◌, ◌≤◌, ◌++◌, [], replicate, OnOk};
+ghost use Rattle.hh_devices.specs.DeviceChanges.{change};
 ghost use Rattle.hh_names.specs.Accounts.{account_text};
 ghost use Rattle.hh_reports.specs.Fields.{energy_text, flush_left, pence_text, flush_right};
 ghost use Rattle.hh_reports.specs.Output.{Sends};
@@ -47,8 +48,8 @@ impl Page {
 
     /// Appends a text, and passes on a page that is full then.
     pub(crate) fn put<S: Sink>(&mut self, text: &[u8], out: &mut S) -> Result<(), ReportFault>
-        ensures { Passes (S.taken out.old) (S.taken out.new) self.new
-            (S.failures out.old) (S.failures out.new) (self.old ++ text.now) result }
+        ensures { Passes (change S.taken S.failures out.old out.new) self.new
+            (self.old ++ text.now) result }
     {
         self.push(text)?;
         self.pass(out)
@@ -56,8 +57,8 @@ impl Page {
 
     /// Writes a page that is full, and empties it.
     pub(crate) fn pass<S: Sink>(&mut self, out: &mut S) -> Result<(), ReportFault>
-        ensures { Passes (S.taken out.old) (S.taken out.new) self.new
-            (S.failures out.old) (S.failures out.new) self.old result }
+        ensures { Passes (change S.taken S.failures out.old out.new) self.new
+            self.old result }
     {
         if self.text.len() < PAGE_BYTES {
             return Ok(());
@@ -67,8 +68,8 @@ impl Page {
 
     /// Writes the page, full or not, and empties it.
     pub(crate) fn finish<S: Sink>(&mut self, out: &mut S) -> Result<(), ReportFault>
-        ensures sends { Sends (S.taken out.old) (S.taken out.new)
-            (S.failures out.old) (S.failures out.new) self.old result }
+        ensures sends { Sends (change S.taken S.failures out.old out.new)
+            self.old result }
         ensures empty { OnOk result (self.new ≡ []) }
     {
         write_whole(out, &self.text)?;

@@ -1,6 +1,7 @@
 -- What serving comes to, by what was read, handled and written.
 use Rattle.std.proofs.Common.{◌≡◌, ◌≤◌, ◌⊎◌, ℕ, ℤ, List, Bool, true, false, cond, Option, Result, Ok, Err, inl, inr, refl, sym, subst, ap, arith}
 use Rattle.std.specs.Prelude.{MatchBool, IsErrAnd}
+use Rattle.hh_devices.specs.DeviceChanges.{DeviceChange}
 use Rattle.hh_requests.specs.declared.reply.Reply.{Reply}
 use Rattle.hh_requests.specs.declared.reply.Reply.TheVariants as reply
 use Rattle.hh_requests.specs.declared.request.Request.{Request}
@@ -48,21 +49,21 @@ abbrev pub unwritten : WriteFault → Result (Unit {0}) WriteFault
 unwritten fault = Err fault
 
 -- A reply was written, or not to its end.
-module _ (source : Option (List ℕ)) (old new : OfficeView) (counted counts : ℕ) (moment : ℤ) (before after : Option (List ℕ)) (first last : ℕ) (answer : Answer)
+module _ (source : Option (List ℕ)) (old new : OfficeView) (counted counts : ℕ) (moment : ℤ) (device : DeviceChange) (answer : Answer)
     (is : IsAnswer source old new counted counts moment answer) where
-  pub replied : WritesReply before after first last (answer_text answer) (Ok tt) → Serves source old new counted counts moment before after (Ok Replied)
+  pub replied : WritesReply device (answer_text answer) (Ok tt) → Serves source old new counted counts moment device (Ok Replied)
   replied writes = (answer, is, writes.0)
 
-  unreplied : (fault : WriteFault) → WritesReply before after first last (answer_text answer) (Err fault)
-      → (TellsNoMemory answer → unwritten fault ≡ Err write.Memory → ⊥) → Serves source old new counted counts moment before after (Err (serve_fault fault))
+  unreplied : (fault : WriteFault) → WritesReply device (answer_text answer) (Err fault)
+      → (TellsNoMemory answer → unwritten fault ≡ Err write.Memory → ⊥) → Serves source old new counted counts moment device (Err (serve_fault fault))
   unreplied write.Write writes wants = (answer, is, writes.0)
   unreplied write.Memory writes wants = (answer, is, (λ tells. wants tells refl), writes.0)
 
   pub not_replied : (fault : WriteFault) (result : Result Served ServeFault) → IsErrAnd result (λ served. served ≡ serve_fault fault)
-      → WritesReply before after first last (answer_text answer) (Err fault) → (TellsNoMemory answer → unwritten fault ≡ Err write.Memory → ⊥)
-      → Serves source old new counted counts moment before after result
+      → WritesReply device (answer_text answer) (Err fault) → (TellsNoMemory answer → unwritten fault ≡ Err write.Memory → ⊥)
+      → Serves source old new counted counts moment device result
   not_replied fault result told writes wants =
-      subst (λ (r : Result Served ServeFault). Serves source old new counted counts moment before after r) (passed_on result fault told) (unreplied fault writes wants)
+      subst (λ (r : Result Served ServeFault). Serves source old new counted counts moment device r) (passed_on result fault told) (unreplied fault writes wants)
 
 -- A request was read and handled, at a moment that is written in two ways.
 module _ (old new : OfficeView) (moment at : ℤ) (same : at ≡ moment) (request : Request) (given : Reply) (steps : HandleStep old new at request given)

@@ -1,6 +1,7 @@
 -- What serving a connection comes to: a request is read, the office handles it, and one reply goes out.
 use Rattle.std.specs.Prelude.{◌≡◌, ◌≤◌, ◌⊎◌, ℕ, ℤ, List, false, Option, IfSome, Result, Ok, Err}
 use Rattle.std.specs.Io.KnownBytes.{Appends, Keeps}
+use Rattle.hh_devices.specs.DeviceChanges.{DeviceChange, HasFailed, IsWell}
 use Rattle.hh_devices.specs.Devices.{AppendsFront, Failed}
 use Rattle.hh_names.specs.Faults.{memory_fault}
 use Rattle.hh_requests.specs.declared.reply.Reply.{Reply}
@@ -63,16 +64,16 @@ module _ (source : Option (List ℕ)) (old new : OfficeView) (counted counts : �
   IsAnswer (Ok given) = (request : Request) × IsReadOf source (Ok (incoming.Asked request)) × Handles old new counted counts moment request given
   IsAnswer (Err refused) = IsReadOf source (Err (fault.Refused refused)) × (new ≡ old)
 
-  -- A sink had taken these bytes before and has taken those after.
-  module _ (before after : Option (List ℕ)) where
+  -- What changes in a sink by the call.
+  module _ (device : DeviceChange) where
     -- Nothing was sent, and nothing is done; an answer went out; a read failed, and nothing is done; a beginning of an answer went
     -- out; or nothing of it did, since memory was refused to write it, which is never so of the answer that memory was refused.
     abbrev pub Serves : Result Served ServeFault → Type 0
-    Serves (Ok Closed) = IsReadOf source (Ok incoming.Closed) × (new ≡ old) × Keeps before after
-    Serves (Ok Replied) = (answer : Answer) × IsAnswer answer × Appends before after (answer_text answer)
-    Serves (Err Read) = (new ≡ old) × Keeps before after
-    Serves (Err Write) = (answer : Answer) × IsAnswer answer × AppendsFront before after (answer_text answer)
-    Serves (Err Memory) = (answer : Answer) × IsAnswer answer × (¬ (TellsNoMemory answer)) × Keeps before after
+    Serves (Ok Closed) = IsReadOf source (Ok incoming.Closed) × (new ≡ old) × Keeps device.old device.new
+    Serves (Ok Replied) = (answer : Answer) × IsAnswer answer × Appends device.old device.new (answer_text answer)
+    Serves (Err Read) = (new ≡ old) × Keeps device.old device.new
+    Serves (Err Write) = (answer : Answer) × IsAnswer answer × AppendsFront device.old device.new (answer_text answer)
+    Serves (Err Memory) = (answer : Answer) × IsAnswer answer × (¬ (TellsNoMemory answer)) × Keeps device.old device.new
 
 -- an office stands for the state that it stood for, or for the machine's state after one request that came at a moment
 abbrev pub StandsAfterOne : OfficeView → OfficeView → ℤ → Type 0
@@ -91,6 +92,6 @@ CountsReading (Err Read) old new = Failed old new
 CountsReading served old new = new ≡ old
 
 -- a sink counts one failure where a call answers that a write failed, and none elsewhere
-abbrev pub CountsWriting : Result Served ServeFault → ℕ → ℕ → Type 0
-CountsWriting (Err Write) old new = Failed old new
-CountsWriting served old new = new ≡ old
+abbrev pub CountsWriting : DeviceChange → Result Served ServeFault → Type 0
+CountsWriting device (Err Write) = HasFailed device
+CountsWriting device served = IsWell device

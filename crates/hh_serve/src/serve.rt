@@ -1,5 +1,6 @@
 //! Connections that are served: a request is read, the office handles it, and one reply is written.
 
+ghost use Rattle.hh_devices.specs.DeviceChanges.{change};
 ghost use Rattle.hh_office.specs.Views.{IsSure};
 ghost use Rattle.hh_serve.specs.Serves.{CountsReading, CountsUp, CountsWriting, Serves, StandsAfterOne};
 
@@ -63,13 +64,13 @@ pub fn serve_one<T: Tables, I: Source, O: Sink>(
     ensures served { IsSure T.is_open office.new
         → Serves (I.remaining source.old) office.old.seen office.new.seen
         (T.refusals office.old.tables) (T.refusals office.new.tables) moment
-        (O.taken sink.old) (O.taken sink.new) result }
+        (change O.taken O.failures sink.old sink.new) result }
     ensures stands { IsSure T.is_open office.new
         → StandsAfterOne office.old.seen office.new.seen moment }
     ensures refusals_up { IsSure T.is_open office.new → CountsUp T.refusals office.old office.new }
     ensures sure { IsSure T.is_open office.new → IsSure T.is_open office.old }
     ensures read { CountsReading result (I.failures source.old) (I.failures source.new) }
-    ensures written { CountsWriting result (O.failures sink.old) (O.failures sink.new) }
+    ensures written { CountsWriting (change O.taken O.failures sink.old sink.new) result }
 {
     match read_request(alloc, source) {
         Ok(Incoming::Closed) => Ok(Served::Closed),

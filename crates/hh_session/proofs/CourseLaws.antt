@@ -5,6 +5,7 @@ use Rattle.std.specs.FinMap.{find}
 use Rattle.std.specs.Io.KnownBytes.{Appends}
 use Rattle.std.proofs.lemmas.Bool.{lt-ltb, ltb-false, ltb-true}
 use Rattle.std.proofs.lemmas.List.{append-nil, append_assoc, length-take-le, map-append, take-map, take_all, take_more}
+use Rattle.hh_devices.specs.DeviceChanges.{DeviceChange, change}
 use Rattle.hh_devices.specs.Devices.{AppendsFront}
 use Rattle.jiff.specs.Words.{plain_zone}
 use Rattle.hh_time.specs.Days.{Midnights}
@@ -124,28 +125,28 @@ gives_up reads refuses fails midnight s (WriteReport asked) =
 gives_up reads refuses fails midnight s (Serve line) = inl (inr refl, refl)
 
 -- What a line that is told in a line of its own does, by what it came to and what went out.
-module _ (old new : OfficeView) (before after : Option (List ℕ)) (told : Told) (does : State → Told → State → Type 0) (up : (s : State) → does s no_memory s)
+module _ (old new : OfficeView) (device : DeviceChange) (told : Told) (does : State → Told → State → Type 0) (up : (s : State) → does s no_memory s)
     (comes : (s : State) → Stands old s → (t : State) × does s told t × StandsNow old new t) (leaves : LeavesRefused old new told) where
-  pub line_done : TellsLine before after told → (s : State) → Stands old s
-      → (text : List ℕ) × (t : State) × IsLineOf (λ given. does s given t) text × Appends before after text × StandsNow old new t
+  pub line_done : TellsLine device told → (s : State) → Stands old s
+      → (text : List ℕ) × (t : State) × IsLineOf (λ given. does s given t) text × Appends device.old device.new text × StandsNow old new t
   line_done (inl went) s stands = let (t, done, now) = comes s stands in (told_line told, t, (told, done, refl), went, now)
   line_done (inr (refusal, went)) s stands =
       let same : new ≡ old = leaves refusal in
       (told_line no_memory, s, (no_memory, up s, refl), went, (subst (λ o. Stands o s) (sym same) stands, ap (λ (o : OfficeView). o.zone) same))
 
-  pub line_cut : BeginsLine before after told → (s : State) → Stands old s
-      → (text : List ℕ) × (t : State) × IsLineOf (λ given. does s given t) text × AppendsFront before after text × StandsNow old new t
+  pub line_cut : BeginsLine device told → (s : State) → Stands old s
+      → (text : List ℕ) × (t : State) × IsLineOf (λ given. does s given t) text × AppendsFront device.old device.new text × StandsNow old new t
   line_cut (inl went) s stands = let (t, done, now) = comes s stands in (told_line told, t, (told, done, refl), went, now)
   line_cut (inr (refusal, went)) s stands =
       let same : new ≡ old = leaves refusal in
       (told_line no_memory, s, (no_memory, up s, refl), went, (subst (λ o. Stands o s) (sym same) stands, ap (λ (o : OfficeView). o.zone) same))
 
 -- a line for which memory is refused before anything is done
-module _ (reads : List ℕ → Option (List ℕ) → Type 0) (refuses : ℕ → Type 0) (fails : Type 0) (old : OfficeView) (before after : Option (List ℕ)) (step : Step) where
-  pub memory_done : Appends before after (told_line no_memory) → RunsStep reads refuses fails old old before after step
+module _ (reads : List ℕ → Option (List ℕ) → Type 0) (refuses : ℕ → Type 0) (fails : Type 0) (old : OfficeView) (device : DeviceChange) (step : Step) where
+  pub memory_done : Appends device.old device.new (told_line no_memory) → RunsStep reads refuses fails old old device step
   memory_done went s stands = (told_line no_memory, s, gives_up reads refuses fails (midnight_of old) s step, went, (stands, refl))
 
-  pub memory_cut : AppendsFront before after (told_line no_memory) → StopsStep reads refuses fails old old before after step
+  pub memory_cut : AppendsFront device.old device.new (told_line no_memory) → StopsStep reads refuses fails old old device step
   memory_cut went s stands = (told_line no_memory, s, gives_up reads refuses fails (midnight_of old) s step, went, (stands, refl))
 
 -- ---- lines one after the other
@@ -177,8 +178,9 @@ module _ (reads : List ℕ → Option (List ℕ) → Type 0) (refuses : ℕ → 
   )
 
 -- The office's store had counted so many refusals at first, so many then, and counts so many in the end.
-module _ (reads : List ℕ → Option (List ℕ) → Type 0) (refuses : ℕ → Type 0) (old now new : OfficeView) (first mid last : ℕ) (before between after : Option (List ℕ))
-    (steps : List Step) (step : Step) (ran : RunsScript reads refuses (CountsMore first mid) old now before between steps) where
+module _ (reads : List ℕ → Option (List ℕ) → Type 0) (refuses : ℕ → Type 0) (old now new : OfficeView) (first mid last : ℕ)
+    {S : Type 0} (taken : S → Option (List ℕ)) (failures : S → ℕ) (before between after : S)
+    (steps : List Step) (step : Step) (ran : RunsScript reads refuses (CountsMore first mid) old now (change taken failures before between) steps) where
   -- the office stands for some state after the lines so far
   pub some_between : StandsForSome old → StandsForSome now
   some_between (s, stands) = let (text, t, does, went, (now_stands, zone)) = ran s stands in (t, now_stands)
@@ -199,21 +201,21 @@ module _ (reads : List ℕ → Option (List ℕ) → Type 0) (refuses : ℕ → 
         (subst (λ z. StepDoes reads refuses (CountsMore mid last) (midnight_in (plain_zone z)) t step line u) zone done))
 
     -- one more line of a script
-    pub script_more : RunsStep reads refuses (CountsMore mid last) now new between after step
-        → RunsScript reads refuses (CountsMore first last) old new before after (steps ++ step ∷ [])
+    pub script_more : RunsStep reads refuses (CountsMore mid last) now new (change taken failures between after) step
+        → RunsScript reads refuses (CountsMore first last) old new (change taken failures before after) (steps ++ step ∷ [])
     script_more runs s stands =
         let (text, t, does, went, (now_stands, zone)) = ran s stands in
         let (line, u, done, line_went, (new_stands, new_zone)) = runs t now_stands in (
           text ++ line,
           u,
           does_both s t u text line stands now_stands zone does done,
-          appends_more before between after text line went line_went,
+          appends_more (taken before) (taken between) (taken after) text line went line_went,
           (new_stands, new_zone ∙ zone),
         )
 
     -- a line that stops a script
-    pub script_stops : (all : List Step) (count : ℕ) → take count all ≡ steps ++ step ∷ [] → StopsStep reads refuses (CountsMore mid last) now new between after step
-        → StopsScript reads refuses (CountsMore first last) old new before after all
+    pub script_stops : (all : List Step) (count : ℕ) → take count all ≡ steps ++ step ∷ [] → StopsStep reads refuses (CountsMore mid last) now new (change taken failures between after) step
+        → StopsScript reads refuses (CountsMore first last) old new (change taken failures before after) all
     script_stops all count is stops s stands =
         let (text, t, does, went, (now_stands, zone)) = ran s stands in
         let (line, u, done, (front, rest, cut, line_went), (new_stands, new_zone)) = stops t now_stands in (
@@ -226,22 +228,22 @@ module _ (reads : List ℕ → Option (List ℕ) → Type 0) (refuses : ℕ → 
             text ++ front,
             rest,
             ap (λ bytes. text ++ bytes) cut ∙ sym (append_assoc text front rest),
-            appends_more before between after text front went line_went,
+            appends_more (taken before) (taken between) (taken after) text front went line_went,
           ),
           (new_stands, new_zone ∙ zone),
         )
 
 -- The tables of a state that an office stands for add up.
-module _ (conserve : ReachedConserve) (reads : List ℕ → Option (List ℕ) → Type 0) (refuses : ℕ → Type 0) (fails : Type 0) (old new : OfficeView) (before after : Option (List ℕ)) (steps : List Step) where
+module _ (conserve : ReachedConserve) (reads : List ℕ → Option (List ℕ) → Type 0) (refuses : ℕ → Type 0) (fails : Type 0) (old new : OfficeView) (device : DeviceChange) (steps : List Step) where
   sums_now : (t : State) → StandsNow old new t → Conserves (midnight_of old) t new.content
   sums_now t ((reached, is), zone) =
       subst (λ z. Conserves (midnight_in (plain_zone z)) t new.content) zone
       (subst (λ content. Conserves (midnight_of new) t content) (sym is) (conserve (midnight_of new) t reached))
 
-  pub script_conserves : RunsScript reads refuses fails old new before after steps → ScriptConserves reads refuses fails old new steps
+  pub script_conserves : RunsScript reads refuses fails old new device steps → ScriptConserves reads refuses fails old new steps
   script_conserves runs s stands = let (text, t, does, went, now) = runs s stands in (text, t, does, sums_now t now)
 
-  pub first_conserve : StopsScript reads refuses fails old new before after steps → FirstConserve reads refuses fails old new steps
+  pub first_conserve : StopsScript reads refuses fails old new device steps → FirstConserve reads refuses fails old new steps
   first_conserve stops s stands = let (count, text, t, does, cut, now) = stops s stands in (count, text, t, does, sums_now t now)
 
 -- ---- results

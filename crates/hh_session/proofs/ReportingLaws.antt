@@ -3,6 +3,7 @@ use Rattle.std.proofs.Common.{◌≡◌, ◌⊎◌, ℕ, List, [], ◌++◌, ref
 use Rattle.std.specs.Prelude.{MatchBool}
 use Rattle.std.specs.Io.KnownBytes.{Appends}
 use Rattle.std.proofs.lemmas.List.{append_assoc}
+use Rattle.hh_devices.specs.DeviceChanges.{DeviceChange, change}
 use Rattle.hh_devices.specs.Devices.{AppendsFront}
 use Rattle.hh_names.specs.declared.fault.Fault.{Fault}
 use Rattle.hh_names.specs.declared.fault.Refusal.{Refusal}
@@ -39,10 +40,10 @@ front_behind : (before between after : Option (List ℕ)) (text line : List ℕ)
 front_behind before between after text line went (front, rest, cut, more) =
     (text ++ front, rest, ap (λ bytes. text ++ bytes) cut ∙ sym (append_assoc text front rest), appends_more before between after text front went more)
 
--- An output had these bytes before, these once the office was done, and these in the end.
-module _ (before between after : Option (List ℕ)) (counted counts : ℕ) where
-  pub cut_report : (fails : Type 0) (report : Result (List ℕ) Refusal) → ReportsAs before between counted counts {A = Unit {0}} report (Err Write)
-      → (text : List ℕ) × IsOut fails report text × AppendsFront before between text
+-- An output was in this state before, in this once the office was done, and in this in the end.
+module _ {S : Type 0} (taken : S → Option (List ℕ)) (failures : S → ℕ) (before between after : S) where
+  pub cut_report : (fails : Type 0) (report : Result (List ℕ) Refusal) → ReportsAs (change taken failures before between) {A = Unit {0}} report (Err Write)
+      → (text : List ℕ) × IsOut fails report text × AppendsFront (taken before) (taken between) text
   cut_report fails (Ok text) (went, failed) = (text, inl refl, went)
   cut_report fails (Err why) none = absurd none
 
@@ -56,35 +57,35 @@ module _ (before between after : Option (List ℕ)) (counted counts : ℕ) where
     refused_as true up why is = inr ([], [], fault, refl, fault_where earlier later fault up store, refl)
     refused_as false up why is = inl (ap refusal_line is)
 
-    pub told_report : (report : Result (List ℕ) Refusal) → ReportsAs before between counted counts {A = Unit {0}} report (Err (Refused fault))
-        → TellsLine between after (Replied (reply.Refused fault)) → (text : List ℕ) × IsOut fails report text × Appends before after text
+    pub told_report : (report : Result (List ℕ) Refusal) → ReportsAs (change taken failures before between) {A = Unit {0}} report (Err (Refused fault))
+        → TellsLine (change taken failures between after) (Replied (reply.Refused fault)) → (text : List ℕ) × IsOut fails report text × Appends (taken before) (taken after) text
     told_report (Ok text) ((front, rest, cut, went), (up, same)) (inl told) =
-        (front ++ refusal_line fault, inr (front, rest, fault, cut, fault_where earlier later fault up store, refl), appends_more before between after front (refusal_line fault) went told)
+        (front ++ refusal_line fault, inr (front, rest, fault, cut, fault_where earlier later fault up store, refl), appends_more (taken before) (taken between) (taken after) front (refusal_line fault) went told)
     told_report (Ok text) ((front, rest, cut, went), (up, same)) (inr (refusal, told)) =
-        (front ++ refusal_line memory_fault, inr (front, rest, memory_fault, cut, inl refl, refl), appends_more before between after front (refusal_line memory_fault) went told)
+        (front ++ refusal_line memory_fault, inr (front, rest, memory_fault, cut, inl refl, refl), appends_more (taken before) (taken between) (taken after) front (refusal_line memory_fault) went told)
     told_report (Err why) (is, (none, same)) (inl told) =
-        (refusal_line fault, refused_as (gives_up fault) refl why is, subst (λ b. Appends b after (refusal_line fault)) none told)
+        (refusal_line fault, refused_as (gives_up fault) refl why is, subst (λ b. Appends b (taken after) (refusal_line fault)) none told)
     told_report (Err why) (is, (none, same)) (inr (refusal, told)) =
-        (refusal_line memory_fault, inr ([], [], memory_fault, refl, inl refl, refl), subst (λ b. Appends b after (refusal_line memory_fault)) none told)
+        (refusal_line memory_fault, inr ([], [], memory_fault, refl, inl refl, refl), subst (λ b. Appends b (taken after) (refusal_line memory_fault)) none told)
 
-    pub begun_report : (report : Result (List ℕ) Refusal) → ReportsAs before between counted counts {A = Unit {0}} report (Err (Refused fault))
-        → BeginsLine between after (Replied (reply.Refused fault)) → (text : List ℕ) × IsOut fails report text × AppendsFront before after text
+    pub begun_report : (report : Result (List ℕ) Refusal) → ReportsAs (change taken failures before between) {A = Unit {0}} report (Err (Refused fault))
+        → BeginsLine (change taken failures between after) (Replied (reply.Refused fault)) → (text : List ℕ) × IsOut fails report text × AppendsFront (taken before) (taken after) text
     begun_report (Ok text) ((front, rest, cut, went), (up, same)) (inl told) =
-        (front ++ refusal_line fault, inr (front, rest, fault, cut, fault_where earlier later fault up store, refl), front_behind before between after front (refusal_line fault) went told)
+        (front ++ refusal_line fault, inr (front, rest, fault, cut, fault_where earlier later fault up store, refl), front_behind (taken before) (taken between) (taken after) front (refusal_line fault) went told)
     begun_report (Ok text) ((front, rest, cut, went), (up, same)) (inr (refusal, told)) =
-        (front ++ refusal_line memory_fault, inr (front, rest, memory_fault, cut, inl refl, refl), front_behind before between after front (refusal_line memory_fault) went told)
+        (front ++ refusal_line memory_fault, inr (front, rest, memory_fault, cut, inl refl, refl), front_behind (taken before) (taken between) (taken after) front (refusal_line memory_fault) went told)
     begun_report (Err why) (is, (none, same)) (inl told) =
-        (refusal_line fault, refused_as (gives_up fault) refl why is, subst (λ b. AppendsFront b after (refusal_line fault)) none told)
+        (refusal_line fault, refused_as (gives_up fault) refl why is, subst (λ b. AppendsFront b (taken after) (refusal_line fault)) none told)
     begun_report (Err why) (is, (none, same)) (inr (refusal, told)) =
-        (refusal_line memory_fault, inr ([], [], memory_fault, refl, inl refl, refl), subst (λ b. AppendsFront b after (refusal_line memory_fault)) none told)
+        (refusal_line memory_fault, inr ([], [], memory_fault, refl, inl refl, refl), subst (λ b. AppendsFront b (taken after) (refusal_line memory_fault)) none told)
 
 -- A line that asks for a report is a step of a script, which leaves the office.
-module _ (reads : List ℕ → Option (List ℕ) → Type 0) (refuses : ℕ → Type 0) (fails : Type 0) (old new : OfficeView) (same : new ≡ old) (before after : Option (List ℕ)) (step : ReportStep) where
+module _ (reads : List ℕ → Option (List ℕ) → Type 0) (refuses : ℕ → Type 0) (fails : Type 0) (old new : OfficeView) (same : new ≡ old) (device : DeviceChange) (step : ReportStep) where
   stays : (s : State) → Stands old s → StandsNow old new s
   stays s stands = (subst (λ o. Stands o s) (sym same) stands, ap (λ (o : OfficeView). o.zone) same)
 
-  pub report_step : RunsReport fails old before after step → RunsStep reads refuses fails old new before after (WriteReport step)
+  pub report_step : RunsReport fails old device step → RunsStep reads refuses fails old new device (WriteReport step)
   report_step runs s stands = let (text, does, went) = runs s stands in (text, s, (does, refl), went, stays s stands)
 
-  pub report_stop : BeginsReport fails old before after step → StopsStep reads refuses fails old new before after (WriteReport step)
+  pub report_stop : BeginsReport fails old device step → StopsStep reads refuses fails old new device (WriteReport step)
   report_stop begins s stands = let (text, does, went) = begins s stands in (text, s, (does, refl), went, stays s stands)

@@ -4,6 +4,7 @@ use Rattle.std.proofs.lemmas.Bool.{ltb-false, ltb-true}
 use Rattle.std.proofs.lemmas.List.{length-take-le, take_all}
 use Rattle.jiff.specs.declared.tz.timezone.TimeZone.{TimeZone}
 use Rattle.jiff.specs.Words.{plain_zone}
+use Rattle.hh_devices.specs.DeviceChanges.{DeviceChange}
 use Rattle.hh_time.specs.Days.{Midnights}
 use Rattle.hh_time.specs.Zone.{midnight_in}
 use Rattle.hh_rows.specs.Values.{AreSettings}
@@ -45,7 +46,7 @@ module _ (most : ℕ) (all bytes : List ℕ) (front : bytes ≡ take (most + 1) 
 
 -- A new office is run.
 module _ (reads : List ℕ → Option (List ℕ) → Type 0) (refuses : ℕ → Type 0) (settings : Settings) (fine : AreSettings settings) (conserve : ReachedConserve) (zone : TimeZone) (market : IsMarketZone zone)
-    (content : Content) (stands : (midnight : Midnights) → content ≡ tables_of midnight (empty_state settings)) (new : OfficeView) (before after : Option (List ℕ)) (steps : List Step) where
+    (content : Content) (stands : (midnight : Midnights) → content ≡ tables_of midnight (empty_state settings)) (new : OfficeView) (device : DeviceChange) (steps : List Step) where
   abbrev first : OfficeView
   first = record { zone = zone; content = content }
 
@@ -60,12 +61,12 @@ module _ (reads : List ℕ → Option (List ℕ) → Type 0) (refuses : ℕ → 
   never_fails ran text t does =
       script_then (CountsMore 0 0) ⊥ (λ more. absurd (omega (arith, more (omega arith)))) reads refuses (midnight_of first) (empty_state settings) ran text t does
 
-  pub new_office_writes : RunsScript reads refuses (CountsMore 0 0) first new before after steps → NewOfficeWrites reads refuses settings before after steps
+  pub new_office_writes : RunsScript reads refuses (CountsMore 0 0) first new device steps → NewOfficeWrites reads refuses settings device steps
   new_office_writes runs =
       let (text, t, does, went, now) = runs (empty_state settings) (at_first settings fine, stands (midnight_of first)) in
       (text, (zone, market, (t, never_fails steps text t does, sums_now t now)), went)
 
-  pub new_office_cuts : StopsScript reads refuses (CountsMore 0 0) first new before after steps → NewOfficeCuts reads refuses settings before after steps
+  pub new_office_cuts : StopsScript reads refuses (CountsMore 0 0) first new device steps → NewOfficeCuts reads refuses settings device steps
   new_office_cuts stops =
       let (count, text, t, does, went, now) = stops (empty_state settings) (at_first settings fine, stands (midnight_of first)) in
       (count, text, (zone, market, (t, never_fails (take count steps) text t does, sums_now t now)), went)

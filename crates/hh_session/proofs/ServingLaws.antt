@@ -2,6 +2,7 @@
 use Rattle.std.proofs.Common.{◌≡◌, ◌⊎◌, ℕ, ℤ, ◌+◌, ◌≤◌, List, [], ◌∷◌, ◌++◌, length, refl, ap, ◌∙◌, arith, Option, inl, inr}
 use Rattle.std.proofs.lemmas.List.{length-append}
 use Rattle.jiff.specs.Words.{plain_zone}
+use Rattle.hh_devices.specs.DeviceChanges.{DeviceChange}
 use Rattle.hh_devices.specs.Devices.{AppendsFront}
 use Rattle.hh_time.specs.Days.{Midnights}
 use Rattle.hh_time.specs.Zone.{midnight_in}
@@ -54,17 +55,17 @@ pub some_served : (old new : OfficeView) (moment : ℤ) (count : ℕ) → Serves
 some_served old new moment count served (s, stands) = let (t, is, now, zone) = served s stands in (t, now)
 
 -- A line that serves was begun, and the office stays.
-module _ (refuses : ℕ → Type 0) (office : OfficeView) (before after : Option (List ℕ)) (line : ServeLine) where
-  pub serving_cut : (port : ℕ) → IsPortFor line.port port → AppendsFront before after (listening_line port) → StopsServing refuses office office before after line
+module _ (refuses : ℕ → Type 0) (office : OfficeView) (device : DeviceChange) (line : ServeLine) where
+  pub serving_cut : (port : ℕ) → IsPortFor line.port port → AppendsFront device.old device.new (listening_line port) → StopsServing refuses office office device line
   serving_cut port is went s stands = (listening_line port, s, inr (port, is, refl, ([], omega arith, refl)), went, stands, refl)
 
-  pub no_socket_cut : refuses line.port → AppendsFront before after no_socket_line → StopsServing refuses office office before after line
+  pub no_socket_cut : refuses line.port → AppendsFront device.old device.new no_socket_line → StopsServing refuses office office device line
   no_socket_cut refused went s stands = (no_socket_line, s, inl (inl (refused, refl), refl), went, stands, refl)
 
 -- A line that serves is a step of a script.
-module _ (reads : List ℕ → Option (List ℕ) → Type 0) (refuses : ℕ → Type 0) (fails : Type 0) (old new : OfficeView) (before after : Option (List ℕ)) (line : ServeLine) where
-  pub served_step : RunsServing refuses old new before after line → RunsStep reads refuses fails old new before after (Serve line)
+module _ (reads : List ℕ → Option (List ℕ) → Type 0) (refuses : ℕ → Type 0) (fails : Type 0) (old new : OfficeView) (device : DeviceChange) (line : ServeLine) where
+  pub served_step : RunsServing refuses old new device line → RunsStep reads refuses fails old new device (Serve line)
   served_step runs s stands = let (text, t, does, went, now, zone) = runs s stands in (text, t, does, went, (now, zone))
 
-  pub served_stop : StopsServing refuses old new before after line → StopsStep reads refuses fails old new before after (Serve line)
+  pub served_stop : StopsServing refuses old new device line → StopsStep reads refuses fails old new device (Serve line)
   served_stop stops s stands = let (text, t, does, went, now, zone) = stops s stands in (text, t, does, went, (now, zone))

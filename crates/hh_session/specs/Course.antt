@@ -1,6 +1,7 @@
 -- What becomes of an office, and what is written, while the lines of a script are run.
 use Rattle.std.specs.Prelude.{◌≡◌, ◌⊎◌, ℕ, List, [], ◌∷◌, ◌++◌, take, Option, Some, None}
 use Rattle.std.specs.Io.KnownBytes.{Appends}
+use Rattle.hh_devices.specs.DeviceChanges.{DeviceChange}
 use Rattle.hh_devices.specs.Devices.{AppendsFront}
 use Rattle.hh_time.specs.Days.{Midnights}
 use Rattle.hh_names.specs.Faults.{memory_fault}
@@ -83,17 +84,17 @@ module _ (reads : List ℕ → Option (List ℕ) → Type 0) (refuses : ℕ → 
 abbrev pub StandsNow : OfficeView → OfficeView → State → Type 0
 StandsNow old new t = Stands new t × (new.zone ≡ old.zone)
 
--- An output had these bytes before and has those after. The store may have failed only where this holds.
-module _ (reads : List ℕ → Option (List ℕ) → Type 0) (refuses : ℕ → Type 0) (fails : Type 0) (old new : OfficeView) (before after : Option (List ℕ)) where
+-- What changes in an output. The store may have failed only where this holds.
+module _ (reads : List ℕ → Option (List ℕ) → Type 0) (refuses : ℕ → Type 0) (fails : Type 0) (old new : OfficeView) (device : DeviceChange) where
   -- steps were run from each state that the office stood for, and what they write went out
   abbrev pub RunsScript : List Step → Type 0
   RunsScript steps = (s : State) → Stands old s
-      → (text : List ℕ) × (t : State) × ScriptDoes reads refuses fails (midnight_of old) s steps text t × Appends before after text × StandsNow old new t
+      → (text : List ℕ) × (t : State) × ScriptDoes reads refuses fails (midnight_of old) s steps text t × Appends device.old device.new text × StandsNow old new t
 
   -- the first of the steps were run and no more, and a beginning of what they write went out
   abbrev pub StopsScript : List Step → Type 0
   StopsScript steps = (s : State) → Stands old s
-      → (count : ℕ) × (text : List ℕ) × (t : State) × ScriptDoes reads refuses fails (midnight_of old) s (take count steps) text t × AppendsFront before after text × StandsNow old new t
+      → (count : ℕ) × (text : List ℕ) × (t : State) × ScriptDoes reads refuses fails (midnight_of old) s (take count steps) text t × AppendsFront device.old device.new text × StandsNow old new t
 
 -- What a path may read as, and which ports may not be listened on. The store may have failed only where this holds. An office was the
 -- one before and is the other after the lines.

@@ -4,6 +4,7 @@ use Rattle.std.specs.Io.KnownBytes.{Appends}
 use Rattle.jiff.specs.Placed.{IsPosixZone}
 use Rattle.jiff.specs.declared.tz.timezone.TimeZone.{TimeZone}
 use Rattle.jiff.specs.Words.{plain_zone}
+use Rattle.hh_devices.specs.DeviceChanges.{DeviceChange, HasFailed}
 use Rattle.hh_devices.specs.Devices.{AppendsFront}
 use Rattle.hh_time.specs.Days.{Midnights}
 use Rattle.hh_time.specs.Zone.{midnight_in}
@@ -39,15 +40,15 @@ module _ (reads : List ℕ → Option (List ℕ) → Type 0) (refuses : ℕ → 
       × (let midnight : Midnights = midnight_in (plain_zone zone) in
       (t : State) × ScriptDoes reads refuses ⊥ midnight (empty_state settings) steps text t × Conserves midnight t (tables_of midnight t))
 
-  -- An output had these bytes before and has those after.
-  module _ (old new : Option (List ℕ)) (steps : List Step) where
+  -- What changes in an output.
+  module _ (device : DeviceChange) (steps : List Step) where
     -- steps were run over a new office, and what they write went out
     abbrev pub NewOfficeWrites : Type 0
-    NewOfficeWrites = (text : List ℕ) × NewOfficeDoes steps text × Appends old new text
+    NewOfficeWrites = (text : List ℕ) × NewOfficeDoes steps text × Appends device.old device.new text
 
     -- the first of the steps were run, and a beginning of what they write went out
     abbrev pub NewOfficeCuts : Type 0
-    NewOfficeCuts = (count : ℕ) × (text : List ℕ) × NewOfficeDoes (take count steps) text × AppendsFront old new text
+    NewOfficeCuts = (count : ℕ) × (text : List ℕ) × NewOfficeDoes (take count steps) text × AppendsFront device.old device.new text
 
 -- A script lies at a path.
 module _ (reads : List ℕ → Option (List ℕ) → Type 0) (path : List ℕ) where
@@ -63,13 +64,13 @@ module _ (reads : List ℕ → Option (List ℕ) → Type 0) (path : List ℕ) w
       ((fault ≡ plain_fault FileTooLarge) × ((all : List ℕ) × reads path (Some all) × (most_script_bytes < length all)))
   IsUnread stop.Output = ⊥
 
-  -- These ports may not be listened on, an office has these settings, and an output had these bytes before and has those after.
-  module _ (refuses : ℕ → Type 0) (settings : Settings) (old new : Option (List ℕ)) where
+  -- These ports may not be listened on, an office has these settings, and this changes in an output.
+  module _ (refuses : ℕ → Type 0) (settings : Settings) (device : DeviceChange) where
     -- the script was run, and what it writes went out
     abbrev pub WritesScript : Type 0
-    WritesScript = (steps : List Step) × IsScript steps × NewOfficeWrites reads refuses settings old new steps
+    WritesScript = (steps : List Step) × IsScript steps × NewOfficeWrites reads refuses settings device steps
 
-    -- why the script is not run: it is not read, and nothing went out; or the output failed, if this holds, while it was run
-    abbrev pub StopsAt : Type 0 → ScriptStop → Type 0
-    StopsAt failed stop.Output = failed × ((steps : List Step) × IsScript steps × NewOfficeCuts reads refuses settings old new steps)
-    StopsAt failed why = (new ≡ old) × IsUnread why
+    -- why the script is not run: it is not read, and nothing went out; or the output failed while it was run
+    abbrev pub StopsAt : ScriptStop → Type 0
+    StopsAt stop.Output = HasFailed device × ((steps : List Step) × IsScript steps × NewOfficeCuts reads refuses settings device steps)
+    StopsAt why = (device.new ≡ device.old) × IsUnread why

@@ -1,6 +1,7 @@
 //! The lines of a script that ask for a report.
 
 ghost use Rattle.std.specs.Prelude.{◌≡◌, IsTrue, OnErr, OnOk};
+ghost use Rattle.hh_devices.specs.DeviceChanges.{change};
 ghost use Rattle.hh_devices.specs.Devices.{Failed};
 ghost use Rattle.hh_time.specs.Days.{is_accepted};
 ghost use Rattle.hh_store.specs.Reached.{AreReached};
@@ -31,11 +32,11 @@ pub(crate) fn write_report<T: Tables, O: Sink>(
     requires { IsOfAcceptedDate line.now.report }
     ensures done { IsSure T.is_open office.new
         → OnOk result (RunsReport (HasRefused T.refusals office.old office.new)
-        office.old.seen (O.taken out.old) (O.taken out.new) (report_of line.now)) }
+        office.old.seen (change O.taken O.failures out.old out.new) (report_of line.now)) }
     ensures well { OnOk result (O.failures out.new ≡ O.failures out.old) }
     ensures cut { IsSure T.is_open office.new
         → OnErr result (BeginsReport (HasRefused T.refusals office.old office.new)
-        office.old.seen (O.taken out.old) (O.taken out.new) (report_of line.now)) }
+        office.old.seen (change O.taken O.failures out.old out.new) (report_of line.now)) }
     ensures failed { OnErr result (Failed (O.failures out.old) (O.failures out.new)) }
     ensures same { IsSure T.is_open office.new → office.new.seen ≡ office.old.seen }
     ensures refusals_up { IsSure T.is_open office.new → CountsUp T.refusals office.old office.new }
@@ -56,10 +57,10 @@ fn ask<T: Tables, O: Sink>(
     out: &mut O,
 ) -> Result<(), ReportStop>
     requires { IsOfAcceptedDate asked }
-    ensures reports { IsSure T.is_open office.new → Reports (O.taken out.old) (O.taken out.new)
-        (O.failures out.old) (O.failures out.new) office.old.seen key.now
+    ensures reports { IsSure T.is_open office.new
+        → Reports (change O.taken O.failures out.old out.new) office.old.seen key.now
         (report_asked asked) result }
-    ensures counted { CountsReport result (O.failures out.old) (O.failures out.new) }
+    ensures counted { CountsReport (change O.taken O.failures out.old out.new) result }
     ensures same { IsSure T.is_open office.new → office.new.seen ≡ office.old.seen }
     ensures refusals_counted { IsSure T.is_open office.new → AreReached office.old.seen.content
         → CountsReportStop result (T.refusals office.old.tables) (T.refusals office.new.tables) }

@@ -1,6 +1,7 @@
 //! The lines of a script, run one after the other.
 
 ghost use Rattle.std.specs.Prelude.{◌≡◌, ℕ, List, Some, None, map, take, All, IfOk, IsErrOf, OnErr, OnOk};
+ghost use Rattle.hh_devices.specs.DeviceChanges.{change};
 ghost use Rattle.hh_devices.specs.Devices.{Failed};
 ghost use Rattle.hh_office.specs.Views.{IsSure};
 ghost use Rattle.hh_serve.specs.Serves.{CountsUp};
@@ -53,12 +54,12 @@ pub fn run_lines<T: Tables, I: Inputs, L: Loopback, O: Sink>(
     ensures done { IsSure T.is_open office.new
         → OnOk result (RunsScript (I.reads_as inputs.now) (L.may_refuse loopback.now)
         (HasRefused T.refusals office.old office.new) office.old.seen office.new.seen
-        (O.taken out.old) (O.taken out.new) (map step_of lines.now)) }
+        (change O.taken O.failures out.old out.new) (map step_of lines.now)) }
     ensures well { OnOk result (O.failures out.new ≡ O.failures out.old) }
     ensures cut { IsSure T.is_open office.new
         → OnErr result (StopsScript (I.reads_as inputs.now) (L.may_refuse loopback.now)
         (HasRefused T.refusals office.old office.new) office.old.seen office.new.seen
-        (O.taken out.old) (O.taken out.new) (map step_of lines.now)) }
+        (change O.taken O.failures out.old out.new) (map step_of lines.now)) }
     ensures sums { IsSure T.is_open office.new
         → OnOk result (ScriptConserves (I.reads_as inputs.now) (L.may_refuse loopback.now)
         (HasRefused T.refusals office.old office.new) office.old.seen office.new.seen
@@ -92,12 +93,12 @@ fn run_line<T: Tables, I: Inputs, L: Loopback, O: Sink>(
     ensures done { IsSure T.is_open office.new
         → OnOk result (RunsStep (I.reads_as inputs.now) (L.may_refuse loopback.now)
         (HasRefused T.refusals office.old office.new) office.old.seen office.new.seen
-        (O.taken out.old) (O.taken out.new) (step_of line.now)) }
+        (change O.taken O.failures out.old out.new) (step_of line.now)) }
     ensures well { OnOk result (O.failures out.new ≡ O.failures out.old) }
     ensures cut { IsSure T.is_open office.new
         → OnErr result (StopsStep (I.reads_as inputs.now) (L.may_refuse loopback.now)
         (HasRefused T.refusals office.old office.new) office.old.seen office.new.seen
-        (O.taken out.old) (O.taken out.new) (step_of line.now)) }
+        (change O.taken O.failures out.old out.new) (step_of line.now)) }
     ensures failed { OnErr result (Failed (O.failures out.old) (O.failures out.new)) }
     ensures refusals_up { IsSure T.is_open office.new → CountsUp T.refusals office.old office.new }
     ensures sure { IsSure T.is_open office.new → IsSure T.is_open office.old }

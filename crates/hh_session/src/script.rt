@@ -1,6 +1,7 @@
 //! The script in a file, run over a new office.
 
 ghost use Rattle.std.specs.Prelude.{◌≡◌, ◌≢◌, ◌≤◌, Some, length, map, All, IfErr, IfOk, OnErr, OnOk};
+ghost use Rattle.hh_devices.specs.DeviceChanges.{change};
 ghost use Rattle.hh_devices.specs.Devices.{Failed};
 ghost use Rattle.hh_script.specs.Steps.{IsWellNamed, step_of};
 ghost use Rattle.hh_session.specs.Script.{IsUnread, NewOfficeCuts, NewOfficeWrites, StopsAt, WritesScript, most_script_bytes};
@@ -78,11 +79,10 @@ pub fn run_script<I: Inputs, L: Loopback, O: Sink>(
     out: &mut O,
 ) -> Result<(), ScriptStop>
     ensures done { OnOk result (WritesScript (I.reads_as inputs.now) path.now
-        (L.may_refuse loopback.now) settings (O.taken out.old) (O.taken out.new)) }
+        (L.may_refuse loopback.now) settings (change O.taken O.failures out.old out.new)) }
     ensures well { OnOk result (O.failures out.new ≡ O.failures out.old) }
     ensures stopped { IfErr result (StopsAt (I.reads_as inputs.now) path.now
-        (L.may_refuse loopback.now) settings (O.taken out.old) (O.taken out.new)
-        (Failed (O.failures out.old) (O.failures out.new))) }
+        (L.may_refuse loopback.now) settings (change O.taken O.failures out.old out.new)) }
     ensures untouched { IfErr result (λ stop. stop ≢ ScriptStop.Output → out.new ≡ out.old) }
 {
     let bytes = read_whole(alloc, inputs, path)?;
@@ -118,11 +118,11 @@ fn run_new_office<I: Inputs, L: Loopback, O: Sink>(
 ) -> Result<(), DeviceFailed>
     requires { All (λ line. IsWellNamed (step_of line)) lines.now }
     ensures done { OnOk result (NewOfficeWrites (I.reads_as inputs.now)
-        (L.may_refuse loopback.now) settings (O.taken out.old) (O.taken out.new)
+        (L.may_refuse loopback.now) settings (change O.taken O.failures out.old out.new)
         (map step_of lines.now)) }
     ensures well { OnOk result (O.failures out.new ≡ O.failures out.old) }
     ensures cut { OnErr result (NewOfficeCuts (I.reads_as inputs.now)
-        (L.may_refuse loopback.now) settings (O.taken out.old) (O.taken out.new)
+        (L.may_refuse loopback.now) settings (change O.taken O.failures out.old out.new)
         (map step_of lines.now)) }
     ensures failed { OnErr result (Failed (O.failures out.old) (O.failures out.new)) }
 {

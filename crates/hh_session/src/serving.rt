@@ -2,6 +2,7 @@
 
 ghost use Rattle.std.specs.Prelude.{◌≡◌, ◌≤◌, [], vec_capacity, OnErr, OnOk};
 ghost use Rattle.std.specs.Io.KnownBytes.{Appends};
+ghost use Rattle.hh_devices.specs.DeviceChanges.{change};
 ghost use Rattle.hh_devices.specs.Devices.{AppendsFront, Failed};
 ghost use Rattle.hh_serve.specs.Serves.{CountsUp, StandsAfterOne};
 ghost use Rattle.hh_office.specs.Views.{IsSure};
@@ -31,11 +32,11 @@ pub(crate) fn serve_connections<T: Tables, L: Loopback, O: Sink>(
     requires ample { 217 ≤ vec_capacity room }
     ensures done { IsSure T.is_open office.new
         → OnOk result (RunsServing (L.may_refuse loopback.now) office.old.seen office.new.seen
-        (O.taken out.old) (O.taken out.new) line.now) }
+        (change O.taken O.failures out.old out.new) line.now) }
     ensures well { OnOk result (O.failures out.new ≡ O.failures out.old) }
     ensures cut { IsSure T.is_open office.new
         → OnErr result (StopsServing (L.may_refuse loopback.now) office.old.seen office.new.seen
-        (O.taken out.old) (O.taken out.new) line.now) }
+        (change O.taken O.failures out.old out.new) line.now) }
     ensures failed { OnErr result (Failed (O.failures out.old) (O.failures out.new)) }
     ensures refusals_up { IsSure T.is_open office.new → CountsUp T.refusals office.old office.new }
     ensures sure { IsSure T.is_open office.new → IsSure T.is_open office.old }

@@ -2,6 +2,7 @@
 
 ghost use Rattle.std.specs.Prelude.{◌≡◌, ◌≤◌, [], vec_capacity, OnErr, OnOk};
 ghost use Rattle.std.specs.Io.KnownBytes.{Appends};
+ghost use Rattle.hh_devices.specs.DeviceChanges.{change};
 ghost use Rattle.hh_devices.specs.Devices.{AppendsFront, Failed};
 ghost use Rattle.hh_requests.specs.declared.reply.Reply.TheVariants.{Refused};
 ghost use Rattle.hh_session.specs.Course.{no_memory};
@@ -26,9 +27,9 @@ pub(crate) fn tell<O: Sink>(
 ) -> Result<(), DeviceFailed>
     requires empty { room.items ≡ [] }
     requires ample { 217 ≤ vec_capacity room }
-    ensures told { OnOk result (TellsLine (O.taken out.old) (O.taken out.new) told.now) }
+    ensures told { OnOk result (TellsLine (change O.taken O.failures out.old out.new) told.now) }
     ensures well { OnOk result (O.failures out.new ≡ O.failures out.old) }
-    ensures cut { OnErr result (BeginsLine (O.taken out.old) (O.taken out.new) told.now) }
+    ensures cut { OnErr result (BeginsLine (change O.taken O.failures out.old out.new) told.now) }
     ensures failed { OnErr result (Failed (O.failures out.old) (O.failures out.new)) }
 {
     match told {
@@ -46,10 +47,10 @@ fn tell_reply<O: Sink>(
 ) -> Result<(), DeviceFailed>
     requires empty { room.items ≡ [] }
     requires ample { 217 ≤ vec_capacity room }
-    ensures told { OnOk result (TellsLine (O.taken out.old) (O.taken out.new)
+    ensures told { OnOk result (TellsLine (change O.taken O.failures out.old out.new)
         (Replied reply.now)) }
     ensures well { OnOk result (O.failures out.new ≡ O.failures out.old) }
-    ensures cut { OnErr result (BeginsLine (O.taken out.old) (O.taken out.new)
+    ensures cut { OnErr result (BeginsLine (change O.taken O.failures out.old out.new)
         (Replied reply.now)) }
     ensures failed { OnErr result (Failed (O.failures out.old) (O.failures out.new)) }
 {
@@ -75,10 +76,10 @@ pub(crate) fn tell_refused<O: Sink>(
     fault: Fault,
     out: &mut O,
 ) -> Result<(), DeviceFailed>
-    ensures told { OnOk result (TellsLine (O.taken out.old) (O.taken out.new)
+    ensures told { OnOk result (TellsLine (change O.taken O.failures out.old out.new)
         (Replied (Refused fault))) }
     ensures well { OnOk result (O.failures out.new ≡ O.failures out.old) }
-    ensures cut { OnErr result (BeginsLine (O.taken out.old) (O.taken out.new)
+    ensures cut { OnErr result (BeginsLine (change O.taken O.failures out.old out.new)
         (Replied (Refused fault))) }
     ensures failed { OnErr result (Failed (O.failures out.old) (O.failures out.new)) }
 {

@@ -1,9 +1,10 @@
 -- The reports that tables write, and what a call that is to write one comes to.
-use Rattle.std.specs.Prelude.{◌≡◌, ℕ, ℤ, List, map, Option, option_map, Result, Ok, Err}
+use Rattle.std.specs.Prelude.{ℕ, ℤ, List, map, Option, option_map, Result, Ok, Err}
 use Rattle.std.specs.FinMap.{find}
 use Rattle.std.specs.Io.KnownBytes.{Appends}
 use Rattle.hh_num.specs.Totals.{total}
-use Rattle.hh_devices.specs.Devices.{AppendsFront, Failed}
+use Rattle.hh_devices.specs.DeviceChanges.{DeviceChange, HasFailed, IsWell}
+use Rattle.hh_devices.specs.Devices.{AppendsFront}
 use Rattle.hh_names.specs.declared.account.Account.{Account}
 use Rattle.hh_runs.specs.declared.summary.Summary.{Summary}
 use Rattle.hh_runs.specs.declared.run_key.RunKey.{RunKey}
@@ -41,20 +42,20 @@ module _ (content : Content) where
   abbrev pub balances_in : List ℕ
   balances_in = balances_text (map (λ e. e.0) content.registered.parties) balance_in
 
--- a sink counts a failure where it is told as failed, and none elsewhere
-abbrev pub CountsOutput : OutputFault → ℕ → ℕ → Type 0
-CountsOutput Memory old new = new ≡ old
-CountsOutput Store old new = new ≡ old
-CountsOutput Write old new = Failed old new
+-- What changes in a sink by a call.
+module _ (device : DeviceChange) where
+  -- it counts a failure where it is told as failed, and none elsewhere
+  abbrev pub CountsOutput : OutputFault → Type 0
+  CountsOutput Memory = IsWell device
+  CountsOutput Store = IsWell device
+  CountsOutput Write = HasFailed device
 
--- a sink counts one failure where a call ended for it, and none elsewhere
-abbrev pub CountsOutcome : {A : Type 0} → Result A OutputFault → ℕ → ℕ → Type 0
-CountsOutcome (Ok x) old new = new ≡ old
-CountsOutcome (Err fault) old new = CountsOutput fault old new
+  -- it counts one failure where the call ended for it, and none elsewhere
+  abbrev pub CountsOutcome : {A : Type 0} → Result A OutputFault → Type 0
+  CountsOutcome (Ok x) = IsWell device
+  CountsOutcome (Err fault) = CountsOutput fault
 
--- A sink had taken these bytes before and has taken those after, and had counted so many failures and counts so many.
-module _ (before after : Option (List ℕ)) (counted counts : ℕ) where
   -- the text went out and nothing else, and the sink did not fail; or a beginning of the text went out
   abbrev pub Outputs : {A : Type 0} → List ℕ → Result A OutputFault → Type 0
-  Outputs text (Ok x) = Appends before after text × (counts ≡ counted)
-  Outputs text (Err fault) = AppendsFront before after text × CountsOutput fault counted counts
+  Outputs text (Ok x) = Appends device.old device.new text × IsWell device
+  Outputs text (Err fault) = AppendsFront device.old device.new text × CountsOutput fault

@@ -1,6 +1,7 @@
 //! The tables of an office, however they are kept.
 
 ghost use Rattle.std.specs.Prelude.{◌≡◌, ℕ, Bool, IfOk, IfSome, IsTrue, OnOk, OnErr};
+ghost use Rattle.hh_devices.specs.DeviceChanges.{change};
 ghost use Rattle.hh_time.specs.Days.{Midnights};
 ghost use Rattle.hh_rules.specs.RegisterView.{ServesFor};
 ghost use Rattle.hh_states.specs.Changes.{IsLoadFrom, IsRunFrom, effect_of_load, effect_of_run};
@@ -173,9 +174,8 @@ pub trait Tables {
     fn export<S: Sink>(&mut self, run: &RunKey, out: &mut S) -> Result<(), OutputFault>
         ensures writes { IsTrue (is_open self.new)
             → IfSome (export_in (content self.old) run.now) (λ text.
-            Outputs (S.taken out.old) (S.taken out.new)
-            (S.failures out.old) (S.failures out.new) text result) }
-        ensures counted { CountsOutcome result (S.failures out.old) (S.failures out.new) }
+            Outputs (change S.taken S.failures out.old out.new) text result) }
+        ensures counted { CountsOutcome (change S.taken S.failures out.old out.new) result }
         ensures same { IsTrue (is_open self.new) → content self.new ≡ content self.old }
         ensures stood { IsTrue (is_open self.new) → IsTrue (is_open self.old) }
         ensures refusals_counted { IsTrue (is_open self.new) → AreReached (content self.old)
@@ -190,9 +190,8 @@ pub trait Tables {
     fn day_report<S: Sink>(&mut self, run: &RunKey, out: &mut S) -> Result<(), OutputFault>
         ensures writes { IsTrue (is_open self.new)
             → IfSome (day_report_in (content self.old) run.now) (λ text.
-            Outputs (S.taken out.old) (S.taken out.new)
-            (S.failures out.old) (S.failures out.new) text result) }
-        ensures counted { CountsOutcome result (S.failures out.old) (S.failures out.new) }
+            Outputs (change S.taken S.failures out.old out.new) text result) }
+        ensures counted { CountsOutcome (change S.taken S.failures out.old out.new) result }
         ensures same { IsTrue (is_open self.new) → content self.new ≡ content self.old }
         ensures stood { IsTrue (is_open self.new) → IsTrue (is_open self.old) }
         ensures refusals_counted { IsTrue (is_open self.new) → AreReached (content self.old)
@@ -206,9 +205,10 @@ pub trait Tables {
     ///
     /// As of `export`.
     fn balances<S: Sink>(&mut self, out: &mut S) -> Result<(), OutputFault>
-        ensures writes { IsTrue (is_open self.new) → Outputs (S.taken out.old) (S.taken out.new)
-            (S.failures out.old) (S.failures out.new) (balances_in (content self.old)) result }
-        ensures counted { CountsOutcome result (S.failures out.old) (S.failures out.new) }
+        ensures writes { IsTrue (is_open self.new)
+            → Outputs (change S.taken S.failures out.old out.new)
+            (balances_in (content self.old)) result }
+        ensures counted { CountsOutcome (change S.taken S.failures out.old out.new) result }
         ensures same { IsTrue (is_open self.new) → content self.new ≡ content self.old }
         ensures stood { IsTrue (is_open self.new) → IsTrue (is_open self.old) }
         ensures refusals_counted { IsTrue (is_open self.new) → AreReached (content self.old)

@@ -1,6 +1,7 @@
 -- What the lines of a script do, as the functions behind a line tell it.
 use Rattle.std.specs.Prelude.{◌≡◌, ◌⊎◌, ℕ, List, Option, IsTrue}
 use Rattle.std.specs.Io.KnownBytes.{Appends}
+use Rattle.hh_devices.specs.DeviceChanges.{DeviceChange}
 use Rattle.hh_devices.specs.Devices.{AppendsFront}
 use Rattle.hh_states.specs.States.{State}
 use Rattle.hh_office.specs.Machine.{step}
@@ -18,14 +19,14 @@ IsRefusal Unreadable = ⊥
 IsRefusal (Replied given) = IsTrue (is_refused given)
 
 -- What goes out for a line that came to this: its text, or that of refused memory in the place of a refusal.
-module _ (before after : Option (List ℕ)) (told : Told) where
+module _ (device : DeviceChange) (told : Told) where
   -- it went out
   abbrev pub TellsLine : Type 0
-  TellsLine = Appends before after (told_line told) ⊎ (IsRefusal told × Appends before after (told_line no_memory))
+  TellsLine = Appends device.old device.new (told_line told) ⊎ (IsRefusal told × Appends device.old device.new (told_line no_memory))
 
   -- a beginning of it went out
   abbrev pub BeginsLine : Type 0
-  BeginsLine = AppendsFront before after (told_line told) ⊎ (IsRefusal told × AppendsFront before after (told_line no_memory))
+  BeginsLine = AppendsFront device.old device.new (told_line told) ⊎ (IsRefusal told × AppendsFront device.old device.new (told_line no_memory))
 
 -- The store may have failed only where this holds.
 module _ (fails : Type 0) where
@@ -42,14 +43,14 @@ module _ (fails : Type 0) where
 abbrev pub LeavesRefused : OfficeView → OfficeView → Told → Type 0
 LeavesRefused old new told = IsRefusal told → new ≡ old
 
--- An output had these bytes before and has those after. The store may have failed only where this holds.
-module _ (reads : List ℕ → Option (List ℕ) → Type 0) (refuses : ℕ → Type 0) (fails : Type 0) (old new : OfficeView) (before after : Option (List ℕ)) where
+-- What changes in an output. The store may have failed only where this holds.
+module _ (reads : List ℕ → Option (List ℕ) → Type 0) (refuses : ℕ → Type 0) (fails : Type 0) (old new : OfficeView) (device : DeviceChange) where
   -- a step was run from each state that the office stood for, and what it writes went out
   abbrev pub RunsStep : Step → Type 0
   RunsStep step = (s : State) → Stands old s
-      → (text : List ℕ) × (t : State) × StepDoes reads refuses fails (midnight_of old) s step text t × Appends before after text × StandsNow old new t
+      → (text : List ℕ) × (t : State) × StepDoes reads refuses fails (midnight_of old) s step text t × Appends device.old device.new text × StandsNow old new t
 
   -- a step was run from each state that the office stood for, and a beginning of what it writes went out
   abbrev pub StopsStep : Step → Type 0
   StopsStep step = (s : State) → Stands old s
-      → (text : List ℕ) × (t : State) × StepDoes reads refuses fails (midnight_of old) s step text t × AppendsFront before after text × StandsNow old new t
+      → (text : List ℕ) × (t : State) × StepDoes reads refuses fails (midnight_of old) s step text t × AppendsFront device.old device.new text × StandsNow old new t

@@ -1,6 +1,7 @@
 -- What a line that serves connections does, as the functions behind it tell it.
-use Rattle.std.specs.Prelude.{◌≡◌, ℕ, ℤ, List, Option}
+use Rattle.std.specs.Prelude.{◌≡◌, ℕ, ℤ, List}
 use Rattle.std.specs.Io.KnownBytes.{Appends}
+use Rattle.hh_devices.specs.DeviceChanges.{DeviceChange}
 use Rattle.hh_devices.specs.Devices.{AppendsFront}
 use Rattle.hh_states.specs.States.{State}
 use Rattle.hh_office.specs.Promises.{Stands}
@@ -15,14 +16,14 @@ module _ (old new : OfficeView) (moment : ℤ) where
   ServesUpTo count = (s : State) → Stands old s
       → (t : State) × IsServed (midnight_of old) moment count s t × Stands new t × (new.zone ≡ old.zone)
 
--- An output had these bytes before and has those after, and these ports may not be listened on.
-module _ (refuses : ℕ → Type 0) (old new : OfficeView) (before after : Option (List ℕ)) (line : ServeLine) where
+-- What changes in an output, and which ports may not be listened on.
+module _ (refuses : ℕ → Type 0) (old new : OfficeView) (device : DeviceChange) (line : ServeLine) where
   -- a line that serves was run from each state that the office stood for, and what it writes went out
   abbrev pub RunsServing : Type 0
   RunsServing = (s : State) → Stands old s
-      → (text : List ℕ) × (t : State) × ServeDoes refuses (midnight_of old) s line text t × Appends before after text × Stands new t × (new.zone ≡ old.zone)
+      → (text : List ℕ) × (t : State) × ServeDoes refuses (midnight_of old) s line text t × Appends device.old device.new text × Stands new t × (new.zone ≡ old.zone)
 
   -- the same, and a beginning of what it writes went out
   abbrev pub StopsServing : Type 0
   StopsServing = (s : State) → Stands old s
-      → (text : List ℕ) × (t : State) × ServeDoes refuses (midnight_of old) s line text t × AppendsFront before after text × Stands new t × (new.zone ≡ old.zone)
+      → (text : List ℕ) × (t : State) × ServeDoes refuses (midnight_of old) s line text t × AppendsFront device.old device.new text × Stands new t × (new.zone ≡ old.zone)

@@ -8,7 +8,7 @@ use Rattle.hh_reports.proofs.day_report.write_accounts.Goals as goal
 
 pub returns-in_err-charges-clause-writes : goal.returns-in_err-charges-clause-writes
 returns-in_err-charges-clause-writes g c =
-    told_on _ _ c.write_row.new.page _ _ _ c.in_err-charges.field-0.0 _ c.from_residual.ensures.1
+    told_on _ c.write_row.new.page _ c.in_err-charges.field-0.0 _ c.from_residual.ensures.1
     (lines_stopped (row_lines c.args.period) c.args.rows.now c.loop-entry.entry-index c.entry-item.result c.loop-entry-test.true c.entry-item.is _ _ _ _ _ _ _ _ c.in_err-charges.field-0.0 c.loop-entry.invariant.sent c.in_err-charges.ensures.writes)
 
 pub loop-entry-preserved : goal.loop-entry-preserved

@@ -13,11 +13,11 @@ returns-in_err-write_title g c =
     let title = title_line c.args.run.now in
     let periods = periods_lines c.args.run.now.periods c.args.rows.now in
     let nets = flat_map net_line (nets_from_rows c.args.rows.now) in
-    told_on _ _ c.write_title.new.page _ _ _ fault _ c.from_residual.ensures.1
-    (stopped_before _ _ page _ _ _ (codes "END\n") fault
-    (stopped_before _ _ page _ _ _ nets fault
-    (stopped_before _ _ page _ _ _ periods fault
-    (stopped_before _ _ page _ _ title heads_line fault c.in_err-write_title.ensures))))
+    told_on _ c.write_title.new.page _ fault _ c.from_residual.ensures.1
+    (stopped_before _ page _ (codes "END\n") fault
+    (stopped_before _ page _ nets fault
+    (stopped_before _ page _ periods fault
+    (stopped_before _ page title heads_line fault c.in_err-write_title.ensures))))
 
 pub returns-in_err-put : goal.returns-in_err-put
 unfolding day_report_text
@@ -27,10 +27,10 @@ returns-in_err-put g c =
     let title = title_line c.args.run.now in
     let periods = periods_lines c.args.run.now.periods c.args.rows.now in
     let nets = flat_map net_line (nets_from_rows c.args.rows.now) in
-    told_on _ _ c.put.new.self _ _ _ fault _ c.from_residual-in_err-put.ensures.1
-    (stopped_before _ _ page _ _ _ (codes "END\n") fault
-    (stopped_before _ _ page _ _ _ nets fault
-    (stopped_before _ _ page _ _ _ periods fault
+    told_on _ c.put.new.self _ fault _ c.from_residual-in_err-put.ensures.1
+    (stopped_before _ page _ (codes "END\n") fault
+    (stopped_before _ page _ nets fault
+    (stopped_before _ page _ periods fault
     (stopped_on _ _ _ page _ _ _ _ title heads_line fault c.in_ok-write_title.ensures (rw c.heads.ensures at c.in_err-put.ensures)))))
 
 pub returns-in_err-write_periods : goal.returns-in_err-write_periods
@@ -41,9 +41,9 @@ returns-in_err-write_periods g c =
     let title = title_line c.args.run.now in
     let periods = periods_lines c.args.run.now.periods c.args.rows.now in
     let nets = flat_map net_line (nets_from_rows c.args.rows.now) in
-    told_on _ _ c.write_periods.new.page _ _ _ fault _ c.from_residual-in_err-write_periods.ensures.1
-    (stopped_before _ _ page _ _ _ (codes "END\n") fault
-    (stopped_before _ _ page _ _ _ nets fault
+    told_on _ c.write_periods.new.page _ fault _ c.from_residual-in_err-write_periods.ensures.1
+    (stopped_before _ page _ (codes "END\n") fault
+    (stopped_before _ page _ nets fault
     (stopped_on _ _ _ page _ _ _ _ _ periods fault
     (went_on _ _ _ page _ _ _ _ _ title heads_line c.in_ok-write_title.ensures (rw c.heads.ensures at c.in_ok-put.ensures)) c.in_err-write_periods.ensures)))
 
@@ -56,8 +56,8 @@ returns-in_err-write_nets g c =
     let periods = periods_lines c.args.run.now.periods c.args.rows.now in
     let nets = flat_map net_line (nets_from_rows c.args.rows.now) in
     let heads = went_on _ _ _ page _ _ _ _ _ title heads_line c.in_ok-write_title.ensures (rw c.heads.ensures at c.in_ok-put.ensures) in
-    told_on _ _ c.write_nets.new.page _ _ _ fault _ c.from_residual-in_err-write_nets.ensures.1
-    (stopped_before _ _ page _ _ _ (codes "END\n") fault
+    told_on _ c.write_nets.new.page _ fault _ c.from_residual-in_err-write_nets.ensures.1
+    (stopped_before _ page _ (codes "END\n") fault
     (stopped_on _ _ _ page _ _ _ _ _ nets fault
     (went_on _ _ _ page _ _ _ _ _ _ periods heads c.in_ok-write_periods.ensures) (rw c.requires at c.in_err-write_nets.ensures)))
 

@@ -4,7 +4,7 @@ use Rattle.hh_reports.proofs.day_report.write_nets.Goals as goal
 
 pub returns-in_err-write_net : goal.returns-in_err-write_net
 returns-in_err-write_net g c =
-    told_on _ _ c.write_net.new.page _ _ _ c.in_err-write_net.field-0.0 _ c.from_residual.ensures.1
+    told_on _ c.write_net.new.page _ c.in_err-write_net.field-0.0 _ c.from_residual.ensures.1
     (lines_stopped net_line c.args.nets.now c.loop-net.net-index c.net-item.result c.loop-net-test.true c.net-item.is _ _ _ _ _ _ _ _ c.in_err-write_net.field-0.0 c.loop-net.invariant c.in_err-write_net.ensures)
 
 pub loop-net-preserved : goal.loop-net-preserved

@@ -13,8 +13,8 @@ returns-in_err-charges g c =
     let rows = rows_of_period c.args.period c.args.rows.now in
     let accounts = flat_map (period_account_line c.args.period) rows in
     let residual = period_residual_line c.args.period (neg_ℤ (total (λ row. row.charge) rows)) in
-    told_on _ _ c.write_accounts.new.page _ _ _ c.in_err-charges.field-0.0 _ c.from_residual.ensures.1
-    (stopped_before _ _ c.args.page.now _ _ accounts residual c.in_err-charges.field-0.0 (rw accounts_lines at c.in_err-charges.ensures.writes))
+    told_on _ c.write_accounts.new.page _ c.in_err-charges.field-0.0 _ c.from_residual.ensures.1
+    (stopped_before _ c.args.page.now accounts residual c.in_err-charges.field-0.0 (rw accounts_lines at c.in_err-charges.ensures.writes))
 
 pub returns : goal.returns
 unfolding period_lines

@@ -9,7 +9,7 @@ pub returns-in_err-write_period : goal.returns-in_err-write_period
 returns-in_err-write_period g c =
     let lines : ℕ → List ℕ = λ period. period_lines period (rows_of_period period c.args.rows.now) in
     let count = c.loop-count.count in
-    told_on _ _ c.write_period.new.page _ _ _ c.in_err-write_period.field-0.0 _ c.from_residual.ensures.1
+    told_on _ c.write_period.new.page _ c.in_err-write_period.field-0.0 _ c.from_residual.ensures.1
     (lines_stopped lines (range_with_len 1 c.args.periods) count (count + 1) (among_periods c.args.periods count c.loop-count-test.true) (period_at c.args.periods count c.loop-count-test.true) _ _ _ _ _ _ _ _ c.in_err-write_period.field-0.0 c.loop-count.invariant (rw c.rows_near-near.ensures at c.in_err-write_period.ensures))
 
 pub loop-count-preserved : goal.loop-count-preserved

@@ -9,8 +9,8 @@ unfolding results_text
 returns-in_err-put g c =
     let header = codes "date,kind,account,period,credited,balancing,contracts,imbalance,charge,share\n" in
     let lines = flat_map (result_line c.args.run.now) c.args.rows.now in
-    told_on _ _ c.put.new.self _ _ _ c.in_err-put.field-0.0 _ c.from_residual.ensures.1
-    (stopped_before _ _ c.args.page.now _ _ header lines c.in_err-put.field-0.0 c.in_err-put.ensures)
+    told_on _ c.put.new.self _ c.in_err-put.field-0.0 _ c.from_residual.ensures.1
+    (stopped_before _ c.args.page.now header lines c.in_err-put.field-0.0 c.in_err-put.ensures)
 
 pub returns : goal.returns
 unfolding results_text

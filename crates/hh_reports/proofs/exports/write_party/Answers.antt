@@ -13,8 +13,8 @@ returns-in_err-write_balance g c =
     let consumption : Account = record { party = c.args.party; side = Consumption } in
     let first = balance_line production (sums production) in
     let second = balance_line consumption (sums consumption) in
-    told_on _ _ c.write_balance.new.page _ _ _ c.in_err-write_balance.field-0.0 _ c.from_residual.ensures.1
-    (stopped_before _ _ c.args.page.now _ _ first (second ++ []) c.in_err-write_balance.field-0.0 c.in_err-write_balance.ensures)
+    told_on _ c.write_balance.new.page _ c.in_err-write_balance.field-0.0 _ c.from_residual.ensures.1
+    (stopped_before _ c.args.page.now first (second ++ []) c.in_err-write_balance.field-0.0 c.in_err-write_balance.ensures)
 
 pub returns : goal.returns
 returns g c =
@@ -24,4 +24,4 @@ returns g c =
     let first = balance_line production (sums production) in
     let second = balance_line consumption (sums consumption) in
     written_on _ _ _ c.args.page.now _ c.write_balance-2.new.page _ _ _ first (second ++ []) c.write_balance-2.result c.in_ok-write_balance.ensures
-    (at_the_end _ _ _ _ _ _ second c.write_balance-2.result c.write_balance-2.ensures)
+    (at_the_end _ _ _ second c.write_balance-2.result c.write_balance-2.ensures)

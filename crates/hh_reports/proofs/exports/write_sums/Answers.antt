@@ -10,8 +10,8 @@ unfolding balances_text
 returns-in_err-put g c =
     let header = codes "account,moved_pence\n" in
     let lines = flat_map (party_lines (sum_in c.args.sums.now)) c.args.parties.now in
-    told_on _ _ c.put.new.self _ _ _ c.in_err-put.field-0.0 _ c.from_residual.ensures.1
-    (stopped_before _ _ c.args.page.now _ _ header lines c.in_err-put.field-0.0 c.in_err-put.ensures)
+    told_on _ c.put.new.self _ c.in_err-put.field-0.0 _ c.from_residual.ensures.1
+    (stopped_before _ c.args.page.now header lines c.in_err-put.field-0.0 c.in_err-put.ensures)
 
 pub returns : goal.returns
 unfolding balances_text

@@ -17,7 +17,7 @@ returns-in_err-write_reply-in-Ok-Asked-clause-served g c sure =
     let fits : SFits w64 c.args.moment = search rules in
     let is = handled old new c.args.moment _ (to_z-of_z w64 c.args.moment fits) c.in-Ok-Asked.request c.handle-reply.result (h.step sure) (h.stands sure)
     source c.in-Ok-Asked.field-0 c.in-Ok-Asked.field-0-is c.in-Ok-Asked.ensures.message (h.untouched sure) (h.once sure) (h.sums sure) (h.view sure) (h.foreign sure) counted counts (h.refusals_counted sure) in
-    not_replied source old new counted counts c.args.moment _ _ _ _ (Ok c.handle-reply.result) is c.in_err-write_reply-in-Ok-Asked.field-0.0 c.from_residual.result c.from_residual.ensures.1
+    not_replied source old new counted counts c.args.moment _ (Ok c.handle-reply.result) is c.in_err-write_reply-in-Ok-Asked.field-0.0 c.from_residual.result c.from_residual.ensures.1
     c.in_err-write_reply-in-Ok-Asked.ensures.reply c.in_err-write_reply-in-Ok-Asked.ensures.no_memory
 
 pub returns-in_err-write_reply-in-Ok-Asked-clause-stands :
@@ -33,7 +33,7 @@ returns-in_err-write_refused-in-Err-Refused-clause-served g c sure =
     let source = g.I.Source.remaining c.args.source.now in
     let old = c.args.office.now.seen in
     let message = subst (λ (w : WireFault). IsReadOf source (Err w)) c.in-Err-Refused.field-0-is c.in-Err-Refused.ensures.message in
-    not_replied source old old _ _ c.args.moment _ _ _ _ (Err c.in-Err-Refused.refused) (message, refl) c.in_err-write_refused-in-Err-Refused.field-0.0
+    not_replied source old old _ _ c.args.moment _ (Err c.in-Err-Refused.refused) (message, refl) c.in_err-write_refused-in-Err-Refused.field-0.0
     c.from_residual-in_err-write_refused-in-Err-Refused.result c.from_residual-in_err-write_refused-in-Err-Refused.ensures.1
     c.in_err-write_refused-in-Err-Refused.ensures.reply c.in_err-write_refused-in-Err-Refused.ensures.no_memory
 
@@ -49,7 +49,7 @@ returns-in_ok-write_reply-in-Ok-Asked-clause-served g c sure =
     let fits : SFits w64 c.args.moment = search rules in
     let is = handled old new c.args.moment _ (to_z-of_z w64 c.args.moment fits) c.in-Ok-Asked.request c.handle-reply.result (h.step sure) (h.stands sure)
     source c.in-Ok-Asked.field-0 c.in-Ok-Asked.field-0-is c.in-Ok-Asked.ensures.message (h.untouched sure) (h.once sure) (h.sums sure) (h.view sure) (h.foreign sure) counted counts (h.refusals_counted sure) in
-    replied source old new counted counts c.args.moment _ _ _ _ (Ok c.handle-reply.result) is c.in_ok-write_reply-in-Ok-Asked.ensures.reply
+    replied source old new counted counts c.args.moment _ (Ok c.handle-reply.result) is c.in_ok-write_reply-in-Ok-Asked.ensures.reply
 
 pub returns-in_ok-write_reply-in-Ok-Asked-clause-stands :
     goal.returns-in_ok-write_reply-in-Ok-Asked-clause-stands
@@ -64,7 +64,7 @@ returns-in_ok-write_refused-in-Err-Refused-clause-served g c sure =
     let source = g.I.Source.remaining c.args.source.now in
     let old = c.args.office.now.seen in
     let message = subst (λ (w : WireFault). IsReadOf source (Err w)) c.in-Err-Refused.field-0-is c.in-Err-Refused.ensures.message in
-    replied source old old _ _ c.args.moment _ _ _ _ (Err c.in-Err-Refused.refused) (message, refl) c.in_ok-write_refused-in-Err-Refused.ensures.reply
+    replied source old old _ _ c.args.moment _ (Err c.in-Err-Refused.refused) (message, refl) c.in_ok-write_refused-in-Err-Refused.ensures.reply
 
 pub returns-in_err-write_reply-in-Ok-Asked-clause-refusals_up :
     goal.returns-in_err-write_reply-in-Ok-Asked-clause-refusals_up

@@ -1,6 +1,6 @@
 use Rattle.std.proofs.Common.{Err, subst}
+use Rattle.hh_devices.specs.DeviceChanges.{change}
 use Rattle.hh_states.specs.States.{State}
-use Rattle.hh_office.specs.declared.report.ReportStop.TheVariants.{Refused, Write}
 use Rattle.hh_office.specs.Promises.{Stands}
 use Rattle.hh_office.specs.Refusals.{CountsReportStop, CountsStoreFault}
 use Rattle.hh_office.specs.Reports.{ReportsAs, report_for}
@@ -26,8 +26,8 @@ returns-in-Err-Refused-clause-done g c sure =
     OnOk-map c.tell_refused.result _ _
     (λ told s stands.
     let report = report_for (midnight_of c.args.office.now.seen) s c.args.line.now.key.now (report_asked c.args.line.now.report) in
-    told_report (taken old) (taken mid) (taken c.tell_refused.new.out) (failures old) (failures mid) fault earlier later (store s stands) report
-    (subst (λ stop. ReportsAs (taken old) (taken mid) (failures old) (failures mid) {A = Unit {0}} report (Err stop))
+    told_report taken failures old mid c.tell_refused.new.out fault earlier later (store s stands) report
+    (subst (λ stop. ReportsAs (change taken failures old mid) {A = Unit {0}} report (Err stop))
     c.in-Err-Refused.field-0-is (c.in-Err-Refused.ensures.reports sure s stands)) told) c.tell_refused.ensures.told
 
 pub returns-in-Err-Refused-clause-cut : goal.returns-in-Err-Refused-clause-cut
@@ -45,8 +45,8 @@ returns-in-Err-Refused-clause-cut g c sure =
     OnErr-map c.tell_refused.result _ _
     (λ told s stands.
     let report = report_for (midnight_of c.args.office.now.seen) s c.args.line.now.key.now (report_asked c.args.line.now.report) in
-    begun_report (taken old) (taken mid) (taken c.tell_refused.new.out) (failures old) (failures mid) fault earlier later (store s stands) report
-    (subst (λ stop. ReportsAs (taken old) (taken mid) (failures old) (failures mid) {A = Unit {0}} report (Err stop))
+    begun_report taken failures old mid c.tell_refused.new.out fault earlier later (store s stands) report
+    (subst (λ stop. ReportsAs (change taken failures old mid) {A = Unit {0}} report (Err stop))
     c.in-Err-Refused.field-0-is (c.in-Err-Refused.ensures.reports sure s stands)) told) c.tell_refused.ensures.cut
 
 pub returns-in-Err-Write-clause-cut : goal.returns-in-Err-Write-clause-cut
@@ -57,8 +57,8 @@ returns-in-Err-Write-clause-cut g c sure =
     let mid = c.ask.new.out in
     λ s stands.
     let report = report_for (midnight_of c.args.office.now.seen) s c.args.line.now.key.now (report_asked c.args.line.now.report) in
-    cut_report (taken old) (taken mid) (taken mid) (failures old) (failures mid) _ report
-    (subst (λ stop. ReportsAs (taken old) (taken mid) (failures old) (failures mid) {A = Unit {0}} report (Err stop))
+    cut_report taken failures old mid mid _ report
+    (subst (λ stop. ReportsAs (change taken failures old mid) {A = Unit {0}} report (Err stop))
     c.in-Err-Write.field-0-is (c.in-Err-Write.ensures.reports sure s stands))
 
 pub returns-in-Ok-clause-refusals_up : goal.returns-in-Ok-clause-refusals_up

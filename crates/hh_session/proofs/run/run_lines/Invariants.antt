@@ -1,4 +1,5 @@
 use Rattle.std.proofs.Common.{◌≡◌, map, take}
+use Rattle.hh_devices.specs.DeviceChanges.{change}
 use Rattle.hh_script.specs.Steps.{step_of}
 use Rattle.hh_office.specs.Views.{IsSure}
 use Rattle.hh_serve.specs.Serves.{CountsUp}
@@ -10,7 +11,7 @@ use Rattle.hh_session.proofs.run.run_lines.Given as goal
 abbrev pub invariant-loop-line : goal.invariant-loop-line
 invariant-loop-line g l = record {
   run : IsSure g.T.Tables.is_open l.office → RunsScript (g.I.Inputs.reads_as l.inputs) (g.L.Loopback.may_refuse l.loopback) (HasRefused g.T.Tables.refusals l.fn.office l.office)
-      l.fn.office.seen l.office.seen (g.O.Sink.taken l.fn.out) (g.O.Sink.taken l.out) (map step_of (take l.line-index l.lines));
+      l.fn.office.seen l.office.seen (change g.O.Sink.taken g.O.Sink.failures l.fn.out l.out) (map step_of (take l.line-index l.lines));
   refusals_up : IsSure g.T.Tables.is_open l.office → CountsUp g.T.Tables.refusals l.fn.office l.office;
   sure : IsSure g.T.Tables.is_open l.office → IsSure g.T.Tables.is_open l.fn.office;
   well : g.O.Sink.failures l.out ≡ g.O.Sink.failures l.fn.out;

@@ -1,4 +1,5 @@
 use Rattle.std.proofs.Common.{map, refl}
+use Rattle.hh_devices.specs.DeviceChanges.{change}
 use Rattle.hh_script.specs.Steps.{step_of}
 use Rattle.hh_session.proofs.CourseLaws.{OnErr-map, OnOk-map}
 use Rattle.hh_session.proofs.ScriptLaws.{new_office_cuts, new_office_writes}
@@ -8,10 +9,10 @@ pub returns-clause-done : goal.returns-clause-done
 returns-clause-done g c =
     OnOk-map c.run_lines.result _ _
     (new_office_writes (g.I.Inputs.reads_as c.args.inputs.now) (g.L.Loopback.may_refuse c.args.loopback.now) c.args.settings c.are_settings.ensures c.reached_conserve.ensures c.london.result c.london.ensures c.new.result c.new.ensures.stands c.run_lines.new.office.seen
-    (g.O.Sink.taken c.args.out.now) (g.O.Sink.taken c.run_lines.new.out) (map step_of c.args.lines.now)) (rw c.new-office.ensures.seen at (c.run_lines.ensures.done refl))
+    (change g.O.Sink.taken g.O.Sink.failures c.args.out.now c.run_lines.new.out) (map step_of c.args.lines.now)) (rw c.new-office.ensures.seen at (c.run_lines.ensures.done refl))
 
 pub returns-clause-cut : goal.returns-clause-cut
 returns-clause-cut g c =
     OnErr-map c.run_lines.result _ _
     (new_office_cuts (g.I.Inputs.reads_as c.args.inputs.now) (g.L.Loopback.may_refuse c.args.loopback.now) c.args.settings c.are_settings.ensures c.reached_conserve.ensures c.london.result c.london.ensures c.new.result c.new.ensures.stands c.run_lines.new.office.seen
-    (g.O.Sink.taken c.args.out.now) (g.O.Sink.taken c.run_lines.new.out) (map step_of c.args.lines.now)) (rw c.new-office.ensures.seen at (c.run_lines.ensures.cut refl))
+    (change g.O.Sink.taken g.O.Sink.failures c.args.out.now c.run_lines.new.out) (map step_of c.args.lines.now)) (rw c.new-office.ensures.seen at (c.run_lines.ensures.cut refl))

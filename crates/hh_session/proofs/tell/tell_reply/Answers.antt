@@ -1,5 +1,6 @@
 use Rattle.std.proofs.Common.{◌≡◌, ◌++◌, inl, ◌∙◌, ap, sym, subst}
 use Rattle.std.specs.Prelude.{OnErr}
+use Rattle.hh_devices.specs.DeviceChanges.{change}
 use Rattle.hh_devices.specs.Devices.{AppendsFront}
 use Rattle.hh_session.specs.steps.Course.{BeginsLine}
 use Rattle.hh_session.specs.Lines.{run_line}
@@ -9,16 +10,15 @@ use Rattle.hh_session.proofs.tell.tell_reply.Goals as goal
 
 pub returns-in-Refused-clause-cut : goal.returns-in-Refused-clause-cut
 returns-in-Refused-clause-cut g c =
-    subst (λ reply. OnErr c.tell_refused.result (BeginsLine (g.O.Sink.taken c.args.out.now) (g.O.Sink.taken c.tell_refused.new.out) (Replied reply))) (sym c.in-Refused.is)
+    subst (λ reply. OnErr c.tell_refused.result (BeginsLine (change g.O.Sink.taken g.O.Sink.failures c.args.out.now c.tell_refused.new.out) (Replied reply))) (sym c.in-Refused.is)
     c.tell_refused.ensures.cut
 
 pub returns-in-Ran-clause-cut : goal.returns-in-Ran-clause-cut
 returns-in-Ran-clause-cut g c =
-    let before = g.O.Sink.taken c.args.out.now in
-    let after = g.O.Sink.taken c.write_whole-in-Ran.new.sink in
+    let device = change g.O.Sink.taken g.O.Sink.failures c.args.out.now c.write_whole-in-Ran.new.sink in
     let line = run_line c.in-Ran.run' c.in-Ran.summary in
     let written : c.push_run.new.line.items ≡ line = c.push_run.ensures ∙ ap (λ bytes. bytes ++ line) c.requires.empty in
     let text : c.deref-in-Ran.result.now ≡ line = c.deref-in-Ran.ensures.value ∙ written in
-    subst (λ reply. OnErr c.write_whole-in-Ran.result (BeginsLine before after (Replied reply))) (sym c.in-Ran.is)
+    subst (λ reply. OnErr c.write_whole-in-Ran.result (BeginsLine device (Replied reply))) (sym c.in-Ran.is)
     (OnErr-map c.write_whole-in-Ran.result _ _ inl
-    (subst (λ bytes. OnErr c.write_whole-in-Ran.result (AppendsFront before after bytes)) text c.write_whole-in-Ran.ensures.front))
+    (subst (λ bytes. OnErr c.write_whole-in-Ran.result (AppendsFront device.old device.new bytes)) text c.write_whole-in-Ran.ensures.front))

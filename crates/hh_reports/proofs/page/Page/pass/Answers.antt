@@ -9,4 +9,4 @@ returns-then-len-lt-PAGE_BYTES g c =
     held_back _ _ _ (subst IsShort c.self.view_is short)
 
 pub returns : goal.returns
-returns g c = passed _ _ _ _ _ _ _ c.finish.ensures.sends c.finish.ensures.empty
+returns g c = passed _ _ _ _ c.finish.ensures.sends c.finish.ensures.empty
