@@ -7,8 +7,8 @@ use hh_calc::AccountRow;
 use hh_names::Account;
 use hh_num::{Pence, Ticks};
 
-/// What an account has, pays and bears in a Settlement Period of a run, without the account, which its
-/// key has: energy in ticks, cash in pence.
+/// What an account has, pays and bears in a Settlement Period of a run, without the account, which
+/// its key has: energy in ticks, cash in pence.
 #[derive(Clone, Copy, Debug, PartialEq, Eq)]
 pub struct Amounts {
     pub credited: Ticks,

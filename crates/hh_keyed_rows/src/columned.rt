@@ -15,9 +15,11 @@ pub trait Columned: Sized {
     /// Which columns stand for it.
     ghost codec: { Codec Self };
 
-    /// Appends its columns. `Err` only where memory is refused: the first of them may be appended then.
+    /// Appends its columns. `Err` only where memory is refused: the first of them may be appended
+    /// then.
     fn to_columns<'a>(&'a self, columns: &mut Vec<ValueRef<'a>>) -> Result<(), AllocError>
-        ensures written { OnOk result (bound columns.new.items ≡ bound columns.old.items ++ codec.write self.now) }
+        ensures written { OnOk result
+            (bound columns.new.items ≡ bound columns.old.items ++ codec.write self.now) }
         ensures fits { OnOk result (codec.fits self.now ≡ true) };
 
     /// Reads it from the columns at the front. `Store` where they are off its form or range.

@@ -98,7 +98,8 @@ impl<'a> Columns<'a> {
 
     /// The bytes in the next column, copied.
     pub fn next_bytes(&mut self) -> Result<Vec<u8>, RowFault>
-        ensures ok { IfOk result (λ bytes. blob_column.read self.old ≡ Some (bytes.items, self.new)) }
+        ensures ok { IfOk result (λ bytes.
+            blob_column.read self.old ≡ Some (bytes.items, self.new)) }
         ensures err { IfErr result (λ fault. fault ≡ Store → blob_column.read self.old ≡ None) }
     {
         match self.next() {
@@ -113,7 +114,8 @@ pub(crate) fn push_column<'a>(
     columns: &mut Vec<ValueRef<'a>>,
     value: ValueRef<'a>,
 ) -> Result<(), AllocError>
-    ensures { OnOk result (bound columns.new.items ≡ bound columns.old.items ++ bound_value (owned value.entry) ∷ []) }
+    ensures { OnOk result (bound columns.new.items
+        ≡ bound columns.old.items ++ bound_value (owned value.entry) ∷ []) }
 {
     columns.push(value)?;
     Ok(())

@@ -13,13 +13,15 @@ use sqlite::Row;
 use sqlite::types::ValueRef;
 use std::alloc::{AllocError, Global};
 
-/// The columns of a key and of its value, as a statement takes them. `Err` only where memory is refused.
+/// The columns of a key and of its value, as a statement takes them. `Err` only where memory is
+/// refused.
 pub fn columns_of<'a, K: Columned, V: Columned>(
     alloc: Global,
     key: &'a K,
     value: &'a V,
 ) -> Result<Vec<ValueRef<'a>>, AllocError>
-    ensures written { IfOk result (λ columns. bound columns.items ≡ K.codec.write key.now ++ V.codec.write value.now) }
+    ensures written { IfOk result (λ columns.
+        bound columns.items ≡ K.codec.write key.now ++ V.codec.write value.now) }
     ensures key_fits { IfOk result (λ _. K.codec.fits key.now ≡ true) }
     ensures value_fits { IfOk result (λ _. V.codec.fits value.now ≡ true) }
 {
@@ -29,8 +31,8 @@ pub fn columns_of<'a, K: Columned, V: Columned>(
     Ok(columns)
 }
 
-/// The key and the value of a row. `Store` where the row is off its form or range, so that no office
-/// wrote it.
+/// The key and the value of a row. `Store` where the row is off its form or range, so that no
+/// office wrote it.
 pub fn read_entry<K: Columned + Drop, V: Columned + Drop>(
     alloc: Global,
     row: &Row,
@@ -48,14 +50,16 @@ pub fn read_entry<K: Columned + Drop, V: Columned + Drop>(
     }
 }
 
-/// The keys and the values of rows, in their order. `Store` where one of the rows is off its form or
-/// range: no row is skipped.
+/// The keys and the values of rows, in their order. `Store` where one of the rows is off its form
+/// or range: no row is skipped.
 pub fn read_entries<K: Columned + Drop, V: Columned + Drop>(
     alloc: Global,
     rows: &[Row],
 ) -> Result<Vec<(K, V)>, RowFault>
-    ensures ok { IfOk result (λ entries. map (entry_in K.codec V.codec) rows.now ≡ map Some entries.items) }
-    ensures err { IfErr result (λ fault. fault ≡ Store → list_any (λ row. is_none (entry_in K.codec V.codec row)) rows.now ≡ true) }
+    ensures ok { IfOk result (λ entries.
+        map (entry_in K.codec V.codec) rows.now ≡ map Some entries.items) }
+    ensures err { IfErr result (λ fault. fault ≡ Store
+        → list_any (λ row. is_none (entry_in K.codec V.codec row)) rows.now ≡ true) }
 {
     let mut entries = Vec::with_capacity(alloc, rows.len())?;
     for row in rows {

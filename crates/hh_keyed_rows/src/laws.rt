@@ -4,8 +4,8 @@ ghost use Rattle.hh_keyed_rows.specs.Laws.{AreColumnCodecs, AreKeyCodecs, AreVal
 
 use crate::columned::Columned;
 
-/// What is written for a single value is read as it, what is off its form or range is not read, and two
-/// values are written apart.
+/// What is written for a single value is read as it, what is off its form or range is not read, and
+/// two values are written apart.
 pub fn column_codecs()
     ensures { AreColumnCodecs }
 {}
@@ -35,14 +35,14 @@ pub fn rows_in_any_order<K: Columned, V: Columned>()
     ensures { RowsInAnyOrder K.codec V.codec }
 {}
 
-/// A row that is put takes the place of the one of its key, and so do rows that are put one after the
-/// other.
+/// A row that is put takes the place of the one of its key, and so do rows that are put one after
+/// the other.
 pub fn puts_replace<K: Columned, V: Columned>()
     ensures { PutsReplace K.codec V.codec }
 {}
 
-/// What is found under a key is the value of the first entry that has it, so that a query for one key
-/// tells it.
+/// What is found under a key is the value of the first entry that has it, so that a query for one
+/// key tells it.
 pub fn gets_find<K: Columned, V: Columned>()
     ensures { GetsFind K V }
 {}
