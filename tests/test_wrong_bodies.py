@@ -22,6 +22,8 @@ FUNCTION = re.compile(r"(?m)^( *)(?:pub(?:\([a-z]+\))? )?(?:const )?fn (\w+)")
 OFFERED = {
     "check_row", "apply_row", "run_all", "day_of", "day_number", "date_at", "in_pieces",
     "to_columns", "from_columns", "read_entry", "read_entries", "ends",
+    "make_tables", "replace_meter", "replace_price", "insert_result", "select_first", "select_meter", "select_meters_on",
+    "select_contracts_on", "select_reference", "select_postings_to",
 }
 # What the language calls without naming it.
 UNNAMED = {"main", "fmt", "cmp", "partial_cmp", "eq", "from", "next", "clone", "drop", "default"}

@@ -13,6 +13,7 @@ use Rattle.sqlite_trees.specs.Tree.{Trees}
 use Rattle.sqlite_trees.specs.View.{IsShaped}
 use Rattle.sqlite_trees.specs.declared.store.Shape.TheVariants as shape
 use Rattle.sqlite_sql.specs.Ops.{is_null}
+use Rattle.sqlite_sql.specs.Program.{overlay}
 use Rattle.sqlite_sql.specs.Term.{Term, lit, col}
 use Rattle.sqlite_schema.specs.Names.{is_key}
 use Rattle.sqlite_schema.specs.Rules.{agree, are_present, are_typed, clashes, has_computed, passes, Obeys}
@@ -33,7 +34,6 @@ use Rattle.sqlite.specs.Effect.{Database, value_rows}
 use Rattle.sqlite.specs.Rows.{mended_from, stamped}
 use Rattle.sqlite.specs.Listing.{understood}
 use Rattle.sqlite.specs.State.{State, Executes, ExecutesInside}
-use Rattle.sqlite.specs.declared.error.Error.{Error}
 use Rattle.sqlite.proofs.Callers.{IsPlain, command_of}
 use Rattle.hh_keyed_rows.specs.Codecs.{IsCodec, is_plain, places_from}
 use Rattle.hh_keyed_rows.proofs.CodecLaws.{all_append}
@@ -76,6 +76,7 @@ module _ {K V : Type 0} (form : Form K V) where
     pub is_value : IsCodec form.value
     pub listed : slice_get office.tables form.at ≡ Some form.table
     pub there : Has office.tables form.table
+    pub own : (db : Trees) → overlay db [] form.table.tree ≡ db form.table.tree
     pub unkeyed : form.table.key ≡ None
     pub uncounted : form.table.is_counted ≡ false
     pub free : (olds news : List Row) → works office Enforced 0 form.table.tree olds news ≡ []
@@ -218,10 +219,20 @@ module _ {K V : Type 0} (form : Form K V) (is_form : IsForm form) (k : K) (v : V
           others = puts.others;
         }
 
-    pub puts_by : IsReplace form sql → (r : Result ℕ Error) → ExecutesInside 0 sql (columns_in form k v) old new r → OnOk r (Puts form k v old.now new.now)
-    puts_by text (Ok count) h = replaces text count h.0
-    puts_by text (Err e) h = tt
+    pub replaces_row : {E : Type 0} → IsReplace form sql → (r : Result Unit E) → OnOk r ((count : ℕ) × ExecutesInside 0 sql (columns_in form k v) old new (Ok count)) → OnOk r (Puts form k v old.now new.now)
+    replaces_row text (Ok done) h = replaces text h.0 h.1.0
+    replaces_row text (Err e) h = tt
 
-    pub inserts_by : IsInsert form sql → (r : Result ℕ Error) → ExecutesInside 0 sql (columns_in form k v) old new r → OnOk r (Puts form k v old.now new.now)
-    inserts_by text (Ok count) h = inserts text count h.0
-    inserts_by text (Err e) h = tt
+    pub inserts_row : {E : Type 0} → IsInsert form sql → (r : Result Unit E) → OnOk r ((count : ℕ) × ExecutesInside 0 sql (columns_in form k v) old new (Ok count)) → OnOk r (Puts form k v old.now new.now)
+    inserts_row text (Ok done) h = inserts text h.0 h.1.0
+    inserts_row text (Err e) h = tt
+
+-- the values fit once the statement is executed
+module _ {K V : Type 0} (form : Form K V) (is_form : IsForm form) (k : K) (v : V) (old new : State) (is : IsOffice old.now) (sql : List ℕ) where
+  pub puts_by : {E : Type 0} → IsReplace form sql → (r : Result Unit E) → OnOk r ((form.key.fits k ≡ true) × (form.value.fits v ≡ true)) → OnOk r ((count : ℕ) × ExecutesInside 0 sql (columns_in form k v) old new (Ok count)) → OnOk r (Puts form k v old.now new.now)
+  puts_by {E} text (Ok done) fits h = replaces_row form is_form k v fits.0 fits.1 old new is sql {E = E} text (Ok done) h
+  puts_by {E} text (Err e) fits h = tt
+
+  pub inserts_by : {E : Type 0} → IsInsert form sql → (r : Result Unit E) → OnOk r ((form.key.fits k ≡ true) × (form.value.fits v ≡ true)) → OnOk r ((count : ℕ) × ExecutesInside 0 sql (columns_in form k v) old new (Ok count)) → OnOk r (Puts form k v old.now new.now)
+  inserts_by {E} text (Ok done) fits h = inserts_row form is_form k v fits.0 fits.1 old new is sql {E = E} text (Ok done) h
+  inserts_by {E} text (Err e) fits h = tt

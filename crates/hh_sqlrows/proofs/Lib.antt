@@ -1,6 +1,14 @@
+pub mod ColumnLaws
+pub mod AnswerLaws
+pub mod FormFacts
 pub mod FormLaws
 pub mod InsertLaws
 pub mod InsideLaws
 pub mod MakeLaws
+pub mod ManyLaws
+pub mod SelectLaws
+pub mod OrderFacts
 pub mod Selects
+pub mod StatementTexts
 pub mod TextFacts
+pub mod WhereLaws

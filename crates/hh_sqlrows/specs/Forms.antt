@@ -1,5 +1,5 @@
 -- Tables of an office as tables of a database: the form of their rows, and what a statement makes of them.
-use Rattle.std.specs.Prelude.{◌≡◌, ◌≢◌, ℕ}
+use Rattle.std.specs.Prelude.{◌≡◌, ◌≢◌, ℕ, List}
 use Rattle.std.specs.List.{AllByRecursion}
 use Rattle.std.specs.FinMap.{put}
 use Rattle.std.specs.declared.cmp.Ordering.{Ordering}
@@ -33,4 +33,10 @@ KeepsOthers tree old new = AllByRecursion (λ t. t.tree ≢ tree → new t.tree 
 pub record Puts {K V : Type 0} (form : Form K V) (key : K) (value : V) (old new : Database) : Type 0 where
   pub is_office : IsOffice new
   pub rows : rows_of form new.trees ≡ put form.order key value (rows_of form old.trees)
+  pub others : KeepsOthers form.table.tree old.trees new.trees
+
+-- The rows stand under their keys, each in the place of the one there before it, and the other tables are as they were.
+pub record PutsAll {K V : Type 0} (form : Form K V) (entries : List (K × V)) (old new : Database) : Type 0 where
+  pub is_office : IsOffice new
+  pub rows : rows_of form new.trees ≡ tables.put_all form.order entries (rows_of form old.trees)
   pub others : KeepsOthers form.table.tree old.trees new.trees

@@ -1,0 +1,275 @@
+-- The texts of the statements, and what they mean under the schema of an office.
+use Rattle.std.proofs.Common.{◌++◌, ℕ, List, [], ◌∷◌, codes, refl}
+use Rattle.sqlite_tied.specs.Compute.{everything}
+use Rattle.sqlite.specs.Listing.{understood}
+use Rattle.hh_sqlrows.specs.OfficeTables.{contracts, credits, files, marks, meters, parties, postings, prices, reallocations, references, results, runs, settings, units}
+use Rattle.hh_sqlrows.proofs.FormLaws.{IsInsert, IsReplace}
+use Rattle.hh_sqlrows.proofs.SelectLaws.{IsSelect}
+
+-- ---- rows that are written
+
+abbrev pub replace_party_text : List ℕ
+replace_party_text = codes "INSERT OR REPLACE INTO parties (party, day_from, day_to, access_key) VALUES (?1, ?2, ?3, ?4)"
+
+pub replace_party_is : IsReplace parties replace_party_text
+unfolding understood everything
+replace_party_is = (refl, (refl, refl))
+
+abbrev pub replace_unit_text : List ℕ
+replace_unit_text =
+    codes "INSERT OR REPLACE INTO units (unit, party, side, interconnector, day_from, day_to) VALUES (?1, ?2, ?3, "
+    ++ codes "?4, ?5, ?6)"
+
+pub replace_unit_is : IsReplace units replace_unit_text
+unfolding understood everything
+replace_unit_is = (refl, (refl, refl))
+
+abbrev pub replace_meter_text : List ℕ
+replace_meter_text =
+    codes "INSERT OR REPLACE INTO meters (unit, day, period, metered, tlm, balancing) VALUES (?1, ?2, ?3, ?4, ?5, "
+    ++ codes "?6)"
+
+pub replace_meter_is : IsReplace meters replace_meter_text
+unfolding understood everything
+replace_meter_is = (refl, (refl, refl))
+
+abbrev pub replace_price_text : List ℕ
+replace_price_text = codes "INSERT OR REPLACE INTO prices (day, period, price) VALUES (?1, ?2, ?3)"
+
+pub replace_price_is : IsReplace prices replace_price_text
+unfolding understood everything
+replace_price_is = (refl, (refl, refl))
+
+abbrev pub replace_reference_text : List ℕ
+replace_reference_text =
+    codes "INSERT OR REPLACE INTO refs (reference, seller, seller_side, buyer, buyer_side) VALUES (?1, ?2, ?3, ?4, "
+    ++ codes "?5)"
+
+pub replace_reference_is : IsReplace references replace_reference_text
+unfolding understood everything
+replace_reference_is = (refl, (refl, refl))
+
+abbrev pub replace_contract_text : List ℕ
+replace_contract_text = codes "INSERT OR REPLACE INTO contracts (reference, day, period, kwh) VALUES (?1, ?2, ?3, ?4)"
+
+pub replace_contract_is : IsReplace contracts replace_contract_text
+unfolding understood everything
+replace_contract_is = (refl, (refl, refl))
+
+abbrev pub replace_reallocation_text : List ℕ
+replace_reallocation_text =
+    codes "INSERT OR REPLACE INTO reallocations (unit, party, side, day, period, percent, fixed) VALUES (?1, ?2, "
+    ++ codes "?3, ?4, ?5, ?6, ?7)"
+
+pub replace_reallocation_is : IsReplace reallocations replace_reallocation_text
+unfolding understood everything
+replace_reallocation_is = (refl, (refl, refl))
+
+abbrev pub replace_file_text : List ℕ
+replace_file_text = codes "INSERT OR REPLACE INTO files (kind, name, body, applied, late) VALUES (?1, ?2, ?3, ?4, ?5)"
+
+pub replace_file_is : IsReplace files replace_file_text
+unfolding understood everything
+replace_file_is = (refl, (refl, refl))
+
+abbrev pub insert_settings_text : List ℕ
+insert_settings_text = codes "INSERT INTO settings (id, version, lead_minutes, operator_key) VALUES (?1, ?2, ?3, ?4)"
+
+pub insert_settings_is : IsInsert settings insert_settings_text
+unfolding understood everything
+insert_settings_is = (refl, (refl, refl))
+
+abbrev pub insert_mark_text : List ℕ
+insert_mark_text = codes "INSERT INTO marks (id, positions) VALUES (?1, ?2)"
+
+pub insert_mark_is : IsInsert marks insert_mark_text
+unfolding understood everything
+insert_mark_is = (refl, (refl, refl))
+
+abbrev pub insert_run_text : List ℕ
+insert_run_text = codes "INSERT INTO runs (day, kind, periods, accounts, residual, postings) VALUES (?1, ?2, ?3, ?4, ?5, ?6)"
+
+pub insert_run_is : IsInsert runs insert_run_text
+unfolding understood everything
+insert_run_is = (refl, (refl, refl))
+
+abbrev pub insert_result_text : List ℕ
+insert_result_text =
+    codes "INSERT INTO results (day, kind, period, party, side, credited, balancing, contracts, imbalance, charge, "
+    ++ codes "share) VALUES (?1, ?2, ?3, ?4, ?5, ?6, ?7, ?8, ?9, ?10, ?11)"
+
+pub insert_result_is : IsInsert results insert_result_text
+unfolding understood everything
+insert_result_is = (refl, (refl, refl))
+
+abbrev pub insert_credit_text : List ℕ
+insert_credit_text = codes "INSERT INTO credits (day, kind, period, unit, party, side, credited) VALUES (?1, ?2, ?3, ?4, ?5, ?6, ?7)"
+
+pub insert_credit_is : IsInsert credits insert_credit_text
+unfolding understood everything
+insert_credit_is = (refl, (refl, refl))
+
+abbrev pub insert_posting_text : List ℕ
+insert_posting_text = codes "INSERT INTO postings (day, kind, party, side, pence) VALUES (?1, ?2, ?3, ?4, ?5)"
+
+pub insert_posting_is : IsInsert postings insert_posting_text
+unfolding understood everything
+insert_posting_is = (refl, (refl, refl))
+
+-- ---- rows that are selected
+
+abbrev pub select_settings_text : List ℕ
+select_settings_text = codes "SELECT id, version, lead_minutes, operator_key FROM settings WHERE id = ?1 ORDER BY id"
+
+pub select_settings_is : IsSelect settings (1 ∷ []) (1 ∷ []) select_settings_text
+unfolding understood everything
+select_settings_is = record { names = codes "id" ∷ codes "version" ∷ codes "lead_minutes" ∷ codes "operator_key" ∷ []; command = refl; unlisted = refl; plain = (refl, refl) }
+
+abbrev pub select_mark_text : List ℕ
+select_mark_text = codes "SELECT id, positions FROM marks WHERE id = ?1 ORDER BY id"
+
+pub select_mark_is : IsSelect marks (1 ∷ []) (1 ∷ []) select_mark_text
+unfolding understood everything
+select_mark_is = record { names = codes "id" ∷ codes "positions" ∷ []; command = refl; unlisted = refl; plain = (refl, refl) }
+
+abbrev pub select_party_text : List ℕ
+select_party_text = codes "SELECT party, day_from, day_to, access_key FROM parties WHERE party = ?1 ORDER BY party"
+
+pub select_party_is : IsSelect parties (1 ∷ []) (1 ∷ []) select_party_text
+unfolding understood everything
+select_party_is = record { names = codes "party" ∷ codes "day_from" ∷ codes "day_to" ∷ codes "access_key" ∷ []; command = refl; unlisted = refl; plain = (refl, refl) }
+
+abbrev pub select_parties_text : List ℕ
+select_parties_text = codes "SELECT party, day_from, day_to, access_key FROM parties ORDER BY party"
+
+pub select_parties_is : IsSelect parties [] (1 ∷ []) select_parties_text
+unfolding understood everything
+select_parties_is = record { names = codes "party" ∷ codes "day_from" ∷ codes "day_to" ∷ codes "access_key" ∷ []; command = refl; unlisted = refl; plain = (refl, refl) }
+
+abbrev pub select_unit_text : List ℕ
+select_unit_text = codes "SELECT unit, party, side, interconnector, day_from, day_to FROM units WHERE unit = ?1 ORDER BY unit"
+
+pub select_unit_is : IsSelect units (1 ∷ []) (1 ∷ []) select_unit_text
+unfolding understood everything
+select_unit_is = record { names = codes "unit" ∷ codes "party" ∷ codes "side" ∷ codes "interconnector" ∷ codes "day_from" ∷ codes "day_to" ∷ []; command = refl; unlisted = refl; plain = (refl, refl) }
+
+abbrev pub select_units_text : List ℕ
+select_units_text = codes "SELECT unit, party, side, interconnector, day_from, day_to FROM units ORDER BY unit"
+
+pub select_units_is : IsSelect units [] (1 ∷ []) select_units_text
+unfolding understood everything
+select_units_is = record { names = codes "unit" ∷ codes "party" ∷ codes "side" ∷ codes "interconnector" ∷ codes "day_from" ∷ codes "day_to" ∷ []; command = refl; unlisted = refl; plain = (refl, refl) }
+
+abbrev pub select_meter_text : List ℕ
+select_meter_text =
+    codes "SELECT unit, day, period, metered, tlm, balancing FROM meters WHERE unit = ?1 AND day = ?2 AND period = "
+    ++ codes "?3 ORDER BY unit, day, period"
+
+pub select_meter_is : IsSelect meters (1 ∷ 2 ∷ 3 ∷ []) (1 ∷ 2 ∷ 3 ∷ []) select_meter_text
+unfolding understood everything
+select_meter_is = record { names = codes "unit" ∷ codes "day" ∷ codes "period" ∷ codes "metered" ∷ codes "tlm" ∷ codes "balancing" ∷ []; command = refl; unlisted = refl; plain = (refl, refl) }
+
+abbrev pub select_meters_on_text : List ℕ
+select_meters_on_text =
+    codes "SELECT unit, day, period, metered, tlm, balancing FROM meters WHERE unit = ?1 AND day = ?2 ORDER BY "
+    ++ codes "unit, day, period"
+
+pub select_meters_on_is : IsSelect meters (1 ∷ 2 ∷ []) (1 ∷ 2 ∷ 3 ∷ []) select_meters_on_text
+unfolding understood everything
+select_meters_on_is = record { names = codes "unit" ∷ codes "day" ∷ codes "period" ∷ codes "metered" ∷ codes "tlm" ∷ codes "balancing" ∷ []; command = refl; unlisted = refl; plain = (refl, refl) }
+
+abbrev pub select_price_text : List ℕ
+select_price_text = codes "SELECT day, period, price FROM prices WHERE day = ?1 AND period = ?2 ORDER BY day, period"
+
+pub select_price_is : IsSelect prices (1 ∷ 2 ∷ []) (1 ∷ 2 ∷ []) select_price_text
+unfolding understood everything
+select_price_is = record { names = codes "day" ∷ codes "period" ∷ codes "price" ∷ []; command = refl; unlisted = refl; plain = (refl, refl) }
+
+abbrev pub select_prices_on_text : List ℕ
+select_prices_on_text = codes "SELECT day, period, price FROM prices WHERE day = ?1 ORDER BY day, period"
+
+pub select_prices_on_is : IsSelect prices (1 ∷ []) (1 ∷ 2 ∷ []) select_prices_on_text
+unfolding understood everything
+select_prices_on_is = record { names = codes "day" ∷ codes "period" ∷ codes "price" ∷ []; command = refl; unlisted = refl; plain = (refl, refl) }
+
+abbrev pub select_reference_text : List ℕ
+select_reference_text =
+    codes "SELECT reference, seller, seller_side, buyer, buyer_side FROM refs WHERE reference = ?1 ORDER BY "
+    ++ codes "reference"
+
+pub select_reference_is : IsSelect references (1 ∷ []) (1 ∷ []) select_reference_text
+unfolding understood everything
+select_reference_is = record { names = codes "reference" ∷ codes "seller" ∷ codes "seller_side" ∷ codes "buyer" ∷ codes "buyer_side" ∷ []; command = refl; unlisted = refl; plain = (refl, refl) }
+
+abbrev pub select_contract_text : List ℕ
+select_contract_text =
+    codes "SELECT reference, day, period, kwh FROM contracts WHERE reference = ?1 AND day = ?2 AND period = ?3 "
+    ++ codes "ORDER BY reference, day, period"
+
+pub select_contract_is : IsSelect contracts (1 ∷ 2 ∷ 3 ∷ []) (1 ∷ 2 ∷ 3 ∷ []) select_contract_text
+unfolding understood everything
+select_contract_is = record { names = codes "reference" ∷ codes "day" ∷ codes "period" ∷ codes "kwh" ∷ []; command = refl; unlisted = refl; plain = (refl, refl) }
+
+abbrev pub select_contracts_on_text : List ℕ
+select_contracts_on_text = codes "SELECT reference, day, period, kwh FROM contracts WHERE day = ?1 ORDER BY reference, day, period"
+
+pub select_contracts_on_is : IsSelect contracts (2 ∷ []) (1 ∷ 2 ∷ 3 ∷ []) select_contracts_on_text
+unfolding understood everything
+select_contracts_on_is = record { names = codes "reference" ∷ codes "day" ∷ codes "period" ∷ codes "kwh" ∷ []; command = refl; unlisted = refl; plain = (refl, refl) }
+
+abbrev pub select_reallocations_of_text : List ℕ
+select_reallocations_of_text =
+    codes "SELECT unit, party, side, day, period, percent, fixed FROM reallocations WHERE unit = ?1 ORDER BY unit, "
+    ++ codes "day, period, party, side"
+
+pub select_reallocations_of_is : IsSelect reallocations (1 ∷ []) (1 ∷ 4 ∷ 5 ∷ 2 ∷ 3 ∷ []) select_reallocations_of_text
+unfolding understood everything
+select_reallocations_of_is = record { names = codes "unit" ∷ codes "party" ∷ codes "side" ∷ codes "day" ∷ codes "period" ∷ codes "percent" ∷ codes "fixed" ∷ []; command = refl; unlisted = refl; plain = (refl, refl) }
+
+abbrev pub select_file_text : List ℕ
+select_file_text = codes "SELECT kind, name, body, applied, late FROM files WHERE kind = ?1 AND name = ?2 ORDER BY kind, name"
+
+pub select_file_is : IsSelect files (1 ∷ 2 ∷ []) (1 ∷ 2 ∷ []) select_file_text
+unfolding understood everything
+select_file_is = record { names = codes "kind" ∷ codes "name" ∷ codes "body" ∷ codes "applied" ∷ codes "late" ∷ []; command = refl; unlisted = refl; plain = (refl, refl) }
+
+abbrev pub select_run_text : List ℕ
+select_run_text =
+    codes "SELECT day, kind, periods, accounts, residual, postings FROM runs WHERE day = ?1 AND kind = ?2 ORDER BY "
+    ++ codes "day, kind"
+
+pub select_run_is : IsSelect runs (1 ∷ 2 ∷ []) (1 ∷ 2 ∷ []) select_run_text
+unfolding understood everything
+select_run_is = record { names = codes "day" ∷ codes "kind" ∷ codes "periods" ∷ codes "accounts" ∷ codes "residual" ∷ codes "postings" ∷ []; command = refl; unlisted = refl; plain = (refl, refl) }
+
+abbrev pub select_runs_on_text : List ℕ
+select_runs_on_text = codes "SELECT day, kind, periods, accounts, residual, postings FROM runs WHERE day = ?1 ORDER BY day, kind"
+
+pub select_runs_on_is : IsSelect runs (1 ∷ []) (1 ∷ 2 ∷ []) select_runs_on_text
+unfolding understood everything
+select_runs_on_is = record { names = codes "day" ∷ codes "kind" ∷ codes "periods" ∷ codes "accounts" ∷ codes "residual" ∷ codes "postings" ∷ []; command = refl; unlisted = refl; plain = (refl, refl) }
+
+abbrev pub select_results_of_text : List ℕ
+select_results_of_text =
+    codes "SELECT day, kind, period, party, side, credited, balancing, contracts, imbalance, charge, share FROM "
+    ++ codes "results WHERE day = ?1 AND kind = ?2 ORDER BY day, kind, period, party, side"
+
+pub select_results_of_is : IsSelect results (1 ∷ 2 ∷ []) (1 ∷ 2 ∷ 3 ∷ 4 ∷ 5 ∷ []) select_results_of_text
+unfolding understood everything
+select_results_of_is = record { names = codes "day" ∷ codes "kind" ∷ codes "period" ∷ codes "party" ∷ codes "side" ∷ codes "credited" ∷ codes "balancing" ∷ codes "contracts" ∷ codes "imbalance" ∷ codes "charge" ∷ codes "share" ∷ []; command = refl; unlisted = refl; plain = (refl, refl) }
+
+abbrev pub select_postings_to_text : List ℕ
+select_postings_to_text =
+    codes "SELECT day, kind, party, side, pence FROM postings WHERE party = ?1 AND side = ?2 ORDER BY day, kind, "
+    ++ codes "party, side"
+
+pub select_postings_to_is : IsSelect postings (3 ∷ 4 ∷ []) (1 ∷ 2 ∷ 3 ∷ 4 ∷ []) select_postings_to_text
+unfolding understood everything
+select_postings_to_is = record { names = codes "day" ∷ codes "kind" ∷ codes "party" ∷ codes "side" ∷ codes "pence" ∷ []; command = refl; unlisted = refl; plain = (refl, refl) }
+
+abbrev pub select_postings_text : List ℕ
+select_postings_text = codes "SELECT day, kind, party, side, pence FROM postings ORDER BY day, kind, party, side"
+
+pub select_postings_is : IsSelect postings [] (1 ∷ 2 ∷ 3 ∷ 4 ∷ []) select_postings_text
+unfolding understood everything
+select_postings_is = record { names = codes "day" ∷ codes "kind" ∷ codes "party" ∷ codes "side" ∷ codes "pence" ∷ []; command = refl; unlisted = refl; plain = (refl, refl) }

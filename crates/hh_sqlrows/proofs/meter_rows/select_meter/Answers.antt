@@ -1,0 +1,18 @@
+use Rattle.std.proofs.Common.{[], ◌∷◌, refl}
+use Rattle.sqlite.specs.Held.{state}
+use Rattle.hh_sqlrows.specs.OfficeTables.{meters}
+use Rattle.hh_sqlrows.proofs.FormFacts.{meters_form}
+use Rattle.hh_sqlrows.proofs.OrderFacts.{meters_by}
+use Rattle.hh_sqlrows.proofs.SelectLaws.{gets_by, plain_under}
+use Rattle.hh_sqlrows.proofs.StatementTexts.{select_meter_is, select_meter_text}
+use Rattle.hh_sqlrows.proofs.meter_rows.select_meter.Goals as goal
+
+pub returns-clause-value : goal.returns-clause-value
+returns-clause-value g c stands is =
+    gets_by meters meters_form (1 ∷ 2 ∷ 3 ∷ []) (1 ∷ 2 ∷ 3 ∷ []) select_meter_text select_meter_is meters_by refl (λ id k v. refl) c.args.key.now (state g.S.Store c.args.conn.now) (state g.S.Store c.select_first.new.conn) c.select_first.result is (c.select_first.ensures.found stands)
+
+pub returns-clause-left : goal.returns-clause-left
+returns-clause-left g c stands is settled = c.select_first.ensures.left stands (plain_under select_meter_text select_meter_is.plain (state g.S.Store c.args.conn.now) is) settled
+
+pub returns-clause-survives : goal.returns-clause-survives
+returns-clause-survives g c is = c.select_first.ensures.survives (plain_under select_meter_text select_meter_is.plain (state g.S.Store c.args.conn.now) is)

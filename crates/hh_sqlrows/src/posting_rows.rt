@@ -1,0 +1,113 @@
+//! The rows of postings.
+
+ghost use Rattle.std.specs.Prelude.{◌≡◌, false, IsTrue, OnOk, IfOk, filter};
+ghost use Rattle.std.specs.Ordering.{is_eq};
+ghost use Rattle.hh_names.specs.Accounts.{account_cmp};
+ghost use Rattle.sqlite.specs.Held.{state};
+ghost use Rattle.hh_sqlrows.specs.Forms.{Puts, PutsAll, rows_of};
+ghost use Rattle.hh_sqlrows.specs.Office.{IsOffice};
+ghost use Rattle.hh_sqlrows.specs.OfficeTables.{postings};
+ghost use Rattle.hh_sqlrows.specs.Reads.{CommitsNothingOf, IsHonest, LeavesOffice, OfOffice, StaysOpen, Stood};
+ghost use Rattle.hh_sqlrows.specs.Statements.{CommitsNothing, Inside, KeepsCommit, StaysInside};
+
+use crate::statement::{select_by, select_entries, write_entry};
+use hh_keyed_rows::RowFault;
+use hh_names::Account;
+use hh_num::Pence;
+use hh_states::PostingKey;
+use sqlite::{Alter, Connection, Transaction};
+use std::alloc::Global;
+
+/// Writes a posting of a new run.
+pub fn insert_posting<S: Alter>(
+    tx: &mut Transaction<'_, S>,
+    alloc: Global,
+    key: &PostingKey,
+    pence: &Pence,
+) -> Result<(), RowFault>
+    ensures same_reference { tx.new.conn.ghost_name ≡ tx.old.conn.ghost_name }
+    ensures puts { let old = state S.Store tx.old.conn.now in
+        let new = state S.Store tx.new.conn.now in
+        Inside old new (IsOffice old.now → OnOk result (Puts postings key.now pence.now old.now new.now)) }
+    ensures inside { StaysInside (state S.Store tx.old.conn.now) (state S.Store tx.new.conn.now) result }
+    ensures left { KeepsCommit (state S.Store tx.old.conn.now) (state S.Store tx.new.conn.now) }
+    ensures survives { CommitsNothing (state S.Store tx.old.conn.now) (state S.Store tx.new.conn.now) }
+{
+    write_entry(
+        tx,
+        alloc,
+        "INSERT INTO postings (day, kind, party, side, pence) VALUES (?1, ?2, ?3, ?4, ?5)",
+        key,
+        pence,
+    )
+}
+
+/// The postings to an account, by run.
+pub fn select_postings_to<S: Alter>(
+    conn: &mut Connection<S>,
+    alloc: Global,
+    account: &Account,
+) -> Result<Vec<(PostingKey, Pence)>, RowFault>
+    ensures value { let old = state S.Store conn.old in
+        let new = state S.Store conn.new in
+        OfOffice old new (IfOk result (λ found.
+        found.items ≡ filter (λ e. is_eq (account_cmp e.0.account account.now))
+        (rows_of postings old.now.trees))) }
+    ensures stood { Stood (state S.Store conn.old) (state S.Store conn.new) }
+    ensures left { LeavesOffice (state S.Store conn.old) (state S.Store conn.new) }
+    ensures mode { conn.old.in_transaction ≡ false → conn.new.in_transaction ≡ false }
+    ensures stays { StaysOpen (state S.Store conn.old) (state S.Store conn.new) result }
+    ensures honest { IsHonest (state S.Store conn.old) (state S.Store conn.new) }
+    ensures survives { CommitsNothingOf (state S.Store conn.old) (state S.Store conn.new) }
+{
+    select_by(
+        conn,
+        alloc,
+        "SELECT day, kind, party, side, pence FROM postings WHERE party = ?1 AND side = ?2 ORDER BY day, kind, party, side",
+        account,
+    )
+}
+
+/// All postings, by run, then by account.
+pub fn select_postings<S: Alter>(
+    conn: &mut Connection<S>,
+    alloc: Global,
+) -> Result<Vec<(PostingKey, Pence)>, RowFault>
+    ensures value { let old = state S.Store conn.old in
+        let new = state S.Store conn.new in
+        OfOffice old new (IfOk result (λ found.
+        found.items ≡ rows_of postings old.now.trees)) }
+    ensures stood { Stood (state S.Store conn.old) (state S.Store conn.new) }
+    ensures left { LeavesOffice (state S.Store conn.old) (state S.Store conn.new) }
+    ensures mode { conn.old.in_transaction ≡ false → conn.new.in_transaction ≡ false }
+    ensures stays { StaysOpen (state S.Store conn.old) (state S.Store conn.new) result }
+    ensures honest { IsHonest (state S.Store conn.old) (state S.Store conn.new) }
+    ensures survives { CommitsNothingOf (state S.Store conn.old) (state S.Store conn.new) }
+{
+    select_entries(
+        conn,
+        alloc,
+        "SELECT day, kind, party, side, pence FROM postings ORDER BY day, kind, party, side",
+        &[],
+    )
+}
+
+/// Writes the postings of a new run.
+pub fn insert_postings<S: Alter>(
+    tx: &mut Transaction<'_, S>,
+    alloc: Global,
+    rows: &[(PostingKey, Pence)],
+) -> Result<(), RowFault>
+    ensures same_reference { tx.new.conn.ghost_name ≡ tx.old.conn.ghost_name }
+    ensures puts { let old = state S.Store tx.old.conn.now in
+        let new = state S.Store tx.new.conn.now in
+        Inside old new (IsOffice old.now → OnOk result (PutsAll postings rows.now old.now new.now)) }
+    ensures inside { StaysInside (state S.Store tx.old.conn.now) (state S.Store tx.new.conn.now) result }
+    ensures left { KeepsCommit (state S.Store tx.old.conn.now) (state S.Store tx.new.conn.now) }
+    ensures survives { CommitsNothing (state S.Store tx.old.conn.now) (state S.Store tx.new.conn.now) }
+{
+    'rows: for row in rows {
+        insert_posting(tx, alloc, &row.0, &row.1)?;
+    }
+    Ok(())
+}

@@ -1,0 +1,90 @@
+//! The rows of results.
+
+ghost use Rattle.std.specs.Prelude.{◌≡◌, map, false, IsTrue, OnOk, IfOk, filter};
+ghost use Rattle.std.specs.Ordering.{is_eq};
+ghost use Rattle.hh_states.specs.Runs.{run_key_cmp};
+ghost use Rattle.hh_keyed_rows.specs.Values.{amounts_of};
+ghost use Rattle.sqlite.specs.Held.{state};
+ghost use Rattle.hh_sqlrows.specs.Forms.{Puts, PutsAll, rows_of};
+ghost use Rattle.hh_sqlrows.specs.Office.{IsOffice};
+ghost use Rattle.hh_sqlrows.specs.OfficeTables.{amount_entry, results};
+ghost use Rattle.hh_sqlrows.specs.Reads.{CommitsNothingOf, IsHonest, LeavesOffice, OfOffice, StaysOpen, Stood};
+ghost use Rattle.hh_sqlrows.specs.Statements.{CommitsNothing, Inside, KeepsCommit, StaysInside};
+
+use crate::statement::{select_by, write_entry};
+use hh_calc::AccountRow;
+use hh_keyed_rows::{Amounts, RowFault};
+use hh_runs::RunKey;
+use hh_states::ResultKey;
+use sqlite::{Alter, Connection, Transaction};
+use std::alloc::Global;
+
+/// Writes the row of an account in a Settlement Period of a new run. The account is that of the key.
+pub fn insert_result<S: Alter>(
+    tx: &mut Transaction<'_, S>,
+    alloc: Global,
+    key: &ResultKey,
+    row: &AccountRow,
+) -> Result<(), RowFault>
+    ensures same_reference { tx.new.conn.ghost_name ≡ tx.old.conn.ghost_name }
+    ensures puts { let old = state S.Store tx.old.conn.now in
+        let new = state S.Store tx.new.conn.now in
+        Inside old new (IsOffice old.now → OnOk result (Puts results key.now (amounts_of row.now) old.now new.now)) }
+    ensures inside { StaysInside (state S.Store tx.old.conn.now) (state S.Store tx.new.conn.now) result }
+    ensures left { KeepsCommit (state S.Store tx.old.conn.now) (state S.Store tx.new.conn.now) }
+    ensures survives { CommitsNothing (state S.Store tx.old.conn.now) (state S.Store tx.new.conn.now) }
+{
+    write_entry(
+        tx,
+        alloc,
+        "INSERT INTO results (day, kind, period, party, side, credited, balancing, contracts, imbalance, charge, share) VALUES (?1, ?2, ?3, ?4, ?5, ?6, ?7, ?8, ?9, ?10, ?11)",
+        key,
+        &Amounts::of(row),
+    )
+}
+
+/// What the accounts have in the Settlement Periods of a run, by period, then by account.
+pub fn select_results_of<S: Alter>(
+    conn: &mut Connection<S>,
+    alloc: Global,
+    run: &RunKey,
+) -> Result<Vec<(ResultKey, Amounts)>, RowFault>
+    ensures value { let old = state S.Store conn.old in
+        let new = state S.Store conn.new in
+        OfOffice old new (IfOk result (λ found.
+        found.items ≡ filter (λ e. is_eq (run_key_cmp e.0.run run.now))
+        (rows_of results old.now.trees))) }
+    ensures stood { Stood (state S.Store conn.old) (state S.Store conn.new) }
+    ensures left { LeavesOffice (state S.Store conn.old) (state S.Store conn.new) }
+    ensures mode { conn.old.in_transaction ≡ false → conn.new.in_transaction ≡ false }
+    ensures stays { StaysOpen (state S.Store conn.old) (state S.Store conn.new) result }
+    ensures honest { IsHonest (state S.Store conn.old) (state S.Store conn.new) }
+    ensures survives { CommitsNothingOf (state S.Store conn.old) (state S.Store conn.new) }
+{
+    select_by(
+        conn,
+        alloc,
+        "SELECT day, kind, period, party, side, credited, balancing, contracts, imbalance, charge, share FROM results WHERE day = ?1 AND kind = ?2 ORDER BY day, kind, period, party, side",
+        run,
+    )
+}
+
+/// Writes the rows of accounts of a new run. The account of each is that of its key.
+pub fn insert_results<S: Alter>(
+    tx: &mut Transaction<'_, S>,
+    alloc: Global,
+    rows: &[(ResultKey, AccountRow)],
+) -> Result<(), RowFault>
+    ensures same_reference { tx.new.conn.ghost_name ≡ tx.old.conn.ghost_name }
+    ensures puts { let old = state S.Store tx.old.conn.now in
+        let new = state S.Store tx.new.conn.now in
+        Inside old new (IsOffice old.now → OnOk result (PutsAll results (map amount_entry rows.now) old.now new.now)) }
+    ensures inside { StaysInside (state S.Store tx.old.conn.now) (state S.Store tx.new.conn.now) result }
+    ensures left { KeepsCommit (state S.Store tx.old.conn.now) (state S.Store tx.new.conn.now) }
+    ensures survives { CommitsNothing (state S.Store tx.old.conn.now) (state S.Store tx.new.conn.now) }
+{
+    'rows: for row in rows {
+        insert_result(tx, alloc, &row.0, &row.1)?;
+    }
+    Ok(())
+}

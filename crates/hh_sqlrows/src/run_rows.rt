@@ -1,0 +1,94 @@
+//! The rows of runs.
+
+ghost use Rattle.std.specs.Prelude.{◌≡◌, false, IsTrue, OnOk, IfOk, filter};
+ghost use Rattle.std.specs.Ordering.{is_eq, nat_cmp};
+ghost use Rattle.std.specs.FinMap.{find};
+ghost use Rattle.hh_states.specs.Runs.{run_key_cmp};
+ghost use Rattle.sqlite.specs.Held.{state};
+ghost use Rattle.hh_sqlrows.specs.Forms.{Puts, rows_of};
+ghost use Rattle.hh_sqlrows.specs.Office.{IsOffice};
+ghost use Rattle.hh_sqlrows.specs.OfficeTables.{runs};
+ghost use Rattle.hh_sqlrows.specs.Reads.{CommitsNothingOf, IsHonest, LeavesOffice, OfOffice, StaysOpen, Stood};
+ghost use Rattle.hh_sqlrows.specs.Statements.{CommitsNothing, Inside, KeepsCommit, StaysInside};
+
+use crate::statement::{select_by, select_first, write_entry};
+use hh_keyed_rows::RowFault;
+use hh_runs::{RunKey, Summary};
+use hh_time::SettlementDate;
+use sqlite::{Alter, Connection, Transaction};
+use std::alloc::Global;
+
+/// Writes the summary of a new run.
+pub fn insert_run<S: Alter>(
+    tx: &mut Transaction<'_, S>,
+    alloc: Global,
+    key: &RunKey,
+    summary: &Summary,
+) -> Result<(), RowFault>
+    ensures same_reference { tx.new.conn.ghost_name ≡ tx.old.conn.ghost_name }
+    ensures puts { let old = state S.Store tx.old.conn.now in
+        let new = state S.Store tx.new.conn.now in
+        Inside old new (IsOffice old.now → OnOk result (Puts runs key.now summary.now old.now new.now)) }
+    ensures inside { StaysInside (state S.Store tx.old.conn.now) (state S.Store tx.new.conn.now) result }
+    ensures left { KeepsCommit (state S.Store tx.old.conn.now) (state S.Store tx.new.conn.now) }
+    ensures survives { CommitsNothing (state S.Store tx.old.conn.now) (state S.Store tx.new.conn.now) }
+{
+    write_entry(
+        tx,
+        alloc,
+        "INSERT INTO runs (day, kind, periods, accounts, residual, postings) VALUES (?1, ?2, ?3, ?4, ?5, ?6)",
+        key,
+        summary,
+    )
+}
+
+/// The summary of a run.
+pub fn select_run<S: Alter>(
+    conn: &mut Connection<S>,
+    alloc: Global,
+    key: &RunKey,
+) -> Result<Option<Summary>, RowFault>
+    ensures value { let old = state S.Store conn.old in
+        let new = state S.Store conn.new in
+        OfOffice old new (IfOk result (λ found.
+        found ≡ find run_key_cmp key.now (rows_of runs old.now.trees))) }
+    ensures stood { Stood (state S.Store conn.old) (state S.Store conn.new) }
+    ensures left { LeavesOffice (state S.Store conn.old) (state S.Store conn.new) }
+    ensures mode { conn.old.in_transaction ≡ false → conn.new.in_transaction ≡ false }
+    ensures stays { StaysOpen (state S.Store conn.old) (state S.Store conn.new) result }
+    ensures honest { IsHonest (state S.Store conn.old) (state S.Store conn.new) }
+    ensures survives { CommitsNothingOf (state S.Store conn.old) (state S.Store conn.new) }
+{
+    select_first(
+        conn,
+        alloc,
+        "SELECT day, kind, periods, accounts, residual, postings FROM runs WHERE day = ?1 AND kind = ?2 ORDER BY day, kind",
+        key,
+    )
+}
+
+/// The runs of a date, by kind.
+pub fn select_runs_on<S: Alter>(
+    conn: &mut Connection<S>,
+    alloc: Global,
+    date: &SettlementDate,
+) -> Result<Vec<(RunKey, Summary)>, RowFault>
+    ensures value { let old = state S.Store conn.old in
+        let new = state S.Store conn.new in
+        OfOffice old new (IfOk result (λ found.
+        found.items ≡ filter (λ e. is_eq (nat_cmp e.0.date date.now))
+        (rows_of runs old.now.trees))) }
+    ensures stood { Stood (state S.Store conn.old) (state S.Store conn.new) }
+    ensures left { LeavesOffice (state S.Store conn.old) (state S.Store conn.new) }
+    ensures mode { conn.old.in_transaction ≡ false → conn.new.in_transaction ≡ false }
+    ensures stays { StaysOpen (state S.Store conn.old) (state S.Store conn.new) result }
+    ensures honest { IsHonest (state S.Store conn.old) (state S.Store conn.new) }
+    ensures survives { CommitsNothingOf (state S.Store conn.old) (state S.Store conn.new) }
+{
+    select_by(
+        conn,
+        alloc,
+        "SELECT day, kind, periods, accounts, residual, postings FROM runs WHERE day = ?1 ORDER BY day, kind",
+        date,
+    )
+}

@@ -1,0 +1,178 @@
+//! Statements on one table: a row that is written, and rows that are selected.
+
+ghost use Rattle.std.specs.Prelude.{◌≡◌, ◌++◌, [], false, ℕ, List, option_map, slice_get, IfOk, IsTrue, OnOk, Ok, true};
+ghost use Rattle.sqlite.specs.Held.{state};
+ghost use Rattle.sqlite.specs.State.{ExecutesInside};
+ghost use Rattle.sqlite.specs.Values.{bound};
+ghost use Rattle.hh_sqlrows.specs.Reads.{IsHonest, StaysOpen, Stood};
+ghost use Rattle.hh_sqlrows.specs.Statements.{CommitsNothing, Inside, KeepsCommit, StaysInside};
+ghost use Rattle.hh_sqlrows.specs.steps.Answers.{IsFirst, IsPlainOf, IsRead};
+
+use hh_keyed_rows::{Columned, RowFault, columns_of, read_entries};
+use sqlite::types::ValueRef;
+use sqlite::{Alter, Connection, Error, ErrorCode, Transaction};
+use std::alloc::Global;
+
+/// Why the database refused.
+pub(crate) fn fault_of(error: Error) -> RowFault {
+    match error {
+        Error::SqliteFailure(ErrorCode::OutOfMemory) => RowFault::Memory,
+        _ => RowFault::Store,
+    }
+}
+
+/// Executes a text whose parameters are the columns of a key and of its value.
+pub(crate) fn write_entry<S: Alter, K: Columned, V: Columned>(
+    tx: &mut Transaction<'_, S>,
+    alloc: Global,
+    text: &str,
+    key: &K,
+    value: &V,
+) -> Result<(), RowFault>
+    ensures same_reference { tx.new.conn.ghost_name ≡ tx.old.conn.ghost_name }
+    ensures fits { OnOk result ((K.codec.fits key.now ≡ true) × (V.codec.fits value.now ≡ true)) }
+    ensures writes { let old = state S.Store tx.old.conn.now in
+        let new = state S.Store tx.new.conn.now in
+        let columns = K.codec.write key.now ++ V.codec.write value.now in
+        Inside old new (OnOk result ((count : ℕ) × ExecutesInside 0 text.now columns old new (Ok count))) }
+    ensures inside { StaysInside (state S.Store tx.old.conn.now) (state S.Store tx.new.conn.now) result }
+    ensures left { KeepsCommit (state S.Store tx.old.conn.now) (state S.Store tx.new.conn.now) }
+    ensures survives { CommitsNothing (state S.Store tx.old.conn.now) (state S.Store tx.new.conn.now) }
+{
+    let columns = columns_of(alloc, key, value)?;
+    match tx.execute(text, columns.as_slice()) {
+        Ok(_) => Ok(()),
+        Err(error) => Err(fault_of(error)),
+    }
+}
+
+/// The keys and the values that a text selects by parameters.
+pub(crate) fn select_entries<S: Alter, K: Columned + Drop, V: Columned + Drop>(
+    conn: &mut Connection<S>,
+    alloc: Global,
+    text: &str,
+    params: &[ValueRef<'_>],
+) -> Result<Vec<(K, V)>, RowFault>
+    ensures read { let old = state S.Store conn.old in
+        let new = state S.Store conn.new in
+        IsTrue new.is_open → IfOk result (λ found.
+        IsRead K.codec V.codec text.now (bound params.now) old new found.items) }
+    ensures stood { Stood (state S.Store conn.old) (state S.Store conn.new) }
+    ensures left { let old = state S.Store conn.old in
+        let new = state S.Store conn.new in
+        IsTrue new.is_open → IsPlainOf old text.now → old.now ≡ old.committed
+        → (new.now ≡ old.now) × (new.committed ≡ old.committed) }
+    ensures mode { conn.old.in_transaction ≡ false → conn.new.in_transaction ≡ false }
+    ensures stays { StaysOpen (state S.Store conn.old) (state S.Store conn.new) result }
+    ensures honest { IsHonest (state S.Store conn.old) (state S.Store conn.new) }
+    ensures survives { let old = state S.Store conn.old in
+        let new = state S.Store conn.new in
+        IsPlainOf old text.now → CommitsNothing old new }
+{
+    match conn.query_all(text, params) {
+        Ok(rows) => read_entries(alloc, rows.as_slice()),
+        Err(error) => Err(fault_of(error)),
+    }
+}
+
+/// The keys and the values that a text selects by the columns of one value.
+pub(crate) fn select_by<S: Alter, A: Columned, K: Columned + Drop, V: Columned + Drop>(
+    conn: &mut Connection<S>,
+    alloc: Global,
+    text: &str,
+    asked: &A,
+) -> Result<Vec<(K, V)>, RowFault>
+    ensures read { let old = state S.Store conn.old in
+        let new = state S.Store conn.new in
+        IsTrue new.is_open → IfOk result (λ found.
+        IsRead K.codec V.codec text.now (A.codec.write asked.now) old new found.items) }
+    ensures stood { Stood (state S.Store conn.old) (state S.Store conn.new) }
+    ensures left { let old = state S.Store conn.old in
+        let new = state S.Store conn.new in
+        IsTrue new.is_open → IsPlainOf old text.now → old.now ≡ old.committed
+        → (new.now ≡ old.now) × (new.committed ≡ old.committed) }
+    ensures mode { conn.old.in_transaction ≡ false → conn.new.in_transaction ≡ false }
+    ensures stays { StaysOpen (state S.Store conn.old) (state S.Store conn.new) result }
+    ensures honest { IsHonest (state S.Store conn.old) (state S.Store conn.new) }
+    ensures survives { let old = state S.Store conn.old in
+        let new = state S.Store conn.new in
+        IsPlainOf old text.now → CommitsNothing old new }
+{
+    let mut params = Vec::new(alloc);
+    asked.to_columns(&mut params)?;
+    select_entries(conn, alloc, text, params.as_slice())
+}
+
+/// The keys and the values that a text selects by the columns of two values.
+pub(crate) fn select_by_two<
+    S: Alter,
+    A: Columned,
+    B: Columned,
+    K: Columned + Drop,
+    V: Columned + Drop,
+>(
+    conn: &mut Connection<S>,
+    alloc: Global,
+    text: &str,
+    first: &A,
+    second: &B,
+) -> Result<Vec<(K, V)>, RowFault>
+    ensures read { let old = state S.Store conn.old in
+        let new = state S.Store conn.new in
+        let params = A.codec.write first.now ++ B.codec.write second.now in
+        IsTrue new.is_open → IfOk result (λ found.
+        IsRead K.codec V.codec text.now params old new found.items) }
+    ensures stood { Stood (state S.Store conn.old) (state S.Store conn.new) }
+    ensures left { let old = state S.Store conn.old in
+        let new = state S.Store conn.new in
+        IsTrue new.is_open → IsPlainOf old text.now → old.now ≡ old.committed
+        → (new.now ≡ old.now) × (new.committed ≡ old.committed) }
+    ensures mode { conn.old.in_transaction ≡ false → conn.new.in_transaction ≡ false }
+    ensures stays { StaysOpen (state S.Store conn.old) (state S.Store conn.new) result }
+    ensures honest { IsHonest (state S.Store conn.old) (state S.Store conn.new) }
+    ensures survives { let old = state S.Store conn.old in
+        let new = state S.Store conn.new in
+        IsPlainOf old text.now → CommitsNothing old new }
+{
+    let params = columns_of(alloc, first, second)?;
+    select_entries(conn, alloc, text, params.as_slice())
+}
+
+/// The value of the first row that a text selects by its key.
+pub(crate) fn select_first<S: Alter, K: Columned + Drop, V: Columned + Drop>(
+    conn: &mut Connection<S>,
+    alloc: Global,
+    text: &str,
+    key: &K,
+) -> Result<Option<V>, RowFault>
+    ensures found { let old = state S.Store conn.old in
+        let new = state S.Store conn.new in
+        IsTrue new.is_open → IfOk result (λ value.
+        IsFirst K.codec V.codec text.now (K.codec.write key.now) old new value) }
+    ensures stood { Stood (state S.Store conn.old) (state S.Store conn.new) }
+    ensures left { let old = state S.Store conn.old in
+        let new = state S.Store conn.new in
+        IsTrue new.is_open → IsPlainOf old text.now → old.now ≡ old.committed
+        → (new.now ≡ old.now) × (new.committed ≡ old.committed) }
+    ensures mode { conn.old.in_transaction ≡ false → conn.new.in_transaction ≡ false }
+    ensures stays { StaysOpen (state S.Store conn.old) (state S.Store conn.new) result }
+    ensures honest { IsHonest (state S.Store conn.old) (state S.Store conn.new) }
+    ensures survives { let old = state S.Store conn.old in
+        let new = state S.Store conn.new in
+        IsPlainOf old text.now → CommitsNothing old new }
+{
+    match select_by(conn, alloc, text, key) {
+        Ok(found) => Ok(value_of_first::<K, V>(found)),
+        Err(fault) => Err(fault),
+    }
+}
+
+/// The value of the first entry.
+fn value_of_first<K: Drop, V: Drop>(found: Vec<(K, V)>) -> Option<V>
+    ensures { result ≡ option_map (λ e. e.1) (slice_get found.items 0) }
+{
+    match found.into_iter().next() {
+        Some((_, value)) => Some(value),
+        None => None,
+    }
+}
