@@ -1,0 +1,325 @@
+//! What no clause says: that with ample memory a database runs each statement, and that what was written
+//! is read again.
+
+use hh_calc::AccountRow;
+use hh_keyed_rows::{Amounts, RowFault};
+use hh_names::*;
+use hh_num::*;
+use hh_rows::*;
+use hh_runs::{RunKey, RunKind, Summary};
+use hh_sqlrows::*;
+use hh_states::{CreditKey, FileKey, PostingKey, ResultKey};
+use hh_store::KeptFile;
+use hh_time::SettlementDate;
+use sqlite::{Alter, Connection, MemStore, Transaction};
+use std::alloc::Global;
+use std::test::Fail;
+
+/// 1 July 2024.
+fn date() -> Option<SettlementDate> {
+    SettlementDate::new(19_905)
+}
+
+/// Its third Settlement Period.
+fn third() -> Option<SettlementPeriod> {
+    Some(SettlementPeriod {
+        date: date()?,
+        period: PeriodNumber::new(3)?,
+    })
+}
+
+fn party_row() -> Option<PartyRow> {
+    Some(PartyRow {
+        party: PartyId::read(b"GENCO")?,
+        registration: PartyRegistration {
+            range: DateRange::new(date()?, SettlementDate::last())?,
+            key: AccessKey::read(b"genco0001")?,
+        },
+    })
+}
+
+fn unit_row() -> Option<UnitRow> {
+    Some(UnitRow {
+        unit: UnitId::read(b"G1")?,
+        registration: UnitRegistration {
+            lead: Account::read(b"GENCO-C")?,
+            interconnector: true,
+            range: DateRange::new(date()?, SettlementDate::last())?,
+        },
+    })
+}
+
+fn meter_row() -> Option<MeterRow> {
+    Some(MeterRow {
+        key: UnitPeriod {
+            unit: UnitId::read(b"G1")?,
+            at: third()?,
+        },
+        reading: Reading {
+            metered: Kwh::new(-98_000)?,
+            tlm: Tlm::new(10_050_000)?,
+            balancing: Kwh::new(7)?,
+        },
+    })
+}
+
+fn price_row() -> Option<PriceRow> {
+    Some(PriceRow {
+        at: third()?,
+        price: Price::new(-5_000_000)?,
+    })
+}
+
+fn contract_row() -> Option<ContractRow> {
+    Some(ContractRow {
+        key: ContractKey {
+            reference: Reference::read(b"C1")?,
+            at: third()?,
+        },
+        contract: Contract {
+            counterparties: Counterparties {
+                seller: Account::read(b"GENCO-P")?,
+                buyer: Account::read(b"SUPCO-C")?,
+            },
+            volume: Kwh::new(99_000)?,
+        },
+    })
+}
+
+fn reallocation_row() -> Option<ReallocationRow> {
+    Some(ReallocationRow {
+        key: ReallocationKey {
+            unit_period: meter_row()?.key,
+            account: Account::read(b"SUPCO-P")?,
+        },
+        reallocation: Reallocation {
+            percent: Percent::new(1_250_000)?,
+            fixed: Kwh::new(-12)?,
+        },
+    })
+}
+
+fn file_key() -> Option<FileKey> {
+    Some(FileKey {
+        kind: FileKind::Meters,
+        name: FileName::read(b"f4.csv")?,
+    })
+}
+
+fn run_key() -> Option<RunKey> {
+    Some(RunKey {
+        date: date()?,
+        kind: RunKind::R1,
+    })
+}
+
+fn summary() -> Option<Summary> {
+    Some(Summary {
+        periods: 48,
+        accounts: 4,
+        residual: Pence::new(-5_050)?,
+        postings: 2,
+    })
+}
+
+fn account_row() -> Option<AccountRow> {
+    Some(AccountRow {
+        account: Account::read(b"GENCO-P")?,
+        credited: Ticks::new(995_000_000_000)?,
+        balancing: Ticks::new(1)?,
+        contracts: Ticks::new(990_000_000_000)?,
+        imbalance: Ticks::new(-5_000_000_000)?,
+        charge: Pence::new(-2_500)?,
+        share: Pence::new(2_538)?,
+    })
+}
+
+fn result_key() -> Option<ResultKey> {
+    Some(ResultKey {
+        run: run_key()?,
+        period: PeriodNumber::new(3)?,
+        account: Account::read(b"GENCO-P")?,
+    })
+}
+
+fn credit_key() -> Option<CreditKey> {
+    Some(CreditKey {
+        run: run_key()?,
+        period: PeriodNumber::new(3)?,
+        unit: UnitId::read(b"G1")?,
+        account: Account::read(b"GENCO-P")?,
+    })
+}
+
+fn posting_key() -> Option<PostingKey> {
+    Some(PostingKey {
+        run: run_key()?,
+        account: Account::read(b"GENCO-P")?,
+    })
+}
+
+fn settings() -> Option<Settings> {
+    Some(Settings {
+        lead_minutes: LeadMinutes::new(90)?,
+        operator_key: OperatorKey::read(b"op-settle001")?,
+    })
+}
+
+/// What the office was given, where its texts name it.
+fn given<T>(value: Option<T>) -> Result<T, RowFault> {
+    value.ok_or(RowFault::Store)
+}
+
+fn write_registered<S: Alter>(tx: &mut Transaction<'_, S>, alloc: Global) -> Result<(), RowFault> {
+    replace_party(tx, alloc, &given(party_row())?)?;
+    replace_unit(tx, alloc, &given(unit_row())?)?;
+    let row = given(contract_row())?;
+    replace_reference(tx, alloc, &row.key.reference, &row.contract.counterparties)
+}
+
+fn write_in_force<S: Alter>(tx: &mut Transaction<'_, S>, alloc: Global) -> Result<(), RowFault> {
+    replace_meter(tx, alloc, &given(meter_row())?)?;
+    replace_price(tx, alloc, &given(price_row())?)?;
+    replace_contract(tx, alloc, &given(contract_row())?)?;
+    replace_reallocation(tx, alloc, &given(reallocation_row())?)
+}
+
+fn write_run<S: Alter>(tx: &mut Transaction<'_, S>, alloc: Global) -> Result<(), RowFault> {
+    insert_run(tx, alloc, &given(run_key())?, &given(summary())?)?;
+    insert_result(tx, alloc, &given(result_key())?, &given(account_row())?)?;
+    insert_credit(tx, alloc, &given(credit_key())?, &given(Ticks::new(-7))?)?;
+    insert_posting(tx, alloc, &given(posting_key())?, &given(Pence::new(38))?)
+}
+
+fn write_office<S: Alter>(tx: &mut Transaction<'_, S>, alloc: Global) -> Result<(), RowFault> {
+    insert_settings(tx, alloc, &given(settings())?)?;
+    insert_mark(tx, alloc, &true)?;
+    let file = KeptFile::new(Vec::from_slice(alloc, b"unit,")?, 1, 2);
+    replace_file(tx, alloc, &given(file_key())?, &file)
+}
+
+/// An office's tables in memory, with a row in each that has one in an office at work.
+fn filled(alloc: Global) -> Result<Connection<MemStore>, RowFault> {
+    let mut conn = Connection::open_in_memory(alloc)?;
+    let mut tx = conn.transaction();
+    if make_tables(&mut tx).is_err() {
+        return Err(RowFault::Store);
+    }
+    write_office(&mut tx, alloc)?;
+    write_registered(&mut tx, alloc)?;
+    write_in_force(&mut tx, alloc)?;
+    write_run(&mut tx, alloc)?;
+    if tx.commit().is_err() {
+        return Err(RowFault::Store);
+    }
+    Ok(conn)
+}
+
+#[test]
+fn what_is_registered_is_read_again(rt: HostRuntime) -> Result<(), Fail> {
+    let mut conn = filled(rt.alloc())?;
+    let row = given(party_row())?;
+    assert_eq!(rt;
+        select_party(&mut conn, rt.alloc(), &row.party)?,
+        Some(row.registration)
+    );
+    assert_eq!(rt;
+        select_parties(&mut conn, rt.alloc())?.as_slice(),
+        [(row.party, row.registration)].as_slice()
+    );
+    let row = given(unit_row())?;
+    assert_eq!(rt;
+        select_unit(&mut conn, rt.alloc(), &row.unit)?,
+        Some(row.registration)
+    );
+    assert_eq!(rt;
+        select_units(&mut conn, rt.alloc())?.as_slice(),
+        [(row.unit, row.registration)].as_slice()
+    );
+    Ok(())
+}
+
+#[test]
+fn what_is_in_force_is_read_again(rt: HostRuntime) -> Result<(), Fail> {
+    let mut conn = filled(rt.alloc())?;
+    let row = given(meter_row())?;
+    assert_eq!(rt;
+        select_meter(&mut conn, rt.alloc(), &row.key)?,
+        Some(row.reading)
+    );
+    assert_eq!(rt;
+        select_meters_on(&mut conn, rt.alloc(), &row.key.unit, &row.key.at.date)?.as_slice(),
+        [(row.key, row.reading)].as_slice()
+    );
+    let row = given(price_row())?;
+    assert_eq!(rt;
+        select_price(&mut conn, rt.alloc(), &row.at)?,
+        Some(row.price)
+    );
+    assert_eq!(rt;
+        select_prices_on(&mut conn, rt.alloc(), &row.at.date)?.as_slice(),
+        [(row.at, row.price)].as_slice()
+    );
+    Ok(())
+}
+
+#[test]
+fn what_is_agreed_is_read_again(rt: HostRuntime) -> Result<(), Fail> {
+    let mut conn = filled(rt.alloc())?;
+    let row = given(contract_row())?;
+    let (key, agreed) = (row.key, row.contract);
+    let (counterparties, volume) = (agreed.counterparties, agreed.volume);
+    assert_eq!(rt;
+        select_reference(&mut conn, rt.alloc(), &key.reference)?,
+        Some(counterparties)
+    );
+    assert_eq!(rt; select_contract(&mut conn, rt.alloc(), &key)?, Some(volume));
+    assert_eq!(rt;
+        select_contracts_on(&mut conn, rt.alloc(), &key.at.date)?.as_slice(),
+        [(key, volume)].as_slice()
+    );
+    let row = given(reallocation_row())?;
+    assert_eq!(rt;
+        select_reallocations_of(&mut conn, rt.alloc(), &row.key.unit_period.unit)?.as_slice(),
+        [(row.key, row.reallocation)].as_slice()
+    );
+    Ok(())
+}
+
+#[test]
+fn what_a_run_wrote_is_read_again(rt: HostRuntime) -> Result<(), Fail> {
+    let mut conn = filled(rt.alloc())?;
+    let key = given(run_key())?;
+    let result = given(account_row())?;
+    let posting = (given(posting_key())?, given(Pence::new(38))?);
+    assert_eq!(rt; select_run(&mut conn, rt.alloc(), &key)?, summary());
+    assert_eq!(rt;
+        select_runs_on(&mut conn, rt.alloc(), &key.date)?.as_slice(),
+        [(key, given(summary())?)].as_slice()
+    );
+    assert_eq!(rt;
+        select_results_of(&mut conn, rt.alloc(), &key)?.as_slice(),
+        [(given(result_key())?, Amounts::of(&result))].as_slice()
+    );
+    assert_eq!(rt;
+        select_postings_to(&mut conn, rt.alloc(), &posting.0.account)?.as_slice(),
+        [posting].as_slice()
+    );
+    assert_eq!(rt;
+        select_postings(&mut conn, rt.alloc())?.as_slice(),
+        [posting].as_slice()
+    );
+    Ok(())
+}
+
+#[test]
+fn what_an_office_was_made_with_is_read_again(rt: HostRuntime) -> Result<(), Fail> {
+    let mut conn = filled(rt.alloc())?;
+    assert_eq!(rt; select_settings(&mut conn, rt.alloc())?, settings());
+    assert_eq!(rt; select_mark(&mut conn, rt.alloc())?, Some(true));
+    let found = select_file(&mut conn, rt.alloc(), &given(file_key())?)?;
+    assert!(rt;
+        matches!(&found, Some(kept) if kept.body() == b"unit,".as_slice() && kept.applied() == 1 && kept.late() == 2)
+    );
+    Ok(())
+}
