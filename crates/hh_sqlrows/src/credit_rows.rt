@@ -24,10 +24,13 @@ pub fn insert_credit<S: Alter>(
     ensures same_reference { tx.new.conn.ghost_name ≡ tx.old.conn.ghost_name }
     ensures puts { let old = state S.Store tx.old.conn.now in
         let new = state S.Store tx.new.conn.now in
-        Inside old new (IsOffice old.now → OnOk result (Puts credits key.now energy.now old.now new.now)) }
-    ensures inside { StaysInside (state S.Store tx.old.conn.now) (state S.Store tx.new.conn.now) result }
+        Inside old new (IsOffice old.now
+        → OnOk result (Puts credits key.now energy.now old.now new.now)) }
+    ensures inside { StaysInside (state S.Store tx.old.conn.now)
+        (state S.Store tx.new.conn.now) result }
     ensures left { KeepsCommit (state S.Store tx.old.conn.now) (state S.Store tx.new.conn.now) }
-    ensures survives { CommitsNothing (state S.Store tx.old.conn.now) (state S.Store tx.new.conn.now) }
+    ensures survives { CommitsNothing (state S.Store tx.old.conn.now)
+        (state S.Store tx.new.conn.now) }
 {
     write_entry(
         tx,
@@ -48,9 +51,11 @@ pub fn insert_credits<S: Alter>(
     ensures puts { let old = state S.Store tx.old.conn.now in
         let new = state S.Store tx.new.conn.now in
         Inside old new (IsOffice old.now → OnOk result (PutsAll credits rows.now old.now new.now)) }
-    ensures inside { StaysInside (state S.Store tx.old.conn.now) (state S.Store tx.new.conn.now) result }
+    ensures inside { StaysInside (state S.Store tx.old.conn.now)
+        (state S.Store tx.new.conn.now) result }
     ensures left { KeepsCommit (state S.Store tx.old.conn.now) (state S.Store tx.new.conn.now) }
-    ensures survives { CommitsNothing (state S.Store tx.old.conn.now) (state S.Store tx.new.conn.now) }
+    ensures survives { CommitsNothing (state S.Store tx.old.conn.now)
+        (state S.Store tx.new.conn.now) }
 {
     'rows: for row in rows {
         insert_credit(tx, alloc, &row.0, &row.1)?;

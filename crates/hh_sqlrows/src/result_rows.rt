@@ -29,10 +29,13 @@ pub fn insert_result<S: Alter>(
     ensures same_reference { tx.new.conn.ghost_name ≡ tx.old.conn.ghost_name }
     ensures puts { let old = state S.Store tx.old.conn.now in
         let new = state S.Store tx.new.conn.now in
-        Inside old new (IsOffice old.now → OnOk result (Puts results key.now (amounts_of row.now) old.now new.now)) }
-    ensures inside { StaysInside (state S.Store tx.old.conn.now) (state S.Store tx.new.conn.now) result }
+        Inside old new (IsOffice old.now
+        → OnOk result (Puts results key.now (amounts_of row.now) old.now new.now)) }
+    ensures inside { StaysInside (state S.Store tx.old.conn.now)
+        (state S.Store tx.new.conn.now) result }
     ensures left { KeepsCommit (state S.Store tx.old.conn.now) (state S.Store tx.new.conn.now) }
-    ensures survives { CommitsNothing (state S.Store tx.old.conn.now) (state S.Store tx.new.conn.now) }
+    ensures survives { CommitsNothing (state S.Store tx.old.conn.now)
+        (state S.Store tx.new.conn.now) }
 {
     write_entry(
         tx,
@@ -78,10 +81,13 @@ pub fn insert_results<S: Alter>(
     ensures same_reference { tx.new.conn.ghost_name ≡ tx.old.conn.ghost_name }
     ensures puts { let old = state S.Store tx.old.conn.now in
         let new = state S.Store tx.new.conn.now in
-        Inside old new (IsOffice old.now → OnOk result (PutsAll results (map amount_entry rows.now) old.now new.now)) }
-    ensures inside { StaysInside (state S.Store tx.old.conn.now) (state S.Store tx.new.conn.now) result }
+        Inside old new (IsOffice old.now
+        → OnOk result (PutsAll results (map amount_entry rows.now) old.now new.now)) }
+    ensures inside { StaysInside (state S.Store tx.old.conn.now)
+        (state S.Store tx.new.conn.now) result }
     ensures left { KeepsCommit (state S.Store tx.old.conn.now) (state S.Store tx.new.conn.now) }
-    ensures survives { CommitsNothing (state S.Store tx.old.conn.now) (state S.Store tx.new.conn.now) }
+    ensures survives { CommitsNothing (state S.Store tx.old.conn.now)
+        (state S.Store tx.new.conn.now) }
 {
     'rows: for row in rows {
         insert_result(tx, alloc, &row.0, &row.1)?;

@@ -34,10 +34,13 @@ pub(crate) fn write_entry<S: Alter, K: Columned, V: Columned>(
     ensures writes { let old = state S.Store tx.old.conn.now in
         let new = state S.Store tx.new.conn.now in
         let columns = K.codec.write key.now ++ V.codec.write value.now in
-        Inside old new (OnOk result ((count : ℕ) × ExecutesInside 0 text.now columns old new (Ok count))) }
-    ensures inside { StaysInside (state S.Store tx.old.conn.now) (state S.Store tx.new.conn.now) result }
+        Inside old new (OnOk result ((count : ℕ)
+        × ExecutesInside 0 text.now columns old new (Ok count))) }
+    ensures inside { StaysInside (state S.Store tx.old.conn.now)
+        (state S.Store tx.new.conn.now) result }
     ensures left { KeepsCommit (state S.Store tx.old.conn.now) (state S.Store tx.new.conn.now) }
-    ensures survives { CommitsNothing (state S.Store tx.old.conn.now) (state S.Store tx.new.conn.now) }
+    ensures survives { CommitsNothing (state S.Store tx.old.conn.now)
+        (state S.Store tx.new.conn.now) }
 {
     let columns = columns_of(alloc, key, value)?;
     match tx.execute(text, columns.as_slice()) {
