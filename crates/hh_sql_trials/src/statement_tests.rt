@@ -174,7 +174,8 @@ fn write_registered<S: Alter>(tx: &mut Transaction<'_, S>, alloc: Global) -> Res
     replace_party(tx, alloc, &given(party_row())?)?;
     replace_unit(tx, alloc, &given(unit_row())?)?;
     let row = given(contract_row())?;
-    replace_reference(tx, alloc, &row.key.reference, &row.contract.counterparties)
+    let (key, agreed) = (row.key, row.contract);
+    replace_references(tx, alloc, &[(key.reference, agreed.counterparties)])
 }
 
 fn write_in_force<S: Alter>(tx: &mut Transaction<'_, S>, alloc: Global) -> Result<(), RowFault> {
@@ -186,9 +187,13 @@ fn write_in_force<S: Alter>(tx: &mut Transaction<'_, S>, alloc: Global) -> Resul
 
 fn write_run<S: Alter>(tx: &mut Transaction<'_, S>, alloc: Global) -> Result<(), RowFault> {
     insert_run(tx, alloc, &given(run_key())?, &given(summary())?)?;
-    insert_result(tx, alloc, &given(result_key())?, &given(account_row())?)?;
-    insert_credit(tx, alloc, &given(credit_key())?, &given(Ticks::new(-7))?)?;
-    insert_posting(tx, alloc, &given(posting_key())?, &given(Pence::new(38))?)
+    insert_results(tx, alloc, &[(given(result_key())?, given(account_row())?)])?;
+    insert_credits(tx, alloc, &[(given(credit_key())?, given(Ticks::new(-7))?)])?;
+    insert_postings(
+        tx,
+        alloc,
+        &[(given(posting_key())?, given(Pence::new(38))?)],
+    )
 }
 
 fn write_office<S: Alter>(tx: &mut Transaction<'_, S>, alloc: Global) -> Result<(), RowFault> {
