@@ -198,7 +198,7 @@ fn write_run<S: Alter>(tx: &mut Transaction<'_, S>, alloc: Global) -> Result<(),
 
 fn write_office<S: Alter>(tx: &mut Transaction<'_, S>, alloc: Global) -> Result<(), RowFault> {
     insert_settings(tx, alloc, &given(settings())?)?;
-    insert_mark(tx, alloc, &true)?;
+    insert_mark(tx, alloc, true)?;
     let file = KeptFile::new(Vec::from_slice(alloc, b"unit,")?, 1, 2);
     replace_file(tx, alloc, &given(file_key())?, &file)
 }

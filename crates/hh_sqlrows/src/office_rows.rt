@@ -45,13 +45,13 @@ pub fn insert_settings<S: Alter>(
 pub fn insert_mark<S: Alter>(
     tx: &mut Transaction<'_, S>,
     alloc: Global,
-    positions: &bool,
+    positions: bool,
 ) -> Result<(), RowFault>
     ensures same_reference { tx.new.conn.ghost_name ≡ tx.old.conn.ghost_name }
     ensures puts { let old = state S.Store tx.old.conn.now in
         let new = state S.Store tx.new.conn.now in
         Inside old new (IsOffice old.now
-        → OnOk result (Puts marks (record {}) positions.now old.now new.now)) }
+        → OnOk result (Puts marks (record {}) positions old.now new.now)) }
     ensures inside { StaysInside (state S.Store tx.old.conn.now)
         (state S.Store tx.new.conn.now) result }
     ensures left { KeepsCommit (state S.Store tx.old.conn.now) (state S.Store tx.new.conn.now) }
@@ -63,7 +63,7 @@ pub fn insert_mark<S: Alter>(
         alloc,
         "INSERT INTO marks (id, positions) VALUES (?1, ?2)",
         &OneRow,
-        positions,
+        &positions,
     )
 }
 

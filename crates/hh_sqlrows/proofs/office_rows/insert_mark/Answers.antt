@@ -7,4 +7,4 @@ use Rattle.hh_sqlrows.proofs.office_rows.insert_mark.Goals as goal
 
 pub returns-clause-puts : goal.returns-clause-puts
 returns-clause-puts g c clean inside is =
-    inserts_by marks marks_form (record {}) c.args.positions.now (state g.S.Store c.args.tx.now.conn.now) (state g.S.Store c.write_entry.new.tx.conn.now) is insert_mark_text insert_mark_is c.write_entry.result c.write_entry.ensures.fits (c.write_entry.ensures.writes clean inside)
+    inserts_by marks marks_form (record {}) c.args.positions (state g.S.Store c.args.tx.now.conn.now) (state g.S.Store c.write_entry.new.tx.conn.now) is insert_mark_text insert_mark_is c.write_entry.result c.write_entry.ensures.fits (c.write_entry.ensures.writes clean inside)
