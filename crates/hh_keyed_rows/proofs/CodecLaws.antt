@@ -7,8 +7,8 @@ use Rattle.std.proofs.lemmas.Bool.{and_from, and_parts}
 use Rattle.sqlite_value.specs.declared.value.Value.{Value}
 use Rattle.sqlite_value.specs.declared.value.Value.TheVariants.{Null, Int, Real, Text, Blob}
 use Rattle.sqlite_value.specs.Order.{Row}
-use Rattle.hh_keyed_rows.specs.Codecs.{Codec, IsCodec, is_plain, at_front, int_in, nat_in, text_in, blob_in, int_column, nat_column, text_column, blob_column, both, via, coded, within}
-use Rattle.hh_keyed_rows.specs.KeyedRows.{columns_of, entry_in, entry_of, whole}
+use Rattle.hh_keyed_rows.specs.Codecs.{Codec, IsCodec, is_discrete, at_front, int_in, nat_in, text_in, blob_in, int_column, nat_column, text_column, blob_column, both, via, coded, within}
+use Rattle.hh_keyed_rows.specs.KeyedRows.{columns_of, entry_in, stored_entry, whole}
 
 pub same_some : {A : Type 0} {a b : A} → Some a ≡ Some b → a ≡ b
 same_some e = cc
@@ -175,7 +175,7 @@ module _ {A B : Type 0} (c : Codec A) (d : Codec B) (is_c : IsCodec c) (is_d : I
     fitting = both_fitting;
     apart = both_apart;
     wide = λ p. length-append (c.write p.0) (d.write p.1) ∙ (λ i. is_c.wide p.0 i + is_d.wide p.1 i);
-    plain = λ p. all_append is_plain (c.write p.0) (d.write p.1) (is_c.plain p.0) (is_d.plain p.1);
+    plain = λ p. all_append is_discrete (c.write p.0) (d.write p.1) (is_c.plain p.0) (is_d.plain p.1);
   }
 
 module _ {A B : Type 0} (code : B → A) (named : A → Option B) (there : (b : B) → named (code b) ≡ Some b) (here : (a : A) (b : B) → named a ≡ Some b → a ≡ code b)
@@ -266,7 +266,7 @@ module _ {K V : Type 0} (key : Codec K) (value : Codec V) (is_key : IsCodec key)
       ap (λ row. option_and_then (λ x. whole x.0 x.1) ((both key value).read row)) (sym (append-nil (columns_of key value (k, v))))
       ∙ ap (option_and_then (λ (x : (K × V) × Row). whole x.0 x.1)) ((both_codec key value is_key is_value).back (k, v) [] (and_from (key.fits k) (value.fits v) fit_key fit_value))
 
-  pub entry_written : (id : Value) (k : K) (v : V) → key.fits k ≡ true → value.fits v ≡ true → entry_of key value (id ∷ columns_of key value (k, v)) ≡ Some (k, v)
+  pub entry_written : (id : Value) (k : K) (v : V) → key.fits k ≡ true → value.fits v ≡ true → stored_entry key value (id ∷ columns_of key value (k, v)) ≡ Some (k, v)
   entry_written id k v = written_in k v
 
   entry_read : (columns : Row) (e : K × V) → entry_in key value columns ≡ Some e → (both key value).read columns ≡ got e []
@@ -283,7 +283,7 @@ module _ {K V : Type 0} (key : Codec K) (value : Codec V) (is_key : IsCodec key)
   pub read_only : (columns : Row) (e : K × V) → entry_in key value columns ≡ Some e → columns ≡ columns_of key value e
   read_only columns e is = (both_codec key value is_key is_value).only columns e [] (entry_read columns e is) ∙ append-nil (columns_of key value e)
 
-  pub entry_only : (id : Value) (columns : Row) (e : K × V) → entry_of key value (id ∷ columns) ≡ Some e → columns ≡ columns_of key value e
+  pub entry_only : (id : Value) (columns : Row) (e : K × V) → stored_entry key value (id ∷ columns) ≡ Some e → columns ≡ columns_of key value e
   entry_only id columns e is = read_only columns e is
 
   pub entry_fits : (columns : Row) (e : K × V) → entry_in key value columns ≡ Some e → (key.fits e.0 ≡ true) × (value.fits e.1 ≡ true)

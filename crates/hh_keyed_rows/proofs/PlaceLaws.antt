@@ -16,7 +16,7 @@ use Rattle.sqlite_value.specs.Order.{Row, column, value_cmp}
 use Rattle.sqlite_value.proofs.OrderLemmas.{value_cmp_total, value_cmp-Int, value_cmp-Text, value_cmp-Blob}
 use Rattle.sqlite_sql.specs.Ops.{binary, is_true, from_truth}
 use Rattle.sqlite_schema.specs.Rules.{equal, agree}
-use Rattle.hh_keyed_rows.specs.Codecs.{is_plain, places_from}
+use Rattle.hh_keyed_rows.specs.Codecs.{is_discrete, places_from}
 
 pub truth_of : (b : Bool) → is_true (from_truth (Some b)) ≡ b
 truth_of true = refl
@@ -42,7 +42,7 @@ apart_kinds : (v w : Value) → is_eq (value_cmp v w) ≡ false → equal Binary
 apart_kinds v w apart is e = absurd (true≢false (sym e ∙ is ∙ apart))
 
 -- plain values that are equal in SQL are the same
-pub equal_same : (v w : Value) → is_plain v ≡ true → is_plain w ≡ true → equal Binary v w ≡ true → v ≡ w
+pub equal_same : (v w : Value) → is_discrete v ≡ true → is_discrete w ≡ true → equal Binary v w ≡ true → v ≡ w
 unfolding binary value_cmp
 equal_same Null w p q e = absurd (true≢false (sym p))
 equal_same (Real x) w p q e = absurd (true≢false (sym p))
@@ -63,7 +63,7 @@ equal_same (Blob s) (Real x) p q e = absurd (true≢false (sym q))
 equal_same (Blob s) (Text t) p q e = absurd (true≢false (sym e))
 
 -- a plain value is equal to itself
-pub equal_itself : (v : Value) → is_plain v ≡ true → equal Binary v v ≡ true
+pub equal_itself : (v : Value) → is_discrete v ≡ true → equal Binary v v ≡ true
 unfolding binary
 equal_itself Null p = absurd (true≢false (sym p))
 equal_itself (Real x) p = absurd (true≢false (sym p))
@@ -85,26 +85,26 @@ drop_next (x ∷ row) zero v rest is = ap (drop 1) is
 drop_next (x ∷ row) (suc at) v rest is = drop_next row at v rest is
 
 -- Two rows have these columns from a place on.
-pub agree_same : (at : ℕ) (xs ys a b more other : Row) → drop at a ≡ xs ++ more → drop at b ≡ ys ++ other → length xs ≡ length ys → list_all is_plain xs ≡ true → list_all is_plain ys ≡ true
+pub agree_same : (at : ℕ) (xs ys a b more other : Row) → drop at a ≡ xs ++ more → drop at b ≡ ys ++ other → length xs ≡ length ys → list_all is_discrete xs ≡ true → list_all is_discrete ys ≡ true
     → agree plain (places_from at (length xs)) a (places_from at (length xs)) b ≡ true → xs ≡ ys
 unfolding first_key
 agree_same at [] [] a b more other p q n k l h = refl
 agree_same at [] (y ∷ ys) a b more other p q n k l h = absurd (cc n)
 agree_same at (x ∷ xs) [] a b more other p q n k l h = absurd (cc n)
 agree_same at (x ∷ xs) (y ∷ ys) a b more other p q n k l h =
-    let kx = and_parts (is_plain x) (list_all is_plain xs) k in
-    let ky = and_parts (is_plain y) (list_all is_plain ys) l in
+    let kx = and_parts (is_discrete x) (list_all is_discrete xs) k in
+    let ky = and_parts (is_discrete y) (list_all is_discrete ys) l in
     let both = and_parts (equal Binary (column a at) (column b at)) (agree plain (places_from (suc at) (length xs)) a (places_from (suc at) (length xs)) b) h in
     let e : x ≡ y = equal_same x y kx.0 ky.0 (sym (λ i. equal Binary (column_at a at x (xs ++ more) p i) (column_at b at y (ys ++ other) q i)) ∙ both.0) in
     let es : xs ≡ ys = agree_same (suc at) xs ys a b more other (drop_next a at x (xs ++ more) p) (drop_next b at y (ys ++ other) q) (cc n) kx.1 ky.1 both.1 in
     λ i. e i ∷ es i
 
-pub agree_there : (at : ℕ) (xs a b more other : Row) → drop at a ≡ xs ++ more → drop at b ≡ xs ++ other → list_all is_plain xs ≡ true
+pub agree_there : (at : ℕ) (xs a b more other : Row) → drop at a ≡ xs ++ more → drop at b ≡ xs ++ other → list_all is_discrete xs ≡ true
     → agree plain (places_from at (length xs)) a (places_from at (length xs)) b ≡ true
 unfolding first_key
 agree_there at [] a b more other p q k = refl
 agree_there at (x ∷ xs) a b more other p q k =
-    let kx = and_parts (is_plain x) (list_all is_plain xs) k in
+    let kx = and_parts (is_discrete x) (list_all is_discrete xs) k in
     and_from _ _ ((λ i. equal Binary (column_at a at x (xs ++ more) p i) (column_at b at x (xs ++ other) q i)) ∙ equal_itself x kx.0)
     (agree_there (suc at) xs a b more other (drop_next a at x (xs ++ more) p) (drop_next b at x (xs ++ other) q) kx.1)
 

@@ -29,7 +29,7 @@ use Rattle.sqlite_rules.proofs.ProbeLemmas.{has_mapped, mapped_has}
 use Rattle.sqlite_rules.proofs.TableLemmas.{int_is, without_all_has}
 use Rattle.sqlite_rules.proofs.PlaceLemmas.{tied_same, next_is_free}
 use Rattle.hh_keyed_rows.specs.Codecs.{Codec, IsCodec, places_from}
-use Rattle.hh_keyed_rows.specs.KeyedRows.{entry_of, table_in}
+use Rattle.hh_keyed_rows.specs.KeyedRows.{stored_entry, table_in}
 use Rattle.hh_keyed_rows.specs.Puts.{stored_in, PutsRow}
 use Rattle.hh_keyed_rows.proofs.CodecLaws.{entry_written, entry_only}
 use Rattle.hh_keyed_rows.proofs.KeyLaws.{matches, matches_by, table_in-replaced}
@@ -98,7 +98,7 @@ module _ (schema : Schema) (table : Table) {K V : Type 0} (R : K → K → Order
     (key : Codec K) (value : Codec V) (is_key : IsCodec key) (is_value : IsCodec value)
     (indexed : (r new : Row) → list_any (shares None table new r) schema.indexes ≡ agree plain (places_from 1 key.width) r (places_from 1 key.width) new) where
   abbrev entry : Row → Option (K × V)
-  entry = entry_of key value
+  entry = stored_entry key value
 
   pub matched : (q : K) (r : Row) → matches R total exact entry q r ≡ true → (id : Value) × (columns : Row) × (e : K × V) × (r ≡ id ∷ columns) × (columns ≡ key.write e.0 ++ value.write e.1) × (q ≡ e.0)
   matched q [] at = absurd (true≢false (sym at))

@@ -12,7 +12,7 @@ use Rattle.sqlite_trees.specs.View.{IsShaped}
 use Rattle.sqlite_trees.specs.declared.store.Shape.TheVariants as shape
 use Rattle.hh_tables.specs.Tables.{Table, put_all}
 use Rattle.hh_keyed_rows.specs.Codecs.{Codec, IsCodec, places_from}
-use Rattle.hh_keyed_rows.specs.KeyedRows.{columns_of, entry_of, table_in}
+use Rattle.hh_keyed_rows.specs.KeyedRows.{columns_of, stored_entry, table_in}
 use Rattle.hh_keyed_rows.specs.Laws.{Fits, HoldsTable, IsKeyOrder, IsKeyed, KeysToldApart, PutsReplace, PutsRows, RowsInAnyOrder, RowsReadBack}
 use Rattle.hh_keyed_rows.specs.Puts.{PutsRow}
 use Rattle.hh_keyed_rows.proofs.CodecLaws.{entry_fits, entry_only, none_is_not_some, read_only, written_in}
@@ -29,11 +29,11 @@ module _ {K V : Type 0} (key : Codec K) (value : Codec V) where
 
   module _ (is_key : IsCodec key) (is_value : IsCodec value) where
     -- the columns of a row with an entry
-    columns_in : (r : Row) (e : K × V) → entry_of key value r ≡ Some e → drop 1 r ≡ columns_of key value e
+    columns_in : (r : Row) (e : K × V) → stored_entry key value r ≡ Some e → drop 1 r ≡ columns_of key value e
     columns_in [] e is = absurd (none_is_not_some is)
     columns_in (id ∷ columns) e is = entry_only key value is_key is_value id columns e is
 
-    agree_apart : (r s : Row) (d e : K × V) → entry_of key value r ≡ Some d → entry_of key value s ≡ Some e
+    agree_apart : (r s : Row) (d e : K × V) → stored_entry key value r ≡ Some d → stored_entry key value s ≡ Some e
         → agree plain (places_from 1 key.width) r (places_from 1 key.width) s ≡ true → d.0 ≡ e.0
     agree_apart r s d e at bt agrees =
         let long = is_key.wide d.0 in
@@ -42,7 +42,7 @@ module _ {K V : Type 0} (key : Codec K) (value : Codec V) where
         (long ∙ sym (is_key.wide e.0)) (is_key.plain d.0) (is_key.plain e.0)
         (subst (λ n. agree plain (places_from 1 n) r (places_from 1 n) s ≡ true) (sym long) agrees))
 
-    agree_alike : (r s : Row) (d e : K × V) → entry_of key value r ≡ Some d → entry_of key value s ≡ Some e → d.0 ≡ e.0
+    agree_alike : (r s : Row) (d e : K × V) → stored_entry key value r ≡ Some d → stored_entry key value s ≡ Some e → d.0 ≡ e.0
         → agree plain (places_from 1 key.width) r (places_from 1 key.width) s ≡ true
     agree_alike r s d e at bt same =
         subst (λ n. agree plain (places_from 1 n) r (places_from 1 n) s ≡ true) (is_key.wide d.0)
@@ -53,7 +53,7 @@ module _ {K V : Type 0} (key : Codec K) (value : Codec V) where
   told_apart is_key is_value r s d e at bt = (agree_apart is_key is_value r s d e at bt, agree_alike is_key is_value r s d e at bt)
 
   pub in_any_order : RowsInAnyOrder key value
-  in_any_order R order rows others same each = rows_permuted R order.0 order.1 (entry_of key value) rows others same each
+  in_any_order R order rows others same each = rows_permuted R order.0 order.1 (stored_entry key value) rows others same each
 
   module _ (is_key : IsCodec key) (is_value : IsCodec value) (R : K → K → Ordering) (order : IsKeyOrder R) (as_schema : Schema) (table : schema.Table) (keyed : IsKeyed key value as_schema table) where
     put_one : (entries : Table K V) (old new : Trees) → HoldsTable key value as_schema table R old entries → (e : K × V) → Fits key value e
@@ -66,7 +66,7 @@ module _ {K V : Type 0} (key : Codec K) (value : Codec V) where
     put_each : (es : List (K × V)) (entries : Table K V) (old new : Trees) → HoldsTable key value as_schema table R old entries → AllByRecursion (Fits key value) es
         → PutsRows key value as_schema table es old new → HoldsTable key value as_schema table R new (put_all R es entries)
     put_each [] entries old new holds fits puts =
-        (subst (IsShaped shape.Table) (sym puts) holds.0, ap (table_in R (entry_of key value)) puts ∙ holds.1)
+        (subst (IsShaped shape.Table) (sym puts) holds.0, ap (table_in R (stored_entry key value)) puts ∙ holds.1)
     put_each (e ∷ es) entries old new holds fits puts =
         put_each es (put R e.0 e.1 entries) puts.0 new (put_one entries old puts.0 holds e fits.0 puts.1) fits.1 puts.2
 

@@ -22,7 +22,7 @@ use Rattle.sqlite_rules.specs.Lists.{Has}
 use Rattle.sqlite_rules.proofs.ListLemmas.{all_has, some_from}
 use Rattle.sqlite_rules.proofs.TableLemmas.{int_is}
 use Rattle.hh_keyed_rows.specs.Codecs.{Codec, IsCodec, places_from}
-use Rattle.hh_keyed_rows.specs.KeyedRows.{entry_of}
+use Rattle.hh_keyed_rows.specs.KeyedRows.{stored_entry}
 use Rattle.hh_keyed_rows.proofs.KeyLaws.{matches}
 use Rattle.hh_keyed_rows.proofs.PlaceLaws.{agree_there, column_at, drop_next, is_Equal, truth_of}
 use Rattle.hh_keyed_rows.proofs.ReplaceLaws.{matched}
@@ -125,7 +125,7 @@ module _ (schema : Schema) (table : Table) {K V : Type 0} (R : K → K → Order
   int_of : (r : Row) → Has rows r → rowid r ≡ Int (id_in (rowid r))
   int_of r h = int_is (rowid r) (let b : IsTrue (is_int (rowid r)) = all_has _ rows r shaped.1 h in b)
 
-  pub once : (r s : Row) → Has rows r → Has rows s → (q : K) → matches R total exact (entry_of key value) q r ≡ true → matches R total exact (entry_of key value) q s ≡ true → value_cmp (rowid r) (rowid s) ≡ Equal
+  pub once : (r s : Row) → Has rows r → Has rows s → (q : K) → matches R total exact (stored_entry key value) q r ≡ true → matches R total exact (stored_entry key value) q s ≡ true → value_cmp (rowid r) (rowid s) ≡ Equal
   once r s hr hs q at also =
       let m = matched schema table R total exact key value is_key is_value indexed q r at in
       let n = matched schema table R total exact key value is_key is_value indexed q s also in

@@ -1,7 +1,7 @@
 -- What a SELECT of all columns answers, as rows of an office's table in the order of its keys.
 use Rattle.std.proofs.Common.{◌≡◌, inl, inr, Bool, true, false, cond, ◌&&◌, ◌++◌, List, [], ◌∷◌, map, filter, drop, Option, Some, None, Ordering, Less, Equal, Greater, is_eq, is_lt, refl, sym, ap, subst, ◌∙◌}
-use Rattle.std.specs.Prelude.{filter_map, option_map, T}
-use Rattle.std.specs.List.{AllByRecursion, cons_option, flat_map, list_all, list_any}
+use Rattle.std.specs.Prelude.{filter_map, T}
+use Rattle.std.specs.List.{AllByRecursion, cons_option, flat_map}
 use Rattle.std.specs.List.Sorted.{IsPermutation}
 use Rattle.std.specs.Cmp.{IsTotalOrder}
 use Rattle.std.specs.FinMap.{find, put, is_sorted}
@@ -24,7 +24,7 @@ use Rattle.sqlite_trees.proofs.ListLemmas.{all-permutation}
 use Rattle.hh_tables.proofs.TableLaws.{AreDistinct, find-in_key_order, is_sorted-in_key_order}
 use Rattle.hh_tables.specs.Tables.{in_key_order}
 use Rattle.hh_keyed_rows.specs.Codecs.{Codec, IsCodec}
-use Rattle.hh_keyed_rows.specs.KeyedRows.{entry_in, entry_of, table_in}
+use Rattle.hh_keyed_rows.specs.KeyedRows.{entry_in, stored_entry, table_in}
 use Rattle.hh_keyed_rows.proofs.CodecLaws.{entry_only, entry_apart, read_only}
 use Rattle.hh_keyed_rows.proofs.KeyLaws.{matches, matches_by, value_of, look, find-look}
 
@@ -98,7 +98,7 @@ module _ {K V : Type 0} (R : K → K → Ordering) (total : IsTotalOrder R) wher
 
 module _ {K V : Type 0} (R : K → K → Ordering) (total : IsTotalOrder R) (exact : CmpEqualImpliesEq R) (key : Codec K) (value : Codec V) (is_key : IsCodec key) (is_value : IsCodec value) where
   abbrev entry : Row → Option (K × V)
-  entry = entry_of key value
+  entry = stored_entry key value
 
   -- the columns of a row with this entry
   abbrev pub written : K × V → Row

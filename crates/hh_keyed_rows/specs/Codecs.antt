@@ -13,12 +13,12 @@ pub record Codec (A : Type 0) : Type 0 where
   pub read : Row → Option (A × Row)
 
 -- a value of SQL that is equal to itself alone: no NULL and no real number
-abbrev pub is_plain : Value → Bool
-is_plain Null = false
-is_plain (Int n) = true
-is_plain (Real x) = false
-is_plain (Text t) = true
-is_plain (Blob b) = true
+abbrev pub is_discrete : Value → Bool
+is_discrete Null = false
+is_discrete (Int n) = true
+is_discrete (Real x) = false
+is_discrete (Text t) = true
+is_discrete (Blob b) = true
 
 -- What is written for a value that fits is read as that value, and nothing else is read. Two values are written apart.
 pub record IsCodec {A : Type 0} (c : Codec A) : Type 0 where
@@ -27,7 +27,7 @@ pub record IsCodec {A : Type 0} (c : Codec A) : Type 0 where
   pub fitting : (row : Row) (a : A) (rest : Row) → c.read row ≡ Some (a, rest) → c.fits a ≡ true
   pub apart : (a b : A) → c.write a ≡ c.write b → a ≡ b
   pub wide : (a : A) → length (c.write a) ≡ c.width
-  pub plain : (a : A) → list_all is_plain (c.write a) ≡ true
+  pub plain : (a : A) → list_all is_discrete (c.write a) ≡ true
 
 -- ---- one column
 

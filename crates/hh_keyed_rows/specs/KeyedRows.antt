@@ -19,9 +19,9 @@ abbrev pub columns_of : {K V : Type 0} → Codec K → Codec V → K × V → Ro
 columns_of key value e = key.write e.0 ++ value.write e.1
 
 -- the key and the value of a row of a tree, which begins with its rowid
-abbrev pub entry_of : {K V : Type 0} → Codec K → Codec V → Row → Option (K × V)
-entry_of key value [] = None
-entry_of key value (id ∷ columns) = entry_in key value columns
+abbrev pub stored_entry : {K V : Type 0} → Codec K → Codec V → Row → Option (K × V)
+stored_entry key value [] = None
+stored_entry key value (id ∷ columns) = entry_in key value columns
 
 -- the table that rows stand for, in the order of the keys; rows without an entry are no rows of it
 abbrev pub table_in : {K V : Type 0} → (K → K → Ordering) → (Row → Option (K × V)) → List Row → Table K V

@@ -20,7 +20,7 @@ use Rattle.sqlite_trees.specs.View.{IsShaped}
 use Rattle.sqlite_trees.specs.declared.store.Shape.TheVariants as shape
 use Rattle.hh_keyed_rows.specs.Codecs.{Codec, IsCodec, blob_column, places_from}
 use Rattle.hh_keyed_rows.specs.Fields.{account_columns, counterparties_columns, date_column, file_kind_column, lead_minutes_column, mark_column, number_column, operator_key_column, period_column, quantity_column, range_columns, run_kind_column, settlement_period_columns, side_column, word_column}
-use Rattle.hh_keyed_rows.specs.KeyedRows.{columns_of, entry_in, entry_of, table_in}
+use Rattle.hh_keyed_rows.specs.KeyedRows.{columns_of, entry_in, stored_entry, table_in}
 use Rattle.hh_keyed_rows.specs.Keys.{contract_key_columns, credit_key_columns, file_key_columns, one_row_column, posting_key_columns, reallocation_key_columns, result_key_columns, run_key_columns, unit_period_columns}
 use Rattle.hh_keyed_rows.specs.Puts.{PutsRow}
 use Rattle.hh_keyed_rows.specs.Values.{amounts_columns, file_columns, party_columns, reading_columns, reallocation_columns, settings_columns, summary_columns, unit_columns}
@@ -89,7 +89,7 @@ module _ {K V : Type 0} (key : Codec K) (value : Codec V) where
 
   -- two rows agree at the places of the key just where they have one key
   abbrev pub KeysToldApart : Type 0
-  KeysToldApart = IsCodec key → IsCodec value → (r s : Row) (d e : K × V) → entry_of key value r ≡ Some d → entry_of key value s ≡ Some e
+  KeysToldApart = IsCodec key → IsCodec value → (r s : Row) (d e : K × V) → stored_entry key value r ≡ Some d → stored_entry key value s ≡ Some e
       → (agree plain (places_from 1 key.width) r (places_from 1 key.width) s ≡ true) ↔ (d.0 ≡ e.0)
 
   -- a table and its indexes ask that no two rows have one key, and for nothing else
@@ -116,7 +116,7 @@ module _ {K V : Type 0} (key : Codec K) (value : Codec V) where
   -- Rows of which no two have one key stand for one table, in whatever order they are.
   abbrev pub RowsInAnyOrder : Type 0
   RowsInAnyOrder = (R : K → K → Ordering) → IsKeyOrder R → (rows others : List Row) → IsPermutation rows others
-      → AreOfOneEach R (filter_map (entry_of key value) rows) → table_in R (entry_of key value) others ≡ table_in R (entry_of key value) rows
+      → AreOfOneEach R (filter_map (stored_entry key value) rows) → table_in R (stored_entry key value) others ≡ table_in R (stored_entry key value) rows
 
   module _ (as_schema : Schema) (table : schema.Table) where
     -- each of the entries is put, the first of them first
@@ -126,7 +126,7 @@ module _ {K V : Type 0} (key : Codec K) (value : Codec V) where
 
     -- the rows have rising rowids, and stand for this table
     abbrev pub HoldsTable : (K → K → Ordering) → Trees → Table K V → Type 0
-    HoldsTable R trees entries = IsShaped shape.Table (trees table.tree) × (table_in R (entry_of key value) (trees table.tree) ≡ entries)
+    HoldsTable R trees entries = IsShaped shape.Table (trees table.tree) × (table_in R (stored_entry key value) (trees table.tree) ≡ entries)
 
   -- A row that is put takes the place of the one of its key, and so do rows that are put one after the other.
   abbrev pub PutsReplace : Type 0

@@ -10,7 +10,7 @@ use Rattle.hh_rows.specs.declared.settings.Settings.{Settings}
 use Rattle.hh_calc.specs.declared.result.AccountRow.{AccountRow}
 use Rattle.hh_runs.specs.declared.summary.Summary.{Summary}
 use Rattle.hh_states.specs.States.{AcceptedFile}
-use Rattle.hh_keyed_rows.specs.declared.amounts.Amounts.{Amounts}
+use Rattle.hh_keyed_rows.specs.declared.amounts.AccountAmounts.{AccountAmounts}
 use Rattle.hh_keyed_rows.specs.Codecs.{Codec, blob_column, both, via}
 use Rattle.hh_keyed_rows.specs.Fields.{access_key_column, account_columns, lead_minutes_column, mark_column, number_column, only_number, operator_key_column, quantity_column, range_columns}
 
@@ -58,7 +58,7 @@ summary_columns =
     (both (number_column most_of_8_bits) (both (number_column most_of_16_bits) (both (quantity_column amounts_of_cash) (number_column most_of_16_bits))))
 
 -- energy credited, balancing energy, energy of contracts, imbalance, charge, share
-abbrev pub amounts_columns : Codec Amounts
+abbrev pub amounts_columns : Codec AccountAmounts
 amounts_columns =
     via (λ p. record { credited = p.0; balancing = p.1.0; contracts = p.1.1.0; imbalance = p.1.1.1.0; charge = p.1.1.1.1.0; share = p.1.1.1.1.1 })
     (λ a. (a.credited, (a.balancing, (a.contracts, (a.imbalance, (a.charge, a.share))))))
@@ -76,13 +76,13 @@ settings_columns =
     (both (only_number version) (both lead_minutes_column operator_key_column))
 
 -- the amounts of an account's row
-abbrev pub amounts_of : AccountRow → Amounts
+abbrev pub amounts_of : AccountRow → AccountAmounts
 amounts_of r =
     record { credited = r.credited; balancing = r.balancing; contracts = r.contracts; imbalance = r.imbalance; charge = r.charge; share = r.share }
 
 -- an account's row from its amounts
-abbrev pub row_with : Account → Amounts → AccountRow
-row_with account a = record {
+abbrev pub account_row_of : Account → AccountAmounts → AccountRow
+account_row_of account a = record {
   account = account;
   credited = a.credited;
   balancing = a.balancing;

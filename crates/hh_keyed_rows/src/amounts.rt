@@ -1,7 +1,7 @@
 //! What an account's row of a run has beside its key.
 
 ghost use Rattle.std.specs.Prelude.{◌≡◌};
-ghost use Rattle.hh_keyed_rows.specs.Values.{amounts_of, row_with};
+ghost use Rattle.hh_keyed_rows.specs.Values.{amounts_of, account_row_of};
 
 use hh_calc::AccountRow;
 use hh_names::Account;
@@ -10,7 +10,7 @@ use hh_num::{Pence, Ticks};
 /// What an account has, pays and bears in a Settlement Period of a run, without the account, which
 /// its key has: energy in ticks, cash in pence.
 #[derive(Clone, Copy, Debug, PartialEq, Eq)]
-pub struct Amounts {
+pub struct AccountAmounts {
     pub credited: Ticks,
     pub balancing: Ticks,
     pub contracts: Ticks,
@@ -20,12 +20,12 @@ pub struct Amounts {
     pub share: Pence,
 }
 
-impl Amounts {
+impl AccountAmounts {
     /// Those of an account's row.
-    pub fn of(row: &AccountRow) -> Amounts
+    pub fn of(row: &AccountRow) -> AccountAmounts
         ensures { result ≡ amounts_of row.now }
     {
-        Amounts {
+        AccountAmounts {
             credited: row.credited,
             balancing: row.balancing,
             contracts: row.contracts,
@@ -37,7 +37,7 @@ impl Amounts {
 
     /// The row of an account that has these.
     pub fn with(self, account: Account) -> AccountRow
-        ensures { result ≡ row_with account self }
+        ensures { result ≡ account_row_of account self }
     {
         AccountRow {
             account,

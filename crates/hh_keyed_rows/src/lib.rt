@@ -14,7 +14,7 @@ mod one_row;
 mod row_fault;
 mod values;
 
-pub use amounts::Amounts;
+pub use amounts::AccountAmounts;
 pub use columned::Columned;
 pub use columns::Columns;
 pub use entries::{columns_of, read_entries, read_entry};

@@ -3,7 +3,7 @@
 ghost use Rattle.std.specs.Prelude.{◌≡◌};
 ghost use Rattle.hh_keyed_rows.specs.Values.{amounts_columns, file_columns, party_columns, reading_columns, reallocation_columns, settings_columns, summary_columns, unit_columns};
 
-use crate::amounts::Amounts;
+use crate::amounts::AccountAmounts;
 use crate::columned::Columned;
 use crate::columns::{Columns, push_column};
 use crate::row_fault::RowFault;
@@ -114,7 +114,7 @@ impl Columned for Summary {
     }
 }
 
-impl Columned for Amounts {
+impl Columned for AccountAmounts {
     ghost codec = { amounts_columns };
 
     fn to_columns<'a>(&'a self, columns: &mut Vec<ValueRef<'a>>) -> Result<(), AllocError> {
@@ -126,14 +126,14 @@ impl Columned for Amounts {
         self.share.to_columns(columns)
     }
 
-    fn from_columns(columns: &mut Columns<'_>) -> Result<Amounts, RowFault> {
+    fn from_columns(columns: &mut Columns<'_>) -> Result<AccountAmounts, RowFault> {
         let credited = Ticks::from_columns(columns)?;
         let balancing = Ticks::from_columns(columns)?;
         let contracts = Ticks::from_columns(columns)?;
         let imbalance = Ticks::from_columns(columns)?;
         let charge = Pence::from_columns(columns)?;
         let share = Pence::from_columns(columns)?;
-        Ok(Amounts {
+        Ok(AccountAmounts {
             credited,
             balancing,
             contracts,

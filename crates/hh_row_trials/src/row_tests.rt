@@ -1,6 +1,6 @@
 //! Rows that a database gives back, and rows that no office wrote.
 
-use hh_keyed_rows::{Amounts, Columned, OneRow, RowFault, columns_of, read_entry};
+use hh_keyed_rows::{AccountAmounts, Columned, OneRow, RowFault, columns_of, read_entry};
 use hh_names::{Counterparties, PartyId, Reading, Reallocation, Reference, UnitId};
 use hh_num::{Kwh, Pence, Price, Ticks};
 use hh_rows::{
@@ -133,7 +133,7 @@ fn rows_of_what_is_in_force_come_back(rt: HostRuntime) -> Result<(), Fail> {
 }
 
 #[test]
-fn rows_of_files_and_runs_come_back(rt: HostRuntime) -> Result<(), Fail> {
+fn rows_of_files_and_summaries_come_back(rt: HostRuntime) -> Result<(), Fail> {
     let alloc = rt.alloc();
     let mut conn = Connection::open_in_memory(alloc)?;
     assert!(rt;
@@ -152,8 +152,15 @@ fn rows_of_files_and_runs_come_back(rt: HostRuntime) -> Result<(), Fail> {
             "SELECT ?1 = 19905 AND ?2 = 5 AND ?3 = 48 AND ?4 = 4 AND ?5 = 5050 AND ?6 = 2"
         )
     );
+    Ok(())
+}
+
+#[test]
+fn rows_of_runs_come_back(rt: HostRuntime) -> Result<(), Fail> {
+    let alloc = rt.alloc();
+    let mut conn = Connection::open_in_memory(alloc)?;
     assert!(rt;
-        is_written::<ResultKey, Amounts, _>(
+        is_written::<ResultKey, AccountAmounts, _>(
             &mut conn,
             alloc,
             "SELECT 19905, 0, 1, 'GENCO', 0, 995000000000, 0, 990000000000, 5000000000, -2500, 2538",

@@ -2,7 +2,7 @@
 //! is read again.
 
 use hh_calc::AccountRow;
-use hh_keyed_rows::{Amounts, RowFault};
+use hh_keyed_rows::{AccountAmounts, RowFault};
 use hh_names::*;
 use hh_num::*;
 use hh_rows::*;
@@ -304,7 +304,7 @@ fn what_a_run_wrote_is_read_again(rt: HostRuntime) -> Result<(), Fail> {
     );
     assert_eq!(rt;
         select_results_of(&mut conn, rt.alloc(), &key)?.as_slice(),
-        [(given(result_key())?, Amounts::of(&result))].as_slice()
+        [(given(result_key())?, AccountAmounts::of(&result))].as_slice()
     );
     assert_eq!(rt;
         select_postings_to(&mut conn, rt.alloc(), &posting.0.account)?.as_slice(),

@@ -10,12 +10,12 @@ use Rattle.hh_rows.specs.Keys.{contract_key_cmp, reallocation_key_cmp, settlemen
 use Rattle.hh_rows.specs.Kinds.{kind_word}
 use Rattle.hh_rows.specs.declared.keys.ReallocationKey.{ReallocationKey}
 use Rattle.hh_runs.specs.RunKinds.{run_kind_cmp, run_kind_number}
-use Rattle.hh_states.specs.Content.{credit_key_cmp, posting_key_cmp, result_key_cmp}
+use Rattle.hh_states.specs.Content.{posting_key_cmp, result_key_cmp}
 use Rattle.hh_states.specs.Runs.{run_key_cmp}
 use Rattle.hh_states.specs.States.{file_key_cmp}
 use Rattle.hh_keyed_rows.specs.Codecs.{Codec, IsCodec, both, nat_column, text_column, via}
 use Rattle.hh_keyed_rows.specs.Fields.{account_columns, date_column, file_kind_column, file_name_column, period_column, reference_column, run_kind_column, settlement_period_columns, side_column, party_column, unit_column}
-use Rattle.hh_keyed_rows.specs.Keys.{contract_key_columns, credit_key_columns, file_key_columns, one_row_column, posting_key_columns, result_key_columns, run_key_columns, unit_period_columns}
+use Rattle.hh_keyed_rows.specs.Keys.{contract_key_columns, file_key_columns, one_row_column, posting_key_columns, result_key_columns, run_key_columns, unit_period_columns}
 use Rattle.hh_keyed_rows.proofs.CodecLaws.{both_codec, via_codec}
 use Rattle.hh_keyed_rows.proofs.FieldLaws.{account_codec, date_codec, file_kind_codec, period_codec, word_codec}
 use Rattle.hh_keyed_rows.proofs.KeyCodecs.{run_key_codec, unit_period_codec}
@@ -81,13 +81,6 @@ pub result_key_ordered : IsOrdered result_key_columns result_key_cmp
 result_key_ordered a b =
     both_ordered run_key_columns (both period_column account_columns) run_key_cmp _ run_key_codec run_key_ordered
     (both_ordered period_column account_columns nat_cmp account_cmp period_codec nat_ordered account_ordered) (a.run, (a.period, a.account)) (b.run, (b.period, b.account))
-
-pub credit_key_ordered : IsOrdered credit_key_columns credit_key_cmp
-credit_key_ordered a b =
-    both_ordered run_key_columns (both period_column (both unit_column account_columns)) run_key_cmp _ run_key_codec run_key_ordered
-    (both_ordered period_column (both unit_column account_columns) nat_cmp _ period_codec nat_ordered
-    (both_ordered unit_column account_columns bytes_cmp account_cmp (word_codec _ _ _) text_ordered account_ordered))
-    (a.run, (a.period, (a.unit, a.account))) (b.run, (b.period, (b.unit, b.account)))
 
 pub posting_key_ordered : IsOrdered posting_key_columns posting_key_cmp
 posting_key_ordered a b = both_ordered run_key_columns account_columns run_key_cmp account_cmp run_key_codec run_key_ordered account_ordered (a.run, a.account) (b.run, b.account)

@@ -8,7 +8,7 @@ use Rattle.hh_states.proofs.KeyLaws.{credit_key_total, exact_credit_keys, exact_
 use Rattle.hh_keyed_rows.proofs.FieldLaws.{counterparties_codec, mark_codec, settlement_period_codec}
 use Rattle.hh_keyed_rows.proofs.KeyCodecs.{amounts_codec, contract_key_codec, credit_key_codec, file_codec, file_key_codec, one_row_codec, party_codec, posting_key_codec, quantity_codec, reading_codec, reallocation_codec, reallocation_key_codec, reference_codec, registered_party_codec, registered_unit_codec, result_key_codec, run_key_codec, settings_codec, summary_codec, unit_codec, unit_period_codec}
 use Rattle.hh_keyed_rows.proofs.PutLaws.{cast_int}
-use Rattle.hh_sqlrows.specs.OfficeTables.{contracts, credits, files, marks, meters, parties, postings, prices, reallocations, references, results, runs, settings, units}
+use Rattle.hh_sqlrows.specs.OfficeTables.{contracts, credits, files, marks, meters, parties, postings, period_prices, reallocations, references, results, runs, settings, units}
 use Rattle.hh_sqlrows.proofs.ColumnLaws.{exact_one_rows, one_row_total}
 use Rattle.hh_sqlrows.proofs.FormLaws.{IsForm, no_clash, or_false}
 
@@ -92,7 +92,7 @@ meters_form = record {
   values = λ k v. refl;
 }
 
-pub prices_form : IsForm prices
+pub prices_form : IsForm period_prices
 prices_form = record {
   total = settlement_period_total;
   exact = exact_settlement_periods;

@@ -1,5 +1,5 @@
 -- What the statements that put a row make of an office, for a table of any form.
-use Rattle.std.proofs.Common.{◌≡◌, ◌≢◌, ℕ, zero, suc, ◌+◌, ◌==◌, ℤ, List, [], ◌∷◌, ◌++◌, length, drop, slice_get, Bool, true, false, not, ◌&&◌, ◌||◌, Option, Some, None, Ok, Err, Result, OnOk, arith, inl, inr, refl, sym, ap, subst, ◌∙◌, ◌/◌}
+use Rattle.std.proofs.Common.{◌≡◌, ◌≢◌, ℕ, zero, suc, ◌+◌, ◌==◌, List, [], ◌∷◌, ◌++◌, length, drop, slice_get, Bool, true, false, not, ◌&&◌, ◌||◌, Option, Some, None, Ok, Err, Result, OnOk, arith, inl, inr, refl, sym, ap, subst, ◌∙◌, ◌/◌}
 use Rattle.std.specs.List.{AllByRecursion, list_all, list_any}
 use Rattle.std.specs.Cmp.{IsTotalOrder}
 use Rattle.std.proofs.lemmas.Bool.{cases_Bool, and_parts, not-true, true≢false}
@@ -35,7 +35,7 @@ use Rattle.sqlite.specs.Rows.{mended_from, stamped}
 use Rattle.sqlite.specs.Listing.{understood}
 use Rattle.sqlite.specs.State.{State, Executes, ExecutesInside}
 use Rattle.sqlite.proofs.Callers.{IsPlain, command_of}
-use Rattle.hh_keyed_rows.specs.Codecs.{IsCodec, is_plain, places_from}
+use Rattle.hh_keyed_rows.specs.Codecs.{IsCodec, is_discrete, places_from}
 use Rattle.hh_keyed_rows.proofs.CodecLaws.{all_append}
 use Rattle.hh_keyed_rows.proofs.PutLaws.{put_by}
 use Rattle.hh_keyed_rows.proofs.ReplaceLaws.{put_in_table, shaped_put}
@@ -43,7 +43,7 @@ use Rattle.hh_keyed_rows.proofs.RuleLaws.{typed_length}
 use Rattle.sqlite_trees.proofs.TreeLemmas.{IsShaped-put_row}
 use Rattle.hh_sqlrows.specs.OfficeSchema.{office}
 use Rattle.hh_sqlrows.specs.Office.{IsOffice}
-use Rattle.hh_sqlrows.specs.Forms.{Form, Puts}
+use Rattle.hh_sqlrows.specs.Forms.{TableForm, Puts}
 use Rattle.hh_sqlrows.proofs.InsertLaws.{insert_by, insert_in_table}
 
 -- ---- a form of a table of the schema
@@ -62,7 +62,7 @@ AreOfKinds [] vs = vs ≡ []
 AreOfKinds (c ∷ cs) [] = ⊥
 AreOfKinds (c ∷ cs) (v ∷ vs) = (cast c.kind v ≡ v) × AreOfKinds cs vs
 
-module _ {K V : Type 0} (form : Form K V) where
+module _ {K V : Type 0} (form : TableForm K V) where
   abbrev pub columns_in : K → V → Row
   columns_in k v = form.key.write k ++ form.value.write v
 
@@ -106,18 +106,18 @@ unless : (a b : Bool) → ((a && false) && b) ≡ false
 unless true b = refl
 unless false b = refl
 
-not_null : (v : Value) → is_plain v ≡ true → is_null v ≡ false
+not_null : (v : Value) → is_discrete v ≡ true → is_null v ≡ false
 not_null Null h = absurd (true≢false (sym h))
 not_null (Int n) h = refl
 not_null (Real x) h = absurd (true≢false (sym h))
 not_null (Text t) h = refl
 not_null (Blob b) h = refl
 
-mends : (key : Option ℕ) (at : ℕ) (cs : List Column) (vs : Row) → list_all is_plain vs ≡ true → length vs ≡ length cs → mended_from key at cs vs ≡ vs
+mends : (key : Option ℕ) (at : ℕ) (cs : List Column) (vs : Row) → list_all is_discrete vs ≡ true → length vs ≡ length cs → mended_from key at cs vs ≡ vs
 mends key at [] vs all long = refl
 mends key at (c ∷ cs) [] all long = refl
 mends key at (c ∷ cs) (v ∷ vs) all long =
-    let two = and_parts (is_plain v) (list_all is_plain vs) all in
+    let two = and_parts (is_discrete v) (list_all is_discrete vs) all in
     let test : (c.not_null && is_null v && not (is_key key at)) ≡ false = ap (λ b. c.not_null && b && not (is_key key at)) (not_null v two.0) ∙ unless c.not_null (not (is_key key at)) in
     let first = ap (λ b. Rattle.std.specs.Prelude.if◌then◌else◌ b c.default v) test in
     let rest = mends key (at + 1) cs vs two.1 (cc long) in
@@ -138,7 +138,7 @@ risen (t ∷ tables) tree old new were is others =
 
 -- ---- the rules of a form's rows
 
-module _ {K V : Type 0} (form : Form K V) (is_form : IsForm form) (db : Database) (is : IsOffice db) where
+module _ {K V : Type 0} (form : TableForm K V) (is_form : IsForm form) (db : Database) (is : IsOffice db) where
   rules : Obeys office db.trees
   rules = subst (λ s. Obeys s db.trees) is.schema is.sound.obeys
 
@@ -168,7 +168,7 @@ module _ {K V : Type 0} (form : Form K V) (is_form : IsForm form) (db : Database
 
 -- ---- the statements
 
-module _ {K V : Type 0} (form : Form K V) (sql : List ℕ) where
+module _ {K V : Type 0} (form : TableForm K V) (sql : List ℕ) where
   -- the text puts a row in the place of the one of its key
   abbrev pub IsReplace : Type 0
   IsReplace = (command_of (understood office sql) ≡ InsertOr form.at Replace (Values (row_terms (width_of form)) (suc (width_of form))) []) × IsPlain (understood office sql)
@@ -177,7 +177,7 @@ module _ {K V : Type 0} (form : Form K V) (sql : List ℕ) where
   abbrev pub IsInsert : Type 0
   IsInsert = (command_of (understood office sql) ≡ Insert form.at (Values (row_terms (width_of form)) (suc (width_of form)))) × IsPlain (understood office sql)
 
-module _ {K V : Type 0} (form : Form K V) (is_form : IsForm form) (k : K) (v : V) (fits_k : form.key.fits k ≡ true) (fits_v : form.value.fits v ≡ true) (old new : State) (is : IsOffice old.now) where
+module _ {K V : Type 0} (form : TableForm K V) (is_form : IsForm form) (k : K) (v : V) (fits_k : form.key.fits k ≡ true) (fits_v : form.value.fits v ≡ true) (old new : State) (is : IsOffice old.now) where
   columns : Row
   columns = columns_in form k v
 
@@ -185,7 +185,7 @@ module _ {K V : Type 0} (form : Form K V) (is_form : IsForm form) (k : K) (v : V
   wide = Rattle.std.proofs.Common.length-append (form.key.write k) (form.value.write v) ∙ (λ i. is_form.is_key.wide k i + is_form.is_value.wide v i) ∙ sym is_form.long
 
   mended : mended_from form.table.key 0 form.table.columns (columns_in form k v) ≡ columns_in form k v
-  mended = mends form.table.key 0 form.table.columns (columns_in form k v) (all_append is_plain (form.key.write k) (form.value.write v) (is_form.is_key.plain k) (is_form.is_value.plain v)) wide
+  mended = mends form.table.key 0 form.table.columns (columns_in form k v) (all_append is_discrete (form.key.write k) (form.value.write v) (is_form.is_key.plain k) (is_form.is_value.plain v)) wide
 
   module _ (sql : List ℕ) where
     replaces : IsReplace form sql → (count : ℕ) → Executes sql (columns_in form k v) old new (Ok count) → Puts form k v old.now new.now
@@ -228,7 +228,7 @@ module _ {K V : Type 0} (form : Form K V) (is_form : IsForm form) (k : K) (v : V
     inserts_row text (Err e) h = tt
 
 -- the values fit once the statement is executed
-module _ {K V : Type 0} (form : Form K V) (is_form : IsForm form) (k : K) (v : V) (old new : State) (is : IsOffice old.now) (sql : List ℕ) where
+module _ {K V : Type 0} (form : TableForm K V) (is_form : IsForm form) (k : K) (v : V) (old new : State) (is : IsOffice old.now) (sql : List ℕ) where
   pub puts_by : {E : Type 0} → IsReplace form sql → (r : Result Unit E) → OnOk r ((form.key.fits k ≡ true) × (form.value.fits v ≡ true)) → OnOk r ((count : ℕ) × ExecutesInside 0 sql (columns_in form k v) old new (Ok count)) → OnOk r (Puts form k v old.now new.now)
   puts_by {E} text (Ok done) fits h = replaces_row form is_form k v fits.0 fits.1 old new is sql {E = E} text (Ok done) h
   puts_by {E} text (Err e) fits h = tt

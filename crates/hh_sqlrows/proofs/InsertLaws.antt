@@ -38,7 +38,7 @@ use Rattle.sqlite.specs.declared.run.Mode.{Mode}
 use Rattle.sqlite.specs.Effect.{Database, value_rows, IsDatabase}
 use Rattle.sqlite.proofs.Callers.{one_step, IsPlain, command_of, statement_of, runs_as}
 use Rattle.hh_keyed_rows.specs.Codecs.{Codec, IsCodec, places_from}
-use Rattle.hh_keyed_rows.specs.KeyedRows.{entry_of, table_in}
+use Rattle.hh_keyed_rows.specs.KeyedRows.{stored_entry, table_in}
 use Rattle.hh_keyed_rows.specs.Puts.{stored_in}
 use Rattle.hh_keyed_rows.proofs.CodecLaws.{entry_written}
 use Rattle.hh_keyed_rows.proofs.KeyLaws.{matches, matches_by, table_in-replaced}
@@ -137,11 +137,11 @@ module _ (schema : Schema) (table : Table) {K V : Type 0} (R : K → K → Order
   pub insert_in_table : (old new : Trees) (k : K) (v : V) → key.fits k ≡ true → value.fits v ≡ true → IsShaped shape.Table (old table.tree)
       → new table.tree ≡ put_row (stored_in (old table.tree) (key.write k ++ value.write v)) (old table.tree)
       → ((r : Row) → Has (new table.tree) r → clashes plain (places_from 1 key.width) (new table.tree) r ≡ false)
-      → table_in R (entry_of key value) (new table.tree) ≡ put R k v (table_in R (entry_of key value) (old table.tree))
+      → table_in R (stored_entry key value) (new table.tree) ≡ put R k v (table_in R (stored_entry key value) (old table.tree))
   insert_in_table old new k v fits_k fits_v shaped rows_are unique =
       let rows = old table.tree in
       let row = stored_in rows (key.write k ++ value.write v) in
-      let entry = entry_of key value in
+      let entry = stored_entry key value in
       let is : entry row ≡ Some (k, v) = entry_written key value is_key is_value (Int (next_rowid rows)) k v fits_k fits_v in
       let taken : is_taken rows row ≡ false = next_is_free Chosen rows (key.write k ++ value.write v) shaped.0 shaped.1 in
       let shaped_new : IsShaped shape.Table (put_row row rows) = IsShaped-put_row row rows refl shaped in

@@ -8,12 +8,7 @@ use Rattle.sqlite_trees.specs.Tree.{Trees}
 use Rattle.sqlite.specs.Effect.{Database}
 use Rattle.hh_tables.specs.Tables as tables
 use Rattle.hh_sqlrows.specs.OfficeSchema.{office}
-use Rattle.hh_sqlrows.specs.Office.{IsOffice}
-use Rattle.hh_sqlrows.specs.Forms.{Form, Puts, PutsAll, rows_of}
-
-all_kept : (ts : List Table) (tree : ℕ) (trees : Trees) → AllByRecursion (λ t. t.tree ≢ tree → trees t.tree ≡ trees t.tree) ts
-all_kept [] tree trees = tt
-all_kept (t ∷ ts) tree trees = ((λ apart. refl), all_kept ts tree trees)
+use Rattle.hh_sqlrows.specs.Forms.{TableForm, Puts, PutsAll, rows_under_keys}
 
 kept_again : (ts : List Table) (tree : ℕ) (old mid new : Trees) → AllByRecursion (λ t. t.tree ≢ tree → mid t.tree ≡ old t.tree) ts → AllByRecursion (λ t. t.tree ≢ tree → new t.tree ≡ mid t.tree) ts
     → AllByRecursion (λ t. t.tree ≢ tree → new t.tree ≡ old t.tree) ts
@@ -24,14 +19,11 @@ put_last : {K V : Type 0} (R : K → K → Ordering) (es : List (K × V)) (e : K
 put_last R [] e table = refl
 put_last R (x ∷ es) e table = put_last R es e (put R x.0 x.1 table)
 
-module _ {K V : Type 0} (form : Form K V) where
-  pub puts_none : (db : Database) → IsOffice db → PutsAll form [] db db
-  puts_none db is = record { is_office = is; rows = refl; others = all_kept office.tables form.table.tree db.trees }
-
+module _ {K V : Type 0} (form : TableForm K V) where
   pub puts_more : (es : List (K × V)) (e : K × V) (old mid new : Database) → PutsAll form es old mid → Puts form e.0 e.1 mid new → PutsAll form (es ++ e ∷ []) old new
   puts_more es e old mid new all one = record {
     is_office = one.is_office;
-    rows = one.rows ∙ ap (put form.order e.0 e.1) all.rows ∙ sym (put_last form.order es e (rows_of form old.trees));
+    rows = one.rows ∙ ap (put form.order e.0 e.1) all.rows ∙ sym (put_last form.order es e (rows_under_keys form old.trees));
     others = kept_again office.tables form.table.tree old.trees mid.trees new.trees all.others one.others;
   }
 

@@ -4,7 +4,7 @@ use Rattle.hh_keyed_rows.specs.Fields.{party_column, reference_column, settlemen
 use Rattle.hh_keyed_rows.specs.Keys.{contract_key_columns, file_key_columns, one_row_column, posting_key_columns, result_key_columns, run_key_columns, unit_period_columns}
 use Rattle.hh_keyed_rows.proofs.FieldLaws.{settlement_period_codec}
 use Rattle.hh_keyed_rows.proofs.KeyCodecs.{contract_key_codec, file_key_codec, one_row_codec, party_codec, posting_key_codec, reference_codec, result_key_codec, run_key_codec, unit_codec, unit_period_codec}
-use Rattle.hh_sqlrows.specs.OfficeTables.{contracts, files, marks, meters, parties, postings, prices, reallocations, references, results, runs, settings, units}
+use Rattle.hh_sqlrows.specs.OfficeTables.{contracts, files, marks, meters, parties, postings, period_prices, reallocations, references, results, runs, settings, units}
 use Rattle.hh_sqlrows.proofs.ColumnLaws.{contract_key_ordered, file_key_ordered, one_row_ordered, posting_key_ordered, reallocation_order, reallocation_order_codec, reallocation_ordered, result_key_ordered, run_key_ordered, settlement_period_ordered, text_ordered, unit_period_ordered}
 use Rattle.hh_sqlrows.proofs.SelectLaws.{IsOrderBy}
 
@@ -23,7 +23,7 @@ units_by = record { codec = unit_column; is_codec = unit_codec; ordered = text_o
 pub meters_by : IsOrderBy meters (1 ∷ 2 ∷ 3 ∷ [])
 meters_by = record { codec = unit_period_columns; is_codec = unit_period_codec; ordered = unit_period_ordered; wide = refl; stand = λ id k v. refl; most = 5; some = refl }
 
-pub prices_by : IsOrderBy prices (1 ∷ 2 ∷ [])
+pub prices_by : IsOrderBy period_prices (1 ∷ 2 ∷ [])
 prices_by = record { codec = settlement_period_columns; is_codec = settlement_period_codec; ordered = settlement_period_ordered; wide = refl; stand = λ id k v. refl; most = 2; some = refl }
 
 pub references_by : IsOrderBy references (1 ∷ [])

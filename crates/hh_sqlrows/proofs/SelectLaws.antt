@@ -1,5 +1,5 @@
 -- What a statement answers that selects rows of one table, for a table of any form.
-use Rattle.std.proofs.Common.{◌≡◌, ◌+◌, ◌++◌, ℕ, suc, List, [], ◌∷◌, length, map, filter, drop, Bool, true, false, cond, Option, Some, None, Ordering, Less, is_eq, Ok, Err, Result, IfOk, Vec, refl, sym, ap, subst, ◌∙◌}
+use Rattle.std.proofs.Common.{◌≡◌, ◌+◌, ℕ, suc, List, [], ◌∷◌, length, map, filter, Bool, true, false, cond, Option, Some, Ordering, Less, is_eq, Ok, Err, Result, IfOk, Vec, refl, sym, ap, subst, ◌∙◌}
 use Rattle.std.specs.Prelude.{option_map, slice_get}
 use Rattle.std.specs.List.{flat_map, list_all}
 use Rattle.std.specs.Cmp.{IsTotalOrder}
@@ -24,7 +24,7 @@ use Rattle.hh_keyed_rows.proofs.RuleLaws.{all_columns, has_rowid, once}
 use Rattle.hh_keyed_rows.proofs.SelectLaws.{map_map, selected, selects}
 use Rattle.hh_sqlrows.specs.OfficeSchema.{office}
 use Rattle.hh_sqlrows.specs.Office.{IsOffice}
-use Rattle.hh_sqlrows.specs.Forms.{Form, rows_of}
+use Rattle.hh_sqlrows.specs.Forms.{TableForm, rows_under_keys}
 use Rattle.hh_sqlrows.specs.steps.Answers.{IsFirst, IsRead}
 use Rattle.hh_sqlrows.proofs.FormLaws.{IsForm, columns_in, long_rows, shaped_rows, unique_rows, width_of}
 use Rattle.hh_sqlrows.proofs.Selects.{select_by}
@@ -33,7 +33,7 @@ use Rattle.hh_sqlrows.proofs.WhereLaws.{IsOrdered, follows_by, same_test, shown_
 -- ---- a statement
 
 -- The text selects all columns of the rows that have the parameters at these places, in the order of the columns at those.
-pub record IsSelect {K V : Type 0} (form : Form K V) (places order : List ℕ) (sql : List ℕ) : Type 0 where
+pub record IsSelect {K V : Type 0} (form : TableForm K V) (places order : List ℕ) (sql : List ℕ) : Type 0 where
   pub names : List (List ℕ)
   pub command : command_of (understood office sql) ≡ Select (record { lets = []; body = select_by form places order }) names
   pub unlisted : reads_listing office sql ≡ false
@@ -43,13 +43,13 @@ pub record IsSelect {K V : Type 0} (form : Form K V) (places order : List ℕ) (
 pub plain_under : (sql : List ℕ) → IsPlain (understood office sql) → (old : State) → IsOffice old.now → IsPlain (understood old.now.schema sql)
 plain_under sql plain old is = subst (λ s. IsPlain (understood s sql)) (sym is.schema) plain
 
-module _ {K V : Type 0} (form : Form K V) where
+module _ {K V : Type 0} (form : TableForm K V) where
   -- the columns that stand at these places of a row are written by a codec, for a part of the row's key
   abbrev pub StandAt : {A : Type 0} → Codec A → (K → A) → List ℕ → Type 0
   StandAt c part places = (id : Value) (k : K) (v : V) → map (column (id ∷ columns_in form k v)) places ≡ c.write (part k)
 
 -- The columns at these places are in the order of the form's keys.
-pub record IsOrderBy {K V : Type 0} (form : Form K V) (order : List ℕ) : Type 0 where
+pub record IsOrderBy {K V : Type 0} (form : TableForm K V) (order : List ℕ) : Type 0 where
   pub codec : Codec K
   pub is_codec : IsCodec codec
   pub ordered : IsOrdered codec form.order
@@ -58,7 +58,7 @@ pub record IsOrderBy {K V : Type 0} (form : Form K V) (order : List ℕ) : Type 
   pub most : ℕ
   pub some : width_of form ≡ suc most
 
-module _ {K V : Type 0} (form : Form K V) (is_form : IsForm form) (places order : List ℕ) (sql : List ℕ) (text : IsSelect form places order sql) (by : IsOrderBy form order) (params : Row) (p : K → Bool)
+module _ {K V : Type 0} (form : TableForm K V) (is_form : IsForm form) (places order : List ℕ) (sql : List ℕ) (text : IsSelect form places order sql) (by : IsOrderBy form order) (params : Row) (p : K → Bool)
     (tested : (id : Value) (k : K) (v : V) → list_all (holds (params ∷ (id ∷ columns_in form k v) ∷ [])) (select_by form places order).filter ≡ p k) where
   abbrev query : Query
   query = select_by form places order
@@ -78,7 +78,7 @@ module _ {K V : Type 0} (form : Form K V) (is_form : IsForm form) (places order 
   follows a b h = follows_by by.codec form.order by.is_codec by.ordered order by.wide a.0 b.0 ∙ h
 
   found_by : (old new : State) (rows : List Row) (found : List (K × V)) → IsOffice old.now → Shown sql params old new rows → map (entry_in form.key form.value) rows ≡ map Some found
-      → found ≡ filter (λ e. p e.0) (rows_of form old.now.trees)
+      → found ≡ filter (λ e. p e.0) (rows_under_keys form old.now.trees)
   found_by old new rows found is h read =
       let tree : List Row = old.now.trees form.table.tree in
       let reads = reads_as sql params old new office is.schema _ text.command text.plain text.unlisted rows h in
@@ -95,17 +95,17 @@ module _ {K V : Type 0} (form : Form K V) (is_form : IsForm form) (places order 
 
 -- ---- rows by the value of a part of their keys
 
-module _ {K V A : Type 0} (form : Form K V) (is_form : IsForm form) (places order : List ℕ) (sql : List ℕ) (text : IsSelect form places order sql)
+module _ {K V A : Type 0} (form : TableForm K V) (is_form : IsForm form) (places order : List ℕ) (sql : List ℕ) (text : IsSelect form places order sql)
     (by : IsOrderBy form order) (R : A → A → Ordering) (total : IsTotalOrder R) (exact : CmpEqualImpliesEq R) (c : Codec A) (is_c : IsCodec c) (part : K → A) (narrow : length places ≡ c.width) (picked : StandAt form c part places) where
   selects_by : (a : A) (old new : State) (rows : List Row) (found : List (K × V)) → IsOffice old.now → Shown sql (c.write a) old new rows → map (entry_in form.key form.value) rows ≡ map Some found
-      → found ≡ filter (λ e. is_eq (R (part e.0) a)) (rows_of form old.now.trees)
+      → found ≡ filter (λ e. is_eq (R (part e.0) a)) (rows_under_keys form old.now.trees)
   selects_by a =
       found_by form is_form places order sql text by (c.write a) (λ k. is_eq (R (part k) a))
       (λ id k v. tested_by R total exact c is_c places (id ∷ columns_in form k v) (part k) a narrow (picked id k v))
 
   -- the rows that are read are those of the value that is asked for
   pub lists_by : {E : Type 0} (a : A) (old new : State) (r : Result (Vec (K × V) Global) E) → IsOffice old.now → IfOk r (λ found. IsRead form.key form.value sql (c.write a) old new found.items)
-      → IfOk r (λ found. found.items ≡ filter (λ e. is_eq (R (part e.0) a)) (rows_of form old.now.trees))
+      → IfOk r (λ found. found.items ≡ filter (λ e. is_eq (R (part e.0) a)) (rows_under_keys form old.now.trees))
   lists_by a old new (Ok found) is h = selects_by a old new h.0 found.items is h.1 h.2
   lists_by a old new (Err e) is h = tt
 
@@ -115,11 +115,11 @@ all_of : {X : Type 0} (xs : List X) → filter (λ _. true) xs ≡ xs
 all_of [] = refl
 all_of (x ∷ xs) = ap (λ ys. x ∷ ys) (all_of xs)
 
-module _ {K V : Type 0} (form : Form K V) (is_form : IsForm form) (order : List ℕ) (sql : List ℕ) (text : IsSelect form [] order sql) (by : IsOrderBy form order) where
+module _ {K V : Type 0} (form : TableForm K V) (is_form : IsForm form) (order : List ℕ) (sql : List ℕ) (text : IsSelect form [] order sql) (by : IsOrderBy form order) where
   -- the rows that are read are all
   pub lists_all : {E : Type 0} (old new : State) (r : Result (Vec (K × V) Global) E) → IsOffice old.now → IfOk r (λ found. IsRead form.key form.value sql [] old new found.items)
-      → IfOk r (λ found. found.items ≡ rows_of form old.now.trees)
-  lists_all old new (Ok found) is h = found_by form is_form [] order sql text by [] (λ k. true) (λ id k v. refl) old new h.0 found.items is h.1 h.2 ∙ all_of (rows_of form old.now.trees)
+      → IfOk r (λ found. found.items ≡ rows_under_keys form old.now.trees)
+  lists_all old new (Ok found) is h = found_by form is_form [] order sql text by [] (λ k. true) (λ id k v. refl) old new h.0 found.items is h.1 h.2 ∙ all_of (rows_under_keys form old.now.trees)
   lists_all old new (Err e) is h = tt
 
 -- ---- the row of a key
@@ -141,12 +141,12 @@ module _ {K : Type 0} (R : K → K → Ordering) (total : IsTotalOrder R) (exact
       go true is more = ap (λ b. cond b (Some e.1) (find R q es)) is
       go false is more = more ∙ ap (λ b. cond b (Some e.1) (find R q es)) is
 
-module _ {K V : Type 0} (form : Form K V) (is_form : IsForm form) (places order : List ℕ) (sql : List ℕ) (text : IsSelect form places order sql) (by : IsOrderBy form order)
+module _ {K V : Type 0} (form : TableForm K V) (is_form : IsForm form) (places order : List ℕ) (sql : List ℕ) (text : IsSelect form places order sql) (by : IsOrderBy form order)
     (narrow : length places ≡ form.key.width) (picked : StandAt form form.key (λ k. k) places) where
   -- the value that is read is the one under the key
   pub gets_by : {E : Type 0} (k : K) (old new : State) (r : Result (Option V) E) → IsOffice old.now → IfOk r (λ value. IsFirst form.key form.value sql (form.key.write k) old new value)
-      → IfOk r (λ value. value ≡ find form.order k (rows_of form old.now.trees))
+      → IfOk r (λ value. value ≡ find form.order k (rows_under_keys form old.now.trees))
   gets_by k old new (Ok value) is h =
       h.2 ∙ ap (λ (es : List (K × V)). option_map (λ (e : K × V). e.1) (slice_get es 0)) (selects_by form is_form places order sql text by form.order is_form.total is_form.exact form.key is_form.is_key (λ k. k) narrow picked k old new h.1.0 h.0 is h.1.1 h.1.2)
-      ∙ first_found form.order is_form.total is_form.exact k (rows_of form old.now.trees)
+      ∙ first_found form.order is_form.total is_form.exact k (rows_under_keys form old.now.trees)
   gets_by k old new (Err e) is h = tt

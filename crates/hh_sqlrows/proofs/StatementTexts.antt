@@ -2,7 +2,7 @@
 use Rattle.std.proofs.Common.{◌++◌, ℕ, List, [], ◌∷◌, codes, refl}
 use Rattle.sqlite_tied.specs.Compute.{everything}
 use Rattle.sqlite.specs.Listing.{understood}
-use Rattle.hh_sqlrows.specs.OfficeTables.{contracts, credits, files, marks, meters, parties, postings, prices, reallocations, references, results, runs, settings, units}
+use Rattle.hh_sqlrows.specs.OfficeTables.{contracts, credits, files, marks, meters, parties, postings, period_prices, reallocations, references, results, runs, settings, units}
 use Rattle.hh_sqlrows.proofs.FormLaws.{IsInsert, IsReplace}
 use Rattle.hh_sqlrows.proofs.SelectLaws.{IsSelect}
 
@@ -36,7 +36,7 @@ replace_meter_is = (refl, (refl, refl))
 abbrev pub replace_price_text : List ℕ
 replace_price_text = codes "INSERT OR REPLACE INTO prices (day, period, price) VALUES (?1, ?2, ?3)"
 
-pub replace_price_is : IsReplace prices replace_price_text
+pub replace_price_is : IsReplace period_prices replace_price_text
 unfolding understood everything
 replace_price_is = (refl, (refl, refl))
 
@@ -181,14 +181,14 @@ select_meters_on_is = record { names = codes "unit" ∷ codes "day" ∷ codes "p
 abbrev pub select_price_text : List ℕ
 select_price_text = codes "SELECT day, period, price FROM prices WHERE day = ?1 AND period = ?2 ORDER BY day, period"
 
-pub select_price_is : IsSelect prices (1 ∷ 2 ∷ []) (1 ∷ 2 ∷ []) select_price_text
+pub select_price_is : IsSelect period_prices (1 ∷ 2 ∷ []) (1 ∷ 2 ∷ []) select_price_text
 unfolding understood everything
 select_price_is = record { names = codes "day" ∷ codes "period" ∷ codes "price" ∷ []; command = refl; unlisted = refl; plain = (refl, refl) }
 
 abbrev pub select_prices_on_text : List ℕ
 select_prices_on_text = codes "SELECT day, period, price FROM prices WHERE day = ?1 ORDER BY day, period"
 
-pub select_prices_on_is : IsSelect prices (1 ∷ []) (1 ∷ 2 ∷ []) select_prices_on_text
+pub select_prices_on_is : IsSelect period_prices (1 ∷ []) (1 ∷ 2 ∷ []) select_prices_on_text
 unfolding understood everything
 select_prices_on_is = record { names = codes "day" ∷ codes "period" ∷ codes "price" ∷ []; command = refl; unlisted = refl; plain = (refl, refl) }
 

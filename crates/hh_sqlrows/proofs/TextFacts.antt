@@ -10,7 +10,7 @@ use Rattle.sqlite.specs.Listing.{understood}
 use Rattle.sqlite.proofs.Callers.{IsPlain, command_of, statement_of}
 use Rattle.hh_sqlrows.specs.OfficeSchema.{office, settings_table, parties_table, units_table, meters_table, prices_table, refs_table, contracts_table, reallocations_table, files_table, runs_table, results_table, credits_table, postings_table, positions_table, touched_table, marks_table}
 use Rattle.hh_sqlrows.specs.Making.{schema_up_to}
-use Rattle.hh_sqlrows.specs.steps.MakingTexts.{texts, settings_text, parties_text, units_text, meters_text, prices_text, refs_text, contracts_text, reallocations_text, files_text, runs_text, results_text, credits_text, postings_text, positions_text, touched_text, marks_text}
+use Rattle.hh_sqlrows.specs.steps.MakingTexts.{texts, settings_creation, parties_creation, units_creation, meters_creation, prices_creation, refs_creation, contracts_creation, reallocations_creation, files_creation, runs_creation, results_creation, credits_creation, postings_creation, positions_creation, touched_creation, marks_creation}
 
 -- the text makes a table after so many others
 pub record Defines (at : ℕ) (sql : List ℕ) : Type 0 where
@@ -23,67 +23,67 @@ pub record Defines (at : ℕ) (sql : List ℕ) : Type 0 where
   pub extends : (schema_up_to (at + 1)).tables ≡ (schema_up_to at).tables ++ record table { tree = next_tree (schema_up_to at) } ∷ []
   pub uncounted : lacks_sequence (schema_up_to (at + 1)) ≡ false
 
-settings_is : Defines 0 settings_text
+settings_is : Defines 0 settings_creation
 unfolding understood everything
 settings_is = record { table = record settings_table { tree = 0 }; command = refl; whole = refl; plain = (refl, refl); defined = refl; makes = refl; extends = refl; uncounted = refl }
 
-parties_is : Defines 1 parties_text
+parties_is : Defines 1 parties_creation
 unfolding understood everything
 parties_is = record { table = record parties_table { tree = 0 }; command = refl; whole = refl; plain = (refl, refl); defined = refl; makes = refl; extends = refl; uncounted = refl }
 
-units_is : Defines 2 units_text
+units_is : Defines 2 units_creation
 unfolding understood everything
 units_is = record { table = record units_table { tree = 0 }; command = refl; whole = refl; plain = (refl, refl); defined = refl; makes = refl; extends = refl; uncounted = refl }
 
-meters_is : Defines 3 meters_text
+meters_is : Defines 3 meters_creation
 unfolding understood everything
 meters_is = record { table = record meters_table { tree = 0 }; command = refl; whole = refl; plain = (refl, refl); defined = refl; makes = refl; extends = refl; uncounted = refl }
 
-prices_is : Defines 4 prices_text
+prices_is : Defines 4 prices_creation
 unfolding understood everything
 prices_is = record { table = record prices_table { tree = 0 }; command = refl; whole = refl; plain = (refl, refl); defined = refl; makes = refl; extends = refl; uncounted = refl }
 
-refs_is : Defines 5 refs_text
+refs_is : Defines 5 refs_creation
 unfolding understood everything
 refs_is = record { table = record refs_table { tree = 0 }; command = refl; whole = refl; plain = (refl, refl); defined = refl; makes = refl; extends = refl; uncounted = refl }
 
-contracts_is : Defines 6 contracts_text
+contracts_is : Defines 6 contracts_creation
 unfolding understood everything
 contracts_is = record { table = record contracts_table { tree = 0 }; command = refl; whole = refl; plain = (refl, refl); defined = refl; makes = refl; extends = refl; uncounted = refl }
 
-reallocations_is : Defines 7 reallocations_text
+reallocations_is : Defines 7 reallocations_creation
 unfolding understood everything
 reallocations_is = record { table = record reallocations_table { tree = 0 }; command = refl; whole = refl; plain = (refl, refl); defined = refl; makes = refl; extends = refl; uncounted = refl }
 
-files_is : Defines 8 files_text
+files_is : Defines 8 files_creation
 unfolding understood everything
 files_is = record { table = record files_table { tree = 0 }; command = refl; whole = refl; plain = (refl, refl); defined = refl; makes = refl; extends = refl; uncounted = refl }
 
-runs_is : Defines 9 runs_text
+runs_is : Defines 9 runs_creation
 unfolding understood everything
 runs_is = record { table = record runs_table { tree = 0 }; command = refl; whole = refl; plain = (refl, refl); defined = refl; makes = refl; extends = refl; uncounted = refl }
 
-results_is : Defines 10 results_text
+results_is : Defines 10 results_creation
 unfolding understood everything
 results_is = record { table = record results_table { tree = 0 }; command = refl; whole = refl; plain = (refl, refl); defined = refl; makes = refl; extends = refl; uncounted = refl }
 
-credits_is : Defines 11 credits_text
+credits_is : Defines 11 credits_creation
 unfolding understood everything
 credits_is = record { table = record credits_table { tree = 0 }; command = refl; whole = refl; plain = (refl, refl); defined = refl; makes = refl; extends = refl; uncounted = refl }
 
-postings_is : Defines 12 postings_text
+postings_is : Defines 12 postings_creation
 unfolding understood everything
 postings_is = record { table = record postings_table { tree = 0 }; command = refl; whole = refl; plain = (refl, refl); defined = refl; makes = refl; extends = refl; uncounted = refl }
 
-positions_is : Defines 13 positions_text
+positions_is : Defines 13 positions_creation
 unfolding understood everything
 positions_is = record { table = record positions_table { tree = 0 }; command = refl; whole = refl; plain = (refl, refl); defined = refl; makes = refl; extends = refl; uncounted = refl }
 
-touched_is : Defines 14 touched_text
+touched_is : Defines 14 touched_creation
 unfolding understood everything
 touched_is = record { table = record touched_table { tree = 0 }; command = refl; whole = refl; plain = (refl, refl); defined = refl; makes = refl; extends = refl; uncounted = refl }
 
-marks_is : Defines 15 marks_text
+marks_is : Defines 15 marks_creation
 unfolding understood everything
 marks_is = record { table = record marks_table { tree = 0 }; command = refl; whole = refl; plain = (refl, refl); defined = refl; makes = refl; extends = refl; uncounted = refl }
 

@@ -13,7 +13,7 @@ use Rattle.sqlite_value.specs.Order.{Row, column, row_cmp, value_cmp}
 use Rattle.sqlite_sql.specs.Query.{key_cmp}
 use Rattle.sqlite_sql.specs.Term.{Term, col, eval_all, holds}
 use Rattle.sqlite_schema.specs.Rules.{equal}
-use Rattle.hh_keyed_rows.specs.Codecs.{Codec, IsCodec, both, is_plain}
+use Rattle.hh_keyed_rows.specs.Codecs.{Codec, IsCodec, both, is_discrete}
 use Rattle.hh_keyed_rows.proofs.PlaceLaws.{column_at, drop_next, equal_itself, equal_same, is_Equal}
 use Rattle.hh_sqlrows.proofs.Selects.{where_terms}
 
@@ -34,21 +34,21 @@ where_is (at ∷ places) row params from (y ∷ ys) is long =
     let rest = where_is places row params (suc from) ys (drop_next params from y ys is) (cc long) in
     λ i. equal Binary (column row at) (first i) && rest i
 
-equal_written : (xs ys : Row) → list_all is_plain xs ≡ true → list_all is_plain ys ≡ true → length xs ≡ length ys → all_equal xs ys ≡ true → xs ≡ ys
+equal_written : (xs ys : Row) → list_all is_discrete xs ≡ true → list_all is_discrete ys ≡ true → length xs ≡ length ys → all_equal xs ys ≡ true → xs ≡ ys
 equal_written [] [] p q long h = refl
 equal_written [] (y ∷ ys) p q long h = absurd (cc long)
 equal_written (x ∷ xs) [] p q long h = absurd (cc long)
 equal_written (x ∷ xs) (y ∷ ys) p q long h =
-    let px = and_parts (is_plain x) (list_all is_plain xs) p in
-    let py = and_parts (is_plain y) (list_all is_plain ys) q in
+    let px = and_parts (is_discrete x) (list_all is_discrete xs) p in
+    let py = and_parts (is_discrete y) (list_all is_discrete ys) q in
     let both_equal = and_parts (equal Binary x y) (all_equal xs ys) h in
     let first = equal_same x y px.0 py.0 both_equal.0 in
     let rest = equal_written xs ys px.1 py.1 (cc long) both_equal.1 in
     λ i. first i ∷ rest i
 
-equal_selves : (xs : Row) → list_all is_plain xs ≡ true → all_equal xs xs ≡ true
+equal_selves : (xs : Row) → list_all is_discrete xs ≡ true → all_equal xs xs ≡ true
 equal_selves [] p = refl
-equal_selves (x ∷ xs) p = let px = and_parts (is_plain x) (list_all is_plain xs) p in and_from _ _ (equal_itself x px.0) (equal_selves xs px.1)
+equal_selves (x ∷ xs) p = let px = and_parts (is_discrete x) (list_all is_discrete xs) p in and_from _ _ (equal_itself x px.0) (equal_selves xs px.1)
 
 -- two tests that pass together are one
 pub same_test : (a b : Bool) → (a ≡ true → b ≡ true) → (b ≡ true → a ≡ true) → a ≡ b

@@ -8,35 +8,35 @@ use Rattle.sqlite_trees.specs.Tree.{Trees}
 use Rattle.sqlite.specs.Effect.{Database}
 use Rattle.hh_tables.specs.Tables as tables
 use Rattle.hh_keyed_rows.specs.Codecs.{Codec}
-use Rattle.hh_keyed_rows.specs.KeyedRows.{entry_of, table_in}
+use Rattle.hh_keyed_rows.specs.KeyedRows.{stored_entry, table_in}
 use Rattle.hh_sqlrows.specs.OfficeSchema.{office}
 use Rattle.hh_sqlrows.specs.Office.{IsOffice}
 
 -- a table of the schema and its place there, the order of its keys, and how keys and values stand in columns
-pub record Form (K V : Type 0) : Type 0 where
+pub record TableForm (K V : Type 0) : Type 0 where
   pub at : ℕ
   pub table : Table
   pub order : K → K → Ordering
   pub key : Codec K
   pub value : Codec V
 
-module _ {K V : Type 0} (form : Form K V) where
+module _ {K V : Type 0} (form : TableForm K V) where
   -- the rows of the table under their keys, in the order of these
-  abbrev pub rows_of : Trees → tables.Table K V
-  rows_of trees = table_in form.order (entry_of form.key form.value) (trees form.table.tree)
+  abbrev pub rows_under_keys : Trees → tables.Table K V
+  rows_under_keys trees = table_in form.order (stored_entry form.key form.value) (trees form.table.tree)
 
 -- each table of an office but the one in this tree is as it was
 abbrev pub KeepsOthers : ℕ → Trees → Trees → Type 0
 KeepsOthers tree old new = AllByRecursion (λ t. t.tree ≢ tree → new t.tree ≡ old t.tree) office.tables
 
 -- The row stands under its key, in the place of the one there, and the other tables are as they were.
-pub record Puts {K V : Type 0} (form : Form K V) (key : K) (value : V) (old new : Database) : Type 0 where
+pub record Puts {K V : Type 0} (form : TableForm K V) (key : K) (value : V) (old new : Database) : Type 0 where
   pub is_office : IsOffice new
-  pub rows : rows_of form new.trees ≡ put form.order key value (rows_of form old.trees)
+  pub rows : rows_under_keys form new.trees ≡ put form.order key value (rows_under_keys form old.trees)
   pub others : KeepsOthers form.table.tree old.trees new.trees
 
 -- The rows stand under their keys, each in the place of the one there before it, and the other tables are as they were.
-pub record PutsAll {K V : Type 0} (form : Form K V) (entries : List (K × V)) (old new : Database) : Type 0 where
+pub record PutsAll {K V : Type 0} (form : TableForm K V) (entries : List (K × V)) (old new : Database) : Type 0 where
   pub is_office : IsOffice new
-  pub rows : rows_of form new.trees ≡ tables.put_all form.order entries (rows_of form old.trees)
+  pub rows : rows_under_keys form new.trees ≡ tables.put_all form.order entries (rows_under_keys form old.trees)
   pub others : KeepsOthers form.table.tree old.trees new.trees

@@ -25,34 +25,34 @@ use Rattle.hh_states.specs.declared.run_keys.ResultKey.{ResultKey}
 use Rattle.hh_states.specs.Content.{credit_key_cmp, posting_key_cmp, result_key_cmp}
 use Rattle.hh_states.specs.Runs.{run_key_cmp}
 use Rattle.hh_states.specs.States.{AcceptedFile, file_key_cmp}
-use Rattle.hh_keyed_rows.specs.declared.amounts.Amounts.{Amounts}
+use Rattle.hh_keyed_rows.specs.declared.amounts.AccountAmounts.{AccountAmounts}
 use Rattle.hh_keyed_rows.specs.declared.one_row.OneRow.{OneRow}
 use Rattle.hh_keyed_rows.specs.Fields.{counterparties_columns, mark_column, party_column, quantity_column, reference_column, settlement_period_columns, unit_column}
 use Rattle.hh_keyed_rows.specs.Keys.{contract_key_columns, credit_key_columns, file_key_columns, one_row_column, posting_key_columns, reallocation_key_columns, result_key_columns, run_key_columns, unit_period_columns}
 use Rattle.hh_keyed_rows.specs.Values.{amounts_columns, amounts_of, file_columns, party_columns, reading_columns, reallocation_columns, settings_columns, summary_columns, unit_columns}
-use Rattle.hh_sqlrows.specs.Forms.{Form}
+use Rattle.hh_sqlrows.specs.Forms.{TableForm}
 use Rattle.hh_sqlrows.specs.OfficeSchema.{contracts_table, credits_table, files_table, marks_table, meters_table, parties_table, postings_table, prices_table, reallocations_table, refs_table, results_table, runs_table, settings_table, units_table}
 
 -- the key of a table that has one row
 abbrev pub one_row_cmp : OneRow → OneRow → Ordering
 one_row_cmp = on (λ _. 0) nat_cmp
 
-abbrev pub settings : Form OneRow Settings
+abbrev pub settings : TableForm OneRow Settings
 settings = record { at = 0; table = settings_table; order = one_row_cmp; key = one_row_column; value = settings_columns }
 
 -- ---- what is registered and in force
 
-abbrev pub parties : Form (List ℕ) PartyRegistration
+abbrev pub parties : TableForm (List ℕ) PartyRegistration
 parties = record { at = 1; table = parties_table; order = bytes_cmp; key = party_column; value = party_columns }
 
-abbrev pub units : Form (List ℕ) UnitRegistration
+abbrev pub units : TableForm (List ℕ) UnitRegistration
 units = record { at = 2; table = units_table; order = bytes_cmp; key = unit_column; value = unit_columns }
 
-abbrev pub meters : Form UnitPeriod Reading
+abbrev pub meters : TableForm UnitPeriod Reading
 meters = record { at = 3; table = meters_table; order = unit_period_cmp; key = unit_period_columns; value = reading_columns }
 
-abbrev pub prices : Form SettlementPeriod ℤ
-prices = record {
+abbrev pub period_prices : TableForm SettlementPeriod ℤ
+period_prices = record {
   at = 4;
   table = prices_table;
   order = settlement_period_cmp;
@@ -60,10 +60,10 @@ prices = record {
   value = quantity_column price_range;
 }
 
-abbrev pub references : Form (List ℕ) Counterparties
+abbrev pub references : TableForm (List ℕ) Counterparties
 references = record { at = 5; table = refs_table; order = bytes_cmp; key = reference_column; value = counterparties_columns }
 
-abbrev pub contracts : Form ContractKey ℤ
+abbrev pub contracts : TableForm ContractKey ℤ
 contracts = record {
   at = 6;
   table = contracts_table;
@@ -72,7 +72,7 @@ contracts = record {
   value = quantity_column volumes;
 }
 
-abbrev pub reallocations : Form ReallocationKey Reallocation
+abbrev pub reallocations : TableForm ReallocationKey Reallocation
 reallocations = record {
   at = 7;
   table = reallocations_table;
@@ -83,20 +83,20 @@ reallocations = record {
 
 -- ---- the accepted files, and the runs
 
-abbrev pub files : Form FileKey AcceptedFile
+abbrev pub files : TableForm FileKey AcceptedFile
 files = record { at = 8; table = files_table; order = file_key_cmp; key = file_key_columns; value = file_columns }
 
-abbrev pub runs : Form RunKey Summary
+abbrev pub runs : TableForm RunKey Summary
 runs = record { at = 9; table = runs_table; order = run_key_cmp; key = run_key_columns; value = summary_columns }
 
 -- an account's row of a run under its key, which has the account
-abbrev pub amount_entry : ResultKey × AccountRow → ResultKey × Amounts
+abbrev pub amount_entry : ResultKey × AccountRow → ResultKey × AccountAmounts
 amount_entry e = (e.0, amounts_of e.1)
 
-abbrev pub results : Form ResultKey Amounts
+abbrev pub results : TableForm ResultKey AccountAmounts
 results = record { at = 10; table = results_table; order = result_key_cmp; key = result_key_columns; value = amounts_columns }
 
-abbrev pub credits : Form CreditKey ℤ
+abbrev pub credits : TableForm CreditKey ℤ
 credits = record {
   at = 11;
   table = credits_table;
@@ -105,7 +105,7 @@ credits = record {
   value = quantity_column energies;
 }
 
-abbrev pub postings : Form PostingKey ℤ
+abbrev pub postings : TableForm PostingKey ℤ
 postings = record {
   at = 12;
   table = postings_table;
@@ -116,7 +116,7 @@ postings = record {
 
 -- ---- whether positions of accounts are kept
 
-abbrev pub marks : Form OneRow Bool
+abbrev pub marks : TableForm OneRow Bool
 marks = record { at = 15; table = marks_table; order = one_row_cmp; key = one_row_column; value = mark_column }
 
 -- ---- rows of a unit on a date

@@ -5,7 +5,7 @@ ghost use Rattle.std.specs.Ordering.{is_eq, nat_cmp};
 ghost use Rattle.std.specs.FinMap.{find};
 ghost use Rattle.hh_rows.specs.Keys.{contract_key_cmp};
 ghost use Rattle.sqlite.specs.Held.{state};
-ghost use Rattle.hh_sqlrows.specs.Forms.{Puts, rows_of};
+ghost use Rattle.hh_sqlrows.specs.Forms.{Puts, rows_under_keys};
 ghost use Rattle.hh_sqlrows.specs.Office.{IsOffice};
 ghost use Rattle.hh_sqlrows.specs.OfficeTables.{contracts};
 ghost use Rattle.hh_sqlrows.specs.Reads.{CommitsNothingOf, IsHonest, LeavesOffice, OfOffice, StaysOpen, Stood};
@@ -55,7 +55,7 @@ pub fn select_contract<S: Alter>(
     ensures value { let old = state S.Store conn.old in
         let new = state S.Store conn.new in
         OfOffice old new (IfOk result (λ found.
-        found ≡ find contract_key_cmp key.now (rows_of contracts old.now.trees))) }
+        found ≡ find contract_key_cmp key.now (rows_under_keys contracts old.now.trees))) }
     ensures stood { Stood (state S.Store conn.old) (state S.Store conn.new) }
     ensures left { LeavesOffice (state S.Store conn.old) (state S.Store conn.new) }
     ensures mode { conn.old.in_transaction ≡ false → conn.new.in_transaction ≡ false }
@@ -81,7 +81,7 @@ pub fn select_contracts_on<S: Alter>(
         let new = state S.Store conn.new in
         OfOffice old new (IfOk result (λ found.
         found.items ≡ filter (λ e. is_eq (nat_cmp e.0.at.date date.now))
-        (rows_of contracts old.now.trees))) }
+        (rows_under_keys contracts old.now.trees))) }
     ensures stood { Stood (state S.Store conn.old) (state S.Store conn.new) }
     ensures left { LeavesOffice (state S.Store conn.old) (state S.Store conn.new) }
     ensures mode { conn.old.in_transaction ≡ false → conn.new.in_transaction ≡ false }

@@ -4,7 +4,7 @@ ghost use Rattle.std.specs.Prelude.{◌≡◌, false, IsTrue, OnOk, IfOk};
 ghost use Rattle.std.specs.FinMap.{find};
 ghost use Rattle.hh_names.specs.Accounts.{bytes_cmp};
 ghost use Rattle.sqlite.specs.Held.{state};
-ghost use Rattle.hh_sqlrows.specs.Forms.{Puts, rows_of};
+ghost use Rattle.hh_sqlrows.specs.Forms.{Puts, rows_under_keys};
 ghost use Rattle.hh_sqlrows.specs.Office.{IsOffice};
 ghost use Rattle.hh_sqlrows.specs.OfficeTables.{parties};
 ghost use Rattle.hh_sqlrows.specs.Reads.{CommitsNothingOf, IsHonest, LeavesOffice, OfOffice, StaysOpen, Stood};
@@ -52,7 +52,7 @@ pub fn select_party<S: Alter>(
     ensures value { let old = state S.Store conn.old in
         let new = state S.Store conn.new in
         OfOffice old new (IfOk result (λ found.
-        found ≡ find bytes_cmp party.now (rows_of parties old.now.trees))) }
+        found ≡ find bytes_cmp party.now (rows_under_keys parties old.now.trees))) }
     ensures stood { Stood (state S.Store conn.old) (state S.Store conn.new) }
     ensures left { LeavesOffice (state S.Store conn.old) (state S.Store conn.new) }
     ensures mode { conn.old.in_transaction ≡ false → conn.new.in_transaction ≡ false }
@@ -76,7 +76,7 @@ pub fn select_parties<S: Alter>(
     ensures value { let old = state S.Store conn.old in
         let new = state S.Store conn.new in
         OfOffice old new (IfOk result (λ found.
-        found.items ≡ rows_of parties old.now.trees)) }
+        found.items ≡ rows_under_keys parties old.now.trees)) }
     ensures stood { Stood (state S.Store conn.old) (state S.Store conn.new) }
     ensures left { LeavesOffice (state S.Store conn.old) (state S.Store conn.new) }
     ensures mode { conn.old.in_transaction ≡ false → conn.new.in_transaction ≡ false }

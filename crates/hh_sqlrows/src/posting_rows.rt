@@ -4,7 +4,7 @@ ghost use Rattle.std.specs.Prelude.{◌≡◌, false, IsTrue, OnOk, IfOk, filter
 ghost use Rattle.std.specs.Ordering.{is_eq};
 ghost use Rattle.hh_names.specs.Accounts.{account_cmp};
 ghost use Rattle.sqlite.specs.Held.{state};
-ghost use Rattle.hh_sqlrows.specs.Forms.{Puts, PutsAll, rows_of};
+ghost use Rattle.hh_sqlrows.specs.Forms.{Puts, PutsAll, rows_under_keys};
 ghost use Rattle.hh_sqlrows.specs.Office.{IsOffice};
 ghost use Rattle.hh_sqlrows.specs.OfficeTables.{postings};
 ghost use Rattle.hh_sqlrows.specs.Reads.{CommitsNothingOf, IsHonest, LeavesOffice, OfOffice, StaysOpen, Stood};
@@ -55,7 +55,7 @@ pub fn select_postings_to<S: Alter>(
         let new = state S.Store conn.new in
         OfOffice old new (IfOk result (λ found.
         found.items ≡ filter (λ e. is_eq (account_cmp e.0.account account.now))
-        (rows_of postings old.now.trees))) }
+        (rows_under_keys postings old.now.trees))) }
     ensures stood { Stood (state S.Store conn.old) (state S.Store conn.new) }
     ensures left { LeavesOffice (state S.Store conn.old) (state S.Store conn.new) }
     ensures mode { conn.old.in_transaction ≡ false → conn.new.in_transaction ≡ false }
@@ -79,7 +79,7 @@ pub fn select_postings<S: Alter>(
     ensures value { let old = state S.Store conn.old in
         let new = state S.Store conn.new in
         OfOffice old new (IfOk result (λ found.
-        found.items ≡ rows_of postings old.now.trees)) }
+        found.items ≡ rows_under_keys postings old.now.trees)) }
     ensures stood { Stood (state S.Store conn.old) (state S.Store conn.new) }
     ensures left { LeavesOffice (state S.Store conn.old) (state S.Store conn.new) }
     ensures mode { conn.old.in_transaction ≡ false → conn.new.in_transaction ≡ false }

@@ -5,9 +5,9 @@ ghost use Rattle.std.specs.Ordering.{is_eq, nat_cmp};
 ghost use Rattle.std.specs.FinMap.{find};
 ghost use Rattle.hh_rows.specs.Keys.{settlement_period_cmp};
 ghost use Rattle.sqlite.specs.Held.{state};
-ghost use Rattle.hh_sqlrows.specs.Forms.{Puts, rows_of};
+ghost use Rattle.hh_sqlrows.specs.Forms.{Puts, rows_under_keys};
 ghost use Rattle.hh_sqlrows.specs.Office.{IsOffice};
-ghost use Rattle.hh_sqlrows.specs.OfficeTables.{prices};
+ghost use Rattle.hh_sqlrows.specs.OfficeTables.{period_prices};
 ghost use Rattle.hh_sqlrows.specs.Reads.{CommitsNothingOf, IsHonest, LeavesOffice, OfOffice, StaysOpen, Stood};
 ghost use Rattle.hh_sqlrows.specs.Statements.{CommitsNothing, Inside, KeepsCommit, StaysInside};
 
@@ -29,7 +29,7 @@ pub fn replace_price<S: Alter>(
     ensures puts { let old = state S.Store tx.old.conn.now in
         let new = state S.Store tx.new.conn.now in
         Inside old new (IsOffice old.now
-        → OnOk result (Puts prices row.now.at row.now.price old.now new.now)) }
+        → OnOk result (Puts period_prices row.now.at row.now.price old.now new.now)) }
     ensures inside { StaysInside (state S.Store tx.old.conn.now)
         (state S.Store tx.new.conn.now) result }
     ensures left { KeepsCommit (state S.Store tx.old.conn.now) (state S.Store tx.new.conn.now) }
@@ -54,7 +54,7 @@ pub fn select_price<S: Alter>(
     ensures value { let old = state S.Store conn.old in
         let new = state S.Store conn.new in
         OfOffice old new (IfOk result (λ found.
-        found ≡ find settlement_period_cmp at.now (rows_of prices old.now.trees))) }
+        found ≡ find settlement_period_cmp at.now (rows_under_keys period_prices old.now.trees))) }
     ensures stood { Stood (state S.Store conn.old) (state S.Store conn.new) }
     ensures left { LeavesOffice (state S.Store conn.old) (state S.Store conn.new) }
     ensures mode { conn.old.in_transaction ≡ false → conn.new.in_transaction ≡ false }
@@ -80,7 +80,7 @@ pub fn select_prices_on<S: Alter>(
         let new = state S.Store conn.new in
         OfOffice old new (IfOk result (λ found.
         found.items ≡ filter (λ e. is_eq (nat_cmp e.0.date date.now))
-        (rows_of prices old.now.trees))) }
+        (rows_under_keys period_prices old.now.trees))) }
     ensures stood { Stood (state S.Store conn.old) (state S.Store conn.new) }
     ensures left { LeavesOffice (state S.Store conn.old) (state S.Store conn.new) }
     ensures mode { conn.old.in_transaction ≡ false → conn.new.in_transaction ≡ false }

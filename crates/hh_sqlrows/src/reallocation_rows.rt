@@ -4,7 +4,7 @@ ghost use Rattle.std.specs.Prelude.{◌≡◌, false, IsTrue, OnOk, IfOk, filter
 ghost use Rattle.std.specs.Ordering.{is_eq};
 ghost use Rattle.hh_names.specs.Accounts.{bytes_cmp};
 ghost use Rattle.sqlite.specs.Held.{state};
-ghost use Rattle.hh_sqlrows.specs.Forms.{Puts, rows_of};
+ghost use Rattle.hh_sqlrows.specs.Forms.{Puts, rows_under_keys};
 ghost use Rattle.hh_sqlrows.specs.Office.{IsOffice};
 ghost use Rattle.hh_sqlrows.specs.OfficeTables.{reallocations};
 ghost use Rattle.hh_sqlrows.specs.Reads.{CommitsNothingOf, IsHonest, LeavesOffice, OfOffice, StaysOpen, Stood};
@@ -53,7 +53,7 @@ pub fn select_reallocations_of<S: Alter>(
         let new = state S.Store conn.new in
         OfOffice old new (IfOk result (λ found.
         found.items ≡ filter (λ e. is_eq (bytes_cmp e.0.unit_period.unit unit.now))
-        (rows_of reallocations old.now.trees))) }
+        (rows_under_keys reallocations old.now.trees))) }
     ensures stood { Stood (state S.Store conn.old) (state S.Store conn.new) }
     ensures left { LeavesOffice (state S.Store conn.old) (state S.Store conn.new) }
     ensures mode { conn.old.in_transaction ≡ false → conn.new.in_transaction ≡ false }

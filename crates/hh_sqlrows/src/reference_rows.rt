@@ -4,7 +4,7 @@ ghost use Rattle.std.specs.Prelude.{◌≡◌, false, IsTrue, OnOk, IfOk};
 ghost use Rattle.std.specs.FinMap.{find};
 ghost use Rattle.hh_names.specs.Accounts.{bytes_cmp};
 ghost use Rattle.sqlite.specs.Held.{state};
-ghost use Rattle.hh_sqlrows.specs.Forms.{Puts, PutsAll, rows_of};
+ghost use Rattle.hh_sqlrows.specs.Forms.{Puts, PutsAll, rows_under_keys};
 ghost use Rattle.hh_sqlrows.specs.Office.{IsOffice};
 ghost use Rattle.hh_sqlrows.specs.OfficeTables.{references};
 ghost use Rattle.hh_sqlrows.specs.Reads.{CommitsNothingOf, IsHonest, LeavesOffice, OfOffice, StaysOpen, Stood};
@@ -52,7 +52,7 @@ pub fn select_reference<S: Alter>(
     ensures value { let old = state S.Store conn.old in
         let new = state S.Store conn.new in
         OfOffice old new (IfOk result (λ found.
-        found ≡ find bytes_cmp reference.now (rows_of references old.now.trees))) }
+        found ≡ find bytes_cmp reference.now (rows_under_keys references old.now.trees))) }
     ensures stood { Stood (state S.Store conn.old) (state S.Store conn.new) }
     ensures left { LeavesOffice (state S.Store conn.old) (state S.Store conn.new) }
     ensures mode { conn.old.in_transaction ≡ false → conn.new.in_transaction ≡ false }

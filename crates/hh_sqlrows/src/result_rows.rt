@@ -5,7 +5,7 @@ ghost use Rattle.std.specs.Ordering.{is_eq};
 ghost use Rattle.hh_states.specs.Runs.{run_key_cmp};
 ghost use Rattle.hh_keyed_rows.specs.Values.{amounts_of};
 ghost use Rattle.sqlite.specs.Held.{state};
-ghost use Rattle.hh_sqlrows.specs.Forms.{Puts, PutsAll, rows_of};
+ghost use Rattle.hh_sqlrows.specs.Forms.{Puts, PutsAll, rows_under_keys};
 ghost use Rattle.hh_sqlrows.specs.Office.{IsOffice};
 ghost use Rattle.hh_sqlrows.specs.OfficeTables.{amount_entry, results};
 ghost use Rattle.hh_sqlrows.specs.Reads.{CommitsNothingOf, IsHonest, LeavesOffice, OfOffice, StaysOpen, Stood};
@@ -13,7 +13,7 @@ ghost use Rattle.hh_sqlrows.specs.Statements.{CommitsNothing, Inside, KeepsCommi
 
 use crate::statement::{select_by, write_entry};
 use hh_calc::AccountRow;
-use hh_keyed_rows::{Amounts, RowFault};
+use hh_keyed_rows::{AccountAmounts, RowFault};
 use hh_runs::RunKey;
 use hh_states::ResultKey;
 use sqlite::{Alter, Connection, Transaction};
@@ -42,7 +42,7 @@ pub fn insert_result<S: Alter>(
         alloc,
         "INSERT INTO results (day, kind, period, party, side, credited, balancing, contracts, imbalance, charge, share) VALUES (?1, ?2, ?3, ?4, ?5, ?6, ?7, ?8, ?9, ?10, ?11)",
         key,
-        &Amounts::of(row),
+        &AccountAmounts::of(row),
     )
 }
 
@@ -51,12 +51,12 @@ pub fn select_results_of<S: Alter>(
     conn: &mut Connection<S>,
     alloc: Global,
     run: &RunKey,
-) -> Result<Vec<(ResultKey, Amounts)>, RowFault>
+) -> Result<Vec<(ResultKey, AccountAmounts)>, RowFault>
     ensures value { let old = state S.Store conn.old in
         let new = state S.Store conn.new in
         OfOffice old new (IfOk result (λ found.
         found.items ≡ filter (λ e. is_eq (run_key_cmp e.0.run run.now))
-        (rows_of results old.now.trees))) }
+        (rows_under_keys results old.now.trees))) }
     ensures stood { Stood (state S.Store conn.old) (state S.Store conn.new) }
     ensures left { LeavesOffice (state S.Store conn.old) (state S.Store conn.new) }
     ensures mode { conn.old.in_transaction ≡ false → conn.new.in_transaction ≡ false }

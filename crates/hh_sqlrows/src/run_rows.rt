@@ -5,7 +5,7 @@ ghost use Rattle.std.specs.Ordering.{is_eq, nat_cmp};
 ghost use Rattle.std.specs.FinMap.{find};
 ghost use Rattle.hh_states.specs.Runs.{run_key_cmp};
 ghost use Rattle.sqlite.specs.Held.{state};
-ghost use Rattle.hh_sqlrows.specs.Forms.{Puts, rows_of};
+ghost use Rattle.hh_sqlrows.specs.Forms.{Puts, rows_under_keys};
 ghost use Rattle.hh_sqlrows.specs.Office.{IsOffice};
 ghost use Rattle.hh_sqlrows.specs.OfficeTables.{runs};
 ghost use Rattle.hh_sqlrows.specs.Reads.{CommitsNothingOf, IsHonest, LeavesOffice, OfOffice, StaysOpen, Stood};
@@ -54,7 +54,7 @@ pub fn select_run<S: Alter>(
     ensures value { let old = state S.Store conn.old in
         let new = state S.Store conn.new in
         OfOffice old new (IfOk result (λ found.
-        found ≡ find run_key_cmp key.now (rows_of runs old.now.trees))) }
+        found ≡ find run_key_cmp key.now (rows_under_keys runs old.now.trees))) }
     ensures stood { Stood (state S.Store conn.old) (state S.Store conn.new) }
     ensures left { LeavesOffice (state S.Store conn.old) (state S.Store conn.new) }
     ensures mode { conn.old.in_transaction ≡ false → conn.new.in_transaction ≡ false }
@@ -80,7 +80,7 @@ pub fn select_runs_on<S: Alter>(
         let new = state S.Store conn.new in
         OfOffice old new (IfOk result (λ found.
         found.items ≡ filter (λ e. is_eq (nat_cmp e.0.date date.now))
-        (rows_of runs old.now.trees))) }
+        (rows_under_keys runs old.now.trees))) }
     ensures stood { Stood (state S.Store conn.old) (state S.Store conn.new) }
     ensures left { LeavesOffice (state S.Store conn.old) (state S.Store conn.new) }
     ensures mode { conn.old.in_transaction ≡ false → conn.new.in_transaction ≡ false }

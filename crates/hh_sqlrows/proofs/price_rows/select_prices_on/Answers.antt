@@ -5,7 +5,7 @@ use Rattle.std.proofs.lemmas.Map.Lookups.{exact_unsigned}
 use Rattle.sqlite.specs.Held.{state}
 use Rattle.hh_keyed_rows.specs.Fields.{date_column}
 use Rattle.hh_keyed_rows.proofs.FieldLaws.{date_codec}
-use Rattle.hh_sqlrows.specs.OfficeTables.{prices}
+use Rattle.hh_sqlrows.specs.OfficeTables.{period_prices}
 use Rattle.hh_sqlrows.proofs.FormFacts.{prices_form}
 use Rattle.hh_sqlrows.proofs.OrderFacts.{prices_by}
 use Rattle.hh_sqlrows.proofs.SelectLaws.{lists_by, plain_under}
@@ -14,7 +14,7 @@ use Rattle.hh_sqlrows.proofs.price_rows.select_prices_on.Goals as goal
 
 pub returns-clause-value : goal.returns-clause-value
 returns-clause-value g c stands is =
-    lists_by prices prices_form (1 ∷ []) (1 ∷ 2 ∷ []) select_prices_on_text select_prices_on_is prices_by nat_cmp nat_cmp_total exact_unsigned date_column date_codec (λ k. k.date) refl (λ id k v. refl) c.args.date.now (state g.S.Store c.args.conn.now) (state g.S.Store c.select_by.new.conn) c.select_by.result is (c.select_by.ensures.read stands)
+    lists_by period_prices prices_form (1 ∷ []) (1 ∷ 2 ∷ []) select_prices_on_text select_prices_on_is prices_by nat_cmp nat_cmp_total exact_unsigned date_column date_codec (λ k. k.date) refl (λ id k v. refl) c.args.date.now (state g.S.Store c.args.conn.now) (state g.S.Store c.select_by.new.conn) c.select_by.result is (c.select_by.ensures.read stands)
 
 pub returns-clause-left : goal.returns-clause-left
 returns-clause-left g c stands is settled = c.select_by.ensures.left stands (plain_under select_prices_on_text select_prices_on_is.plain (state g.S.Store c.args.conn.now) is) settled

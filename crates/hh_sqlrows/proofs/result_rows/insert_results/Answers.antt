@@ -3,7 +3,7 @@ use Rattle.sqlite.specs.Held.{state}
 use Rattle.sqlite.specs.State.{HasCleanDisk}
 use Rattle.sqlite.proofs.StateLemmas.{survives_then}
 use Rattle.hh_states.specs.declared.run_keys.ResultKey.{ResultKey}
-use Rattle.hh_keyed_rows.specs.declared.amounts.Amounts.{Amounts}
+use Rattle.hh_keyed_rows.specs.declared.amounts.AccountAmounts.{AccountAmounts}
 use Rattle.hh_sqlrows.specs.Forms.{PutsAll}
 use Rattle.hh_sqlrows.specs.OfficeTables.{amount_entry, results}
 use Rattle.hh_sqlrows.proofs.ManyLaws.{map_last, puts_more, take_next}
@@ -23,7 +23,7 @@ rows-preserved g c =
       survives_then old mid new _ _ _ (λ _ db none. none) (λ _ db none. none) kept.1 one.survives,
       (λ clean inside is.
           let all = kept.2 (before clean) inside is in
-          subst (λ (es : List (ResultKey × Amounts)). PutsAll results es old.now new.now) (sym whole) (puts_more results _ _ old.now mid.now new.now all (one.puts clean (kept.3 (before clean) inside) all.is_office))),
+          subst (λ (es : List (ResultKey × AccountAmounts)). PutsAll results es old.now new.now) (sym whole) (puts_more results _ _ old.now mid.now new.now all (one.puts clean (kept.3 (before clean) inside) all.is_office))),
       (λ clean inside. one.inside clean (kept.3 (before clean) inside)),
       (λ clean inside stands. let last = one.left clean (kept.3 (before clean) inside) stands in let first = kept.4 (before clean) inside last.0 in (first.0, last.1 ∙ first.1)),
     )
