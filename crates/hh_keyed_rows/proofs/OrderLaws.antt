@@ -1,4 +1,4 @@
--- Rows of which no two have one key stand for one table in whatever order they are; and what is found under a key.
+-- Rows of which no two have one key represent one table in whatever order they are; and what is found under a key.
 use Rattle.std.proofs.Common.{◌≡◌, ℕ, ◌+◌, ◌≤◌, List, [], ◌∷◌, ◌++◌, Bool, true, false, cond, filter, Option, Some, None, Ordering, is_eq, arith, refl, sym, ap, subst, ◌∙◌, inl, inr}
 use Rattle.std.specs.Prelude.{filter_map, option_to_list}
 use Rattle.std.specs.List.{cons_option, flat_map, sum_by}

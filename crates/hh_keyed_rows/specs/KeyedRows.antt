@@ -1,4 +1,4 @@
--- The table of an office that the rows of a table of a database stand for.
+-- The table of an office that the rows of a table of a database represent.
 use Rattle.std.specs.Prelude.{◌++◌, List, [], ◌∷◌, filter_map, Option, Some, None, option_and_then}
 use Rattle.std.specs.declared.cmp.Ordering.{Ordering}
 use Rattle.hh_tables.specs.Tables.{Table, in_key_order}
@@ -23,6 +23,6 @@ abbrev pub stored_entry : {K V : Type 0} → Codec K → Codec V → Row → Opt
 stored_entry key value [] = None
 stored_entry key value (id ∷ columns) = entry_in key value columns
 
--- the table that rows stand for, in the order of the keys; rows without an entry are no rows of it
+-- the table that rows represent, in the order of the keys; rows without an entry are no rows of it
 abbrev pub table_in : {K V : Type 0} → (K → K → Ordering) → (Row → Option (K × V)) → List Row → Table K V
 table_in R entry rows = in_key_order R (filter_map entry rows)

@@ -113,7 +113,7 @@ abbrev pub GetsFind : Type 0 → Type 0 → Type 0
 GetsFind K V = (R : K → K → Ordering) (k : K) (table : Table K V) → find R k table ≡ first_value (filter (λ e. is_eq (R k e.0)) table)
 
 module _ {K V : Type 0} (key : Codec K) (value : Codec V) where
-  -- Rows of which no two have one key stand for one table, in whatever order they are.
+  -- Rows of which no two have one key represent one table, in whatever order they are.
   abbrev pub RowsInAnyOrder : Type 0
   RowsInAnyOrder = (R : K → K → Ordering) → IsKeyOrder R → (rows others : List Row) → IsPermutation rows others
       → AreOfOneEach R (filter_map (stored_entry key value) rows) → table_in R (stored_entry key value) others ≡ table_in R (stored_entry key value) rows
@@ -124,7 +124,7 @@ module _ {K V : Type 0} (key : Codec K) (value : Codec V) where
     PutsRows [] old new = new table.tree ≡ old table.tree
     PutsRows (e ∷ es) old new = (middle : Trees) × PutsRow as_schema table old (columns_of key value e) middle × PutsRows es middle new
 
-    -- the rows have rising rowids, and stand for this table
+    -- the rows have rising rowids, and represent this table
     abbrev pub HoldsTable : (K → K → Ordering) → Trees → Table K V → Type 0
     HoldsTable R trees entries = IsShaped shape.Table (trees table.tree) × (table_in R (stored_entry key value) (trees table.tree) ≡ entries)
 

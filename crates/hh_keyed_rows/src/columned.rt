@@ -12,7 +12,7 @@ use std::alloc::AllocError;
 
 /// A key or a value of an office's table, as columns of a row of a database.
 pub trait Columned: Sized {
-    /// Which columns stand for it.
+    /// Which columns represent it.
     ghost codec: { Codec Self };
 
     /// Appends its columns. `Err` only where memory is refused: the first of them may be appended

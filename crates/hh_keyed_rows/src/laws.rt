@@ -1,4 +1,4 @@
-//! Laws on rows that stand for tables, each the contract of a function that does nothing.
+//! Laws on rows that represent tables, each the contract of a function that does nothing.
 
 ghost use Rattle.hh_keyed_rows.specs.Laws.{AreColumnCodecs, AreKeyCodecs, AreValueCodecs, GetsFind, KeysToldApart, PutsReplace, RowsInAnyOrder, RowsReadBack};
 
@@ -30,7 +30,7 @@ pub fn keys_told_apart<K: Columned, V: Columned>()
     ensures { KeysToldApart K.codec V.codec }
 {}
 
-/// Rows of which no two have one key stand for one table, in whatever order they are.
+/// Rows of which no two have one key represent one table, in whatever order they are.
 pub fn rows_in_any_order<K: Columned, V: Columned>()
     ensures { RowsInAnyOrder K.codec V.codec }
 {}

@@ -1,4 +1,4 @@
-//! Rows of a table of a database as the rows of an office's table: which columns stand for a key and
+//! Rows of a table of a database as the rows of an office's table: which columns represent a key and
 //! a value, in which ranges, and what rows come to, in the order of their keys.
 #![tactic(auto)]
 

@@ -120,7 +120,7 @@ module _ (schema : Schema) (at : ℕ) (table : Table) (listed : slice_get schema
       let w = runs_as sql params old new schema has (Insert at (Values terms width)) is plain count h in
       done_by old.step_limit (statement_of sql (understood schema sql)) old.now w.tally new.now has w.sound w.changed
 
--- ---- what it makes of the table that the rows stand for
+-- ---- what it makes of the table that the rows represent
 
 spares : (new : Row) (rows : List Row) (x : Row) → Has rows x → (value_cmp (rowid x) (rowid new) ≡ Equal → ⊥) → Has (put_row new rows) x
 spares new [] x h other = absurd h
