@@ -17,13 +17,13 @@ from programs import HOME
 
 FOLDER = HOME / "wrong-bodies"
 FUNCTION = re.compile(r"(?m)^( *)(?:pub(?:\([a-z]+\))? )?(?:const )?fn (\w+)")
-# Calls that `settle` doesn't make: of a row by itself, of a list of requests, of a date, of devices in memory, and of rows of a
-# database.
+# Calls that `settle` doesn't make: of a row by itself, of a list of requests, of a date, of devices in memory, and of an office's
+# database and its rows.
 OFFERED = {
     "check_row", "apply_row", "run_all", "day_of", "day_number", "date_at", "in_pieces",
     "to_columns", "from_columns", "read_entry", "read_entries", "ends",
     "make_tables", "replace_meter", "replace_price", "insert_result", "select_first", "select_meter", "select_meters_on",
-    "select_contracts_on", "select_reference", "select_postings_to",
+    "select_contracts_on", "select_reference", "select_postings_to", "make_office", "write_new_office",
 }
 # What the language calls without naming it.
 UNNAMED = {"main", "fmt", "cmp", "partial_cmp", "eq", "from", "next", "clone", "drop", "default"}

@@ -1,0 +1,47 @@
+-- The content that a database holds is the one that its tables have.
+use Rattle.std.proofs.Common.{◌≡◌, Bool, true, false, IsTrue, refl}
+use Rattle.sqlite_trees.specs.declared.store.Store.{Ghosts}
+use Rattle.sqlite_trees.specs.View.{doubt}
+use Rattle.sqlite.specs.Effect.{Database}
+use Rattle.sqlite.specs.Held.{Held, state}
+use Rattle.sqlite.specs.State.{HasCleanDisk}
+use Rattle.hh_rules.specs.History.{Registered}
+use Rattle.hh_states.specs.Content.{Content}
+use Rattle.hh_keyed_rows.specs.Values.{version}
+use Rattle.hh_sqlstore.specs.Contents.{content_of, registered_of}
+use Rattle.hh_sqlstore.specs.Holds.{Holds}
+
+unshut : (is_open is_clean : Bool) → (is_clean ≡ false → is_open ≡ false) → IsTrue is_open → doubt is_clean ≡ 0
+unfolding doubt
+unshut is_open true shut stands = refl
+unshut true false shut stands = absurd (let e = shut refl in cc)
+unshut false false shut stands = absurd (let e : ◌≡◌ {A = Bool} false true = stands in cc)
+
+-- the disk of an open connection has returned what was written
+pub clean_while_open : {S : Type 0} (g : Ghosts S) (h : Held S) → ((s : S) → (g.view s).is_clean ≡ false → (g.view s).is_open ≡ false) → IsTrue (state g h).is_open → HasCleanDisk (state g h)
+clean_while_open g h shut stands = unshut _ _ (shut h.store) stands
+
+same_registered : (a b : Registered) → a.parties ≡ b.parties → a.units ≡ b.units → a.references ≡ b.references → a.meters ≡ b.meters → a.prices ≡ b.prices → a.contracts ≡ b.contracts → a.reallocations ≡ b.reallocations → a ≡ b
+same_registered a b p u f m s c r =
+    let e : ◌≡◌ {A = Registered} (record { parties = a.parties; units = a.units; references = a.references; meters = a.meters; prices = a.prices; contracts = a.contracts; reallocations = a.reallocations }) b = rw (p, u, f, m, s, c, r) in e
+
+same_content : (a b : Content) → a.settings ≡ b.settings → a.registered ≡ b.registered → a.files ≡ b.files → a.runs ≡ b.runs → a.results ≡ b.results → a.credits ≡ b.credits → a.postings ≡ b.postings → a ≡ b
+same_content a b s g f r t c p =
+    let e : ◌≡◌ {A = Content} (record { settings = a.settings; registered = a.registered; files = a.files; runs = a.runs; results = a.results; credits = a.credits; postings = a.postings }) b = rw (s, g, f, r, t, c, p) in e
+
+module _ (content : Content) (db : Database) (holds : Holds version content db) where
+  pub content_is : content ≡ content_of content.settings db.trees
+  content_is =
+      let alike = holds.alike in
+      let registered = same_registered content.registered (registered_of db.trees) alike.parties alike.units alike.references alike.meters holds.prices alike.contracts alike.reallocations in
+      same_content content (content_of content.settings db.trees) refl registered alike.files alike.runs alike.results alike.credits alike.postings
+
+  -- it holds the content that it has with the settings that stand in it
+  pub holds_its_own : Holds version (content_of content.settings db.trees) db
+  holds_its_own = record {
+    of_version = refl;
+    is_office = holds.is_office;
+    settings = holds.settings;
+    prices = refl;
+    alike = record { parties = refl; units = refl; references = refl; meters = refl; contracts = refl; reallocations = refl; files = refl; runs = refl; results = refl; credits = refl; postings = refl };
+  }

@@ -1,0 +1,81 @@
+-- The tables of an office that was just made hold nothing but its settings, and that no positions are kept.
+use Rattle.std.proofs.Common.{◌≡◌, ◌≢◌, ◌∙◌, ℕ, List, [], ◌∷◌, true, false, map, Some, refl, sym, ap, subst, arith}
+use Rattle.std.specs.List.{AllByRecursion}
+use Rattle.std.specs.FinMap.{find, put}
+use Rattle.sqlite_schema.specs.declared.schema.Schema.{Schema}
+use Rattle.sqlite_schema.specs.declared.schema.Table.{Table}
+use Rattle.sqlite_trees.specs.declared.store.Store.{Ghosts}
+use Rattle.sqlite_trees.specs.Tree.{Trees}
+use Rattle.sqlite.specs.Effect.{Database, IsDatabase}
+use Rattle.sqlite.specs.Held.{Held, state}
+use Rattle.sqlite.specs.State.{HasCleanDisk, State, Survives}
+use Rattle.sqlite.proofs.Callers.{survives_begin}
+use Rattle.sqlite.proofs.StateLemmas.{survives_then}
+use Rattle.hh_rows.specs.declared.settings.Settings.{Settings}
+use Rattle.hh_keyed_rows.specs.KeyedRows.{entry_of, table_in}
+use Rattle.hh_sqlrows.specs.Forms.{Form, Puts, rows_of}
+use Rattle.hh_sqlrows.specs.Making.{AreEmpty, IsMadeUpTo, nothing}
+use Rattle.hh_sqlrows.specs.Office.{IsEmptyOffice}
+use Rattle.hh_sqlrows.specs.OfficeSchema.{office}
+use Rattle.hh_sqlrows.specs.OfficeTables.{contracts, credits, files, marks, meters, one_row_cmp, parties, postings, prices, reallocations, references, results, runs, settings, units}
+use Rattle.hh_sqlstore.specs.Contents.{result_of}
+use Rattle.hh_sqlstore.specs.Holds.{IsNewOffice}
+
+-- no table is made where there is nothing
+pub none_made : (db : Database) → db.schema ≡ nothing → IsDatabase db → IsMadeUpTo 0 db
+none_made db is sound = record { schema = is; sound = sound; empty = subst (λ (s : Schema). AreEmpty s.tables db.trees) (sym is) tt }
+
+-- making an office, a crash leaves the database as it was, or the one that the commit brings
+pub survives_making : {S : Type 0} (g : Ghosts S) (kept : Settings) (old : Held S) (mid new : State) → Survives (state g (record old { in_transaction = true })) mid (λ _. ⊥) → (HasCleanDisk mid → IsNewOffice kept mid.now) → Survives mid new (λ trees. trees ≡ mid.now.trees)
+    → Survives (state g old) new (λ trees. (db : Database) × IsNewOffice kept db × (trees ≡ db.trees))
+survives_making g kept old mid new inside made last =
+    survives_then (state g old) mid new _ _ _ (λ _ db none. absurd none) (λ clean db same. (mid.now, made (omega (arith, last.clean, clean)), same)) (survives_begin g old mid _ inside) last
+
+-- a table without rows is empty
+no_rows : {K V : Type 0} (form : Form K V) (trees : Trees) → trees form.table.tree ≡ [] → rows_of form trees ≡ []
+no_rows form trees none = ap (λ rows. table_in form.order (entry_of form.key form.value) rows) none
+
+-- a tree that neither of two changes writes stays empty
+still_empty : (one other : ℕ) (tables : List Table) (first second last : Trees) → AllByRecursion (λ t. t.tree ≢ one → second t.tree ≡ first t.tree) tables → AllByRecursion (λ t. t.tree ≢ other → last t.tree ≡ second t.tree) tables → AreEmpty tables first → AllByRecursion (λ t. t.tree ≢ one → t.tree ≢ other → last t.tree ≡ []) tables
+still_empty one other [] first second last kept kept_too none = tt
+still_empty one other (t ∷ tables) first second last kept kept_too none =
+    ((λ a b. kept_too.0 b ∙ kept.0 a ∙ none.0), still_empty one other tables first second last kept.1 kept_too.1 none.1)
+
+module _ (kept : Settings) (first second last : Database) (empty : IsEmptyOffice first) (set : Puts settings (record {}) kept first second) (marked : Puts marks (record {}) false second last) where
+  all_still : AllByRecursion (λ t. t.tree ≢ 0 → t.tree ≢ 30 → last.trees t.tree ≡ []) office.tables
+  all_still = still_empty 0 30 office.tables first.trees second.trees last.trees set.others marked.others empty.empty
+
+  settings_stand : find one_row_cmp (record {}) (rows_of settings last.trees) ≡ Some kept
+  settings_stand =
+      let same : rows_of settings last.trees ≡ rows_of settings second.trees = ap (λ rows. table_in settings.order (entry_of settings.key settings.value) rows) (marked.others.0 (λ e. omega (arith, e))) in
+      ap (find one_row_cmp (record {})) (same ∙ set.rows ∙ ap (put one_row_cmp (record {}) kept) (no_rows settings first.trees empty.empty.0))
+
+  mark_stands : find one_row_cmp (record {}) (rows_of marks last.trees) ≡ Some false
+  mark_stands =
+      let none = set.others.1.1.1.1.1.1.1.1.1.1.1.1.1.1.1.0 (λ e. omega (arith, e)) ∙ empty.empty.1.1.1.1.1.1.1.1.1.1.1.1.1.1.1.0 in
+      ap (find one_row_cmp (record {})) (marked.rows ∙ ap (put one_row_cmp (record {}) false) (no_rows marks second.trees none))
+
+  pub new_office : IsNewOffice kept last
+  new_office = record {
+    holds = record {
+      of_version = refl;
+      is_office = marked.is_office;
+      settings = settings_stand;
+      prices = sym (no_rows prices last.trees (all_still.1.1.1.1.0 (λ e. omega (arith, e)) (λ e. omega (arith, e))));
+      alike = record {
+        parties = sym (no_rows parties last.trees (all_still.1.0 (λ e. omega (arith, e)) (λ e. omega (arith, e))));
+        units = sym (no_rows units last.trees (all_still.1.1.0 (λ e. omega (arith, e)) (λ e. omega (arith, e))));
+        references = sym (no_rows references last.trees (all_still.1.1.1.1.1.0 (λ e. omega (arith, e)) (λ e. omega (arith, e))));
+        meters = sym (no_rows meters last.trees (all_still.1.1.1.0 (λ e. omega (arith, e)) (λ e. omega (arith, e))));
+        contracts = sym (no_rows contracts last.trees (all_still.1.1.1.1.1.1.0 (λ e. omega (arith, e)) (λ e. omega (arith, e))));
+        reallocations = sym (no_rows reallocations last.trees (all_still.1.1.1.1.1.1.1.0 (λ e. omega (arith, e)) (λ e. omega (arith, e))));
+        files = sym (no_rows files last.trees (all_still.1.1.1.1.1.1.1.1.0 (λ e. omega (arith, e)) (λ e. omega (arith, e))));
+        runs = sym (no_rows runs last.trees (all_still.1.1.1.1.1.1.1.1.1.0 (λ e. omega (arith, e)) (λ e. omega (arith, e))));
+        results = ap (map result_of) (sym (no_rows results last.trees (all_still.1.1.1.1.1.1.1.1.1.1.0 (λ e. omega (arith, e)) (λ e. omega (arith, e)))));
+        credits = sym (no_rows credits last.trees (all_still.1.1.1.1.1.1.1.1.1.1.1.0 (λ e. omega (arith, e)) (λ e. omega (arith, e))));
+        postings = sym (no_rows postings last.trees (all_still.1.1.1.1.1.1.1.1.1.1.1.1.0 (λ e. omega (arith, e)) (λ e. omega (arith, e))));
+      };
+    };
+    mark = mark_stands;
+    beside = (all_still.1.1.1.1.1.1.1.1.1.1.1.1.1.0 (λ e. omega (arith, e)) (λ e. omega (arith, e)), (all_still.1.1.1.1.1.1.1.1.1.1.1.1.1.1.0 (λ e. omega (arith, e)) (λ e. omega (arith, e)), tt));
+  }

@@ -1,0 +1,5 @@
+pub mod Contents
+pub mod Holds
+pub mod Making
+pub mod Stores
+pub mod steps

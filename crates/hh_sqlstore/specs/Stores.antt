@@ -1,0 +1,32 @@
+-- The tables of an office in a database: a connection, and the settings that stand there.
+use Rattle.std.specs.Prelude.{◌≡◌, ℕ, false, List, IsTrue, refl}
+use Rattle.std.specs.Coded.{Coded, code_by, coded×, coded_ℕ, coded_list}
+use Rattle.sqlite_trees.specs.declared.store.Store.{Ghosts}
+use Rattle.sqlite.specs.Held.{Held, held_code, state}
+use Rattle.hh_rows.specs.declared.settings.Settings.{Settings}
+use Rattle.hh_states.specs.Content.{Content}
+use Rattle.hh_keyed_rows.specs.Values.{version}
+use Rattle.hh_sqlstore.specs.Contents.{content_of}
+use Rattle.hh_sqlstore.specs.Holds.{Holds}
+
+pub record Stored (S : Type 0) : Type 0 where
+  pub connection : Held S
+  pub settings : Settings
+
+abbrev pub stored_code : {S : Type 0} → Coded S → Coded (Stored S)
+stored_code {S} store =
+    code_by (Held S × (ℕ × List ℕ)) (coded× (held_code store) (coded× coded_ℕ (coded_list coded_ℕ)))
+    (λ t. (t.connection, (t.settings.lead_minutes, t.settings.operator_key)))
+    (λ p. record { connection = p.0; settings = record { lead_minutes = p.1.0; operator_key = p.1.1 } })
+    (λ _. refl)
+
+module _ {S : Type 0} (g : Ghosts S) (t : Stored S) where
+  -- what the last commit left
+  abbrev pub content_in : Content
+  content_in = content_of t.settings (state g t.connection).committed.trees
+
+  -- No transaction is under way, and while they stand, what there is now is what was committed, and it holds their content.
+  pub record IsIdle : Type 0 where
+    pub autocommit : t.connection.in_transaction ≡ false
+    pub settled : IsTrue (state g t.connection).is_open → (state g t.connection).now ≡ (state g t.connection).committed
+    pub holds : IsTrue (state g t.connection).is_open → Holds version content_in (state g t.connection).committed

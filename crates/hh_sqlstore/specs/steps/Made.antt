@@ -1,0 +1,11 @@
+-- An office that was just made, in the state of its connection.
+use Rattle.std.specs.Prelude.{◌≡◌, IsTrue}
+use Rattle.sqlite.specs.State.{State}
+use Rattle.hh_rows.specs.declared.settings.Settings.{Settings}
+use Rattle.hh_sqlstore.specs.Holds.{IsNewOffice}
+
+-- an office was just made and committed, and its connection is open
+pub record IsMadeIn (kept : Settings) (s : State) : Type 0 where
+  pub is_open : IsTrue s.is_open
+  pub settled : s.now ≡ s.committed
+  pub is_new : IsNewOffice kept s.committed

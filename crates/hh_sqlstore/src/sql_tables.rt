@@ -1,0 +1,92 @@
+//! The tables of an office, kept in a database.
+
+ghost use Rattle.std.specs.Prelude.{◌≡◌, ◌≢◌, Err, IfErr, IfOk, IsTrue, MatchResult};
+ghost use Rattle.sqlite.specs.Held.{state};
+ghost use Rattle.sqlite.specs.State.{HasCleanDisk};
+ghost use Rattle.hh_time.specs.Days.{Midnights};
+ghost use Rattle.hh_states.specs.Content.{empty_content, tables_of};
+ghost use Rattle.hh_states.specs.States.{empty_state};
+ghost use Rattle.hh_sqlrows.specs.Making.{nothing};
+ghost use Rattle.hh_store.specs.declared.store_fault.StoreFault.TheVariants.{Store};
+ghost use Rattle.hh_sqlstore.specs.Holds.{IsNewOffice};
+ghost use Rattle.hh_sqlstore.specs.Making.{IsUndone, MayMake};
+ghost use Rattle.hh_sqlstore.specs.Stores.{content_in};
+
+use crate::making::make_office;
+use hh_rows::Settings;
+use hh_store::StoreFault;
+use sqlite::{Alter, Connection};
+use std::alloc::Global;
+use std::marker::Model;
+
+/// The tables of an office, kept in a database of SQL.
+pub struct SqlTables<S: Alter> {
+    alloc: Global,
+    connection: Connection<S>,
+    settings: Settings,
+}
+
+impl<S: Alter> Model for SqlTables<S> {
+    ghost use Rattle.hh_sqlstore.specs.Stores.{IsIdle, Stored, stored_code};
+
+    ghost Value = { Stored S };
+
+    ghost coded = { stored_code S.code };
+
+    ghost view = { λ t. record { connection = t.connection; settings = t.settings } };
+
+    ghost invariant = { λ t. IsIdle S.Store (record { connection = t.connection; settings = t.settings }) };
+}
+
+impl<S: Alter> SqlTables<S> {
+    /// Makes the tables of an office with these settings, in which nothing has been accepted, in a database
+    /// that has none. That is one transaction.
+    ///
+    /// # Errors
+    ///
+    /// `Memory` where memory was refused, `Store` where the database has a table or refuses for another
+    /// cause. The connection comes back, and what it had stays.
+    pub fn create(
+        alloc: Global,
+        mut connection: Connection<S>,
+        settings: Settings,
+    ) -> Result<SqlTables<S>, (StoreFault, Connection<S>)>
+        ensures open { IfOk result (λ tables. HasCleanDisk (state S.Store tables.connection)
+            → IsTrue (state S.Store tables.connection).is_open) }
+        ensures is_new { IfOk result (λ tables. IsTrue (state S.Store tables.connection).is_open
+            → IsNewOffice settings (state S.Store tables.connection).committed) }
+        ensures empty { IfOk result (λ tables. IsTrue (state S.Store tables.connection).is_open
+            → content_in S.Store tables ≡ empty_content settings) }
+        ensures stands { IfOk result (λ tables. IsTrue (state S.Store tables.connection).is_open
+            → (midnight : Midnights)
+            → content_in S.Store tables ≡ tables_of midnight (empty_state settings)) }
+        ensures undone { IfErr result (λ e.
+            IsUndone (state S.Store connection) (state S.Store e.1)) }
+        ensures foreign { (state S.Store connection).now.schema ≢ nothing
+            → MatchResult result (λ _. ⊥) (λ e. e.0 ≡ Store) }
+        ensures crash { MatchResult result
+            (λ tables. MayMake settings (state S.Store connection) (state S.Store tables.connection))
+            (λ e. MayMake settings (state S.Store connection) (state S.Store e.1)) }
+    {
+        match make_office(&mut connection, alloc, &settings) {
+            Ok(()) => Ok(SqlTables {
+                alloc,
+                connection,
+                settings,
+            }),
+            Err(fault) => Err((fault, connection)),
+        }
+    }
+
+    /// The connection, which may be closed then.
+    pub fn into_connection(self) -> Connection<S>
+        ensures { result ≡ self.connection }
+    {
+        let SqlTables {
+            alloc: _,
+            connection,
+            settings: _,
+        } = self;
+        connection
+    }
+}
