@@ -12,12 +12,12 @@ use Rattle.sqlite.specs.State.{HasCleanDisk, State, Survives}
 use Rattle.sqlite.proofs.Callers.{survives_begin}
 use Rattle.sqlite.proofs.StateLemmas.{survives_then}
 use Rattle.hh_rows.specs.declared.settings.Settings.{Settings}
-use Rattle.hh_keyed_rows.specs.KeyedRows.{entry_of, table_in}
-use Rattle.hh_sqlrows.specs.Forms.{Form, Puts, rows_of}
+use Rattle.hh_keyed_rows.specs.KeyedRows.{stored_entry, table_in}
+use Rattle.hh_sqlrows.specs.Forms.{TableForm, Puts, rows_under_keys}
 use Rattle.hh_sqlrows.specs.Making.{AreEmpty, IsMadeUpTo, nothing}
 use Rattle.hh_sqlrows.specs.Office.{IsEmptyOffice}
 use Rattle.hh_sqlrows.specs.OfficeSchema.{office}
-use Rattle.hh_sqlrows.specs.OfficeTables.{contracts, credits, files, marks, meters, one_row_cmp, parties, postings, prices, reallocations, references, results, runs, settings, units}
+use Rattle.hh_sqlrows.specs.OfficeTables.{contracts, credits, files, marks, meters, one_row_cmp, parties, period_prices, postings, reallocations, references, results, runs, settings, units}
 use Rattle.hh_sqlstore.specs.Contents.{result_of}
 use Rattle.hh_sqlstore.specs.Holds.{IsNewOffice}
 
@@ -32,8 +32,8 @@ survives_making g kept old mid new inside made last =
     survives_then (state g old) mid new _ _ _ (λ _ db none. absurd none) (λ clean db same. (mid.now, made (omega (arith, last.clean, clean)), same)) (survives_begin g old mid _ inside) last
 
 -- a table without rows is empty
-no_rows : {K V : Type 0} (form : Form K V) (trees : Trees) → trees form.table.tree ≡ [] → rows_of form trees ≡ []
-no_rows form trees none = ap (λ rows. table_in form.order (entry_of form.key form.value) rows) none
+no_rows : {K V : Type 0} (form : TableForm K V) (trees : Trees) → trees form.table.tree ≡ [] → rows_under_keys form trees ≡ []
+no_rows form trees none = ap (λ rows. table_in form.order (stored_entry form.key form.value) rows) none
 
 -- a tree that neither of two changes writes stays empty
 still_empty : (one other : ℕ) (tables : List Table) (first second last : Trees) → AllByRecursion (λ t. t.tree ≢ one → second t.tree ≡ first t.tree) tables → AllByRecursion (λ t. t.tree ≢ other → last t.tree ≡ second t.tree) tables → AreEmpty tables first → AllByRecursion (λ t. t.tree ≢ one → t.tree ≢ other → last t.tree ≡ []) tables
@@ -45,12 +45,12 @@ module _ (kept : Settings) (first second last : Database) (empty : IsEmptyOffice
   all_still : AllByRecursion (λ t. t.tree ≢ 0 → t.tree ≢ 30 → last.trees t.tree ≡ []) office.tables
   all_still = still_empty 0 30 office.tables first.trees second.trees last.trees set.others marked.others empty.empty
 
-  settings_stand : find one_row_cmp (record {}) (rows_of settings last.trees) ≡ Some kept
+  settings_stand : find one_row_cmp (record {}) (rows_under_keys settings last.trees) ≡ Some kept
   settings_stand =
-      let same : rows_of settings last.trees ≡ rows_of settings second.trees = ap (λ rows. table_in settings.order (entry_of settings.key settings.value) rows) (marked.others.0 (λ e. omega (arith, e))) in
+      let same : rows_under_keys settings last.trees ≡ rows_under_keys settings second.trees = ap (λ rows. table_in settings.order (stored_entry settings.key settings.value) rows) (marked.others.0 (λ e. omega (arith, e))) in
       ap (find one_row_cmp (record {})) (same ∙ set.rows ∙ ap (put one_row_cmp (record {}) kept) (no_rows settings first.trees empty.empty.0))
 
-  mark_stands : find one_row_cmp (record {}) (rows_of marks last.trees) ≡ Some false
+  mark_stands : find one_row_cmp (record {}) (rows_under_keys marks last.trees) ≡ Some false
   mark_stands =
       let none = set.others.1.1.1.1.1.1.1.1.1.1.1.1.1.1.1.0 (λ e. omega (arith, e)) ∙ empty.empty.1.1.1.1.1.1.1.1.1.1.1.1.1.1.1.0 in
       ap (find one_row_cmp (record {})) (marked.rows ∙ ap (put one_row_cmp (record {}) false) (no_rows marks second.trees none))
@@ -61,7 +61,7 @@ module _ (kept : Settings) (first second last : Database) (empty : IsEmptyOffice
       of_version = refl;
       is_office = marked.is_office;
       settings = settings_stand;
-      prices = sym (no_rows prices last.trees (all_still.1.1.1.1.0 (λ e. omega (arith, e)) (λ e. omega (arith, e))));
+      prices = sym (no_rows period_prices last.trees (all_still.1.1.1.1.0 (λ e. omega (arith, e)) (λ e. omega (arith, e))));
       alike = record {
         parties = sym (no_rows parties last.trees (all_still.1.0 (λ e. omega (arith, e)) (λ e. omega (arith, e))));
         units = sym (no_rows units last.trees (all_still.1.1.0 (λ e. omega (arith, e)) (λ e. omega (arith, e))));

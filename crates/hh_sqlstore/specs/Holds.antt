@@ -6,30 +6,30 @@ use Rattle.sqlite.specs.Effect.{Database}
 use Rattle.hh_rows.specs.declared.settings.Settings.{Settings}
 use Rattle.hh_states.specs.Content.{Content, empty_content}
 use Rattle.hh_keyed_rows.specs.Values.{version}
-use Rattle.hh_sqlrows.specs.Forms.{rows_of}
+use Rattle.hh_sqlrows.specs.Forms.{rows_under_keys}
 use Rattle.hh_sqlrows.specs.Making.{AreEmpty}
 use Rattle.hh_sqlrows.specs.Office.{IsOffice}
 use Rattle.hh_sqlrows.specs.OfficeSchema.{positions_table, touched_table}
-use Rattle.hh_sqlrows.specs.OfficeTables.{contracts, credits, files, marks, meters, one_row_cmp, parties, postings, prices, reallocations, references, results, runs, settings, units}
+use Rattle.hh_sqlrows.specs.OfficeTables.{contracts, credits, files, marks, meters, one_row_cmp, parties, period_prices, postings, reallocations, references, results, runs, settings, units}
 use Rattle.hh_sqlstore.specs.Contents.{result_of}
 
 -- the settings stand in their table
 abbrev pub HasSettings : Settings → Trees → Type 0
-HasSettings kept trees = find one_row_cmp (record {}) (rows_of settings trees) ≡ Some kept
+HasSettings kept trees = find one_row_cmp (record {}) (rows_under_keys settings trees) ≡ Some kept
 
 -- The tables that are alike in all versions hold the content.
 pub record HoldsAlike (content : Content) (trees : Trees) : Type 0 where
-  pub parties : content.registered.parties ≡ rows_of parties trees
-  pub units : content.registered.units ≡ rows_of units trees
-  pub references : content.registered.references ≡ rows_of references trees
-  pub meters : content.registered.meters ≡ rows_of meters trees
-  pub contracts : content.registered.contracts ≡ rows_of contracts trees
-  pub reallocations : content.registered.reallocations ≡ rows_of reallocations trees
-  pub files : content.files ≡ rows_of files trees
-  pub runs : content.runs ≡ rows_of runs trees
-  pub results : content.results ≡ map result_of (rows_of results trees)
-  pub credits : content.credits ≡ rows_of credits trees
-  pub postings : content.postings ≡ rows_of postings trees
+  pub parties : content.registered.parties ≡ rows_under_keys parties trees
+  pub units : content.registered.units ≡ rows_under_keys units trees
+  pub references : content.registered.references ≡ rows_under_keys references trees
+  pub meters : content.registered.meters ≡ rows_under_keys meters trees
+  pub contracts : content.registered.contracts ≡ rows_under_keys contracts trees
+  pub reallocations : content.registered.reallocations ≡ rows_under_keys reallocations trees
+  pub files : content.files ≡ rows_under_keys files trees
+  pub runs : content.runs ≡ rows_under_keys runs trees
+  pub results : content.results ≡ map result_of (rows_under_keys results trees)
+  pub credits : content.credits ≡ rows_under_keys credits trees
+  pub postings : content.postings ≡ rows_under_keys postings trees
 
 -- The tables of this version hold the content. There is one version so far: versions may differ in their tables, in the
 -- row of the settings, which names the version, and in how prices are kept.
@@ -37,11 +37,11 @@ pub record Holds (number : ℕ) (content : Content) (db : Database) : Type 0 whe
   pub of_version : number ≡ version
   pub is_office : IsOffice db
   pub settings : HasSettings content.settings db.trees
-  pub prices : content.registered.prices ≡ rows_of prices db.trees
+  pub prices : content.registered.prices ≡ rows_under_keys period_prices db.trees
   pub alike : HoldsAlike content db.trees
 
 -- The database was just made: nothing has been accepted, no positions are kept, and no Settlement Period was touched.
 pub record IsNewOffice (kept : Settings) (db : Database) : Type 0 where
   pub holds : Holds version (empty_content kept) db
-  pub mark : find one_row_cmp (record {}) (rows_of marks db.trees) ≡ Some false
+  pub mark : find one_row_cmp (record {}) (rows_under_keys marks db.trees) ≡ Some false
   pub beside : AreEmpty (positions_table ∷ touched_table ∷ []) db.trees
