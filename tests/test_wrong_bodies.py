@@ -24,6 +24,7 @@ OFFERED = {
     "to_columns", "from_columns", "read_entry", "read_entries", "ends",
     "make_tables", "replace_meter", "replace_price", "insert_result", "select_first", "select_meter", "select_meters_on",
     "select_contracts_on", "select_reference", "select_postings_to", "make_office", "write_new_office",
+    "settings_of_office", "has_office", "is_office", "is_column", "is_meters",
 }
 # What the language calls without naming it.
 UNNAMED = {"main", "fmt", "cmp", "partial_cmp", "eq", "from", "next", "clone", "drop", "default"}

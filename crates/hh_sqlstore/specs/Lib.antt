@@ -1,5 +1,7 @@
 pub mod Contents
 pub mod Holds
+pub mod Leaving
 pub mod Making
+pub mod RiseLaws
 pub mod Stores
 pub mod steps

@@ -1,13 +1,8 @@
 -- What the making of an office's database leaves.
 use Rattle.std.specs.Prelude.{◌≡◌, IsTrue}
-use Rattle.sqlite.specs.State.{HasCleanDisk, State, Survives}
+use Rattle.sqlite.specs.State.{State, Survives}
 use Rattle.hh_rows.specs.declared.settings.Settings.{Settings}
 use Rattle.hh_sqlstore.specs.Holds.{IsNewOffice}
-
--- a connection that is open afterwards was so before, and has what it had, where the disk has returned what was written
-abbrev pub IsUndone : State → State → Type 0
-IsUndone old new =
-    HasCleanDisk new → IsTrue new.is_open → IsTrue old.is_open × (new.now ≡ old.now) × (new.committed ≡ old.committed)
 
 -- a crash leaves what it would have left of the open connection before, or the office that was made
 abbrev pub MayMake : Settings → State → State → Type 0

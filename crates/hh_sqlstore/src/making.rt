@@ -7,8 +7,8 @@ ghost use Rattle.hh_sqlrows.specs.Making.{IsMadeUpTo, nothing};
 ghost use Rattle.hh_sqlrows.specs.Statements.{CommitsNothing, Inside, KeepsCommit, StaysInside};
 ghost use Rattle.hh_store.specs.declared.store_fault.StoreFault.TheVariants.{Store};
 ghost use Rattle.hh_sqlstore.specs.Holds.{IsNewOffice};
-ghost use Rattle.hh_sqlstore.specs.Making.{IsUndone, MayMake};
-ghost use Rattle.hh_sqlstore.specs.steps.Made.{IsMadeIn};
+ghost use Rattle.hh_sqlstore.specs.Making.{MayMake};
+ghost use Rattle.hh_sqlstore.specs.steps.Made.{IsMadeIn, IsUndone};
 
 use crate::faults::{of_rows, of_statement};
 use crate::schema::is_nothing;

@@ -4,15 +4,20 @@ ghost use Rattle.std.specs.Prelude.{◌≡◌, ◌≢◌, Err, IfErr, IfOk, IsTr
 ghost use Rattle.sqlite.specs.Held.{state};
 ghost use Rattle.sqlite.specs.State.{HasCleanDisk};
 ghost use Rattle.hh_time.specs.Days.{Midnights};
-ghost use Rattle.hh_states.specs.Content.{empty_content, tables_of};
+ghost use Rattle.hh_states.specs.Content.{Content, empty_content, tables_of};
 ghost use Rattle.hh_states.specs.States.{empty_state};
+ghost use Rattle.hh_keyed_rows.specs.Values.{version};
 ghost use Rattle.hh_sqlrows.specs.Making.{nothing};
+ghost use Rattle.hh_sqlrows.specs.OfficeSchema.{office};
 ghost use Rattle.hh_store.specs.declared.store_fault.StoreFault.TheVariants.{Store};
-ghost use Rattle.hh_sqlstore.specs.Holds.{IsNewOffice};
-ghost use Rattle.hh_sqlstore.specs.Making.{IsUndone, MayMake};
+ghost use Rattle.hh_sqlstore.specs.Holds.{Holds, IsNewOffice};
+ghost use Rattle.hh_sqlstore.specs.Leaving.{AddsNothing, LeavesDatabase};
+ghost use Rattle.hh_sqlstore.specs.Making.{MayMake};
 ghost use Rattle.hh_sqlstore.specs.Stores.{content_in};
 
+use crate::adopting::settings_of_office;
 use crate::making::make_office;
+use crate::rising::Rising;
 use hh_rows::Settings;
 use hh_store::StoreFault;
 use sqlite::{Alter, Connection};
@@ -61,7 +66,7 @@ impl<S: Alter> SqlTables<S> {
             → (midnight : Midnights)
             → content_in S.Store tables ≡ tables_of midnight (empty_state settings)) }
         ensures undone { IfErr result (λ e.
-            IsUndone (state S.Store connection) (state S.Store e.1)) }
+            LeavesDatabase (state S.Store connection) (state S.Store e.1)) }
         ensures foreign { (state S.Store connection).now.schema ≢ nothing
             → MatchResult result (λ _. ⊥) (λ e. e.0 ≡ Store) }
         ensures crash { MatchResult result
@@ -88,5 +93,44 @@ impl<S: Alter> SqlTables<S> {
             settings: _,
         } = self;
         connection
+    }
+}
+
+impl<S: Rising> SqlTables<S> {
+    /// The tables of the office whose database this is. What it holds stays.
+    ///
+    /// # Errors
+    ///
+    /// `Memory` where memory was refused, `Store` where a transaction is under way, where the database
+    /// has other tables than an office, tables of another version or settings off their grammar, or where
+    /// it refuses for another cause. The connection comes back.
+    pub fn adopt(
+        alloc: Global,
+        mut connection: Connection<S>,
+    ) -> Result<SqlTables<S>, (StoreFault, Connection<S>)>
+        ensures open { IfOk result (λ tables. HasCleanDisk (state S.Store tables.connection)
+            → IsTrue (state S.Store tables.connection).is_open) }
+        ensures holds { IfOk result (λ tables. IsTrue (state S.Store tables.connection).is_open
+            → Holds version (content_in S.Store tables) (state S.Store connection).committed) }
+        ensures content { (content : Content) → Holds version content (state S.Store connection).committed
+            → IfOk result (λ tables. IsTrue (state S.Store tables.connection).is_open
+            → content_in S.Store tables ≡ content) }
+        ensures left { MatchResult result
+            (λ tables. LeavesDatabase (state S.Store connection) (state S.Store tables.connection))
+            (λ e. LeavesDatabase (state S.Store connection) (state S.Store e.1)) }
+        ensures crash { MatchResult result
+            (λ tables. AddsNothing (state S.Store connection) (state S.Store tables.connection))
+            (λ e. AddsNothing (state S.Store connection) (state S.Store e.1)) }
+        ensures foreign { (state S.Store connection).now.schema ≢ office
+            → MatchResult result (λ _. ⊥) (λ e. e.0 ≡ Store) }
+    {
+        match settings_of_office(&mut connection, alloc) {
+            Ok(settings) => Ok(SqlTables {
+                alloc,
+                connection,
+                settings,
+            }),
+            Err(fault) => Err((fault, connection)),
+        }
     }
 }

@@ -1,6 +1,6 @@
--- An office that was just made, in the state of its connection.
+-- An office that was just made, or not, in the state of its connection.
 use Rattle.std.specs.Prelude.{◌≡◌, IsTrue}
-use Rattle.sqlite.specs.State.{State}
+use Rattle.sqlite.specs.State.{HasCleanDisk, State}
 use Rattle.hh_rows.specs.declared.settings.Settings.{Settings}
 use Rattle.hh_sqlstore.specs.Holds.{IsNewOffice}
 
@@ -9,3 +9,8 @@ pub record IsMadeIn (kept : Settings) (s : State) : Type 0 where
   pub is_open : IsTrue s.is_open
   pub settled : s.now ≡ s.committed
   pub is_new : IsNewOffice kept s.committed
+
+-- a connection that is open afterwards was so before, and has what it had, where the disk has returned what was written
+abbrev pub IsUndone : State → State → Type 0
+IsUndone old new =
+    HasCleanDisk new → IsTrue new.is_open → IsTrue old.is_open × (new.now ≡ old.now) × (new.committed ≡ old.committed)

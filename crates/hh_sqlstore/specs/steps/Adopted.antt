@@ -1,0 +1,12 @@
+-- An office's database that is taken over, in the state of its connection.
+use Rattle.std.specs.Prelude.{◌≡◌}
+use Rattle.sqlite.specs.State.{State}
+use Rattle.hh_rows.specs.declared.settings.Settings.{Settings}
+use Rattle.hh_sqlrows.specs.Office.{IsOffice}
+use Rattle.hh_sqlstore.specs.Holds.{HasSettings}
+
+-- what there is was committed, and is an office's that has these settings
+pub record IsAdoptedFrom (kept : Settings) (s : State) : Type 0 where
+  pub settled : s.now ≡ s.committed
+  pub is_office : IsOffice s.now
+  pub settings : HasSettings kept s.now.trees

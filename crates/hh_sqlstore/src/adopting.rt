@@ -1,0 +1,46 @@
+//! Taking over an office's database.
+
+ghost use Rattle.std.specs.Prelude.{◌≡◌, ◌≢◌, false, Err, IfOk, IsTrue, OnOk};
+ghost use Rattle.sqlite.specs.Held.{state};
+ghost use Rattle.hh_sqlrows.specs.OfficeSchema.{office};
+ghost use Rattle.hh_sqlrows.specs.Reads.{IsHonest, StaysOpen};
+ghost use Rattle.hh_store.specs.declared.store_fault.StoreFault.TheVariants.{Store};
+ghost use Rattle.hh_sqlstore.specs.Leaving.{AddsNothing, LeavesDatabase};
+ghost use Rattle.hh_sqlstore.specs.steps.Adopted.{IsAdoptedFrom};
+
+use crate::faults::of_rows;
+use crate::rising::{Rising, has_office};
+use hh_rows::Settings;
+use hh_sqlrows::select_settings;
+use hh_store::StoreFault;
+use sqlite::Connection;
+use std::alloc::Global;
+
+/// The settings of the office whose database this is.
+pub(crate) fn settings_of_office<S: Rising>(
+    connection: &mut Connection<S>,
+    alloc: Global,
+) -> Result<Settings, StoreFault>
+    ensures adopted { let old = state S.Store connection.old in
+        let new = state S.Store connection.new in
+        IsTrue new.is_open → IfOk result (λ settings. IsAdoptedFrom settings old) }
+    ensures left { let old = state S.Store connection.old in
+        let new = state S.Store connection.new in
+        LeavesDatabase old new }
+    ensures crash { let old = state S.Store connection.old in
+        let new = state S.Store connection.new in
+        AddsNothing old new }
+    ensures autocommit { OnOk result (connection.new.in_transaction ≡ false) }
+    ensures stays { StaysOpen (state S.Store connection.old) (state S.Store connection.new) result }
+    ensures honest { IsHonest (state S.Store connection.old) (state S.Store connection.new) }
+    ensures foreign { (state S.Store connection.old).now.schema ≢ office → result ≡ Err Store }
+{
+    if !has_office(connection) {
+        return Err(StoreFault::Store);
+    }
+    match select_settings(connection, alloc) {
+        Ok(Some(settings)) => Ok(settings),
+        Ok(None) => Err(StoreFault::Store),
+        Err(fault) => Err(of_rows(fault)),
+    }
+}
