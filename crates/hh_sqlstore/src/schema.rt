@@ -96,7 +96,8 @@ fn has_key(table: &Table, places: &[usize]) -> bool
     ensures primary { IsTrue result → table.now.primary ≡ places.now }
     ensures uniques { IsTrue result → table.now.uniques ≡ places.now ∷ [] }
     ensures orders { IsTrue result → table.now.orders ≡ record { digits = 0 } ∷ [] }
-    ensures known { table.now.primary ≡ places.now → table.now.uniques ≡ places.now ∷ [] → table.now.orders ≡ record { digits = 0 } ∷ [] → IsTrue result }
+    ensures known { table.now.primary ≡ places.now → table.now.uniques ≡ places.now ∷ []
+        → table.now.orders ≡ record { digits = 0 } ∷ [] → IsTrue result }
 {
     are(table.primary.as_slice(), places)
         && has_only_key(table.uniques.as_slice(), places)
@@ -109,9 +110,12 @@ fn is_plain(table: &Table) -> bool
     ensures checks { IsTrue result → table.now.checks ≡ [] }
     ensures references { IsTrue result → table.now.references ≡ [] }
     ensures computed { IsTrue result → table.now.computed ≡ [] }
-    ensures stamps { IsTrue result → table.now.stamps ≡ record { places = []; terms = []; formats = [] } }
+    ensures stamps { IsTrue result
+        → table.now.stamps ≡ record { places = []; terms = []; formats = [] } }
     ensures is_counted { IsTrue result → table.now.is_counted ≡ false }
-    ensures known { table.now.key ≡ None → table.now.checks ≡ [] → table.now.references ≡ [] → table.now.computed ≡ [] → table.now.stamps ≡ record { places = []; terms = []; formats = [] }
+    ensures known { table.now.key ≡ None → table.now.checks ≡ [] → table.now.references ≡ []
+        → table.now.computed ≡ []
+        → table.now.stamps ≡ record { places = []; terms = []; formats = [] }
         → table.now.is_counted ≡ false → IsTrue result }
 {
     table.key.is_none()
@@ -132,8 +136,8 @@ pub(crate) fn is_keyed(
 ) -> bool
     ensures only { IsTrue result
         → table.now ≡ keyed name.now tree (map (λ c. present c.0.now c.1) named.now) places.now }
-    ensures known { table.now ≡ keyed name.now tree (map (λ c. present c.0.now c.1) named.now) places.now
-        → IsTrue result }
+    ensures known { let columns = map (λ c. present c.0.now c.1) named.now in
+        table.now ≡ keyed name.now tree columns places.now → IsTrue result }
 {
     if !has_key(table, places) {
         return false;

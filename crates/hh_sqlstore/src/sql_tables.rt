@@ -112,7 +112,8 @@ impl<S: Rising> SqlTables<S> {
             → IsTrue (state S.Store tables.connection).is_open) }
         ensures holds { IfOk result (λ tables. IsTrue (state S.Store tables.connection).is_open
             → Holds version (content_in S.Store tables) (state S.Store connection).committed) }
-        ensures content { (content : Content) → Holds version content (state S.Store connection).committed
+        ensures content { (content : Content)
+            → Holds version content (state S.Store connection).committed
             → IfOk result (λ tables. IsTrue (state S.Store tables.connection).is_open
             → content_in S.Store tables ≡ content) }
         ensures left { MatchResult result
