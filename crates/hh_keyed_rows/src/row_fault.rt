@@ -1,8 +1,11 @@
 //! Why rows are not read.
 
 ghost use Rattle.std.specs.Prelude.{◌≡◌};
+ghost use Rattle.hh_keyed_rows.specs.RowFaults.{database_refused, rows_refused};
 ghost use Rattle.hh_keyed_rows.specs.declared.row_fault.RowFault.TheVariants.{Memory};
 
+use hh_store::StoreFault;
+use sqlite::{Error, ErrorCode};
 use std::alloc::{AllocError, AllocFailed};
 
 /// Why rows of a database are not read or written.
@@ -27,5 +30,29 @@ impl<T: Drop> From<AllocFailed<T>> for RowFault {
 
     fn from(_error: AllocFailed<T>) -> RowFault {
         RowFault::Memory
+    }
+}
+
+/// `Memory` where the database lacked memory, else `Store`.
+impl From<Error> for RowFault {
+    ghost from_gives = { λ error fault. fault ≡ database_refused error };
+
+    fn from(error: Error) -> RowFault {
+        match error {
+            Error::SqliteFailure(ErrorCode::OutOfMemory) => RowFault::Memory,
+            _ => RowFault::Store,
+        }
+    }
+}
+
+/// What a store answers where rows are not read or written.
+impl From<RowFault> for StoreFault {
+    ghost from_gives = { λ fault refused. refused ≡ rows_refused fault };
+
+    fn from(fault: RowFault) -> StoreFault {
+        match fault {
+            RowFault::Memory => StoreFault::Memory,
+            RowFault::Store => StoreFault::Store,
+        }
     }
 }

@@ -1,3 +1,4 @@
+pub mod Contents
 pub mod Forms
 pub mod Making
 pub mod Office

@@ -10,16 +10,8 @@ ghost use Rattle.hh_sqlrows.specs.steps.Answers.{IsFirst, IsPlainOf, IsRead};
 
 use hh_keyed_rows::{Columned, RowFault, columns_of, read_entries};
 use sqlite::types::ValueRef;
-use sqlite::{Alter, Connection, Error, ErrorCode, Transaction};
+use sqlite::{Alter, Connection, Transaction};
 use std::alloc::Global;
-
-/// Why the database refused.
-pub(crate) fn fault_of(error: Error) -> RowFault {
-    match error {
-        Error::SqliteFailure(ErrorCode::OutOfMemory) => RowFault::Memory,
-        _ => RowFault::Store,
-    }
-}
 
 /// Executes a text whose parameters are the columns of a key and of its value.
 pub(crate) fn write_entry<S: Alter, K: Columned, V: Columned>(
@@ -45,7 +37,7 @@ pub(crate) fn write_entry<S: Alter, K: Columned, V: Columned>(
     let columns = columns_of(alloc, key, value)?;
     match tx.execute(text, columns.as_slice()) {
         Ok(_) => Ok(()),
-        Err(error) => Err(fault_of(error)),
+        Err(error) => Err(RowFault::from(error)),
     }
 }
 
@@ -74,7 +66,7 @@ pub(crate) fn select_entries<S: Alter, K: Columned + Drop, V: Columned + Drop>(
 {
     match conn.query_all(text, params) {
         Ok(rows) => read_entries(alloc, rows.as_slice()),
-        Err(error) => Err(fault_of(error)),
+        Err(error) => Err(RowFault::from(error)),
     }
 }
 

@@ -8,7 +8,7 @@ use Rattle.sqlite.specs.State.{HasCleanDisk}
 use Rattle.hh_rules.specs.History.{Registered}
 use Rattle.hh_states.specs.Content.{Content}
 use Rattle.hh_keyed_rows.specs.Values.{version}
-use Rattle.hh_sqlstore.specs.Contents.{content_of, registered_of}
+use Rattle.hh_sqlrows.specs.Contents.{content_of, registered_of}
 use Rattle.hh_sqlstore.specs.Holds.{Holds}
 
 unshut : (is_open is_clean : Bool) → (is_clean ≡ false → is_open ≡ false) → IsTrue is_open → doubt is_clean ≡ 0

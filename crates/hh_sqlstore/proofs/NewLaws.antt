@@ -18,7 +18,7 @@ use Rattle.hh_sqlrows.specs.Making.{AreEmpty, IsMadeUpTo, nothing}
 use Rattle.hh_sqlrows.specs.Office.{IsEmptyOffice}
 use Rattle.hh_sqlrows.specs.OfficeSchema.{office}
 use Rattle.hh_sqlrows.specs.OfficeTables.{contracts, credits, files, marks, meters, one_row_cmp, parties, period_prices, postings, reallocations, references, results, runs, settings, units}
-use Rattle.hh_sqlstore.specs.Contents.{result_of}
+use Rattle.hh_sqlrows.specs.Contents.{result_of}
 use Rattle.hh_sqlstore.specs.Holds.{IsNewOffice}
 
 -- no table is made where there is nothing

@@ -11,7 +11,7 @@ use Rattle.hh_sqlrows.specs.Making.{AreEmpty}
 use Rattle.hh_sqlrows.specs.Office.{IsOffice}
 use Rattle.hh_sqlrows.specs.OfficeSchema.{positions_table, touched_table}
 use Rattle.hh_sqlrows.specs.OfficeTables.{contracts, credits, files, marks, meters, one_row_cmp, parties, period_prices, postings, reallocations, references, results, runs, settings, units}
-use Rattle.hh_sqlstore.specs.Contents.{result_of}
+use Rattle.hh_sqlrows.specs.Contents.{result_of}
 
 -- the settings stand in their table
 abbrev pub HasSettings : Settings → Trees → Type 0

@@ -1,4 +1,3 @@
-pub mod Contents
 pub mod Holds
 pub mod Leaving
 pub mod Making

@@ -6,7 +6,7 @@ use Rattle.sqlite.specs.Held.{Held, held_code, state}
 use Rattle.hh_rows.specs.declared.settings.Settings.{Settings}
 use Rattle.hh_states.specs.Content.{Content}
 use Rattle.hh_keyed_rows.specs.Values.{version}
-use Rattle.hh_sqlstore.specs.Contents.{content_of}
+use Rattle.hh_sqlrows.specs.Contents.{content_of}
 use Rattle.hh_sqlstore.specs.Holds.{Holds}
 
 pub record Stored (S : Type 0) : Type 0 where

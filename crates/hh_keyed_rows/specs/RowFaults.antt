@@ -1,0 +1,18 @@
+-- Why rows of a database are not read or written, by why the database refuses; and how a store tells it.
+use Rattle.sqlite.specs.declared.error.Error.{Error}
+use Rattle.sqlite.specs.declared.error.Error.TheVariants.{SqliteFailure}
+use Rattle.sqlite.specs.declared.error.ErrorCode.TheVariants as code
+use Rattle.hh_keyed_rows.specs.declared.row_fault.RowFault.{RowFault}
+use Rattle.hh_keyed_rows.specs.declared.row_fault.RowFault.TheVariants.{Memory, Store}
+use Rattle.hh_store.specs.declared.store_fault.StoreFault.{StoreFault}
+use Rattle.hh_store.specs.declared.store_fault.StoreFault.TheVariants as store
+
+-- the database's want of memory is want of memory, and all else is its refusal
+abbrev pub database_refused : Error → RowFault
+database_refused (SqliteFailure code.OutOfMemory) = Memory
+database_refused _ = Store
+
+-- the fault of the store
+abbrev pub rows_refused : RowFault → StoreFault
+rows_refused Memory = store.Memory
+rows_refused Store = store.Store

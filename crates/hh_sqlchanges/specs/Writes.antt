@@ -1,0 +1,26 @@
+-- What the writing of a load and of a run makes of an office's database.
+use Rattle.std.specs.Prelude.{◌≡◌, All}
+use Rattle.sqlite.specs.Effect.{Database}
+use Rattle.hh_rows.specs.declared.settings.Settings.{Settings}
+use Rattle.hh_states.specs.Changes.{LoadWrites, RunWrites, effect_of_load, effect_of_run}
+use Rattle.hh_sqlrows.specs.Contents.{content_of}
+use Rattle.hh_sqlrows.specs.Forms.{rows_under_keys}
+use Rattle.hh_sqlrows.specs.Office.{IsOffice}
+use Rattle.hh_sqlrows.specs.OfficeTables.{marks, settings}
+
+-- The database stays an office's with its settings and its mark.
+pub record StaysOffice (old new : Database) : Type 0 where
+  pub is_office : IsOffice new
+  pub settings : rows_under_keys settings new.trees ≡ rows_under_keys settings old.trees
+  pub mark : rows_under_keys marks new.trees ≡ rows_under_keys marks old.trees
+
+-- The load is written: the content is that after it.
+pub record WritesLoad (w : LoadWrites) (old new : Database) : Type 0 where
+  pub stays : StaysOffice old new
+  pub content : (kept : Settings) → content_of kept new.trees ≡ effect_of_load w (content_of kept old.trees)
+
+-- The run is written: the content is that after it, where each of its rows is of the account that its key names.
+pub record WritesRun (w : RunWrites) (old new : Database) : Type 0 where
+  pub stays : StaysOffice old new
+  pub content : All (λ e. e.1.account ≡ e.0.account) w.results
+      → (kept : Settings) → content_of kept new.trees ≡ effect_of_run w (content_of kept old.trees)

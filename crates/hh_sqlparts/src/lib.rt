@@ -1,0 +1,3 @@
+//! What is selected of what is registered and in force: the part that a Settlement Day is settled from, and
+//! the part that rows of a file are judged by.
+#![tactic(auto)]
