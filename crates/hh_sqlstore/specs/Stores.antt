@@ -1,4 +1,4 @@
--- The tables of an office in a database: a connection, and the settings that stand there.
+-- The tables of an office in a database: a connection, the settings that it holds, and how often it has refused.
 use Rattle.std.specs.Prelude.{◌≡◌, ℕ, false, List, IsTrue, refl}
 use Rattle.std.specs.Coded.{Coded, code_by, coded×, coded_ℕ, coded_list}
 use Rattle.sqlite_trees.specs.declared.store.Store.{Ghosts}
@@ -12,12 +12,13 @@ use Rattle.hh_sqlstore.specs.Holds.{Holds}
 pub record Stored (S : Type 0) : Type 0 where
   pub connection : Held S
   pub settings : Settings
+  pub refusals : ℕ
 
 abbrev pub stored_code : {S : Type 0} → Coded S → Coded (Stored S)
 stored_code {S} store =
-    code_by (Held S × (ℕ × List ℕ)) (coded× (held_code store) (coded× coded_ℕ (coded_list coded_ℕ)))
-    (λ t. (t.connection, (t.settings.lead_minutes, t.settings.operator_key)))
-    (λ p. record { connection = p.0; settings = record { lead_minutes = p.1.0; operator_key = p.1.1 } })
+    code_by (Held S × (ℕ × (ℕ × List ℕ))) (coded× (held_code store) (coded× coded_ℕ (coded× coded_ℕ (coded_list coded_ℕ))))
+    (λ t. (t.connection, (t.refusals, (t.settings.lead_minutes, t.settings.operator_key))))
+    (λ p. record { connection = p.0; settings = record { lead_minutes = p.1.1.0; operator_key = p.1.1.1 }; refusals = p.1.0 })
     (λ _. refl)
 
 module _ {S : Type 0} (g : Ghosts S) (t : Stored S) where

@@ -4,15 +4,14 @@ ghost use Rattle.std.specs.Prelude.{◌≡◌, ◌≢◌, false, Err, IfOk, IsTr
 ghost use Rattle.sqlite.specs.Held.{state};
 ghost use Rattle.hh_sqlrows.specs.OfficeSchema.{office};
 ghost use Rattle.hh_sqlrows.specs.Reads.{IsHonest, StaysOpen};
-ghost use Rattle.hh_store.specs.declared.store_fault.StoreFault.TheVariants.{Store};
+ghost use Rattle.hh_keyed_rows.specs.declared.row_fault.RowFault.TheVariants.{Store};
 ghost use Rattle.hh_sqlstore.specs.Leaving.{AddsNothing, LeavesDatabase};
 ghost use Rattle.hh_sqlstore.specs.steps.Adopted.{IsAdoptedFrom};
 
-use crate::faults::of_rows;
 use crate::rising::{Rising, has_office};
+use hh_keyed_rows::RowFault;
 use hh_rows::Settings;
 use hh_sqlrows::select_settings;
-use hh_store::StoreFault;
 use sqlite::Connection;
 use std::alloc::Global;
 
@@ -20,7 +19,7 @@ use std::alloc::Global;
 pub(crate) fn settings_of_office<S: Rising>(
     connection: &mut Connection<S>,
     alloc: Global,
-) -> Result<Settings, StoreFault>
+) -> Result<Settings, RowFault>
     ensures adopted { let old = state S.Store connection.old in
         let new = state S.Store connection.new in
         IsTrue new.is_open → IfOk result (λ settings. IsAdoptedFrom settings old) }
@@ -36,11 +35,11 @@ pub(crate) fn settings_of_office<S: Rising>(
     ensures foreign { (state S.Store connection.old).now.schema ≢ office → result ≡ Err Store }
 {
     if !has_office(connection) {
-        return Err(StoreFault::Store);
+        return Err(RowFault::Store);
     }
     match select_settings(connection, alloc) {
         Ok(Some(settings)) => Ok(settings),
-        Ok(None) => Err(StoreFault::Store),
-        Err(fault) => Err(of_rows(fault)),
+        Ok(None) => Err(RowFault::Store),
+        Err(fault) => Err(fault),
     }
 }

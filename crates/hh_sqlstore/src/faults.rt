@@ -1,28 +1,31 @@
-//! Why a store refuses, by why its database does.
+//! Why a store refuses, and how often it has.
 
-ghost use Rattle.std.specs.Prelude.{◌≡◌};
-ghost use Rattle.hh_sqlstore.specs.steps.Faults.{rows_refused, statement_refused};
+ghost use Rattle.std.specs.Prelude.{◌≡◌, Err, Unit};
+ghost use Rattle.hh_keyed_rows.specs.RowFaults.{rows_refused};
+ghost use Rattle.hh_store.specs.StoreFaults.{CountsRefusal, CountsReportRefusal};
+ghost use Rattle.hh_sqlstore.specs.steps.Faults.{report_refused};
 
 use hh_keyed_rows::RowFault;
-use hh_store::StoreFault;
-use sqlite::{Error, ErrorCode};
+use hh_store::{OutputFault, StoreFault};
 
-/// The fault of the store where a statement fails: `Memory` where the database lacked memory.
-pub(crate) fn of_statement(error: Error) -> StoreFault
-    ensures { result ≡ statement_refused error }
+/// Counts a refusal, if the fault is one, and hands the fault on.
+pub(crate) fn refuse(refusals: &mut u64, fault: StoreFault) -> StoreFault
+    ensures same { result ≡ fault }
+    ensures counts { CountsRefusal {A = Unit} (Err fault) refusals.old refusals.new }
 {
-    match error {
-        Error::SqliteFailure(ErrorCode::OutOfMemory) => StoreFault::Memory,
-        _ => StoreFault::Store,
+    if fault == StoreFault::Store {
+        *refusals = refusals.saturating_add(1);
     }
+    fault
 }
 
-/// The fault of the store where rows are not read or written.
-pub(crate) fn of_rows(fault: RowFault) -> StoreFault
-    ensures { result ≡ rows_refused fault }
+/// Counts a refusal, if the fault is one, and tells the fault as one of a report.
+pub(crate) fn output_refused(refusals: &mut u64, fault: RowFault) -> OutputFault
+    ensures told { result ≡ report_refused fault }
+    ensures counts { CountsReportRefusal {A = Unit} (Err result) refusals.old refusals.new }
 {
-    match fault {
-        RowFault::Memory => StoreFault::Memory,
-        RowFault::Store => StoreFault::Store,
+    match refuse(refusals, StoreFault::from(fault)) {
+        StoreFault::Memory => OutputFault::Memory,
+        StoreFault::Store => OutputFault::Store,
     }
 }

@@ -2,12 +2,16 @@
 #![tactic(auto)]
 
 mod adopting;
+mod changing;
 mod faults;
 mod making;
 mod office_tables;
+mod parts;
 mod rising;
+mod rows;
 mod schema;
 mod sql_tables;
+mod tables;
 
 pub use rising::Rising;
 pub use sql_tables::SqlTables;

@@ -5,16 +5,15 @@ ghost use Rattle.sqlite.specs.Held.{state};
 ghost use Rattle.sqlite.specs.State.{HasCleanDisk};
 ghost use Rattle.hh_sqlrows.specs.Making.{IsMadeUpTo, nothing};
 ghost use Rattle.hh_sqlrows.specs.Statements.{CommitsNothing, Inside, KeepsCommit, StaysInside};
-ghost use Rattle.hh_store.specs.declared.store_fault.StoreFault.TheVariants.{Store};
+ghost use Rattle.hh_keyed_rows.specs.declared.row_fault.RowFault.TheVariants.{Store};
 ghost use Rattle.hh_sqlstore.specs.Holds.{IsNewOffice};
 ghost use Rattle.hh_sqlstore.specs.Making.{MayMake};
 ghost use Rattle.hh_sqlstore.specs.steps.Made.{IsMadeIn, IsUndone};
 
-use crate::faults::{of_rows, of_statement};
 use crate::schema::is_nothing;
+use hh_keyed_rows::RowFault;
 use hh_rows::Settings;
 use hh_sqlrows::{insert_mark, insert_settings, make_tables};
-use hh_store::StoreFault;
 use sqlite::{Alter, Connection, Transaction};
 use std::alloc::Global;
 
@@ -23,7 +22,7 @@ fn write_new_office<S: Alter>(
     tx: &mut Transaction<'_, S>,
     alloc: Global,
     settings: &Settings,
-) -> Result<(), StoreFault>
+) -> Result<(), RowFault>
     ensures same_reference { tx.new.conn.ghost_name ≡ tx.old.conn.ghost_name }
     ensures writes { let old = state S.Store tx.old.conn.now in
         let new = state S.Store tx.new.conn.now in
@@ -38,16 +37,9 @@ fn write_new_office<S: Alter>(
         let new = state S.Store tx.new.conn.now in
         CommitsNothing old new }
 {
-    if let Err(error) = make_tables(tx) {
-        return Err(of_statement(error));
-    }
-    if let Err(fault) = insert_settings(tx, alloc, settings) {
-        return Err(of_rows(fault));
-    }
-    match insert_mark(tx, alloc, false) {
-        Ok(()) => Ok(()),
-        Err(fault) => Err(of_rows(fault)),
-    }
+    make_tables(tx)?;
+    insert_settings(tx, alloc, settings)?;
+    insert_mark(tx, alloc, false)
 }
 
 /// Makes the database of an office that has these settings, where there is none, in one transaction.
@@ -55,7 +47,7 @@ pub(crate) fn make_office<S: Alter>(
     connection: &mut Connection<S>,
     alloc: Global,
     settings: &Settings,
-) -> Result<(), StoreFault>
+) -> Result<(), RowFault>
     ensures made { HasCleanDisk (state S.Store connection.new)
         → OnOk result (IsMadeIn settings.now (state S.Store connection.new)) }
     ensures autocommit { OnOk result (connection.new.in_transaction ≡ false) }
@@ -68,12 +60,12 @@ pub(crate) fn make_office<S: Alter>(
         MayMake settings.now old new }
 {
     if !connection.is_autocommit() || !is_nothing(connection.schema()) {
-        return Err(StoreFault::Store);
+        return Err(RowFault::Store);
     }
     let mut tx = connection.transaction();
     write_new_office(&mut tx, alloc, settings)?;
     match tx.commit() {
         Ok(()) => Ok(()),
-        Err(error) => Err(of_statement(error)),
+        Err(error) => Err(RowFault::from(error)),
     }
 }

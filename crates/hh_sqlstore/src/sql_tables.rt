@@ -26,9 +26,10 @@ use std::marker::Model;
 
 /// The tables of an office, kept in a database of SQL.
 pub struct SqlTables<S: Alter> {
-    alloc: Global,
-    connection: Connection<S>,
-    settings: Settings,
+    pub(crate) alloc: Global,
+    pub(crate) connection: Connection<S>,
+    pub(crate) settings: Settings,
+    pub(crate) refusals: u64,
 }
 
 impl<S: Alter> Model for SqlTables<S> {
@@ -38,9 +39,17 @@ impl<S: Alter> Model for SqlTables<S> {
 
     ghost coded = { stored_code S.code };
 
-    ghost view = { λ t. record { connection = t.connection; settings = t.settings } };
+    ghost view = { λ t. record {
+      connection = t.connection;
+      settings = t.settings;
+      refusals = t.refusals;
+    } };
 
-    ghost invariant = { λ t. IsIdle S.Store (record { connection = t.connection; settings = t.settings }) };
+    ghost invariant = { λ t. IsIdle S.Store (record {
+      connection = t.connection;
+      settings = t.settings;
+      refusals = t.refusals;
+    }) };
 }
 
 impl<S: Alter> SqlTables<S> {
@@ -78,8 +87,9 @@ impl<S: Alter> SqlTables<S> {
                 alloc,
                 connection,
                 settings,
+                refusals: 0,
             }),
-            Err(fault) => Err((fault, connection)),
+            Err(fault) => Err((StoreFault::from(fault), connection)),
         }
     }
 
@@ -91,6 +101,7 @@ impl<S: Alter> SqlTables<S> {
             alloc: _,
             connection,
             settings: _,
+            refusals: _,
         } = self;
         connection
     }
@@ -130,8 +141,9 @@ impl<S: Rising> SqlTables<S> {
                 alloc,
                 connection,
                 settings,
+                refusals: 0,
             }),
-            Err(fault) => Err((fault, connection)),
+            Err(fault) => Err((StoreFault::from(fault), connection)),
         }
     }
 }

@@ -1,0 +1,60 @@
+//! Changes of an office's database, each in one transaction.
+
+ghost use Rattle.std.specs.Prelude.{◌≡◌, false, OnErr, OnOk, IsTrue};
+ghost use Rattle.sqlite.specs.Held.{state};
+ghost use Rattle.sqlite.specs.State.{HasCleanDisk};
+ghost use Rattle.hh_sqlchanges.specs.Writes.{WritesLoad, WritesRun};
+ghost use Rattle.hh_sqlstore.specs.steps.Changed.{IsChangedBy};
+ghost use Rattle.hh_sqlstore.specs.steps.Made.{IsUndone};
+
+use hh_keyed_rows::RowFault;
+use hh_sqlchanges::{write_load, write_run};
+use hh_store::{LoadChange, RunChange};
+use sqlite::{Alter, Connection};
+use std::alloc::Global;
+
+/// Writes what an accepted file changes, whole or not at all.
+pub(crate) fn make_load<S: Alter>(
+    connection: &mut Connection<S>,
+    alloc: Global,
+    change: &LoadChange,
+) -> Result<(), RowFault>
+    requires { connection.old.in_transaction ≡ false }
+    ensures made { let old = state S.Store connection.old in
+        let new = state S.Store connection.new in
+        HasCleanDisk new → OnOk result (IsChangedBy (WritesLoad change.now) old new) }
+    ensures undone { let old = state S.Store connection.old in
+        let new = state S.Store connection.new in
+        OnErr result (IsUndone old new) }
+    ensures autocommit { connection.new.in_transaction ≡ false }
+{
+    let mut tx = connection.transaction();
+    write_load(&mut tx, alloc, change)?;
+    match tx.commit() {
+        Ok(()) => Ok(()),
+        Err(error) => Err(RowFault::from(error)),
+    }
+}
+
+/// Writes what a new run changes, whole or not at all.
+pub(crate) fn make_run<S: Alter>(
+    connection: &mut Connection<S>,
+    alloc: Global,
+    change: &RunChange,
+) -> Result<(), RowFault>
+    requires { connection.old.in_transaction ≡ false }
+    ensures made { let old = state S.Store connection.old in
+        let new = state S.Store connection.new in
+        HasCleanDisk new → OnOk result (IsChangedBy (WritesRun change.now) old new) }
+    ensures undone { let old = state S.Store connection.old in
+        let new = state S.Store connection.new in
+        OnErr result (IsUndone old new) }
+    ensures autocommit { connection.new.in_transaction ≡ false }
+{
+    let mut tx = connection.transaction();
+    write_run(&mut tx, alloc, change)?;
+    match tx.commit() {
+        Ok(()) => Ok(()),
+        Err(error) => Err(RowFault::from(error)),
+    }
+}

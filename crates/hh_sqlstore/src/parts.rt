@@ -1,0 +1,83 @@
+//! What is read of a part of what is registered and in force.
+
+ghost use Rattle.std.specs.Prelude.{◌≡◌, false, IfOk};
+ghost use Rattle.sqlite.specs.Held.{state};
+ghost use Rattle.hh_rules.specs.RegisterView.{ServesFor};
+ghost use Rattle.hh_states.specs.DaySettlement.{periods_on};
+ghost use Rattle.hh_states.specs.Reads.{contracts_of};
+ghost use Rattle.hh_store.specs.DayReads.{IsDayData};
+ghost use Rattle.hh_kept_rows.specs.Parts.{whole_of};
+ghost use Rattle.hh_sqlrows.specs.Contents.{registered_of};
+ghost use Rattle.hh_sqlparts.specs.Readings.{IsReading, OfSettled};
+
+use hh_kept_rows::{contracts_by_their_rows, parts_of_parts, read_by_its_rows};
+use hh_keyed_rows::RowFault;
+use hh_names::Account;
+use hh_rows::{ContractRow, LeadMinutes, Row};
+use hh_rules::Register;
+use hh_sqlparts::{select_contracts_of_day, select_day, select_named};
+use hh_store::{DayData, StoreFault};
+use hh_time::{Day, SettlementDate};
+use sqlite::{Alter, Connection};
+use std::alloc::Global;
+
+/// A register that judges these rows, and is changed by them, as one of everything that is registered and
+/// in force would.
+pub(crate) fn register_of<S: Alter>(
+    conn: &mut Connection<S>,
+    alloc: Global,
+    lead_minutes: LeadMinutes,
+    rows: &[Row],
+) -> Result<Register, StoreFault>
+    ensures value { let old = state S.Store conn.old in
+        let new = state S.Store conn.new in
+        OfSettled old new (IfOk result
+        (ServesFor rows.now (whole_of lead_minutes (registered_of old.now.trees)))) }
+    ensures reading { IsReading (state S.Store conn.old) (state S.Store conn.new) }
+    ensures mode { conn.old.in_transaction ≡ false → conn.new.in_transaction ≡ false }
+{
+    // Does nothing, but carries a law for the proof: a part of a part serves.
+    parts_of_parts();
+    let part = select_named(conn, alloc, rows)?;
+    part.register_for(alloc, lead_minutes, rows)
+}
+
+/// The rows of contracts that are in force on a date and name an account, by Settlement Period, then by the
+/// bytes of their references.
+pub(crate) fn contracts_of_account<S: Alter>(
+    conn: &mut Connection<S>,
+    alloc: Global,
+    account: &Account,
+    date: SettlementDate,
+) -> Result<Vec<ContractRow>, RowFault>
+    ensures value { let old = state S.Store conn.old in
+        let new = state S.Store conn.new in
+        OfSettled old new (IfOk result (λ rows.
+        rows.items ≡ contracts_of account.now date (registered_of old.now.trees))) }
+    ensures reading { IsReading (state S.Store conn.old) (state S.Store conn.new) }
+    ensures mode { conn.old.in_transaction ≡ false → conn.new.in_transaction ≡ false }
+{
+    // Does nothing, but carries a law for the proof: the rows of the date are enough.
+    contracts_by_their_rows();
+    let part = select_contracts_of_day(conn, alloc, date)?;
+    Ok(part.contracts(alloc, account, date)?)
+}
+
+/// What the Settlement Periods of a day are settled from, and what is missing for it.
+pub(crate) fn data_of_day<S: Alter>(
+    conn: &mut Connection<S>,
+    alloc: Global,
+    day: &Day,
+) -> Result<DayData, RowFault>
+    ensures value { let old = state S.Store conn.old in
+        let new = state S.Store conn.new in
+        OfSettled old new (IfOk result (IsDayData (registered_of old.now.trees)
+        (periods_on day.now.date day.now.count))) }
+    ensures reading { IsReading (state S.Store conn.old) (state S.Store conn.new) }
+    ensures mode { conn.old.in_transaction ≡ false → conn.new.in_transaction ≡ false }
+{
+    // Does nothing, but carries a law for the proof: the rows of the date are enough.
+    read_by_its_rows();
+    let part = select_day(conn, alloc, day.date)?;
+    Ok(part.day_data(alloc, day)?)
+}

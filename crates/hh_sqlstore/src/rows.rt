@@ -1,0 +1,149 @@
+//! What is read of parties, of runs and of their rows.
+
+ghost use Rattle.std.specs.Prelude.{◌≡◌, false, filter_map, map, IfOk};
+ghost use Rattle.sqlite.specs.Held.{state};
+ghost use Rattle.hh_states.specs.Reads.{is_key_known_in, posting_to, result_in, summary_on};
+ghost use Rattle.hh_sqlrows.specs.Contents.{registered_of, result_of};
+ghost use Rattle.hh_sqlrows.specs.Forms.{rows_under_keys};
+ghost use Rattle.hh_sqlrows.specs.OfficeTables.{parties, postings, results, runs};
+ghost use Rattle.hh_sqlparts.specs.Readings.{IsReading, OfSettled};
+ghost use Rattle.hh_sqlstore.specs.steps.Reported.{IsReported};
+
+use hh_calc::AccountRow;
+use hh_kept_rows::{postings_to, runs_on};
+use hh_keyed_rows::{AccountAmounts, RowFault};
+use hh_names::{Account, PartyId, PeriodNumber};
+use hh_num::Pence;
+use hh_rows::PartyRegistration;
+use hh_runs::{RunKey, RunKind, Summary};
+use hh_sqlrows::{
+    select_parties, select_postings, select_postings_to, select_results_of, select_run,
+    select_runs_on,
+};
+use hh_states::{PostingKey, ResultKey};
+use hh_time::SettlementDate;
+use sqlite::{Alter, Connection};
+use std::alloc::{AllocError, Global};
+
+/// Whether a registered party has the key.
+pub(crate) fn is_key_known<S: Alter>(
+    conn: &mut Connection<S>,
+    alloc: Global,
+    key: &[u8],
+) -> Result<bool, RowFault>
+    ensures value { let old = state S.Store conn.old in
+        let new = state S.Store conn.new in
+        OfSettled old new (IfOk result (λ known.
+        known ≡ is_key_known_in (registered_of old.now.trees) key.now)) }
+    ensures reading { IsReading (state S.Store conn.old) (state S.Store conn.new) }
+    ensures mode { conn.old.in_transaction ≡ false → conn.new.in_transaction ≡ false }
+{
+    let parties = select_parties(conn, alloc)?;
+    Ok(parties
+        .iter()
+        .any(|party| party.1.key.as_bytes() == key))
+}
+
+/// The runs of a date with their summaries, in the order of their kinds.
+pub(crate) fn runs_of_date<S: Alter>(
+    conn: &mut Connection<S>,
+    alloc: Global,
+    date: SettlementDate,
+) -> Result<Vec<(RunKind, Summary)>, RowFault>
+    ensures value { let old = state S.Store conn.old in
+        let new = state S.Store conn.new in
+        OfSettled old new (IfOk result (λ found.
+        found.items ≡ filter_map (summary_on date) (rows_under_keys runs old.now.trees))) }
+    ensures reading { IsReading (state S.Store conn.old) (state S.Store conn.new) }
+    ensures mode { conn.old.in_transaction ≡ false → conn.new.in_transaction ≡ false }
+{
+    let rows = select_runs_on(conn, alloc, &date)?;
+    Ok(runs_on(alloc, date, &rows)?)
+}
+
+/// The rows of a run's accounts, by Settlement Period, then by account.
+pub(crate) fn results_of_run<S: Alter>(
+    conn: &mut Connection<S>,
+    alloc: Global,
+    run: &RunKey,
+) -> Result<Vec<(PeriodNumber, AccountRow)>, RowFault>
+    ensures value { let old = state S.Store conn.old in
+        let new = state S.Store conn.new in
+        OfSettled old new (IfOk result (λ found. found.items
+        ≡ filter_map (result_in run.now) (map result_of (rows_under_keys results old.now.trees)))) }
+    ensures reading { IsReading (state S.Store conn.old) (state S.Store conn.new) }
+    ensures mode { conn.old.in_transaction ≡ false → conn.new.in_transaction ≡ false }
+{
+    let rows = select_results_of(conn, alloc, run)?;
+    Ok(rows_by_period(alloc, &rows)?)
+}
+
+/// Rows of accounts by their periods. `Err` only where memory is refused.
+fn rows_by_period(
+    alloc: Global,
+    rows: &[(ResultKey, AccountAmounts)],
+) -> Result<Vec<(PeriodNumber, AccountRow)>, AllocError>
+    ensures { IfOk result (λ found.
+        found.items ≡ map (λ e. (e.0.period, (result_of e).1)) rows.now) }
+{
+    rows.iter()
+        .map(|row| (row.0.period, row.1.with(row.0.account)))
+        .collect(alloc)
+}
+
+/// What the runs have posted to an account, by the dates of the runs, then by their kinds.
+pub(crate) fn postings_to_account<S: Alter>(
+    conn: &mut Connection<S>,
+    alloc: Global,
+    account: &Account,
+) -> Result<Vec<(RunKey, Pence)>, RowFault>
+    ensures value { let old = state S.Store conn.old in
+        let new = state S.Store conn.new in
+        OfSettled old new (IfOk result (λ found. found.items
+        ≡ filter_map (posting_to account.now) (rows_under_keys postings old.now.trees))) }
+    ensures reading { IsReading (state S.Store conn.old) (state S.Store conn.new) }
+    ensures mode { conn.old.in_transaction ≡ false → conn.new.in_transaction ≡ false }
+{
+    let rows = select_postings_to(conn, alloc, account)?;
+    Ok(postings_to(alloc, account, &rows)?)
+}
+
+/// The summary of a run with the rows of its accounts, if the run is there.
+pub(crate) fn reported_run<S: Alter>(
+    conn: &mut Connection<S>,
+    alloc: Global,
+    run: &RunKey,
+) -> Result<Option<(Summary, Vec<(PeriodNumber, AccountRow)>)>, RowFault>
+    ensures value { let old = state S.Store conn.old in
+        let new = state S.Store conn.new in
+        OfSettled old new (IfOk result (IsReported run.now old.now.trees)) }
+    ensures reading { IsReading (state S.Store conn.old) (state S.Store conn.new) }
+    ensures mode { conn.old.in_transaction ≡ false → conn.new.in_transaction ≡ false }
+{
+    let Some(summary) = select_run(conn, alloc, run)? else {
+        return Ok(None);
+    };
+    let rows = results_of_run(conn, alloc, run)?;
+    Ok(Some((summary, rows)))
+}
+
+/// All registered parties, and all that runs have posted.
+pub(crate) fn parties_and_postings<S: Alter>(
+    conn: &mut Connection<S>,
+    alloc: Global,
+) -> Result<(Vec<(PartyId, PartyRegistration)>, Vec<(PostingKey, Pence)>), RowFault>
+    ensures parties { let old = state S.Store conn.old in
+        let new = state S.Store conn.new in
+        OfSettled old new (IfOk result (λ found.
+        found.0.items ≡ rows_under_keys parties old.now.trees)) }
+    ensures postings { let old = state S.Store conn.old in
+        let new = state S.Store conn.new in
+        OfSettled old new (IfOk result (λ found.
+        found.1.items ≡ rows_under_keys postings old.now.trees)) }
+    ensures reading { IsReading (state S.Store conn.old) (state S.Store conn.new) }
+    ensures mode { conn.old.in_transaction ≡ false → conn.new.in_transaction ≡ false }
+{
+    let parties = select_parties(conn, alloc)?;
+    let postings = select_postings(conn, alloc)?;
+    Ok((parties, postings))
+}

@@ -1,0 +1,159 @@
+//! The calls of the tables that are kept in a database.
+
+ghost use Rattle.sqlite.specs.Held.{state};
+ghost use Rattle.hh_sqlstore.specs.Stores.{content_in};
+
+use crate::changing::{make_load, make_run};
+use crate::faults::{output_refused, refuse};
+use crate::parts::{contracts_of_account, data_of_day, register_of};
+use crate::rows::{is_key_known, parties_and_postings, postings_to_account, reported_run, results_of_run, runs_of_date};
+use crate::sql_tables::SqlTables;
+use hh_calc::AccountRow;
+use hh_devices::Sink;
+use hh_kept_rows::{write_balances_of, write_day_report_of, write_results_of};
+use hh_names::{Account, Counterparties, FileName, PartyId, PeriodNumber, Reference, UnitId};
+use hh_num::Pence;
+use hh_rows::{ContractRow, FileKind, PartyRegistration, Row, Settings, UnitRegistration};
+use hh_rules::Register;
+use hh_runs::{RunKey, RunKind, Summary};
+use hh_sqlrows::{select_file, select_party, select_reference, select_unit};
+use hh_states::FileKey;
+use hh_store::{DayData, KeptFile, LoadChange, OutputFault, RunChange, StoreFault, Tables};
+use hh_time::{Day, SettlementDate};
+use sqlite::Alter;
+
+impl<S: Alter> Tables for SqlTables<S> {
+    ghost content = { λ t. content_in S.Store t };
+
+    ghost is_open = { λ t. (state S.Store t.connection).is_open };
+
+    ghost refusals = { λ t. t.refusals };
+
+    fn settings(&mut self) -> Result<Settings, StoreFault> {
+        Ok(self.settings)
+    }
+
+    fn party(&mut self, party: &PartyId) -> Result<Option<PartyRegistration>, StoreFault> {
+        match select_party(&mut self.connection, self.alloc, party) {
+            Ok(found) => Ok(found),
+            Err(fault) => Err(refuse(&mut self.refusals, StoreFault::from(fault))),
+        }
+    }
+
+    fn unit(&mut self, unit: &UnitId) -> Result<Option<UnitRegistration>, StoreFault> {
+        match select_unit(&mut self.connection, self.alloc, unit) {
+            Ok(found) => Ok(found),
+            Err(fault) => Err(refuse(&mut self.refusals, StoreFault::from(fault))),
+        }
+    }
+
+    fn reference(&mut self, reference: &Reference) -> Result<Option<Counterparties>, StoreFault> {
+        match select_reference(&mut self.connection, self.alloc, reference) {
+            Ok(found) => Ok(found),
+            Err(fault) => Err(refuse(&mut self.refusals, StoreFault::from(fault))),
+        }
+    }
+
+    fn key_known(&mut self, key: &[u8]) -> Result<bool, StoreFault> {
+        match is_key_known(&mut self.connection, self.alloc, key) {
+            Ok(known) => Ok(known),
+            Err(fault) => Err(refuse(&mut self.refusals, StoreFault::from(fault))),
+        }
+    }
+
+    fn file(&mut self, kind: FileKind, name: &FileName) -> Result<Option<KeptFile>, StoreFault> {
+        let key = FileKey { kind, name: *name };
+        match select_file(&mut self.connection, self.alloc, &key) {
+            Ok(found) => Ok(found),
+            Err(fault) => Err(refuse(&mut self.refusals, StoreFault::from(fault))),
+        }
+    }
+
+    fn register(&mut self, rows: &[Row]) -> Result<Register, StoreFault> {
+        match register_of(
+            &mut self.connection,
+            self.alloc,
+            self.settings.lead_minutes,
+            rows,
+        ) {
+            Ok(register) => Ok(register),
+            Err(fault) => Err(refuse(&mut self.refusals, StoreFault::from(fault))),
+        }
+    }
+
+    fn contracts(
+        &mut self,
+        account: &Account,
+        date: SettlementDate,
+    ) -> Result<Vec<ContractRow>, StoreFault> {
+        match contracts_of_account(&mut self.connection, self.alloc, account, date) {
+            Ok(rows) => Ok(rows),
+            Err(fault) => Err(refuse(&mut self.refusals, StoreFault::from(fault))),
+        }
+    }
+
+    fn day_data(&mut self, day: &Day) -> Result<DayData, StoreFault> {
+        match data_of_day(&mut self.connection, self.alloc, day) {
+            Ok(data) => Ok(data),
+            Err(fault) => Err(refuse(&mut self.refusals, StoreFault::from(fault))),
+        }
+    }
+
+    fn runs(&mut self, date: SettlementDate) -> Result<Vec<(RunKind, Summary)>, StoreFault> {
+        match runs_of_date(&mut self.connection, self.alloc, date) {
+            Ok(runs) => Ok(runs),
+            Err(fault) => Err(refuse(&mut self.refusals, StoreFault::from(fault))),
+        }
+    }
+
+    fn results(&mut self, run: &RunKey) -> Result<Vec<(PeriodNumber, AccountRow)>, StoreFault> {
+        match results_of_run(&mut self.connection, self.alloc, run) {
+            Ok(rows) => Ok(rows),
+            Err(fault) => Err(refuse(&mut self.refusals, StoreFault::from(fault))),
+        }
+    }
+
+    fn postings(&mut self, account: &Account) -> Result<Vec<(RunKey, Pence)>, StoreFault> {
+        match postings_to_account(&mut self.connection, self.alloc, account) {
+            Ok(rows) => Ok(rows),
+            Err(fault) => Err(refuse(&mut self.refusals, StoreFault::from(fault))),
+        }
+    }
+
+    fn export<O: Sink>(&mut self, run: &RunKey, out: &mut O) -> Result<(), OutputFault> {
+        match reported_run(&mut self.connection, self.alloc, run) {
+            Ok(Some((summary, rows))) => write_results_of(self.alloc, run, &summary, &rows, out),
+            Ok(None) => Ok(()),
+            Err(fault) => Err(output_refused(&mut self.refusals, fault)),
+        }
+    }
+
+    fn day_report<O: Sink>(&mut self, run: &RunKey, out: &mut O) -> Result<(), OutputFault> {
+        match reported_run(&mut self.connection, self.alloc, run) {
+            Ok(Some((summary, rows))) => write_day_report_of(self.alloc, run, &summary, &rows, out),
+            Ok(None) => Ok(()),
+            Err(fault) => Err(output_refused(&mut self.refusals, fault)),
+        }
+    }
+
+    fn balances<O: Sink>(&mut self, out: &mut O) -> Result<(), OutputFault> {
+        match parties_and_postings(&mut self.connection, self.alloc) {
+            Ok((parties, postings)) => write_balances_of(self.alloc, &parties, &postings, out),
+            Err(fault) => Err(output_refused(&mut self.refusals, fault)),
+        }
+    }
+
+    fn apply_load(&mut self, change: LoadChange) -> Result<(), StoreFault> {
+        match make_load(&mut self.connection, self.alloc, &change) {
+            Ok(made) => Ok(made),
+            Err(fault) => Err(refuse(&mut self.refusals, StoreFault::from(fault))),
+        }
+    }
+
+    fn apply_run(&mut self, change: RunChange) -> Result<(), StoreFault> {
+        match make_run(&mut self.connection, self.alloc, &change) {
+            Ok(made) => Ok(made),
+            Err(fault) => Err(refuse(&mut self.refusals, StoreFault::from(fault))),
+        }
+    }
+}
