@@ -45,7 +45,9 @@ def offered_names(text, types):
         begins = BLOCK.match(line)
         if begins:
             of = FOR.search(line)
-            block = (begins[1] == "trait" or of is not None, (of or begins)[1 if of else 2] in types)
+            # An impl of a trait is offered, too, where the type that the trait is given is: `impl From<Ours> for Theirs`.
+            given = set(NAME.findall(line)) if of else {begins[2]}
+            block = (begins[1] == "trait" or of is not None, bool(given & types))
         elif line == "}":
             block = None
         function = FUNCTION.match(line)

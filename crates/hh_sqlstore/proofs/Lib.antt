@@ -1,2 +1,5 @@
+pub mod ChangeLaws
 pub mod ContentLaws
+pub mod IdleLaws
 pub mod NewLaws
+pub mod ReadLaws

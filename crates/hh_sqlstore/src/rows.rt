@@ -1,7 +1,9 @@
 //! What is read of parties, of runs and of their rows.
 
-ghost use Rattle.std.specs.Prelude.{◌≡◌, false, filter_map, map, IfOk};
+ghost use Rattle.std.specs.Prelude.{◌≡◌, None, false, filter_map, map, IfOk, IfSome};
+ghost use Rattle.std.specs.FinMap.{find};
 ghost use Rattle.sqlite.specs.Held.{state};
+ghost use Rattle.hh_states.specs.Runs.{run_key_cmp};
 ghost use Rattle.hh_states.specs.Reads.{is_key_known_in, posting_to, result_in, summary_on};
 ghost use Rattle.hh_sqlrows.specs.Contents.{registered_of, result_of};
 ghost use Rattle.hh_sqlrows.specs.Forms.{rows_under_keys};
@@ -114,9 +116,14 @@ pub(crate) fn reported_run<S: Alter>(
     alloc: Global,
     run: &RunKey,
 ) -> Result<Option<(Summary, Vec<(PeriodNumber, AccountRow)>)>, RowFault>
-    ensures value { let old = state S.Store conn.old in
+    ensures there { let old = state S.Store conn.old in
         let new = state S.Store conn.new in
-        OfSettled old new (IfOk result (IsReported run.now old.now.trees)) }
+        OfSettled old new (IfOk result (λ found. IfSome found (λ reported.
+        IsReported run.now old.now.trees reported.0 reported.1.items))) }
+    ensures none { let old = state S.Store conn.old in
+        let new = state S.Store conn.new in
+        OfSettled old new (IfOk result (λ found. found ≡ None
+        → find run_key_cmp run.now (rows_under_keys runs old.now.trees) ≡ None)) }
     ensures reading { IsReading (state S.Store conn.old) (state S.Store conn.new) }
     ensures mode { conn.old.in_transaction ≡ false → conn.new.in_transaction ≡ false }
 {

@@ -1,0 +1,64 @@
+-- Tables that a transaction has changed, or tried to change, and their content.
+use Rattle.std.proofs.Common.{◌≡◌, ◌∙◌, ℕ, false, IsTrue, ap, refl, subst, sym}
+use Rattle.std.specs.FinMap.{find}
+use Rattle.sqlite_trees.specs.declared.store.Store.{Ghosts}
+use Rattle.sqlite.specs.Effect.{Database}
+use Rattle.sqlite.specs.Held.{Held, state}
+use Rattle.sqlite.specs.State.{HasCleanDisk, State}
+use Rattle.hh_rows.specs.declared.settings.Settings.{Settings}
+use Rattle.hh_keyed_rows.specs.Values.{version}
+use Rattle.hh_states.specs.Content.{Content}
+use Rattle.hh_sqlrows.specs.Contents.{content_of}
+use Rattle.hh_sqlrows.specs.Office.{IsOffice}
+use Rattle.hh_sqlrows.specs.OfficeTables.{one_row_cmp}
+use Rattle.hh_sqlchanges.specs.Writes.{StaysOffice}
+use Rattle.hh_sqlparts.specs.Readings.{IsReading}
+use Rattle.hh_sqlstore.specs.Holds.{Holds}
+use Rattle.hh_sqlstore.specs.Stores.{IsIdle, Stored, content_in}
+use Rattle.hh_sqlstore.specs.steps.Changed.{IsChangedBy}
+use Rattle.hh_sqlstore.specs.steps.Made.{IsUndone}
+
+-- what is undone was but read
+pub reading_of_undone : (old new : State) → (IsTrue new.is_open → HasCleanDisk new) → IsUndone old new → IsReading old new
+reading_of_undone old new clean undone = record {
+  stood = λ stands. (undone (clean stands) stands).0;
+  left = λ stands office settled. (undone (clean stands) stands).1;
+}
+
+-- the tables of an office that stays one, with its settings, hold their content
+pub still_holds : (kept : Settings) (old new : Database) → StaysOffice old new → Holds version (content_of kept old.trees) old → Holds version (content_of kept new.trees) new
+still_holds kept old new stays holds = record {
+  of_version = refl;
+  is_office = stays.is_office;
+  settings = ap (find one_row_cmp (record {})) stays.settings ∙ holds.settings;
+  prices = refl;
+  alike = record { parties = refl; units = refl; references = refl; meters = refl; contracts = refl; reallocations = refl; files = refl; runs = refl; results = refl; credits = refl; postings = refl };
+}
+
+module _ {S : Type 0} (g : Ghosts S) (t : Stored S) (idle : IsIdle g t) (connection : Held S) (count : ℕ) (Change : Database → Database → Type 0) (changed : IsChangedBy Change (state g t.connection) (state g connection)) where
+  abbrev after : Stored S
+  after = record { connection = connection; settings = t.settings; refusals = count }
+
+  abbrev was : State
+  was = state g t.connection
+
+  abbrev is : State
+  is = state g connection
+
+  committed : Change was.committed is.committed
+  committed =
+      let settled = idle.settled changed.was_open in
+      let office = subst IsOffice (sym settled) (idle.holds changed.was_open).is_office in
+      subst (λ (db : Database). Change db is.committed) settled (subst (Change was.now) changed.settled (changed.changed office))
+
+  -- the content is the one that the change makes
+  pub content_changed : (f : Content → Content) → ((old new : Database) → Change old new → content_of t.settings new.trees ≡ f (content_of t.settings old.trees)) → content_in g after ≡ f (content_in g t)
+  content_changed f makes = makes was.committed is.committed committed
+
+  -- they are idle as before
+  pub idle_changed : ((old new : Database) → Change old new → StaysOffice old new) → connection.in_transaction ≡ false → IsIdle g after
+  idle_changed stays mode = record {
+    autocommit = mode;
+    settled = λ stands. changed.settled;
+    holds = λ stands. still_holds t.settings was.committed is.committed (stays _ _ committed) (idle.holds changed.was_open);
+  }

@@ -1,0 +1,53 @@
+-- Tables whose connection has read something, and their content.
+use Rattle.std.proofs.Common.{◌≡◌, ◌∙◌, ℕ, false, IsTrue, ap, subst, sym}
+use Rattle.sqlite_trees.specs.declared.store.Store.{Ghosts}
+use Rattle.sqlite_trees.specs.Tree.{Trees}
+use Rattle.sqlite.specs.Effect.{Database}
+use Rattle.sqlite.specs.Held.{Held, state}
+use Rattle.sqlite.specs.State.{State}
+use Rattle.hh_keyed_rows.specs.Values.{version}
+use Rattle.hh_sqlrows.specs.Contents.{content_of}
+use Rattle.hh_sqlrows.specs.Office.{IsOffice}
+use Rattle.hh_sqlrows.specs.Reads.{LeavesOffice, Stood}
+use Rattle.hh_sqlparts.specs.Readings.{IsReading, OfSettled}
+use Rattle.hh_sqlstore.specs.Holds.{Holds}
+use Rattle.hh_sqlstore.specs.Stores.{IsIdle, Stored, content_in}
+
+-- what one statement that selects leaves
+pub reading_of : (old new : State) → Stood old new → LeavesOffice old new → IsReading old new
+reading_of old new stood left = record { stood = λ stands. (stood stands).0; left = left }
+
+module _ {S : Type 0} (g : Ghosts S) (t : Stored S) (idle : IsIdle g t) (connection : Held S) (count : ℕ) (reading : IsReading (state g t.connection) (state g connection)) where
+  abbrev after : Stored S
+  after = record { connection = connection; settings = t.settings; refusals = count }
+
+  abbrev was : State
+  was = state g t.connection
+
+  abbrev is : State
+  is = state g connection
+
+  office : IsTrue is.is_open → IsOffice was.now
+  office stands = let stood = reading.stood stands in subst IsOffice (sym (idle.settled stood)) (idle.holds stood).is_office
+
+  left : IsTrue is.is_open → (is.now ≡ was.now) × (is.committed ≡ was.committed)
+  left stands = reading.left stands (office stands) (idle.settled (reading.stood stands))
+
+  -- the content is what it was
+  pub same_content : IsTrue is.is_open → content_in g after ≡ content_in g t
+  same_content stands = ap (λ (db : Database). content_of t.settings db.trees) (left stands).1
+
+  -- what holds of what there was holds of what was committed
+  pub of_committed : (P : Trees → Type 0) → OfSettled was is (P was.now.trees) → IsTrue is.is_open → P was.committed.trees
+  of_committed P answer stands =
+      let settled = idle.settled (reading.stood stands) in
+      subst (λ (db : Database). P db.trees) settled (answer stands (office stands) settled)
+
+  -- they are idle as before
+  pub idle_after : connection.in_transaction ≡ false → IsIdle g after
+  idle_after mode = record {
+    autocommit = mode;
+    settled = λ stands. (left stands).0 ∙ idle.settled (reading.stood stands) ∙ sym (left stands).1;
+    holds = λ stands.
+        subst (λ (db : Database). Holds version (content_of t.settings db.trees) db) (sym (left stands).1) (idle.holds (reading.stood stands));
+  }
