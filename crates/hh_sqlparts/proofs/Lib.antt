@@ -1,3 +1,5 @@
+pub mod DayLaws
+pub mod FoundLaws
 pub mod NamedForms
 pub mod NamedNames
 pub mod NamedParts
