@@ -56,6 +56,19 @@ impl<'z, T: Tables> Office<'z, T> {
         }
     }
 
+    /// The tables, which an office no longer stands over.
+    pub fn into_tables(self) -> T
+        ensures same { result ≡ self.entry.tables }
+        ensures content { T.content result ≡ self.entry.seen.content }
+    {
+        let Office {
+            alloc: _,
+            tables,
+            zone: _,
+        } = self;
+        tables
+    }
+
     /// Answers a request that comes at a moment, in seconds since 1970-01-01T00:00:00Z, which may be
     /// earlier than the one before (profile). A refused request changes nothing. Refusals 90, where
     /// memory is refused, and 91, where the store refuses, may stand in the place of any reply.

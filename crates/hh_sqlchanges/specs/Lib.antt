@@ -1,1 +1,3 @@
+pub mod OwnAccounts
 pub mod Writes
+pub mod steps

@@ -1,3 +1,16 @@
-//! What is selected of what is registered and in force: the part that a Settlement Day is settled from, and
-//! the part that rows of a file are judged by.
+//! What is selected of what is registered and in force: the part that a Settlement Day is settled
+//! from, and the part that rows of a file are judged by.
 #![tactic(auto)]
+
+mod day_contracts;
+mod day_rows;
+mod day_units;
+mod named;
+mod named_entries;
+mod named_names;
+mod named_tables;
+mod tables;
+
+pub use day_contracts::select_contracts_of_day;
+pub use day_rows::select_day;
+pub use named::select_named;

@@ -1,0 +1,4 @@
+pub mod AccountLaws
+pub mod LoadLaws
+pub mod RunLaws
+pub mod StayLaws

@@ -1,0 +1,13 @@
+-- What rows of a file make of the content, none of them late. References stand apart.
+use Rattle.std.specs.Prelude.{List}
+use Rattle.hh_rows.specs.declared.rows.Row.{Row}
+use Rattle.hh_states.specs.Changes.{put_row, put_rows}
+use Rattle.hh_states.specs.Content.{Content}
+
+-- the content with one more row
+abbrev pub with_file_row : Row → Content → Content
+with_file_row r content = record content { registered = put_row r content.registered }
+
+-- the content with further rows, one after the other
+abbrev pub with_file_rows : List Row → Content → Content
+with_file_rows rows content = record content { registered = put_rows rows content.registered }

@@ -1,0 +1,140 @@
+-- What is found in a table of rows that were selected by names, one name after the other.
+use Rattle.std.proofs.Common.{◌≡◌, List, [], ◌∷◌, ◌++◌, Bool, true, false, cond, refl, sym, ap, ◌∙◌, Option, Some, None, Ordering}
+use Rattle.std.specs.Prelude.{◌||◌, is_some, filter, T}
+use Rattle.std.specs.Cmp.{IsTotalOrder, Equal-is, eq_by_cmp_equiv}
+use Rattle.std.specs.FinMap.{find, is_sorted, put}
+use Rattle.std.specs.FinMap.Entries.{below_all, find-put, find-where_key, find_tied, is_sorted-where_key, same_entries}
+use Rattle.std.specs.List.{AllByRecursion, flat_map, list_any}
+use Rattle.std.specs.Ordering.{eq_by_cmp, is_eq, ordering_reverse}
+use Rattle.std.specs.declared.cmp.Ordering.TheVariants.{Equal, Greater}
+use Rattle.hh_tables.specs.Tables.{Table, put_all}
+use Rattle.hh_tables.proofs.RowLaws.{first, less, second}
+use Rattle.hh_sqlparts.specs.steps.Named.{entry_of}
+
+-- what holds of all of a list holds of those that pass a test, and what holds of two lists holds of them joined
+all_filter : {X : Type 0} (P : X → Type 0) (test : X → Bool) (xs : List X) → AllByRecursion P xs → AllByRecursion P (filter test xs)
+all_filter P test [] all = tt
+all_filter P test (x ∷ xs) all = elim (test x) as (λ b. AllByRecursion P (cond b (x ∷ filter test xs) (filter test xs))) [
+  | true ↦ (all.0, all_filter P test xs all.1)
+  | false ↦ all_filter P test xs all.1
+]
+
+all_joined : {X : Type 0} (P : X → Type 0) (xs ys : List X) → AllByRecursion P xs → AllByRecursion P ys → AllByRecursion P (xs ++ ys)
+all_joined P [] ys all more = more
+all_joined P (x ∷ xs) ys all more = (all.0, all_joined P xs ys all.1 more)
+
+all_flat : {N X : Type 0} (P : X → Type 0) (rows : N → List X) → ((n : N) → AllByRecursion P (rows n)) → (ns : List N) → AllByRecursion P (flat_map rows ns)
+all_flat P rows each [] = tt
+all_flat P rows each (n ∷ ns) = all_joined P (rows n) (flat_map rows ns) (each n) (all_flat P rows each ns)
+
+-- what is found in the first of two, or in both alike
+found_once : {V : Type 0} (b : Bool) (o : Option V) → cond (is_some o) o (cond b o None) ≡ o
+found_once true None = refl
+found_once true (Some v) = refl
+found_once false None = refl
+found_once false (Some v) = refl
+
+found_later : {V : Type 0} (o : Option V) → cond (is_some o) o None ≡ o
+found_later None = refl
+found_later (Some v) = refl
+
+module _ {K V : Type 0} (R : K → K → Ordering) where
+  find_joined : (k : K) (xs ys : List (K × V)) → find R k (xs ++ ys) ≡ cond (is_some (find R k xs)) (find R k xs) (find R k ys)
+  find_joined k [] ys = refl
+  find_joined k (x ∷ xs) ys = elim (eq_by_cmp R k x.0) as (λ b. cond b (Some x.1) (find R k (xs ++ ys)) ≡ cond (is_some (cond b (Some x.1) (find R k xs))) (cond b (Some x.1) (find R k xs)) (find R k ys)) [
+    | true ↦ refl
+    | false ↦ find_joined k xs ys
+  ]
+
+  -- an entry is one of a table
+  abbrev pub IsOf : Table K V → K × V → Type 0
+  IsOf whole e = find R e.0 whole ≡ Some e.1
+
+module _ {K V : Type 0} (R : K → K → Ordering) (o : IsTotalOrder R) where
+  -- entries above one that is put before them are still found
+  found_above : (e : K × V) (whole es : Table K V) → T (below_all R e.0 es) → AllByRecursion (IsOf R whole) es → AllByRecursion (IsOf R (e ∷ whole)) es
+  found_above e whole [] above are = tt
+  found_above e whole (x ∷ es) above are =
+      let later : R x.0 e.0 ≡ Greater = o.antisymm x.0 e.0 ∙ ap ordering_reverse (less _ (first _ _ above)) in
+      (ap (λ r. cond (is_eq r) (Some e.1) (find R x.0 whole)) later ∙ are.0, found_above e whole es (second _ _ above) are.1)
+
+  -- the entries of a table are its own
+  pub own_entries : (es : Table K V) → T (is_sorted R es) → AllByRecursion (IsOf R es) es
+  own_entries [] rising = tt
+  own_entries (e ∷ es) rising = (
+    ap (λ b. cond b (Some e.1) (find R e.0 es)) ((eq_by_cmp_equiv o).refl e.0),
+    found_above e es es (first _ _ rising) (own_entries es (second _ _ rising)),
+  )
+
+  module _ (whole : Table K V) where
+    -- of entries of a table that are put into another, those are found that the table has
+    find-put_all : (es table : Table K V) (k : K) → AllByRecursion (IsOf R whole) es
+        → find R k (put_all R es table) ≡ cond (is_some (find R k es)) (find R k whole) (find R k table)
+    find-put_all [] table k are = refl
+    find-put_all (e ∷ es) table k are =
+        find-put_all es (put R e.0 e.1 table) k are.1
+        ∙ ap (cond (is_some (find R k es)) (find R k whole)) (find-put R o k e.0 e.1 table)
+        ∙ elim (eq_by_cmp R k e.0) as (λ b. eq_by_cmp R k e.0 ≡ b
+        → cond (is_some (find R k es)) (find R k whole) (cond b (Some e.1) (find R k table)) ≡ cond (is_some (cond b (Some e.1) (find R k es))) (find R k whole) (find R k table)) [
+          | true ↦ λ same. elim (is_some (find R k es)) as (λ b. cond b (find R k whole) (Some e.1) ≡ find R k whole) [
+            | true ↦ refl
+            | false ↦ sym are.0 ∙ find_tied R o k e.0 ((Equal-is (R k e.0)).0 same) whole
+          ]
+          | false ↦ λ apart. refl
+        ] refl
+
+    -- Rows that are selected by names: those of a name are of the table, and are its rows of the keys that the name keeps.
+    module _ {N : Type 0} (rows : N → Table K V) (keeps : N → K → Bool) (are : (n : N) → AllByRecursion (IsOf R whole) (rows n))
+        (found : (n : N) (k : K) → find R k (rows n) ≡ cond (keeps n k) (find R k whole) None) where
+      find_selected : (k : K) (ns : List N) → find R k (flat_map rows ns) ≡ cond (list_any (λ n. keeps n k) ns) (find R k whole) None
+      find_selected k [] = refl
+      find_selected k (n ∷ ns) =
+          find_joined R k (rows n) (flat_map rows ns)
+          ∙ (λ i. cond (is_some (found n k i)) (found n k i) (find_selected k ns i))
+          ∙ elim (keeps n k) as (λ b. cond (is_some (cond b (find R k whole) None)) (cond b (find R k whole) None) (cond (list_any (λ m. keeps m k) ns) (find R k whole) None)
+          ≡ cond (b || list_any (λ m. keeps m k) ns) (find R k whole) None) [
+            | true ↦ found_once (list_any (λ m. keeps m k) ns) (find R k whole)
+            | false ↦ refl
+          ]
+
+      -- under a key that a name keeps the table of the rows has what the whole has
+      pub find_named : (ns : List N) (k : K) → list_any (λ n. keeps n k) ns ≡ true → find R k (put_all R (flat_map rows ns) []) ≡ find R k whole
+      find_named ns k named =
+          find-put_all (flat_map rows ns) [] k (all_flat (IsOf R whole) rows are ns)
+          ∙ ap (λ f. cond (is_some f) (find R k whole) None) (find_selected k ns ∙ ap (λ b. cond b (find R k whole) None) named)
+          ∙ found_later (find R k whole)
+
+  module _ (exact : (x y : K) → R x y ≡ Equal → x ≡ y) (whole : Table K V) (rising : T (is_sorted R whole)) where
+    -- the rows that pass a test of their keys
+    pub tested_are : (test : K → Bool) → AllByRecursion (IsOf R whole) (filter (λ e. test e.0) whole)
+    tested_are test = all_filter (IsOf R whole) (λ e. test e.0) whole (own_entries whole rising)
+
+    pub tested_found : (test : K → Bool) (k : K) → find R k (filter (λ e. test e.0) whole) ≡ cond (test k) (find R k whole) None
+    tested_found test k = find-where_key R test k (λ x same. ap test (sym (exact k x same))) whole
+
+    -- the row of a key
+    pub entry_is : (n : K) → AllByRecursion (IsOf R whole) (entry_of n (find R n whole))
+    entry_is n = elim (find R n whole) as (λ f. find R n whole ≡ f → AllByRecursion (IsOf R whole) (entry_of n f)) [
+      | None ↦ λ is. tt
+      | Some v ↦ λ is. (is, tt)
+    ] refl
+
+    pub entry_found : (n k : K) → find R k (entry_of n (find R n whole)) ≡ cond (eq_by_cmp R k n) (find R k whole) None
+    entry_found n k =
+        elim (find R n whole) as (λ f. find R n whole ≡ f → find R k (entry_of n f) ≡ cond (eq_by_cmp R k n) f None) [
+          | None ↦ λ is. elim (eq_by_cmp R k n) as (λ b. ◌≡◌ {A = Option V} None (cond b None None)) [ true ↦ refl | false ↦ refl ]
+          | Some v ↦ λ is. refl
+        ] refl
+        ∙ elim (eq_by_cmp R k n) as (λ b. eq_by_cmp R k n ≡ b → cond b (find R n whole) None ≡ cond b (find R k whole) None) [
+          | true ↦ λ same. find_tied R o k n ((Equal-is (R k n)).0 same) whole
+          | false ↦ λ apart. refl
+        ] refl
+
+    -- Two tables that have the same under all keys that pass a test have the same rows of them.
+    pub same_tested : (test : K → Bool) (es : Table K V) → T (is_sorted R es) → ((k : K) → test k ≡ true → find R k es ≡ find R k whole)
+        → filter (λ e. test e.0) es ≡ filter (λ e. test e.0) whole
+    same_tested test es ordered alike =
+        same_entries R o exact _ _ (is_sorted-where_key R test es ordered) (is_sorted-where_key R test whole rising)
+        (λ q. find-where_key R test q (λ x same. ap test (sym (exact q x same))) es
+        ∙ elim (test q) as (λ b. test q ≡ b → cond b (find R q es) None ≡ cond b (find R q whole) None) [ true ↦ λ passes. alike q passes | false ↦ λ fails. refl ] refl
+        ∙ sym (tested_found test q))

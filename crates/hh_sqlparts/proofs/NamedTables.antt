@@ -1,0 +1,117 @@
+-- Tables of rows that names select of a whole one: they have what the whole has under the keys of the rows of a file that the
+-- names are of.
+use Rattle.std.proofs.Common.{◌≡◌, ℕ, List, [], true, cond, refl, sym, ap, subst, ◌∙◌, Option, Some, None, Ordering}
+use Rattle.std.specs.Prelude.{ℤ, filter, option_map, T}
+use Rattle.std.specs.BTreeMap.{is_at}
+use Rattle.std.specs.Cmp.{IsTotalOrder, Equal-is}
+use Rattle.std.specs.FinMap.{find, is_sorted}
+use Rattle.std.specs.List.{All, AllByRecursion, flat_map, list_any}
+use Rattle.std.specs.Option.{IfSome}
+use Rattle.std.specs.Ordering.{eq_by_cmp, is_eq, nat_cmp}
+use Rattle.std.proofs.lemmas.List.Elements.{All-weaker}
+use Rattle.std.proofs.lemmas.Map.Lookups.{exact_bytes}
+use Rattle.hh_tables.specs.Tables.{IsTable, Table, put_all}
+use Rattle.hh_tables.proofs.MergeLaws.{from_true, put_all_is_table}
+use Rattle.hh_names.specs.Accounts.{bytes_cmp}
+use Rattle.hh_names.specs.declared.values.Counterparties.{Counterparties}
+use Rattle.hh_names.specs.declared.values.Reading.{Reading}
+use Rattle.hh_names.specs.declared.values.Reallocation.{Reallocation}
+use Rattle.hh_names.proofs.AccountLaws.{bytes_total}
+use Rattle.hh_rows.specs.declared.keys.ContractKey.{ContractKey}
+use Rattle.hh_rows.specs.declared.keys.ReallocationKey.{ReallocationKey}
+use Rattle.hh_rows.specs.declared.keys.UnitPeriod.{UnitPeriod}
+use Rattle.hh_rows.specs.declared.settlement_period.SettlementPeriod.{SettlementPeriod}
+use Rattle.hh_rows.specs.declared.rows.Row.{Row}
+use Rattle.hh_rows.specs.Keys.{contract_key_cmp, reallocation_key_cmp, settlement_period_cmp, unit_period_cmp}
+use Rattle.hh_rows.proofs.KeyLaws.{contract_key_total, exact_contract_keys, exact_reallocation_keys, exact_settlement_periods, exact_unit_periods, reallocation_key_total, settlement_period_total, unit_period_total}
+use Rattle.hh_sqlrows.specs.OfficeTables.{is_of_unit_on}
+use Rattle.hh_sqlparts.specs.declared.named_names.UnitDay.{UnitDay}
+use Rattle.hh_sqlparts.specs.steps.Named.{FindsNamed, HasReallocated, IsAmong, date_of, entry_of, price_key_of, reading_key_of, reallocated_at, reallocated_of, reference_of, unit_day, unit_day_cmp, unit_day_of, unit_of, volume_key_of}
+use Rattle.hh_sqlparts.proofs.NamedRows.{IsOf, entry_found, entry_is, find_named, same_tested, tested_are, tested_found}
+
+-- what follows of a row's key, by the name of that
+by_name : {K N : Type 0} (name : K → N) (P : N → Type 0) (Q : K → Type 0) → ((k : K) → P (name k) → Q k) → (o : Option K) → IfSome (option_map name o) P → IfSome o Q
+by_name name P Q follows None h = h
+by_name name P Q follows (Some k) h = follows k h
+
+own_name : {K : Type 0} (o : Option K) → o ≡ option_map (λ k. k) o
+own_name None = refl
+own_name (Some k) = refl
+
+-- Rows that are selected by names: with those of the names of rows a table has what the whole has under the keys of the rows.
+module _ {K V N : Type 0} (R : K → K → Ordering) (o : IsTotalOrder R) (whole : Table K V) (C : N → N → Ordering) (name : K → N) (selects : N → Table K V)
+    (are : (n : N) → AllByRecursion (IsOf R whole) (selects n)) (finds : (n : N) (k : K) → find R k (selects n) ≡ cond (is_eq (C (name k) n)) (find R k whole) None) where
+  finds_by_names : (names : List N) (k : K) → list_any (is_at (C (name k))) names ≡ true → find R k (put_all R (flat_map selects names) []) ≡ find R k whole
+  finds_by_names = find_named R o whole selects (λ n k. is_eq (C (name k) n)) are finds
+
+  finds_of_rows : (key : Row → Option K) (name_of : Row → Option N) → ((r : Row) → name_of r ≡ option_map name (key r)) → (rows : List Row) (names : List N) → All (IsAmong C name_of names) rows
+      → (found part : Table K V) → found ≡ flat_map selects names → part ≡ put_all R found [] → FindsNamed R key rows whole part
+  finds_of_rows key name_of same rows names among found part is became =
+      subst (FindsNamed R key rows whole) (sym (became ∙ ap (λ es. put_all R es []) is))
+      (All-weaker (IsAmong C name_of names) (λ r. IfSome (key r) (λ k. find R k (put_all R (flat_map selects names) []) ≡ find R k whole))
+      (λ r here. by_name name (λ n. list_any (is_at (C n)) names ≡ true) (λ k. find R k (put_all R (flat_map selects names) []) ≡ find R k whole) (finds_by_names names) (key r)
+      (subst (λ x. IfSome x (λ n. list_any (is_at (C n)) names ≡ true)) (same r) here)) rows among)
+
+module _ (rows : List Row) where
+  pub references_named : (whole : Table (List ℕ) Counterparties) → T (is_sorted bytes_cmp whole) → (names : List (List ℕ)) → All (IsAmong bytes_cmp reference_of names) rows → (found part : Table (List ℕ) Counterparties)
+      → found ≡ flat_map (λ n. entry_of n (find bytes_cmp n whole)) names → part ≡ put_all bytes_cmp found []
+      → FindsNamed bytes_cmp reference_of rows whole part
+  references_named whole order =
+      finds_of_rows bytes_cmp bytes_total whole bytes_cmp (λ k. k) (λ n. entry_of n (find bytes_cmp n whole)) (entry_is bytes_cmp bytes_total exact_bytes whole order) (entry_found bytes_cmp bytes_total exact_bytes whole order)
+      reference_of reference_of (λ r. own_name (reference_of r)) rows
+
+  pub contracts_named : (whole : Table ContractKey ℤ) → T (is_sorted contract_key_cmp whole) → (names : List ContractKey) → All (IsAmong contract_key_cmp volume_key_of names) rows → (found part : Table ContractKey ℤ)
+      → found ≡ flat_map (λ n. entry_of n (find contract_key_cmp n whole)) names → part ≡ put_all contract_key_cmp found []
+      → FindsNamed contract_key_cmp volume_key_of rows whole part
+  contracts_named whole order =
+      finds_of_rows contract_key_cmp contract_key_total whole contract_key_cmp (λ k. k) (λ n. entry_of n (find contract_key_cmp n whole)) (entry_is contract_key_cmp contract_key_total exact_contract_keys whole order)
+      (entry_found contract_key_cmp contract_key_total exact_contract_keys whole order)
+      volume_key_of volume_key_of (λ r. own_name (volume_key_of r)) rows
+
+  pub meters_named : (whole : Table UnitPeriod Reading) → T (is_sorted unit_period_cmp whole) → (names : List UnitDay) → All (IsAmong unit_day_cmp unit_day_of names) rows → (found part : Table UnitPeriod Reading)
+      → found ≡ flat_map (λ n. filter (λ e. is_of_unit_on n.unit n.date e.0) whole) names → part ≡ put_all unit_period_cmp found []
+      → FindsNamed unit_period_cmp reading_key_of rows whole part
+  meters_named whole order =
+      finds_of_rows unit_period_cmp unit_period_total whole unit_day_cmp unit_day (λ n. filter (λ e. is_of_unit_on n.unit n.date e.0) whole)
+      (λ n. tested_are unit_period_cmp unit_period_total exact_unit_periods whole order (is_of_unit_on n.unit n.date)) (λ n. tested_found unit_period_cmp unit_period_total exact_unit_periods whole order (is_of_unit_on n.unit n.date))
+      reading_key_of unit_day_of (λ r. refl) rows
+
+  pub prices_named : (whole : Table SettlementPeriod ℤ) → T (is_sorted settlement_period_cmp whole) → (names : List ℕ) → All (IsAmong nat_cmp date_of names) rows → (found part : Table SettlementPeriod ℤ)
+      → found ≡ flat_map (λ n. filter (λ e. is_eq (nat_cmp e.0.date n)) whole) names → part ≡ put_all settlement_period_cmp found []
+      → FindsNamed settlement_period_cmp price_key_of rows whole part
+  prices_named whole order =
+      finds_of_rows settlement_period_cmp settlement_period_total whole nat_cmp (λ at. at.date) (λ n. filter (λ e. is_eq (nat_cmp e.0.date n)) whole)
+      (λ n. tested_are settlement_period_cmp settlement_period_total exact_settlement_periods whole order (λ at. is_eq (nat_cmp at.date n)))
+      (λ n. tested_found settlement_period_cmp settlement_period_total exact_settlement_periods whole order (λ at. is_eq (nat_cmp at.date n)))
+      price_key_of date_of (λ r. refl) rows
+
+  -- the reallocations of a unit that is named
+  module _ (whole : Table ReallocationKey Reallocation) (order : T (is_sorted reallocation_key_cmp whole)) (names : List (List ℕ)) where
+    abbrev selected : Table ReallocationKey Reallocation
+    selected = put_all reallocation_key_cmp (flat_map (λ n. filter (λ e. is_eq (bytes_cmp e.0.unit_period.unit n)) whole) names) []
+
+    finds_reallocated : (k : ReallocationKey) → list_any (is_at (bytes_cmp k.unit_period.unit)) names ≡ true → find reallocation_key_cmp k selected ≡ find reallocation_key_cmp k whole
+    finds_reallocated k =
+        finds_by_names reallocation_key_cmp reallocation_key_total whole bytes_cmp (λ (key : ReallocationKey). key.unit_period.unit) (λ n. filter (λ e. is_eq (bytes_cmp e.0.unit_period.unit n)) whole)
+        (λ n. tested_are reallocation_key_cmp reallocation_key_total exact_reallocation_keys whole order (λ key. is_eq (bytes_cmp key.unit_period.unit n)))
+        (λ n. tested_found reallocation_key_cmp reallocation_key_total exact_reallocation_keys whole order (λ key. is_eq (bytes_cmp key.unit_period.unit n)))
+        names k
+
+    selected_rises : IsTable reallocation_key_cmp selected
+    selected_rises = put_all_is_table reallocation_key_total (flat_map (λ n. filter (λ e. is_eq (bytes_cmp e.0.unit_period.unit n)) whole) names) [] refl
+
+    reallocated_alike : (at : UnitPeriod) → list_any (is_at (bytes_cmp at.unit)) names ≡ true → reallocated_at at selected ≡ reallocated_at at whole
+    reallocated_alike at named =
+        same_tested reallocation_key_cmp reallocation_key_total exact_reallocation_keys whole order
+        (λ k. eq_by_cmp unit_period_cmp k.unit_period at) selected (from_true _ selected_rises)
+        (λ k here. finds_reallocated k (subst (λ (u : UnitPeriod). list_any (is_at (bytes_cmp u.unit)) names ≡ true) (sym (exact_unit_periods k.unit_period at ((Equal-is (unit_period_cmp k.unit_period at)).0 here))) named))
+
+    pub reallocations_named : All (IsAmong bytes_cmp unit_of names) rows → (found part : Table ReallocationKey Reallocation)
+        → found ≡ flat_map (λ n. filter (λ e. is_eq (bytes_cmp e.0.unit_period.unit n)) whole) names → part ≡ put_all reallocation_key_cmp found []
+        → HasReallocated rows whole part
+    reallocations_named among found part is became =
+        subst (HasReallocated rows whole) (sym (became ∙ ap (λ es. put_all reallocation_key_cmp es []) is)) (
+          selected_rises,
+          All-weaker (IsAmong bytes_cmp unit_of names) (λ r. IfSome (reallocated_of r) (λ at. reallocated_at at selected ≡ reallocated_at at whole))
+              (λ r here. by_name (λ at. at.unit) (λ n. list_any (is_at (bytes_cmp n)) names ≡ true) (λ at. reallocated_at at selected ≡ reallocated_at at whole) reallocated_alike (reallocated_of r) here) rows among,
+        )

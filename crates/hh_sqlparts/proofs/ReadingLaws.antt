@@ -1,0 +1,50 @@
+-- One reading of an office after the other: they leave together what each leaves, and what one finds stands for both.
+use Rattle.std.proofs.Common.{◌≡◌, ◌∙◌, IsTrue, refl, sym, subst}
+use Rattle.sqlite.specs.Effect.{Database}
+use Rattle.sqlite.specs.State.{State}
+use Rattle.hh_sqlrows.specs.Office.{IsOffice}
+use Rattle.hh_sqlrows.specs.Reads.{LeavesOffice, OfOffice, Stood}
+use Rattle.hh_sqlparts.specs.Readings.{IsReading, OfSettled}
+
+-- a statement that selects rows is a reading
+pub reading_of_statement : (old new : State) → Stood old new → LeavesOffice old new → IsReading old new
+reading_of_statement old new stood left = record { stood = λ stands. (stood stands).0; left = left }
+
+-- to do nothing is a reading
+pub reading_of_nothing : (s : State) → IsReading s s
+reading_of_nothing s = record { stood = λ stands. stands; left = λ stands is settled. (refl, refl) }
+
+module _ (old mid new : State) (first : IsReading old mid) (last : IsReading mid new) where
+  module _ (stands : IsTrue new.is_open) (is : IsOffice old.now) (settled : old.now ≡ old.committed) where
+    -- what stands between the two is what stood before
+    pub between : (mid.now ≡ old.now) × (mid.committed ≡ old.committed)
+    between = first.left (last.stood stands) is settled
+
+    pub is_office_between : IsOffice mid.now
+    is_office_between = subst IsOffice (sym between.0) is
+
+    pub settled_between : mid.now ≡ mid.committed
+    settled_between = between.0 ∙ settled ∙ sym between.1
+
+  pub reading_then : IsReading old new
+  reading_then = record {
+    stood = λ stands. first.stood (last.stood stands);
+    left = λ stands is settled.
+        let kept = last.left stands (is_office_between stands is settled) (settled_between stands is settled) in
+        let here = between stands is settled in
+        (kept.0 ∙ here.0, kept.1 ∙ here.1);
+  }
+
+  -- what the first finds stands for both
+  pub found_first : (P : Type 0) → OfSettled old mid P → OfSettled old new P
+  found_first P found stands is settled = found (last.stood stands) is settled
+
+  -- what the last finds in the database is found in the one before the first
+  pub found_last : (P : Database → Type 0) → OfSettled mid new (P mid.now) → OfSettled old new (P old.now)
+  found_last P found stands is settled =
+      subst P (between stands is settled).0 (found stands (is_office_between stands is settled) (settled_between stands is settled))
+
+  -- so is what it finds whether or not all was committed
+  pub found_last_of_office : (P : Database → Type 0) → OfOffice mid new (P mid.now) → OfSettled old new (P old.now)
+  found_last_of_office P found stands is settled =
+      subst P (between stands is settled).0 (found stands (is_office_between stands is settled))

@@ -1,0 +1,31 @@
+use Rattle.std.proofs.Common.{◌≡◌, ◌∙◌, IsTrue, ap, rules, subst, sym}
+use Rattle.sqlite.specs.Effect.{Database}
+use Rattle.sqlite.specs.Held.{state}
+use Rattle.hh_rules.specs.History.{Registered, nothing_registered}
+use Rattle.hh_kept_rows.specs.DayRows.{HasRowsOn}
+use Rattle.hh_sqlrows.specs.Contents.{registered_of}
+use Rattle.hh_sqlparts.specs.Readings.{IsReading}
+use Rattle.hh_sqlparts.specs.steps.DayParts.{day_part, with_contracts, with_registered, with_rows_of_units}
+use Rattle.hh_sqlparts.proofs.DayLaws.{rows_of_day_part, units_rise}
+use Rattle.hh_sqlparts.proofs.ReadingLaws.{found_first, found_last, reading_then}
+use Rattle.hh_sqlparts.proofs.day_rows.select_day.Goals as goal
+
+pub returns-clause-value : goal.returns-clause-value
+returns-clause-value g c stands is settled =
+    let old = state g.S.Store c.args.conn.now in
+    let first = state g.S.Store c.select_contracts.new.conn in
+    let second = state g.S.Store c.select_registered.new.conn in
+    let new = state g.S.Store c.select_of_units.new.conn in
+    let date = c.args.date in
+    let whole = registered_of old.now.trees in
+    let one : IsReading old first = c.in_ok-select_contracts.ensures.reading in
+    let two : IsReading first second = c.in_ok-select_registered.ensures.reading in
+    let three : IsReading second new = c.in_ok-select_of_units.ensures.reading in
+    let contracts : IsTrue first.is_open → c.select_contracts.new.part ≡ with_contracts date whole nothing_registered = λ stood. search rules in
+    let registered = found_first old second new (reading_then old first second one two) three (c.select_registered.new.part ≡ with_registered date whole c.select_contracts.new.part)
+    (found_last old first second one two (λ (db : Database). c.select_registered.new.part ≡ with_registered date (registered_of db.trees) c.select_contracts.new.part) c.in_ok-select_registered.ensures.value) stands is settled in
+    let of_units = found_last old second new (reading_then old first second one two) three (λ (db : Database). c.select_of_units.new.part ≡ with_rows_of_units date (registered_of db.trees) c.select_registered.new.part)
+    c.in_ok-select_of_units.ensures.value stands is settled in
+    let same : c.select_of_units.new.part ≡ day_part date whole =
+    of_units ∙ ap (with_rows_of_units date whole) (registered ∙ ap (with_registered date whole) (contracts (two.stood (three.stood stands)))) in
+    subst (λ (part : Registered). HasRowsOn date whole part) (sym same) (rows_of_day_part date whole (units_rise old.now.trees))

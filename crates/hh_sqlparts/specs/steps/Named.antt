@@ -1,0 +1,91 @@
+-- What rows name of each table, and what is selected of it by the names.
+use Rattle.std.specs.Prelude.{◌≡◌, ℕ, List, [], ◌∷◌, true, Option, Some, None, option_map, filter, All}
+use Rattle.std.specs.BTreeMap.{is_at}
+use Rattle.std.specs.FinMap.{find}
+use Rattle.std.specs.List.{list_any}
+use Rattle.std.specs.Option.{IfSome}
+use Rattle.std.specs.Ordering.{eq_by_cmp, nat_cmp, on, then_cmp}
+use Rattle.std.specs.declared.cmp.Ordering.{Ordering}
+use Rattle.hh_tables.specs.Tables.{IsTable, Table}
+use Rattle.hh_names.specs.Accounts.{bytes_cmp}
+use Rattle.hh_names.specs.declared.values.Reallocation.{Reallocation}
+use Rattle.hh_rows.specs.declared.keys.ContractKey.{ContractKey}
+use Rattle.hh_rows.specs.declared.keys.ReallocationKey.{ReallocationKey}
+use Rattle.hh_rows.specs.declared.keys.UnitPeriod.{UnitPeriod}
+use Rattle.hh_rows.specs.declared.settlement_period.SettlementPeriod.{SettlementPeriod}
+use Rattle.hh_rows.specs.declared.rows.Row.{Row}
+use Rattle.hh_rows.specs.declared.rows.Row.TheVariants as row
+use Rattle.hh_rows.specs.Keys.{reallocation_key_cmp, unit_period_cmp}
+use Rattle.hh_sqlparts.specs.declared.named_names.UnitDay.{UnitDay}
+
+-- ---- what of each table a row is judged by; a row of another kind by nothing of it
+
+-- the reference of a contract
+abbrev pub reference_of : Row → Option (List ℕ)
+reference_of (row.Contract r) = Some r.key.reference
+reference_of _ = None
+
+-- the volume in force under the key of a contract
+abbrev pub volume_key_of : Row → Option ContractKey
+volume_key_of (row.Contract r) = Some r.key
+volume_key_of _ = None
+
+-- the reading under the key of a reading
+abbrev pub reading_key_of : Row → Option UnitPeriod
+reading_key_of (row.Meter r) = Some r.key
+reading_key_of _ = None
+
+-- the price of the Settlement Period of a price
+abbrev pub price_key_of : Row → Option SettlementPeriod
+price_key_of (row.Price r) = Some r.at
+price_key_of _ = None
+
+-- the reallocations of the unit of a reallocation in its Settlement Period
+abbrev pub reallocated_of : Row → Option UnitPeriod
+reallocated_of (row.Reallocation r) = Some r.key.unit_period
+reallocated_of _ = None
+
+-- ---- the names by which these are selected
+
+-- the unit and the date of a key
+abbrev pub unit_day : UnitPeriod → UnitDay
+unit_day key = record { unit = key.unit; date = key.at.date }
+
+-- the unit decides, then the date
+abbrev pub unit_day_cmp : UnitDay → UnitDay → Ordering
+unit_day_cmp = then_cmp (on (λ n. n.unit) bytes_cmp) (on (λ n. n.date) nat_cmp)
+
+abbrev pub unit_day_of : Row → Option UnitDay
+unit_day_of r = option_map unit_day (reading_key_of r)
+
+abbrev pub date_of : Row → Option ℕ
+date_of r = option_map (λ at. at.date) (price_key_of r)
+
+abbrev pub unit_of : Row → Option (List ℕ)
+unit_of r = option_map (λ at. at.unit) (reallocated_of r)
+
+-- what the row names, if it names anything, is among these
+abbrev pub IsAmong : {N : Type 0} → (N → N → Ordering) → (Row → Option N) → List N → Row → Type 0
+IsAmong R name names r = IfSome (name r) (λ n. list_any (is_at (R n)) names ≡ true)
+
+-- ---- what is selected by a name
+
+-- the entry of a key, if a table has one
+abbrev pub entry_of : {K V : Type 0} → K → Option V → List (K × V)
+entry_of k None = []
+entry_of k (Some v) = (k, v) ∷ []
+
+-- ---- what a part has of a table
+
+-- under the keys of rows it has what the whole has
+abbrev pub FindsNamed : {K V : Type 0} → (K → K → Ordering) → (Row → Option K) → List Row → Table K V → Table K V → Type 0
+FindsNamed R key rows whole part = All (λ r. IfSome (key r) (λ k. find R k part ≡ find R k whole)) rows
+
+-- the reallocations of a unit in a Settlement Period
+abbrev pub reallocated_at : UnitPeriod → Table ReallocationKey Reallocation → Table ReallocationKey Reallocation
+reallocated_at at es = filter (λ e. eq_by_cmp unit_period_cmp e.0.unit_period at) es
+
+-- of the units of rows in their Settlement Periods it has the reallocations that the whole has
+abbrev pub HasReallocated : List Row → Table ReallocationKey Reallocation → Table ReallocationKey Reallocation → Type 0
+HasReallocated rows whole part =
+    IsTable reallocation_key_cmp part × All (λ r. IfSome (reallocated_of r) (λ at. reallocated_at at part ≡ reallocated_at at whole)) rows

@@ -1,0 +1,81 @@
+//! What a Settlement Day is settled from.
+
+ghost use Rattle.std.specs.Prelude.{◌≡◌, false, IfOk, OnOk};
+ghost use Rattle.sqlite.specs.Held.{state};
+ghost use Rattle.hh_kept_rows.specs.DayRows.{HasRowsOn};
+ghost use Rattle.hh_sqlrows.specs.Contents.{registered_of};
+ghost use Rattle.hh_sqlparts.specs.Readings.{IsReading, OfSettled};
+ghost use Rattle.hh_sqlparts.specs.steps.DayParts.{with_registered, with_rows_of_units};
+
+use crate::day_contracts::select_contracts;
+use crate::day_units::{ids_on, meters_of, reallocations_of};
+use crate::tables::{all_parties, all_units, table_of};
+use hh_kept_rows::KeptRegister;
+use hh_keyed_rows::RowFault;
+use hh_sqlrows::select_prices_on;
+use hh_time::SettlementDate;
+use sqlite::{Alter, Connection};
+use std::alloc::Global;
+
+/// What a Settlement Day is settled from: all parties and units, and of the date the prices, the
+/// contracts with the sellers and buyers of their references, and the readings and reallocations of
+/// the units that are effective on it.
+pub fn select_day<S: Alter>(
+    conn: &mut Connection<S>,
+    alloc: Global,
+    date: SettlementDate,
+) -> Result<KeptRegister, RowFault>
+    ensures value { let old = state S.Store conn.old in
+        let new = state S.Store conn.new in
+        OfSettled old new (IfOk result (λ part.
+        HasRowsOn date (registered_of old.now.trees) part)) }
+    ensures reading { IsReading (state S.Store conn.old) (state S.Store conn.new) }
+    ensures mode { conn.old.in_transaction ≡ false → conn.new.in_transaction ≡ false }
+{
+    let mut part = KeptRegister::new(alloc);
+    select_contracts(conn, alloc, &mut part, date)?;
+    select_registered(conn, alloc, &mut part, date)?;
+    select_of_units(conn, alloc, &mut part, date)?;
+    Ok(part)
+}
+
+/// Puts all parties and units and the prices of a date into a part.
+fn select_registered<S: Alter>(
+    conn: &mut Connection<S>,
+    alloc: Global,
+    part: &mut KeptRegister,
+    date: SettlementDate,
+) -> Result<(), RowFault>
+    ensures value { let old = state S.Store conn.old in
+        let new = state S.Store conn.new in
+        OfSettled old new (OnOk result (part.new
+        ≡ with_registered date (registered_of old.now.trees) part.old)) }
+    ensures reading { IsReading (state S.Store conn.old) (state S.Store conn.new) }
+    ensures mode { conn.old.in_transaction ≡ false → conn.new.in_transaction ≡ false }
+{
+    part.parties = all_parties(conn, alloc)?;
+    part.units = all_units(conn, alloc)?;
+    part.prices = table_of(select_prices_on(conn, alloc, &date)?)?;
+    Ok(())
+}
+
+/// Puts into a part the readings of a date and the reallocations of those of its units that are
+/// effective on it.
+fn select_of_units<S: Alter>(
+    conn: &mut Connection<S>,
+    alloc: Global,
+    part: &mut KeptRegister,
+    date: SettlementDate,
+) -> Result<(), RowFault>
+    ensures value { let old = state S.Store conn.old in
+        let new = state S.Store conn.new in
+        OfSettled old new (OnOk result (part.new
+        ≡ with_rows_of_units date (registered_of old.now.trees) part.old)) }
+    ensures reading { IsReading (state S.Store conn.old) (state S.Store conn.new) }
+    ensures mode { conn.old.in_transaction ≡ false → conn.new.in_transaction ≡ false }
+{
+    let units = ids_on(alloc, part.units.rows(), date)?;
+    part.meters = table_of(meters_of(conn, alloc, &units, date)?)?;
+    part.reallocations = table_of(reallocations_of(conn, alloc, &units)?)?;
+    Ok(())
+}

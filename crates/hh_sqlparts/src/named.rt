@@ -1,0 +1,50 @@
+//! The part of what is registered and in force that rows are judged by.
+
+ghost use Rattle.std.specs.Prelude.{◌≡◌, false, IfOk};
+ghost use Rattle.sqlite.specs.Held.{state};
+ghost use Rattle.hh_sqlrows.specs.Contents.{registered_of};
+ghost use Rattle.hh_sqlparts.specs.Named.{JudgesFor};
+ghost use Rattle.hh_sqlparts.specs.Readings.{IsReading, OfSettled};
+
+use crate::named_tables::{
+    select_contracts_named, select_meters_named, select_prices_named, select_reallocations_named,
+    select_references_named,
+};
+use crate::tables::{all_parties, all_units};
+use hh_kept_rows::KeptRegister;
+use hh_keyed_rows::RowFault;
+use hh_rows::Row;
+use sqlite::{Alter, Connection};
+use std::alloc::Global;
+
+/// The part of what is registered and in force that judges these rows as all of it would: all parties
+/// and units, and of the other tables what the rows name. `Memory` where memory is refused, `Store`
+/// where the database refuses or holds what no office wrote; either leaves the office as it was.
+pub fn select_named<S: Alter>(
+    conn: &mut Connection<S>,
+    alloc: Global,
+    rows: &[Row],
+) -> Result<KeptRegister, RowFault>
+    ensures value { let old = state S.Store conn.old in
+        let new = state S.Store conn.new in
+        OfSettled old new (IfOk result (JudgesFor rows.now (registered_of old.now.trees))) }
+    ensures reading { IsReading (state S.Store conn.old) (state S.Store conn.new) }
+    ensures mode { conn.old.in_transaction ≡ false → conn.new.in_transaction ≡ false }
+{
+    let parties = all_parties(conn, alloc)?;
+    let units = all_units(conn, alloc)?;
+    let references = select_references_named(conn, alloc, rows)?;
+    let meters = select_meters_named(conn, alloc, rows)?;
+    let prices = select_prices_named(conn, alloc, rows)?;
+    let contracts = select_contracts_named(conn, alloc, rows)?;
+    let reallocations = select_reallocations_named(conn, alloc, rows)?;
+    Ok(KeptRegister {
+        parties,
+        units,
+        references,
+        meters,
+        prices,
+        contracts,
+        reallocations,
+    })
+}

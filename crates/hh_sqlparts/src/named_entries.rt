@@ -1,0 +1,137 @@
+//! The rows of the tables that names select.
+
+ghost use Rattle.std.specs.Prelude.{◌≡◌, false, filter, IfOk};
+ghost use Rattle.std.specs.FinMap.{find};
+ghost use Rattle.std.specs.List.{flat_map};
+ghost use Rattle.std.specs.Ordering.{is_eq, nat_cmp};
+ghost use Rattle.hh_names.specs.Accounts.{bytes_cmp};
+ghost use Rattle.hh_rows.specs.Keys.{contract_key_cmp};
+ghost use Rattle.sqlite.specs.Held.{state};
+ghost use Rattle.hh_sqlrows.specs.Forms.{rows_under_keys};
+ghost use Rattle.hh_sqlrows.specs.OfficeTables.{contracts, is_of_unit_on, meters, period_prices, reallocations, references};
+ghost use Rattle.hh_sqlparts.specs.Readings.{IsReading, OfSettled};
+ghost use Rattle.hh_sqlparts.specs.steps.Named.{entry_of};
+
+use crate::named_names::UnitDay;
+use hh_keyed_rows::RowFault;
+use hh_names::{Counterparties, Reading, Reallocation, Reference, UnitId};
+use hh_num::{Kwh, Price};
+use hh_rows::{ContractKey, ReallocationKey, SettlementPeriod, UnitPeriod};
+use hh_sqlrows::{
+    select_contract, select_meters_on, select_prices_on, select_reallocations_of, select_reference,
+};
+use hh_time::SettlementDate;
+use sqlite::{Alter, Connection};
+use std::alloc::Global;
+
+/// The sellers and the buyers of references.
+pub(crate) fn references_under<S: Alter>(
+    conn: &mut Connection<S>,
+    alloc: Global,
+    names: &[Reference],
+) -> Result<Vec<(Reference, Counterparties)>, RowFault>
+    ensures value { let old = state S.Store conn.old in
+        let new = state S.Store conn.new in
+        OfSettled old new (IfOk result (λ found. found.items
+        ≡ flat_map (λ n. entry_of n (find bytes_cmp n
+        (rows_under_keys references old.now.trees))) names.now)) }
+    ensures reading { IsReading (state S.Store conn.old) (state S.Store conn.new) }
+    ensures mode { conn.old.in_transaction ≡ false → conn.new.in_transaction ≡ false }
+{
+    let mut found = Vec::new(alloc);
+    'names: for name in names {
+        if let Some(counterparties) = select_reference(conn, alloc, name)? {
+            found.push((*name, counterparties))?;
+        }
+    }
+    Ok(found)
+}
+
+/// The volumes of the contracts under keys.
+pub(crate) fn contracts_under<S: Alter>(
+    conn: &mut Connection<S>,
+    alloc: Global,
+    names: &[ContractKey],
+) -> Result<Vec<(ContractKey, Kwh)>, RowFault>
+    ensures value { let old = state S.Store conn.old in
+        let new = state S.Store conn.new in
+        OfSettled old new (IfOk result (λ found. found.items
+        ≡ flat_map (λ n. entry_of n (find contract_key_cmp n
+        (rows_under_keys contracts old.now.trees))) names.now)) }
+    ensures reading { IsReading (state S.Store conn.old) (state S.Store conn.new) }
+    ensures mode { conn.old.in_transaction ≡ false → conn.new.in_transaction ≡ false }
+{
+    let mut found = Vec::new(alloc);
+    'names: for name in names {
+        if let Some(volume) = select_contract(conn, alloc, name)? {
+            found.push((*name, volume))?;
+        }
+    }
+    Ok(found)
+}
+
+/// The readings of units on dates.
+pub(crate) fn meters_under<S: Alter>(
+    conn: &mut Connection<S>,
+    alloc: Global,
+    names: &[UnitDay],
+) -> Result<Vec<(UnitPeriod, Reading)>, RowFault>
+    ensures value { let old = state S.Store conn.old in
+        let new = state S.Store conn.new in
+        OfSettled old new (IfOk result (λ found. found.items
+        ≡ flat_map (λ n. filter (λ e. is_of_unit_on n.unit n.date e.0)
+        (rows_under_keys meters old.now.trees)) names.now)) }
+    ensures reading { IsReading (state S.Store conn.old) (state S.Store conn.new) }
+    ensures mode { conn.old.in_transaction ≡ false → conn.new.in_transaction ≡ false }
+{
+    let mut found = Vec::new(alloc);
+    'names: for name in names {
+        let readings = select_meters_on(conn, alloc, &name.unit, &name.date)?;
+        found.extend_from_slice(&readings)?;
+    }
+    Ok(found)
+}
+
+/// The prices of dates.
+pub(crate) fn prices_under<S: Alter>(
+    conn: &mut Connection<S>,
+    alloc: Global,
+    names: &[SettlementDate],
+) -> Result<Vec<(SettlementPeriod, Price)>, RowFault>
+    ensures value { let old = state S.Store conn.old in
+        let new = state S.Store conn.new in
+        OfSettled old new (IfOk result (λ found. found.items
+        ≡ flat_map (λ n. filter (λ e. is_eq (nat_cmp e.0.date n))
+        (rows_under_keys period_prices old.now.trees)) names.now)) }
+    ensures reading { IsReading (state S.Store conn.old) (state S.Store conn.new) }
+    ensures mode { conn.old.in_transaction ≡ false → conn.new.in_transaction ≡ false }
+{
+    let mut found = Vec::new(alloc);
+    'names: for name in names {
+        let prices = select_prices_on(conn, alloc, name)?;
+        found.extend_from_slice(&prices)?;
+    }
+    Ok(found)
+}
+
+/// The reallocations of units.
+pub(crate) fn reallocations_under<S: Alter>(
+    conn: &mut Connection<S>,
+    alloc: Global,
+    names: &[UnitId],
+) -> Result<Vec<(ReallocationKey, Reallocation)>, RowFault>
+    ensures value { let old = state S.Store conn.old in
+        let new = state S.Store conn.new in
+        OfSettled old new (IfOk result (λ found. found.items
+        ≡ flat_map (λ n. filter (λ e. is_eq (bytes_cmp e.0.unit_period.unit n))
+        (rows_under_keys reallocations old.now.trees)) names.now)) }
+    ensures reading { IsReading (state S.Store conn.old) (state S.Store conn.new) }
+    ensures mode { conn.old.in_transaction ≡ false → conn.new.in_transaction ≡ false }
+{
+    let mut found = Vec::new(alloc);
+    'names: for name in names {
+        let reallocations = select_reallocations_of(conn, alloc, name)?;
+        found.extend_from_slice(&reallocations)?;
+    }
+    Ok(found)
+}
