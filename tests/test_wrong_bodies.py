@@ -26,6 +26,7 @@ OFFERED = {
     "select_contracts_on", "select_reference", "select_postings_to", "write_load", "write_file_rows", "write_file_row", "write_run",
     "make_office", "write_new_office",
     "settings_of_office", "has_office", "is_office", "is_column", "is_meters",
+    "select_named", "names_in", "meters_under", "prices_under", "reallocations_under",
 }
 # What the language calls without naming it.
 UNNAMED = {"main", "fmt", "cmp", "partial_cmp", "eq", "from", "next", "clone", "drop", "default"}
