@@ -21,11 +21,12 @@ FUNCTION = re.compile(r"(?m)^( *)(?:pub(?:\([a-z]+\))? )?(?:const )?fn (\w+)")
 # database and its rows.
 OFFERED = {
     "check_row", "apply_row", "run_all", "day_of", "day_number", "date_at", "in_pieces",
-    "to_columns", "from_columns", "read_entry", "read_entries", "ends",
+    "to_columns", "from_columns", "read_entry", "read_entries", "ends", "replace_unit",
     "make_tables", "replace_meter", "replace_price", "insert_result", "select_first", "select_meter", "select_meters_on",
     "select_contracts_on", "select_reference", "select_postings_to", "write_load", "write_file_rows", "write_file_row", "write_run",
     "make_office", "write_new_office",
     "settings_of_office", "has_office", "is_office", "is_column", "is_meters",
+    "select_named", "names_in", "meters_under", "prices_under", "reallocations_under",
 }
 # What the language calls without naming it.
 UNNAMED = {"main", "fmt", "cmp", "partial_cmp", "eq", "from", "next", "clone", "drop", "default"}

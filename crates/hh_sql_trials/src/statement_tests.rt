@@ -49,6 +49,18 @@ fn unit_row() -> Option<UnitRow> {
     })
 }
 
+/// What was registered of the same unit before.
+fn earlier_unit_row() -> Option<UnitRow> {
+    Some(UnitRow {
+        unit: UnitId::read(b"G1")?,
+        registration: UnitRegistration {
+            lead: Account::read(b"SUPCO-P")?,
+            interconnector: false,
+            range: DateRange::new(SettlementDate::new(19_900)?, date()?)?,
+        },
+    })
+}
+
 fn meter_row() -> Option<MeterRow> {
     Some(MeterRow {
         key: UnitPeriod {
@@ -172,6 +184,7 @@ fn given<T>(value: Option<T>) -> Result<T, RowFault> {
 
 fn write_registered<S: Alter>(tx: &mut Transaction<'_, S>, alloc: Global) -> Result<(), RowFault> {
     replace_party(tx, alloc, &given(party_row())?)?;
+    replace_unit(tx, alloc, &given(earlier_unit_row())?)?;
     replace_unit(tx, alloc, &given(unit_row())?)?;
     let row = given(contract_row())?;
     let (key, agreed) = (row.key, row.contract);

@@ -11,6 +11,7 @@ use Rattle.hh_keyed_rows.proofs.PutLaws.{cast_int}
 use Rattle.hh_sqlrows.specs.OfficeTables.{contracts, credits, files, marks, meters, parties, postings, period_prices, reallocations, references, results, runs, settings, units}
 use Rattle.hh_sqlrows.proofs.ColumnLaws.{exact_one_rows, one_row_total}
 use Rattle.hh_sqlrows.proofs.FormLaws.{IsForm, no_clash, or_false}
+use Rattle.hh_sqlrows.proofs.UpdateFormLaws.{IsChangeable, and_true}
 
 pub settings_form : IsForm settings
 settings_form = record {
@@ -70,6 +71,15 @@ units_form = record {
   present = refl;
   kinds = λ k v. (refl, (refl, (cast_int _, (cast_int _, (cast_int _, (cast_int _, refl))))));
   values = λ k v. refl;
+}
+
+-- a unit's row may be changed
+pub units_changeable : IsChangeable units
+units_changeable = record {
+  lettered = λ k. refl;
+  aimed = λ r new. or_false _;
+  tests = λ k v id more r. and_true _;
+  outputs = λ k v more r. refl;
 }
 
 pub meters_form : IsForm meters

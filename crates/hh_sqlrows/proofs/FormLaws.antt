@@ -97,7 +97,7 @@ no_clash b h = not-true _ (and_parts _ _ h).0
 
 -- ---- values of their kinds
 
-of_kinds : (cs : List Column) (vs : Row) → AreOfKinds cs vs → cast_all cs vs ≡ vs
+pub of_kinds : (cs : List Column) (vs : Row) → AreOfKinds cs vs → cast_all cs vs ≡ vs
 of_kinds [] vs h = refl
 of_kinds (c ∷ cs) [] h = absurd h
 of_kinds (c ∷ cs) (v ∷ vs) h = let first = h.0 in let rest = of_kinds cs vs h.1 in λ i. first i ∷ rest i
@@ -126,7 +126,7 @@ mends key at (c ∷ cs) (v ∷ vs) all long =
 -- ---- rowids
 
 -- a table in one tree has rows in order, and each other is as it was
-risen : (tables : List Table) (tree : ℕ) (old new : Trees) → AllByRecursion (λ t. IsShaped shape.Table (old t.tree)) tables → IsShaped shape.Table (new tree)
+pub risen : (tables : List Table) (tree : ℕ) (old new : Trees) → AllByRecursion (λ t. IsShaped shape.Table (old t.tree)) tables → IsShaped shape.Table (new tree)
     → AllByRecursion (λ t. t.tree ≢ tree → new t.tree ≡ old t.tree) tables → AllByRecursion (λ t. IsShaped shape.Table (new t.tree)) tables
 risen [] tree old new were is others = tt
 risen (t ∷ tables) tree old new were is others =

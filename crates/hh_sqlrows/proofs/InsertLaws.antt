@@ -56,7 +56,7 @@ module _ (task : Task) (free : (olds news : List Row) → works task.schema task
   abbrev AreKept : Trees → Type 0
   AreKept new = AllByRecursion (λ t. t.tree ≢ task.table.tree → new t.tree ≡ old t.tree) task.schema.tables
 
-  new_is : (top : ℤ) → with_rowid (rowids_for task.table top) rows (cast Integer Null ∷ cast_all task.table.columns columns) ≡ stored_in rows columns
+  pub new_is : (top : ℤ) → with_rowid (rowids_for task.table top) rows (cast Integer Null ∷ cast_all task.table.columns columns) ≡ stored_in rows columns
   new_is top =
       ap (λ b. with_rowid (Rattle.std.specs.Prelude.if◌then◌else◌ b (Above top) Chosen) rows (cast Integer Null ∷ cast_all task.table.columns columns)) uncounted
       ∙ ap (λ vs. with_rowid Chosen rows (cast Integer Null ∷ vs)) kept
@@ -122,7 +122,7 @@ module _ (schema : Schema) (at : ℕ) (table : Table) (listed : slice_get schema
 
 -- ---- what it makes of the table that the rows represent
 
-spares : (new : Row) (rows : List Row) (x : Row) → Has rows x → (value_cmp (rowid x) (rowid new) ≡ Equal → ⊥) → Has (put_row new rows) x
+pub spares : (new : Row) (rows : List Row) (x : Row) → Has rows x → (value_cmp (rowid x) (rowid new) ≡ Equal → ⊥) → Has (put_row new rows) x
 spares new [] x h other = absurd h
 spares new (r ∷ rows) x h other = go (value_cmp (rowid r) (rowid new)) refl (spares new rows x)
   where

@@ -11,4 +11,7 @@ pub mod OrderFacts
 pub mod Selects
 pub mod StatementTexts
 pub mod TextFacts
+pub mod UpdateFormLaws
+pub mod UpdateLaws
+pub mod Updates
 pub mod WhereLaws

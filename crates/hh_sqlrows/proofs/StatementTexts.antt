@@ -5,6 +5,7 @@ use Rattle.sqlite.specs.Listing.{understood}
 use Rattle.hh_sqlrows.specs.OfficeTables.{contracts, credits, files, marks, meters, parties, postings, period_prices, reallocations, references, results, runs, settings, units}
 use Rattle.hh_sqlrows.proofs.FormLaws.{IsInsert, IsReplace}
 use Rattle.hh_sqlrows.proofs.SelectLaws.{IsSelect}
+use Rattle.hh_sqlrows.proofs.UpdateFormLaws.{IsUpdate}
 
 -- ---- rows that are written
 
@@ -17,10 +18,11 @@ replace_party_is = (refl, (refl, refl))
 
 abbrev pub replace_unit_text : List ℕ
 replace_unit_text =
-    codes "INSERT OR REPLACE INTO units (unit, party, side, interconnector, day_from, day_to) VALUES (?1, ?2, ?3, "
-    ++ codes "?4, ?5, ?6)"
+    codes "INSERT INTO units (unit, party, side, interconnector, day_from, day_to) VALUES (?1, ?2, ?3, ?4, ?5, "
+    ++ codes "?6) ON CONFLICT (unit) DO UPDATE SET party = ?2, side = ?3, interconnector = ?4, day_from = ?5, "
+    ++ codes "day_to = ?6"
 
-pub replace_unit_is : IsReplace units replace_unit_text
+pub replace_unit_is : IsUpdate units replace_unit_text
 unfolding understood everything
 replace_unit_is = (refl, (refl, refl))
 

@@ -37,7 +37,7 @@ pub fn replace_unit<S: Alter>(
     write_entry(
         tx,
         alloc,
-        "INSERT OR REPLACE INTO units (unit, party, side, interconnector, day_from, day_to) VALUES (?1, ?2, ?3, ?4, ?5, ?6)",
+        "INSERT INTO units (unit, party, side, interconnector, day_from, day_to) VALUES (?1, ?2, ?3, ?4, ?5, ?6) ON CONFLICT (unit) DO UPDATE SET party = ?2, side = ?3, interconnector = ?4, day_from = ?5, day_to = ?6",
         &row.unit,
         &row.registration,
     )
