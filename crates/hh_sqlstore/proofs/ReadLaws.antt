@@ -1,8 +1,21 @@
 -- What is read of the rows that a statement has picked is what is read of all.
 use Rattle.std.proofs.Common.{◌≡◌, ◌∙◌, ℕ, List, [], ◌∷◌, Bool, true, false, cond, map, None, Option, Some, refl, sym, ap, arith}
-use Rattle.std.specs.Prelude.{filter, filter_map}
-use Rattle.std.specs.List.{cons_option}
+use Rattle.std.specs.Prelude.{ℤ, ◌==◌, All, filter, filter_map, if◌then◌else◌}
+use Rattle.std.specs.List.{AllByRecursion, cons_option}
 use Rattle.std.specs.Ordering.{is_eq, nat_cmp}
+use Rattle.std.proofs.lemmas.Bool.Decides.{nat_tests}
+use Rattle.std.proofs.lemmas.List.Elements.{All-from_recursion, All-map}
+use Rattle.hh_names.specs.declared.account.Account.{Account}
+use Rattle.hh_names.specs.Accounts.{account_cmp}
+use Rattle.hh_runs.specs.declared.run_key.RunKey.{RunKey}
+use Rattle.hh_runs.specs.declared.summary.Summary.{Summary}
+use Rattle.hh_states.specs.declared.run_keys.PostingKey.{PostingKey}
+use Rattle.hh_states.specs.declared.run_keys.ResultKey.{ResultKey}
+use Rattle.hh_states.specs.DaySettlement.{from_one_to, periods_on}
+use Rattle.hh_states.specs.Reads.{posting_to, result_in, summary_on}
+use Rattle.hh_states.specs.Runs.{run_key_cmp}
+use Rattle.hh_keyed_rows.specs.declared.amounts.AccountAmounts.{AccountAmounts}
+use Rattle.hh_sqlrows.specs.Contents.{result_of}
 
 module _ {A B : Type 0} (p : A → Bool) (f : A → Option B) (out : (x : A) → p x ≡ false → f x ≡ None) where
   pub read_of_picked : (xs : List A) → filter_map f (filter p xs) ≡ filter_map f xs
@@ -21,3 +34,38 @@ module _ {A B C : Type 0} (p : A → Bool) (g : A → C) (h : A → B) (f : B �
       go : (b : Bool) → map g (cond b (x ∷ filter p xs) (filter p xs)) ≡ cons_option (cond b (Some (g x)) None) (filter_map f (map h xs))
       go true = ap (λ cs. g x ∷ cs) (read_of_mapped xs)
       go false = read_of_mapped xs
+
+-- numbers are the same by either test
+same_number : (a b : ℕ) → is_eq (nat_cmp a b) ≡ (a == b)
+same_number a b = grind (arith, nat_tests)
+
+-- a test that fails has nothing
+none_by : {B : Type 0} (b : Bool) (x : B) → b ≡ false → cond b (Some x) None ≡ None
+none_by true x is = absurd (let e : ◌≡◌ {A = Bool} true false = is in cc)
+none_by false x is = refl
+
+-- the runs of a date, of those of the date
+pub runs_picked : (date : ℕ) (rows : List (RunKey × Summary))
+    → filter_map (summary_on date) (filter (λ e. is_eq (nat_cmp e.0.date date)) rows) ≡ filter_map (summary_on date) rows
+runs_picked date rows =
+    read_of_picked (λ e. is_eq (nat_cmp e.0.date date)) (summary_on date) (λ e other. none_by (e.0.date == date) _ (sym (same_number e.0.date date) ∙ other)) rows
+
+-- the postings to an account, of those to it
+pub postings_picked : (account : Account) (rows : List (PostingKey × ℤ))
+    → filter_map (posting_to account) (filter (λ e. is_eq (account_cmp e.0.account account)) rows) ≡ filter_map (posting_to account) rows
+postings_picked account rows =
+    read_of_picked (λ e. is_eq (account_cmp e.0.account account)) (posting_to account) (λ e other. none_by (is_eq (account_cmp e.0.account account)) _ other) rows
+
+-- the rows of a run's accounts, of those of the run
+pub results_picked : (run : RunKey) (rows : List (ResultKey × AccountAmounts))
+    → map (λ e. (e.0.period, (result_of e).1)) (filter (λ e. is_eq (run_key_cmp e.0.run run)) rows) ≡ filter_map (result_in run) (map result_of rows)
+results_picked run rows =
+    read_of_mapped (λ e. is_eq (run_key_cmp e.0.run run)) (λ e. (e.0.period, (result_of e).1)) result_of (result_in run) (λ e. refl) rows
+
+-- the Settlement Periods of a date are all of it
+pub all_on_date : (date count : ℕ) → All (λ at. at.date ≡ date) (periods_on date count)
+all_on_date date count = All-map (λ at. at.date ≡ date) (λ p. record { date = date; period = p }) (from_one_to count) (All-from_recursion (λ p. date ≡ date) (from_one_to count) (each_of (from_one_to count)))
+  where
+    each_of : (ps : List ℕ) → AllByRecursion (λ p. date ≡ date) ps
+    each_of [] = tt
+    each_of (p ∷ ps) = (refl, each_of ps)

@@ -19,7 +19,9 @@ pub(crate) fn make_load<S: Alter>(
     alloc: Global,
     change: &LoadChange,
 ) -> Result<(), RowFault>
-    requires { connection.old.in_transaction ≡ false }
+    requires autocommit { connection.old.in_transaction ≡ false }
+    requires settled { let old = state S.Store connection.old in
+        IsTrue old.is_open → old.now ≡ old.committed }
     ensures made { let old = state S.Store connection.old in
         let new = state S.Store connection.new in
         HasCleanDisk new → OnOk result (IsChangedBy (WritesLoad change.now) old new) }
@@ -42,7 +44,9 @@ pub(crate) fn make_run<S: Alter>(
     alloc: Global,
     change: &RunChange,
 ) -> Result<(), RowFault>
-    requires { connection.old.in_transaction ≡ false }
+    requires autocommit { connection.old.in_transaction ≡ false }
+    requires settled { let old = state S.Store connection.old in
+        IsTrue old.is_open → old.now ≡ old.committed }
     ensures made { let old = state S.Store connection.old in
         let new = state S.Store connection.new in
         HasCleanDisk new → OnOk result (IsChangedBy (WritesRun change.now) old new) }

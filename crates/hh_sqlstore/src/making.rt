@@ -39,7 +39,8 @@ fn write_new_office<S: Alter>(
 {
     make_tables(tx)?;
     insert_settings(tx, alloc, settings)?;
-    insert_mark(tx, alloc, false)
+    insert_mark(tx, alloc, false)?;
+    Ok(())
 }
 
 /// Makes the database of an office that has these settings, where there is none, in one transaction.

@@ -1,7 +1,8 @@
 //! What is read of parties, of runs and of their rows.
 
-ghost use Rattle.std.specs.Prelude.{◌≡◌, None, false, filter_map, map, IfOk, IfSome};
+ghost use Rattle.std.specs.Prelude.{◌≡◌, None, bytes_eq, false, filter_map, map, IfOk, IfSome};
 ghost use Rattle.std.specs.FinMap.{find};
+ghost use Rattle.std.specs.List.{list_any};
 ghost use Rattle.sqlite.specs.Held.{state};
 ghost use Rattle.hh_states.specs.Runs.{run_key_cmp};
 ghost use Rattle.hh_states.specs.Reads.{is_key_known_in, posting_to, result_in, summary_on};
@@ -41,9 +42,16 @@ pub(crate) fn is_key_known<S: Alter>(
     ensures mode { conn.old.in_transaction ≡ false → conn.new.in_transaction ≡ false }
 {
     let parties = select_parties(conn, alloc)?;
-    Ok(parties
+    Ok(has_key(&parties, key))
+}
+
+/// Whether one of these parties has the key.
+fn has_key(parties: &[(PartyId, PartyRegistration)], key: &[u8]) -> bool
+    ensures { result ≡ list_any (λ e. bytes_eq e.1.key key.now) parties.now }
+{
+    parties
         .iter()
-        .any(|party| party.1.key.as_bytes() == key))
+        .any(|party| party.1.key.as_bytes() == key)
 }
 
 /// The runs of a date with their summaries, in the order of their kinds.
