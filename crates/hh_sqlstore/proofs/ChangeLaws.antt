@@ -22,7 +22,7 @@ use Rattle.hh_sqlstore.specs.steps.Made.{IsUndone}
 pub reading_of_undone : (old new : State) → (IsTrue new.is_open → HasCleanDisk new) → IsUndone old new → IsReading old new
 reading_of_undone old new clean undone = record {
   stood = λ stands. (undone (clean stands) stands).0;
-  left = λ stands office settled. (undone (clean stands) stands).1;
+  left = λ stands office settled. let kept = undone (clean stands) stands in (kept.1, kept.2);
 }
 
 -- the tables of an office that stays one, with its settings, hold their content
@@ -35,7 +35,8 @@ still_holds kept old new stays holds = record {
   alike = record { parties = refl; units = refl; references = refl; meters = refl; contracts = refl; reallocations = refl; files = refl; runs = refl; results = refl; credits = refl; postings = refl };
 }
 
-module _ {S : Type 0} (g : Ghosts S) (t : Stored S) (idle : IsIdle g t) (connection : Held S) (count : ℕ) (Change : Database → Database → Type 0) (changed : IsChangedBy Change (state g t.connection) (state g connection)) where
+module _ {S : Type 0} (g : Ghosts S) (t : Stored S) (idle : IsIdle g t) (connection : Held S) (count : ℕ) (Change : Database → Database → Type 0)
+    (changed : IsTrue (state g connection).is_open → IsChangedBy Change (state g t.connection) (state g connection)) where
   abbrev after : Stored S
   after = record { connection = connection; settings = t.settings; refusals = count }
 
@@ -45,20 +46,20 @@ module _ {S : Type 0} (g : Ghosts S) (t : Stored S) (idle : IsIdle g t) (connect
   abbrev is : State
   is = state g connection
 
-  committed : Change was.committed is.committed
-  committed =
-      let settled = idle.settled changed.was_open in
-      let office = subst IsOffice (sym settled) (idle.holds changed.was_open).is_office in
-      subst (λ (db : Database). Change db is.committed) settled (subst (Change was.now) changed.settled (changed.changed office))
+  committed : IsTrue is.is_open → Change was.committed is.committed
+  committed stands =
+      let settled = idle.settled (changed stands).was_open in
+      let office = subst IsOffice (sym settled) (idle.holds (changed stands).was_open).is_office in
+      subst (λ (db : Database). Change db is.committed) settled (subst (Change was.now) (changed stands).settled ((changed stands).changed office))
 
   -- the content is the one that the change makes
-  pub content_changed : (f : Content → Content) → ((old new : Database) → Change old new → content_of t.settings new.trees ≡ f (content_of t.settings old.trees)) → content_in g after ≡ f (content_in g t)
-  content_changed f makes = makes was.committed is.committed committed
+  pub content_changed : IsTrue is.is_open → (f : Content → Content) → ((old new : Database) → Change old new → content_of t.settings new.trees ≡ f (content_of t.settings old.trees)) → content_in g after ≡ f (content_in g t)
+  content_changed stands f makes = makes was.committed is.committed (committed stands)
 
   -- they are idle as before
   pub idle_changed : ((old new : Database) → Change old new → StaysOffice old new) → connection.in_transaction ≡ false → IsIdle g after
   idle_changed stays mode = record {
     autocommit = mode;
-    settled = λ stands. changed.settled;
-    holds = λ stands. still_holds t.settings was.committed is.committed (stays _ _ committed) (idle.holds changed.was_open);
+    settled = λ stands. (changed stands).settled;
+    holds = λ stands. still_holds t.settings was.committed is.committed (stays _ _ (committed stands)) (idle.holds (changed stands).was_open);
   }

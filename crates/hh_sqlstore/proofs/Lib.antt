@@ -3,3 +3,4 @@ pub mod ContentLaws
 pub mod IdleLaws
 pub mod NewLaws
 pub mod ReadLaws
+pub mod ReportLaws

@@ -1,12 +1,13 @@
 -- What is read of the rows that a statement has picked is what is read of all.
 use Rattle.std.proofs.Common.{◌≡◌, ◌∙◌, ℕ, List, [], ◌∷◌, Bool, true, false, cond, map, None, Option, Some, refl, sym, ap, arith}
-use Rattle.std.specs.Prelude.{ℤ, ◌==◌, All, filter, filter_map, if◌then◌else◌}
+use Rattle.std.specs.Prelude.{ℤ, ◌==◌, All, filter, filter_map}
 use Rattle.std.specs.List.{AllByRecursion, cons_option}
 use Rattle.std.specs.Ordering.{is_eq, nat_cmp}
 use Rattle.std.proofs.lemmas.Bool.Decides.{nat_tests}
 use Rattle.std.proofs.lemmas.List.Elements.{All-from_recursion, All-map}
 use Rattle.hh_names.specs.declared.account.Account.{Account}
 use Rattle.hh_names.specs.Accounts.{account_cmp}
+use Rattle.hh_calc.specs.declared.result.AccountRow.{AccountRow}
 use Rattle.hh_runs.specs.declared.run_key.RunKey.{RunKey}
 use Rattle.hh_runs.specs.declared.summary.Summary.{Summary}
 use Rattle.hh_states.specs.declared.run_keys.PostingKey.{PostingKey}
@@ -20,20 +21,20 @@ use Rattle.hh_sqlrows.specs.Contents.{result_of}
 module _ {A B : Type 0} (p : A → Bool) (f : A → Option B) (out : (x : A) → p x ≡ false → f x ≡ None) where
   pub read_of_picked : (xs : List A) → filter_map f (filter p xs) ≡ filter_map f xs
   read_of_picked [] = refl
-  read_of_picked (x ∷ xs) = go (p x) refl
+  read_of_picked (x ∷ xs) = go (p x) refl (read_of_picked xs)
     where
-      go : (b : Bool) → p x ≡ b → filter_map f (cond b (x ∷ filter p xs) (filter p xs)) ≡ cons_option (f x) (filter_map f xs)
-      go true is = ap (cons_option (f x)) (read_of_picked xs)
-      go false is = read_of_picked xs ∙ sym (ap (λ o. cons_option o (filter_map f xs)) (out x is))
+      go : (b : Bool) → p x ≡ b → filter_map f (filter p xs) ≡ filter_map f xs → filter_map f (cond b (x ∷ filter p xs) (filter p xs)) ≡ cons_option (f x) (filter_map f xs)
+      go true is rest = ap (cons_option (f x)) rest
+      go false is rest = rest ∙ sym (ap (λ o. cons_option o (filter_map f xs)) (out x is))
 
 module _ {A B C : Type 0} (p : A → Bool) (g : A → C) (h : A → B) (f : B → Option C) (picked : (x : A) → f (h x) ≡ cond (p x) (Some (g x)) None) where
   pub read_of_mapped : (xs : List A) → map g (filter p xs) ≡ filter_map f (map h xs)
   read_of_mapped [] = refl
-  read_of_mapped (x ∷ xs) = go (p x) ∙ sym (ap (λ o. cons_option o (filter_map f (map h xs))) (picked x))
+  read_of_mapped (x ∷ xs) = go (p x) (read_of_mapped xs) ∙ sym (ap (λ o. cons_option o (filter_map f (map h xs))) (picked x))
     where
-      go : (b : Bool) → map g (cond b (x ∷ filter p xs) (filter p xs)) ≡ cons_option (cond b (Some (g x)) None) (filter_map f (map h xs))
-      go true = ap (λ cs. g x ∷ cs) (read_of_mapped xs)
-      go false = read_of_mapped xs
+      go : (b : Bool) → map g (filter p xs) ≡ filter_map f (map h xs) → map g (cond b (x ∷ filter p xs) (filter p xs)) ≡ cons_option (cond b (Some (g x)) None) (filter_map f (map h xs))
+      go true rest = ap (λ cs. g x ∷ cs) rest
+      go false rest = rest
 
 -- numbers are the same by either test
 same_number : (a b : ℕ) → is_eq (nat_cmp a b) ≡ (a == b)
@@ -56,11 +57,14 @@ pub postings_picked : (account : Account) (rows : List (PostingKey × ℤ))
 postings_picked account rows =
     read_of_picked (λ e. is_eq (account_cmp e.0.account account)) (posting_to account) (λ e other. none_by (is_eq (account_cmp e.0.account account)) _ other) rows
 
+-- an account's row with its period
+abbrev pub by_period : ResultKey × AccountAmounts → ℕ × AccountRow
+by_period e = (e.0.period, (result_of e).1)
+
 -- the rows of a run's accounts, of those of the run
 pub results_picked : (run : RunKey) (rows : List (ResultKey × AccountAmounts))
-    → map (λ e. (e.0.period, (result_of e).1)) (filter (λ e. is_eq (run_key_cmp e.0.run run)) rows) ≡ filter_map (result_in run) (map result_of rows)
-results_picked run rows =
-    read_of_mapped (λ e. is_eq (run_key_cmp e.0.run run)) (λ e. (e.0.period, (result_of e).1)) result_of (result_in run) (λ e. refl) rows
+    → map by_period (filter (λ e. is_eq (run_key_cmp e.0.run run)) rows) ≡ filter_map (result_in run) (map result_of rows)
+results_picked run rows = read_of_mapped (λ e. is_eq (run_key_cmp e.0.run run)) by_period result_of (result_in run) (λ e. refl) rows
 
 -- the Settlement Periods of a date are all of it
 pub all_on_date : (date count : ℕ) → All (λ at. at.date ≡ date) (periods_on date count)

@@ -49,9 +49,7 @@ pub(crate) fn is_key_known<S: Alter>(
 fn has_key(parties: &[(PartyId, PartyRegistration)], key: &[u8]) -> bool
     ensures { result ≡ list_any (λ e. bytes_eq e.1.key key.now) parties.now }
 {
-    parties
-        .iter()
-        .any(|party| party.1.key.as_bytes() == key)
+    parties.iter().any(|party| party.1.key.as_bytes() == key)
 }
 
 /// The runs of a date with their summaries, in the order of their kinds.

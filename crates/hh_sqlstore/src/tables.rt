@@ -6,7 +6,10 @@ ghost use Rattle.hh_sqlstore.specs.Stores.{content_in};
 use crate::changing::{make_load, make_run};
 use crate::faults::{output_refused, refuse};
 use crate::parts::{contracts_of_account, data_of_day, register_of};
-use crate::rows::{is_key_known, parties_and_postings, postings_to_account, reported_run, results_of_run, runs_of_date};
+use crate::rows::{
+    is_key_known, parties_and_postings, postings_to_account, reported_run, results_of_run,
+    runs_of_date,
+};
 use crate::sql_tables::SqlTables;
 use hh_calc::AccountRow;
 use hh_devices::Sink;
@@ -16,6 +19,7 @@ use hh_num::Pence;
 use hh_rows::{ContractRow, FileKind, PartyRegistration, Row, Settings, UnitRegistration};
 use hh_rules::Register;
 use hh_runs::{RunKey, RunKind, Summary};
+use hh_sqlchanges::rows_of_their_accounts;
 use hh_sqlrows::{select_file, select_party, select_reference, select_unit};
 use hh_states::FileKey;
 use hh_store::{DayData, KeptFile, LoadChange, OutputFault, RunChange, StoreFault, Tables};
@@ -151,6 +155,8 @@ impl<S: Alter> Tables for SqlTables<S> {
     }
 
     fn apply_run(&mut self, change: RunChange) -> Result<(), StoreFault> {
+        // Does nothing, but carries a law for the proof: each row of a run is of the account of its key.
+        rows_of_their_accounts();
         match make_run(&mut self.connection, self.alloc, &change) {
             Ok(made) => Ok(made),
             Err(fault) => Err(refuse(&mut self.refusals, StoreFault::from(fault))),
