@@ -27,6 +27,7 @@ OFFERED = {
     "make_office", "write_new_office",
     "settings_of_office", "has_office", "is_office", "is_column", "is_meters",
     "select_named", "names_in", "meters_under", "prices_under", "reallocations_under",
+    "select_contracts", "push_reference", "select_registered", "select_of_units", "ids_on", "append_meters", "append_reallocations",
 }
 # What the language calls without naming it.
 UNNAMED = {"main", "fmt", "cmp", "partial_cmp", "eq", "from", "next", "clone", "drop", "default"}

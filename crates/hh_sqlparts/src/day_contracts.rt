@@ -56,14 +56,14 @@ pub(crate) fn select_contracts<S: Alter>(
     ensures reading { IsReading (state S.Store conn.old) (state S.Store conn.new) }
     ensures mode { conn.old.in_transaction ≡ false → conn.new.in_transaction ≡ false }
 {
-    part.contracts = contracts_on(conn, alloc, date)?;
+    part.contracts = volumes_on(conn, alloc, date)?;
     let named = references_in(alloc, part.contracts.rows())?;
     part.references = table_of(counterparties_of(conn, alloc, &named)?)?;
     Ok(())
 }
 
 /// The volumes of the contracts of a date.
-fn contracts_on<S: Alter>(
+fn volumes_on<S: Alter>(
     conn: &mut Connection<S>,
     alloc: Global,
     date: SettlementDate,

@@ -8,7 +8,7 @@ ghost use Rattle.hh_sqlparts.specs.Readings.{IsReading, OfSettled};
 ghost use Rattle.hh_sqlparts.specs.steps.DayParts.{with_registered, with_rows_of_units};
 
 use crate::day_contracts::select_contracts;
-use crate::day_units::{ids_on, meters_of, reallocations_of};
+use crate::day_units::{ids_on, readings_of_units, reallocations_of_units};
 use crate::tables::{all_parties, all_units, table_of};
 use hh_kept_rows::KeptRegister;
 use hh_keyed_rows::RowFault;
@@ -75,7 +75,7 @@ fn select_of_units<S: Alter>(
     ensures mode { conn.old.in_transaction ≡ false → conn.new.in_transaction ≡ false }
 {
     let units = ids_on(alloc, part.units.rows(), date)?;
-    part.meters = table_of(meters_of(conn, alloc, &units, date)?)?;
-    part.reallocations = table_of(reallocations_of(conn, alloc, &units)?)?;
+    part.meters = table_of(readings_of_units(conn, alloc, &units, date)?)?;
+    part.reallocations = table_of(reallocations_of_units(conn, alloc, &units)?)?;
     Ok(())
 }

@@ -35,7 +35,7 @@ pub(crate) fn ids_on(
 }
 
 /// The readings of units on a date.
-pub(crate) fn meters_of<S: Alter>(
+pub(crate) fn readings_of_units<S: Alter>(
     conn: &mut Connection<S>,
     alloc: Global,
     units: &[UnitId],
@@ -76,7 +76,7 @@ fn append_meters<S: Alter>(
 }
 
 /// The reallocations of units.
-pub(crate) fn reallocations_of<S: Alter>(
+pub(crate) fn reallocations_of_units<S: Alter>(
     conn: &mut Connection<S>,
     alloc: Global,
     units: &[UnitId],
