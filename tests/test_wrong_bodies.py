@@ -24,7 +24,7 @@ OFFERED = {
     "to_columns", "from_columns", "read_entry", "read_entries", "ends", "replace_unit",
     "make_tables", "replace_meter", "replace_price", "insert_result", "select_first", "select_meter", "select_meters_on",
     "select_contracts_on", "select_reference", "select_postings_to", "write_load", "write_file_rows", "write_file_row", "write_run",
-    "make_office", "write_new_office",
+    "make_office", "write_new_office", "keep_load", "keep_run", "refuse", "reported_run", "contracts_of_account",
     "settings_of_office", "has_office", "is_office", "is_column", "is_meters",
     "select_named", "names_in", "meters_under", "prices_under", "reallocations_under",
     "select_contracts", "push_reference", "select_registered", "select_of_units", "ids_on", "append_meters", "append_reallocations",
@@ -41,12 +41,17 @@ def script():
     return module
 
 
+def crates_of_settle():
+    """The crate of `settle`, and those that it depends on."""
+    depends = re.search(r"(?m)^hh_settle: (.*)$", (HOME / "crates.txt").read_text(encoding="utf-8"))
+    return {"hh_settle", *depends[1].split()}
+
+
 def names_in_bodies():
-    """The names in the bodies of the functions of each name, those of tests and of what is measured left out."""
-    found = {}
+    """The names in the bodies of the functions of each name, of the crates of `settle`, those of tests left out."""
+    found, crates = {}, crates_of_settle()
     for file in HOME.glob("crates/*/src/**/*.rt"):
-        crate = file.relative_to(HOME).parts[1]
-        if crate.endswith("_trials") or crate in ("hh_measures", "hh_bench") or "tests" in file.name:
+        if file.relative_to(HOME).parts[1] not in crates or "tests" in file.name:
             continue
         text = re.sub(r"//.*", "", file.read_text(encoding="utf-8"))
         starts = list(FUNCTION.finditer(text))

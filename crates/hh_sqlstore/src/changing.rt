@@ -14,7 +14,7 @@ use sqlite::{Alter, Connection};
 use std::alloc::Global;
 
 /// Writes what an accepted file changes, whole or not at all.
-pub(crate) fn make_load<S: Alter>(
+pub(crate) fn keep_load<S: Alter>(
     connection: &mut Connection<S>,
     alloc: Global,
     change: &LoadChange,
@@ -39,7 +39,7 @@ pub(crate) fn make_load<S: Alter>(
 }
 
 /// Writes what a new run changes, whole or not at all.
-pub(crate) fn make_run<S: Alter>(
+pub(crate) fn keep_run<S: Alter>(
     connection: &mut Connection<S>,
     alloc: Global,
     change: &RunChange,

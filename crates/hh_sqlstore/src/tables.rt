@@ -3,7 +3,7 @@
 ghost use Rattle.sqlite.specs.Held.{state};
 ghost use Rattle.hh_sqlstore.specs.Stores.{content_in};
 
-use crate::changing::{make_load, make_run};
+use crate::changing::{keep_load, keep_run};
 use crate::faults::{output_refused, refuse};
 use crate::parts::{contracts_of_account, data_of_day, register_of};
 use crate::rows::{
@@ -148,7 +148,7 @@ impl<S: Alter> Tables for SqlTables<S> {
     }
 
     fn apply_load(&mut self, change: LoadChange) -> Result<(), StoreFault> {
-        match make_load(&mut self.connection, self.alloc, &change) {
+        match keep_load(&mut self.connection, self.alloc, &change) {
             Ok(made) => Ok(made),
             Err(fault) => Err(refuse(&mut self.refusals, StoreFault::from(fault))),
         }
@@ -157,7 +157,7 @@ impl<S: Alter> Tables for SqlTables<S> {
     fn apply_run(&mut self, change: RunChange) -> Result<(), StoreFault> {
         // Does nothing, but carries a law for the proof: each row of a run is of the account of its key.
         rows_of_their_accounts();
-        match make_run(&mut self.connection, self.alloc, &change) {
+        match keep_run(&mut self.connection, self.alloc, &change) {
             Ok(made) => Ok(made),
             Err(fault) => Err(refuse(&mut self.refusals, StoreFault::from(fault))),
         }

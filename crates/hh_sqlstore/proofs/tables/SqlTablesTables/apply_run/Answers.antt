@@ -11,34 +11,34 @@ use Rattle.hh_sqlstore.proofs.tables.SqlTablesTables.apply_run.Goals as goal
 
 pub invariant_of-self : goal.invariant_of-self
 invariant_of-self g c =
-    let clean = clean_while_open g.S.Store c.make_run.new.connection g.met.S.Store.shut_if_dirty in
-    idle_changed g.S.Store _ c.self.invariant c.make_run.new.connection c.self.inside.refusals (WritesRun c.args.change) (λ stands. c.in-Ok.ensures.made (clean stands)) (λ old new written. written.stays) c.in-Ok.ensures.autocommit
+    let clean = clean_while_open g.S.Store c.keep_run.new.connection g.met.S.Store.shut_if_dirty in
+    idle_changed g.S.Store _ c.self.invariant c.keep_run.new.connection c.self.inside.refusals (WritesRun c.args.change) (λ stands. c.in-Ok.ensures.made (clean stands)) (λ old new written. written.stays) c.in-Ok.ensures.autocommit
 
 pub returns-in-Ok-clause-ok : goal.returns-in-Ok-clause-ok
 returns-in-Ok-clause-ok g c stands midnight from =
-    let clean = clean_while_open g.S.Store c.make_run.new.connection g.met.S.Store.shut_if_dirty in
-    let new = (state g.S.Store c.make_run.new.connection).committed.trees in
+    let clean = clean_while_open g.S.Store c.keep_run.new.connection g.met.S.Store.shut_if_dirty in
+    let new = (state g.S.Store c.keep_run.new.connection).committed.trees in
     subst (λ (t : Stored _). content_of c.self.inside.settings new ≡ effect_of_run c.args.change (content_in g.S.Store t)) c.self.view_is
-    (content_changed g.S.Store _ c.self.invariant c.make_run.new.connection c.self.inside.refusals (WritesRun c.args.change) (λ stands. c.in-Ok.ensures.made (clean stands)) stands (effect_of_run c.args.change) (λ old new written. written.content (c.rows_of_their_accounts.ensures midnight _ c.args.change from) c.self.inside.settings))
+    (content_changed g.S.Store _ c.self.invariant c.keep_run.new.connection c.self.inside.refusals (WritesRun c.args.change) (λ stands. c.in-Ok.ensures.made (clean stands)) stands (effect_of_run c.args.change) (λ old new written. written.content (c.rows_of_their_accounts.ensures midnight _ c.args.change from) c.self.inside.settings))
 
 pub returns-in-Ok-clause-stood : goal.returns-in-Ok-clause-stood
 returns-in-Ok-clause-stood g c stands =
-    let clean = clean_while_open g.S.Store c.make_run.new.connection g.met.S.Store.shut_if_dirty in
+    let clean = clean_while_open g.S.Store c.keep_run.new.connection g.met.S.Store.shut_if_dirty in
     subst (λ (t : Stored _). IsTrue (state g.S.Store t.connection).is_open) c.self.view_is (c.in-Ok.ensures.made (clean stands)).was_open
 
 pub invariant_of-self-in-Err : goal.invariant_of-self-in-Err
 invariant_of-self-in-Err g c =
-    let clean = clean_while_open g.S.Store c.make_run.new.connection g.met.S.Store.shut_if_dirty in
-    idle_after g.S.Store _ c.self.invariant c.make_run.new.connection c.refuse.new.refusals (reading_of_undone _ _ clean c.in-Err.ensures.undone) c.in-Err.ensures.autocommit
+    let clean = clean_while_open g.S.Store c.keep_run.new.connection g.met.S.Store.shut_if_dirty in
+    idle_after g.S.Store _ c.self.invariant c.keep_run.new.connection c.refuse.new.refusals (reading_of_undone _ _ clean c.in-Err.ensures.undone) c.in-Err.ensures.autocommit
 
 pub returns-clause-err : goal.returns-clause-err
 returns-clause-err g c stands =
-    let clean = clean_while_open g.S.Store c.make_run.new.connection g.met.S.Store.shut_if_dirty in
-    let new = (state g.S.Store c.make_run.new.connection).committed.trees in
+    let clean = clean_while_open g.S.Store c.keep_run.new.connection g.met.S.Store.shut_if_dirty in
+    let new = (state g.S.Store c.keep_run.new.connection).committed.trees in
     subst (λ (t : Stored _). content_of c.self.inside.settings new ≡ content_in g.S.Store t) c.self.view_is
-    (same_content g.S.Store _ c.self.invariant c.make_run.new.connection c.refuse.new.refusals (reading_of_undone _ _ clean c.in-Err.ensures.undone) stands)
+    (same_content g.S.Store _ c.self.invariant c.keep_run.new.connection c.refuse.new.refusals (reading_of_undone _ _ clean c.in-Err.ensures.undone) stands)
 
 pub returns-clause-stood : goal.returns-clause-stood
 returns-clause-stood g c stands =
-    let clean = clean_while_open g.S.Store c.make_run.new.connection g.met.S.Store.shut_if_dirty in
+    let clean = clean_while_open g.S.Store c.keep_run.new.connection g.met.S.Store.shut_if_dirty in
     subst (λ (t : Stored _). IsTrue (state g.S.Store t.connection).is_open) c.self.view_is (c.in-Err.ensures.undone (clean stands) stands).0
