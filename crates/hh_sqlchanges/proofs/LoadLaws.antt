@@ -20,11 +20,10 @@ use Rattle.hh_states.specs.Content.{Content}
 use Rattle.hh_states.specs.States.{AcceptedFile, file_key_cmp}
 use Rattle.hh_sqlrows.specs.Contents.{result_of}
 use Rattle.hh_sqlrows.specs.Forms.{Puts, PutsAll}
-use Rattle.hh_sqlrows.specs.Office.{IsOffice}
 use Rattle.hh_sqlrows.specs.OfficeTables as forms
-use Rattle.hh_sqlchanges.specs.Writes.{Becomes, WritesLoad}
+use Rattle.hh_sqlchanges.specs.Writes.{Becomes, StoresLoad}
 use Rattle.hh_sqlchanges.specs.steps.FileRows.{with_file_row, with_file_rows}
-use Rattle.hh_sqlchanges.proofs.StayLaws.{becomes_as, becomes_nothing, becomes_then, contracts_kept, credits_kept, meters_kept, on_ok, parties_kept, postings_kept, prices_kept, reallocations_kept, references_kept, registered_becomes, registered_kept, results_kept, runs_kept, stays_office, units_kept}
+use Rattle.hh_sqlchanges.proofs.StayLaws.{becomes_as, becomes_then, contracts_kept, credits_kept, meters_kept, on_ok, parties_kept, postings_kept, prices_kept, reallocations_kept, references_kept, registered_becomes, registered_kept, results_kept, runs_kept, stays_office, units_kept}
 
 -- ---- one row
 
@@ -101,9 +100,6 @@ put_rows_last : (rs : List Row) (r : Row) (tables : Registered) → put_row r (p
 put_rows_last [] r tables = refl
 put_rows_last (x ∷ rs) r tables = put_rows_last rs r (put_row x tables)
 
-pub no_rows_put : (db : Database) → IsOffice db → Becomes (with_file_rows []) db db
-no_rows_put db is = becomes_nothing db is
-
 pub rows_more : (rs : List Row) (r : Row) (old mid new : Database) → Becomes (with_file_rows rs) old mid → Becomes (with_file_row r) mid new → Becomes (with_file_rows (rs ++ r ∷ [])) old new
 rows_more rs r old mid new all one =
     becomes_as (λ c. with_file_row r (with_file_rows rs c)) (with_file_rows (rs ++ r ∷ [])) old new (λ c. ap (λ (tables : Registered). record c { registered = tables }) (put_rows_last rs r c.registered))
@@ -154,7 +150,7 @@ whole_load w c = ap (λ references. record c {
   files = put file_key_cmp w.key w.file c.files;
 }) (references_stand w.rows c.registered)
 
-load_written : (w : LoadWrites) (old first second new : Database) → Puts forms.files w.key w.file old first → Becomes (with_file_rows w.rows) first second → PutsAll forms.references w.references second new → WritesLoad w old new
+load_written : (w : LoadWrites) (old first second new : Database) → Puts forms.files w.key w.file old first → Becomes (with_file_rows w.rows) first second → PutsAll forms.references w.references second new → StoresLoad w old new
 load_written w old first second new file rows references =
     becomes_as (λ c. with_references w.references (with_file_rows w.rows (with_file w.key w.file c))) (effect_of_load w) old new (whole_load w)
     (becomes_then (λ c. with_file_rows w.rows (with_file w.key w.file c)) (with_references w.references) old second new
@@ -163,7 +159,7 @@ load_written w old first second new file rows references =
 
 pub load_made : {X E : Type 0} (w : LoadWrites) (key : FileKey) (file : AcceptedFile) (rows : List Row) (references : List (List ℕ × Counterparties))
     → key ≡ w.key → file ≡ w.file → rows ≡ w.rows → references ≡ w.references → (old first second new : Database) (result : Result X E)
-    → Puts forms.files key file old first → Becomes (with_file_rows rows) first second → OnOk result (PutsAll forms.references references second new) → OnOk result (WritesLoad w old new)
+    → Puts forms.files key file old first → Becomes (with_file_rows rows) first second → OnOk result (PutsAll forms.references references second new) → OnOk result (StoresLoad w old new)
 load_made w key file rows references is_key is_file is_rows is_references old first second new result filed rowed referred = on_ok result (λ put. load_written w old first second new
     (subst (λ (k : FileKey). Puts forms.files k w.file old first) is_key (subst (λ (f : AcceptedFile). Puts forms.files key f old first) is_file filed))
     (subst (λ (rs : List Row). Becomes (with_file_rows rs) first second) is_rows rowed)

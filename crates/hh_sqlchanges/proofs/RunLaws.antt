@@ -23,7 +23,7 @@ use Rattle.hh_sqlrows.specs.Contents.{result_of}
 use Rattle.hh_sqlrows.specs.Forms.{Puts, PutsAll}
 use Rattle.hh_sqlrows.specs.OfficeTables as forms
 use Rattle.hh_sqlchanges.specs.OwnAccounts.{AreOfTheirAccounts}
-use Rattle.hh_sqlchanges.specs.Writes.{Becomes, WritesRun}
+use Rattle.hh_sqlchanges.specs.Writes.{Becomes, StoresRun}
 use Rattle.hh_sqlchanges.proofs.StayLaws.{credits_kept, files_kept, on_ok, postings_kept, registered_kept, results_kept, runs_kept, stays_office, stays_then}
 
 -- ---- values that a function makes of a key and of what stands there
@@ -116,7 +116,7 @@ module _ (old new : Database) where
 -- ---- the whole run
 
 run_written : (w : RunWrites) (old first second third new : Database) → Puts forms.runs w.key w.summary old first → PutsAll forms.results (map forms.amount_entry w.results) first second
-    → PutsAll forms.credits w.credits second third → PutsAll forms.postings w.postings third new → WritesRun w old new
+    → PutsAll forms.credits w.credits second third → PutsAll forms.postings w.postings third new → StoresRun w old new
 run_written w old first second third new run results credits postings =
     let one = run_put old first w.key w.summary run in
     let three = credits_put second third w.credits credits in
@@ -133,7 +133,7 @@ run_written w old first second third new run results credits postings =
 pub run_made : {X E : Type 0} (w : RunWrites) (key : RunKey) (summary : Summary) (results : List (ResultKey × AccountRow)) (credits : List (CreditKey × ℤ)) (postings : List (PostingKey × ℤ))
     → key ≡ w.key → summary ≡ w.summary → results ≡ w.results → credits ≡ w.credits → postings ≡ w.postings → (old first second third new : Database) (result : Result X E)
     → Puts forms.runs key summary old first → PutsAll forms.results (map forms.amount_entry results) first second → PutsAll forms.credits credits second third
-    → OnOk result (PutsAll forms.postings postings third new) → OnOk result (WritesRun w old new)
+    → OnOk result (PutsAll forms.postings postings third new) → OnOk result (StoresRun w old new)
 run_made w key summary results credits postings is_key is_summary is_results is_credits is_postings old first second third new result run resulted credited posted = on_ok result (λ put. run_written w old first second third new
     (subst (λ (k : RunKey). Puts forms.runs k w.summary old first) is_key (subst (λ (s : Summary). Puts forms.runs key s old first) is_summary run))
     (subst (λ (es : List (ResultKey × AccountRow)). PutsAll forms.results (map forms.amount_entry es) first second) is_results resulted)

@@ -22,11 +22,11 @@ pub record Becomes (effect : Content → Content) (old new : Database) : Type 0 
   pub content : (kept : Settings) → content_of kept new.trees ≡ effect (content_of kept old.trees)
 
 -- the load is written: the content is that after it
-abbrev pub WritesLoad : LoadWrites → Database → Database → Type 0
-WritesLoad w = Becomes (effect_of_load w)
+abbrev pub StoresLoad : LoadWrites → Database → Database → Type 0
+StoresLoad w = Becomes (effect_of_load w)
 
 -- The run is written: the content is that after it, where each of its rows is of the account that its key names.
-pub record WritesRun (w : RunWrites) (old new : Database) : Type 0 where
+pub record StoresRun (w : RunWrites) (old new : Database) : Type 0 where
   pub stays : StaysOffice old new
   pub content : AreOfTheirAccounts w.results
       → (kept : Settings) → content_of kept new.trees ≡ effect_of_run w (content_of kept old.trees)

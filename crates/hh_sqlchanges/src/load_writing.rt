@@ -4,7 +4,7 @@ ghost use Rattle.std.specs.Prelude.{◌≡◌, OnOk};
 ghost use Rattle.sqlite.specs.Held.{state};
 ghost use Rattle.hh_sqlrows.specs.Office.{IsOffice};
 ghost use Rattle.hh_sqlrows.specs.Statements.{CommitsNothing, Inside, KeepsCommit, StaysInside};
-ghost use Rattle.hh_sqlchanges.specs.Writes.{Becomes, WritesLoad};
+ghost use Rattle.hh_sqlchanges.specs.Writes.{Becomes, StoresLoad};
 ghost use Rattle.hh_sqlchanges.specs.steps.FileRows.{with_file_row, with_file_rows};
 
 use hh_keyed_rows::RowFault;
@@ -27,7 +27,7 @@ pub fn write_load<S: Alter>(
     ensures same_reference { tx.new.conn.ghost_name ≡ tx.old.conn.ghost_name }
     ensures writes { let old = state S.Store tx.old.conn.now in
         let new = state S.Store tx.new.conn.now in
-        Inside old new (IsOffice old.now → OnOk result (WritesLoad change.now old.now new.now)) }
+        Inside old new (IsOffice old.now → OnOk result (StoresLoad change.now old.now new.now)) }
     ensures inside { StaysInside (state S.Store tx.old.conn.now)
         (state S.Store tx.new.conn.now) result }
     ensures left { KeepsCommit (state S.Store tx.old.conn.now) (state S.Store tx.new.conn.now) }

@@ -4,7 +4,7 @@ ghost use Rattle.std.specs.Prelude.{◌≡◌, OnOk};
 ghost use Rattle.sqlite.specs.Held.{state};
 ghost use Rattle.hh_sqlrows.specs.Office.{IsOffice};
 ghost use Rattle.hh_sqlrows.specs.Statements.{CommitsNothing, Inside, KeepsCommit, StaysInside};
-ghost use Rattle.hh_sqlchanges.specs.Writes.{WritesRun};
+ghost use Rattle.hh_sqlchanges.specs.Writes.{StoresRun};
 
 use hh_keyed_rows::RowFault;
 use hh_sqlrows::{insert_credits, insert_postings, insert_results, insert_run};
@@ -22,7 +22,7 @@ pub fn write_run<S: Alter>(
     ensures same_reference { tx.new.conn.ghost_name ≡ tx.old.conn.ghost_name }
     ensures writes { let old = state S.Store tx.old.conn.now in
         let new = state S.Store tx.new.conn.now in
-        Inside old new (IsOffice old.now → OnOk result (WritesRun change.now old.now new.now)) }
+        Inside old new (IsOffice old.now → OnOk result (StoresRun change.now old.now new.now)) }
     ensures inside { StaysInside (state S.Store tx.old.conn.now)
         (state S.Store tx.new.conn.now) result }
     ensures left { KeepsCommit (state S.Store tx.old.conn.now) (state S.Store tx.new.conn.now) }

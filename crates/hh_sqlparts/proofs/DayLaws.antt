@@ -31,7 +31,7 @@ use Rattle.hh_kept_rows.specs.DayRows.{AgreesOnUnitAt, HasContractsOn, HasRowsOn
 use Rattle.hh_keyed_rows.specs.KeyedRows.{stored_entry}
 use Rattle.hh_sqlrows.specs.Forms.{rows_under_keys}
 use Rattle.hh_sqlrows.specs.OfficeTables.{is_of_unit_on, unit_date_cmp, units}
-use Rattle.hh_sqlparts.specs.steps.DayParts.{contracts_on, day_part, ids_on, is_same_reference, readings_on, reallocations_of, references_in, with_contracts, with_counterparties, with_reference}
+use Rattle.hh_sqlparts.specs.steps.DayParts.{contracts_on, ids_on, is_same_reference, readings_on, reallocations_of, references_in, with_day_contracts, with_counterparties, with_reference, with_registered, with_rows_of_units}
 use Rattle.hh_sqlparts.proofs.FoundLaws.{AreApart, all_passing, all_weaker, filter_kept, find_kept, found_in_pieces, found_with_values, or_true, rows_in_pieces, true_or}
 
 true_is_not_false : true ≡ false → ⊥
@@ -209,8 +209,13 @@ module _ (date : ℕ) (whole part : Registered) (rises : T (is_sorted bytes_cmp 
   }
 
 -- the contracts that are selected of a date are those of the date
-pub contracts_of_day_part : (date : ℕ) (whole : Registered) → HasContractsOn date whole (with_contracts date whole nothing_registered)
-contracts_of_day_part date whole = has_contracts date whole (with_contracts date whole nothing_registered) refl refl
+pub contracts_of_day_part : (date : ℕ) (whole : Registered) → HasContractsOn date whole (with_day_contracts date whole nothing_registered)
+contracts_of_day_part date whole = has_contracts date whole (with_day_contracts date whole nothing_registered) refl refl
+
+-- the part that a date is settled from
+abbrev pub day_part : ℕ → Registered → Registered
+day_part date whole =
+    with_rows_of_units date whole (with_registered date whole (with_day_contracts date whole nothing_registered))
 
 -- the part that is selected for a date has the rows of the date
 pub rows_of_day_part : (date : ℕ) (whole : Registered) → T (is_sorted bytes_cmp whole.units) → HasRowsOn date whole (day_part date whole)

@@ -9,7 +9,7 @@ use Rattle.std.specs.Ordering.{eq_by_cmp, is_eq, ordering_reverse}
 use Rattle.std.specs.declared.cmp.Ordering.TheVariants.{Equal, Greater}
 use Rattle.hh_tables.specs.Tables.{Table, put_all}
 use Rattle.hh_tables.proofs.RowLaws.{first, less, second}
-use Rattle.hh_sqlparts.specs.steps.Named.{entry_of}
+use Rattle.hh_sqlparts.specs.steps.Named.{found_entry}
 
 -- what holds of all of a list holds of those that pass a test, and what holds of two lists holds of them joined
 all_filter : {X : Type 0} (P : X → Type 0) (test : X → Bool) (xs : List X) → AllByRecursion P xs → AllByRecursion P (filter test xs)
@@ -113,15 +113,15 @@ module _ {K V : Type 0} (R : K → K → Ordering) (o : IsTotalOrder R) where
     tested_found test k = find-where_key R test k (λ x same. ap test (sym (exact k x same))) whole
 
     -- the row of a key
-    pub entry_is : (n : K) → AllByRecursion (IsOf R whole) (entry_of n (find R n whole))
-    entry_is n = elim (find R n whole) as (λ f. find R n whole ≡ f → AllByRecursion (IsOf R whole) (entry_of n f)) [
+    pub entry_is : (n : K) → AllByRecursion (IsOf R whole) (found_entry n (find R n whole))
+    entry_is n = elim (find R n whole) as (λ f. find R n whole ≡ f → AllByRecursion (IsOf R whole) (found_entry n f)) [
       | None ↦ λ is. tt
       | Some v ↦ λ is. (is, tt)
     ] refl
 
-    pub entry_found : (n k : K) → find R k (entry_of n (find R n whole)) ≡ cond (eq_by_cmp R k n) (find R k whole) None
+    pub entry_found : (n k : K) → find R k (found_entry n (find R n whole)) ≡ cond (eq_by_cmp R k n) (find R k whole) None
     entry_found n k =
-        elim (find R n whole) as (λ f. find R n whole ≡ f → find R k (entry_of n f) ≡ cond (eq_by_cmp R k n) f None) [
+        elim (find R n whole) as (λ f. find R n whole ≡ f → find R k (found_entry n f) ≡ cond (eq_by_cmp R k n) f None) [
           | None ↦ λ is. elim (eq_by_cmp R k n) as (λ b. ◌≡◌ {A = Option V} None (cond b None None)) [ true ↦ refl | false ↦ refl ]
           | Some v ↦ λ is. refl
         ] refl

@@ -5,11 +5,11 @@ use Rattle.std.proofs.lemmas.List.{flat_map_more, take_more}
 use Rattle.sqlite.specs.Effect.{Database}
 use Rattle.sqlite.specs.State.{State}
 use Rattle.hh_sqlrows.specs.Reads.{OfOffice}
-use Rattle.hh_sqlparts.specs.Readings.{IsReading, OfSettled}
+use Rattle.hh_sqlparts.specs.Readings.{SelectsOnly, OfSettled}
 use Rattle.hh_sqlparts.proofs.ReadingLaws.{found_first, found_last, found_last_of_office}
 
 -- one more name
-module _ {N E : Type 0} (rows : N → Database → List E) (old mid new : State) (first : IsReading old mid) (last : IsReading mid new)
+module _ {N E : Type 0} (rows : N → Database → List E) (old mid new : State) (first : SelectsOnly old mid) (last : SelectsOnly mid new)
     (names : List N) (i : ℕ) (name : N) (inside : i < length names) (is : name ≡ get_or names i name) where
   flat_more : (db : Database) → flat_map (λ n. rows n db) (take i names) ++ rows name db ≡ flat_map (λ n. rows n db) (take (i + 1) names)
   flat_more db = flat_map_more (λ n. rows n db) [] (take i names) name ∙ ap (flat_map (λ n. rows n db)) (ap (λ n. take i names ++ n ∷ []) is ∙ sym (take_more names i name inside))
@@ -23,7 +23,7 @@ module _ {N E : Type 0} (rows : N → Database → List E) (old mid new : State)
       ∙ flat_more old.now
 
 -- what one reading finds and what the next finds stand for both
-pub found_both : (old mid new : State) → IsReading old mid → IsReading mid new → (P Q : Database → Type 0) → OfSettled old mid (P old.now) → OfSettled mid new (Q mid.now)
+pub found_both : (old mid new : State) → SelectsOnly old mid → SelectsOnly mid new → (P Q : Database → Type 0) → OfSettled old mid (P old.now) → OfSettled mid new (Q mid.now)
     → OfSettled old new (P old.now × Q old.now)
 found_both old mid new first last P Q one two stands office settled =
     (found_first old mid new first last (P old.now) one stands office settled, found_last old mid new first last Q two stands office settled)

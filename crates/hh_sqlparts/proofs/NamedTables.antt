@@ -7,7 +7,7 @@ use Rattle.std.specs.Cmp.{IsTotalOrder, Equal-is}
 use Rattle.std.specs.FinMap.{find, is_sorted}
 use Rattle.std.specs.List.{All, AllByRecursion, flat_map, list_any}
 use Rattle.std.specs.Option.{IfSome}
-use Rattle.std.specs.Ordering.{eq_by_cmp, is_eq, nat_cmp}
+use Rattle.std.specs.Ordering.{eq_by_cmp, is_eq, nat_cmp, on, then_cmp}
 use Rattle.std.proofs.lemmas.List.Elements.{All-weaker}
 use Rattle.std.proofs.lemmas.Map.Lookups.{exact_bytes}
 use Rattle.hh_tables.specs.Tables.{IsTable, Table, put_all}
@@ -26,8 +26,12 @@ use Rattle.hh_rows.specs.Keys.{contract_key_cmp, reallocation_key_cmp, settlemen
 use Rattle.hh_rows.proofs.KeyLaws.{contract_key_total, exact_contract_keys, exact_reallocation_keys, exact_settlement_periods, exact_unit_periods, reallocation_key_total, settlement_period_total, unit_period_total}
 use Rattle.hh_sqlrows.specs.OfficeTables.{is_of_unit_on}
 use Rattle.hh_sqlparts.specs.declared.named_names.UnitDay.{UnitDay}
-use Rattle.hh_sqlparts.specs.steps.Named.{FindsNamed, HasReallocated, IsAmong, date_of, entry_of, price_key_of, reading_key_of, reallocated_at, reallocated_of, reference_of, unit_day, unit_day_cmp, unit_day_of, unit_of, volume_key_of}
+use Rattle.hh_sqlparts.specs.steps.Named.{FindsNamed, HasReallocated, IsAmong, date_of, found_entry, price_key_of, reading_key_of, reallocated_at, reallocated_of, reference_of, unit_day, unit_day_of, unit_of, volume_key_of}
 use Rattle.hh_sqlparts.proofs.NamedRows.{IsOf, entry_found, entry_is, find_named, same_tested, tested_are, tested_found}
+
+-- the unit decides, then the date
+abbrev pub unit_day_cmp : UnitDay → UnitDay → Ordering
+unit_day_cmp = then_cmp (on (λ n. n.unit) bytes_cmp) (on (λ n. n.date) nat_cmp)
 
 -- what follows of a row's key, by the name of that
 by_name : {K N : Type 0} (name : K → N) (P : N → Type 0) (Q : K → Type 0) → ((k : K) → P (name k) → Q k) → (o : Option K) → IfSome (option_map name o) P → IfSome o Q
@@ -54,17 +58,17 @@ module _ {K V N : Type 0} (R : K → K → Ordering) (o : IsTotalOrder R) (whole
 
 module _ (rows : List Row) where
   pub references_named : (whole : Table (List ℕ) Counterparties) → T (is_sorted bytes_cmp whole) → (names : List (List ℕ)) → All (IsAmong bytes_cmp reference_of names) rows → (found part : Table (List ℕ) Counterparties)
-      → found ≡ flat_map (λ n. entry_of n (find bytes_cmp n whole)) names → part ≡ put_all bytes_cmp found []
+      → found ≡ flat_map (λ n. found_entry n (find bytes_cmp n whole)) names → part ≡ put_all bytes_cmp found []
       → FindsNamed bytes_cmp reference_of rows whole part
   references_named whole order =
-      finds_of_rows bytes_cmp bytes_total whole bytes_cmp (λ k. k) (λ n. entry_of n (find bytes_cmp n whole)) (entry_is bytes_cmp bytes_total exact_bytes whole order) (entry_found bytes_cmp bytes_total exact_bytes whole order)
+      finds_of_rows bytes_cmp bytes_total whole bytes_cmp (λ k. k) (λ n. found_entry n (find bytes_cmp n whole)) (entry_is bytes_cmp bytes_total exact_bytes whole order) (entry_found bytes_cmp bytes_total exact_bytes whole order)
       reference_of reference_of (λ r. own_name (reference_of r)) rows
 
   pub contracts_named : (whole : Table ContractKey ℤ) → T (is_sorted contract_key_cmp whole) → (names : List ContractKey) → All (IsAmong contract_key_cmp volume_key_of names) rows → (found part : Table ContractKey ℤ)
-      → found ≡ flat_map (λ n. entry_of n (find contract_key_cmp n whole)) names → part ≡ put_all contract_key_cmp found []
+      → found ≡ flat_map (λ n. found_entry n (find contract_key_cmp n whole)) names → part ≡ put_all contract_key_cmp found []
       → FindsNamed contract_key_cmp volume_key_of rows whole part
   contracts_named whole order =
-      finds_of_rows contract_key_cmp contract_key_total whole contract_key_cmp (λ k. k) (λ n. entry_of n (find contract_key_cmp n whole)) (entry_is contract_key_cmp contract_key_total exact_contract_keys whole order)
+      finds_of_rows contract_key_cmp contract_key_total whole contract_key_cmp (λ k. k) (λ n. found_entry n (find contract_key_cmp n whole)) (entry_is contract_key_cmp contract_key_total exact_contract_keys whole order)
       (entry_found contract_key_cmp contract_key_total exact_contract_keys whole order)
       volume_key_of volume_key_of (λ r. own_name (volume_key_of r)) rows
 

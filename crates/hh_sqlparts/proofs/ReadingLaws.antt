@@ -1,20 +1,16 @@
 -- One reading of an office after the other: they leave together what each leaves, and what one finds stands for both.
-use Rattle.std.proofs.Common.{◌≡◌, ◌∙◌, IsTrue, refl, sym, subst}
+use Rattle.std.proofs.Common.{◌≡◌, ◌∙◌, IsTrue, sym, subst}
 use Rattle.sqlite.specs.Effect.{Database}
 use Rattle.sqlite.specs.State.{State}
 use Rattle.hh_sqlrows.specs.Office.{IsOffice}
 use Rattle.hh_sqlrows.specs.Reads.{LeavesOffice, OfOffice, Stood}
-use Rattle.hh_sqlparts.specs.Readings.{IsReading, OfSettled}
+use Rattle.hh_sqlparts.specs.Readings.{SelectsOnly, OfSettled}
 
 -- a statement that selects rows is a reading
-pub reading_of_statement : (old new : State) → Stood old new → LeavesOffice old new → IsReading old new
+pub reading_of_statement : (old new : State) → Stood old new → LeavesOffice old new → SelectsOnly old new
 reading_of_statement old new stood left = record { stood = λ stands. (stood stands).0; left = left }
 
--- to do nothing is a reading
-pub reading_of_nothing : (s : State) → IsReading s s
-reading_of_nothing s = record { stood = λ stands. stands; left = λ stands is settled. (refl, refl) }
-
-module _ (old mid new : State) (first : IsReading old mid) (last : IsReading mid new) where
+module _ (old mid new : State) (first : SelectsOnly old mid) (last : SelectsOnly mid new) where
   module _ (stands : IsTrue new.is_open) (is : IsOffice old.now) (settled : old.now ≡ old.committed) where
     -- what stands between the two is what stood before
     pub between : (mid.now ≡ old.now) × (mid.committed ≡ old.committed)
@@ -26,7 +22,7 @@ module _ (old mid new : State) (first : IsReading old mid) (last : IsReading mid
     pub settled_between : mid.now ≡ mid.committed
     settled_between = between.0 ∙ settled ∙ sym between.1
 
-  pub reading_then : IsReading old new
+  pub reading_then : SelectsOnly old new
   reading_then = record {
     stood = λ stands. first.stood (last.stood stands);
     left = λ stands is settled.

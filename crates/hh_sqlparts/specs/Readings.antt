@@ -8,6 +8,6 @@ abbrev pub OfSettled : State → State → Type 0 → Type 0
 OfSettled old new P = OfOffice old new (old.now ≡ old.committed → P)
 
 -- A connection that is open afterwards was so before, and an office, all of which was committed, stays as it is.
-pub record IsReading (old new : State) : Type 0 where
+pub record SelectsOnly (old new : State) : Type 0 where
   pub stood : IsTrue new.is_open → IsTrue old.is_open
   pub left : LeavesOffice old new

@@ -8,8 +8,8 @@ ghost use Rattle.hh_sqlrows.specs.Contents.{registered_of};
 ghost use Rattle.hh_sqlrows.specs.Forms.{rows_under_keys};
 ghost use Rattle.hh_sqlrows.specs.OfficeTables.{references};
 ghost use Rattle.hh_sqlrows.specs.Reads.{OfOffice};
-ghost use Rattle.hh_sqlparts.specs.Readings.{IsReading, OfSettled};
-ghost use Rattle.hh_sqlparts.specs.steps.DayParts.{contracts_on, is_same_reference, references_in, with_contracts, with_counterparties, with_reference};
+ghost use Rattle.hh_sqlparts.specs.Readings.{SelectsOnly, OfSettled};
+ghost use Rattle.hh_sqlparts.specs.steps.DayParts.{contracts_on, is_same_reference, references_in, with_day_contracts, with_counterparties, with_reference};
 
 use crate::tables::table_of;
 use hh_kept_rows::KeptRegister;
@@ -34,7 +34,7 @@ pub fn select_contracts_of_day<S: Alter>(
         let new = state S.Store conn.new in
         OfSettled old new (IfOk result (λ part.
         HasContractsOn date (registered_of old.now.trees) part)) }
-    ensures reading { IsReading (state S.Store conn.old) (state S.Store conn.new) }
+    ensures reading { SelectsOnly (state S.Store conn.old) (state S.Store conn.new) }
     ensures mode { conn.old.in_transaction ≡ false → conn.new.in_transaction ≡ false }
 {
     let mut part = KeptRegister::new(alloc);
@@ -52,8 +52,8 @@ pub(crate) fn select_contracts<S: Alter>(
     ensures value { let old = state S.Store conn.old in
         let new = state S.Store conn.new in
         OfSettled old new (OnOk result (part.new
-        ≡ with_contracts date (registered_of old.now.trees) part.old)) }
-    ensures reading { IsReading (state S.Store conn.old) (state S.Store conn.new) }
+        ≡ with_day_contracts date (registered_of old.now.trees) part.old)) }
+    ensures reading { SelectsOnly (state S.Store conn.old) (state S.Store conn.new) }
     ensures mode { conn.old.in_transaction ≡ false → conn.new.in_transaction ≡ false }
 {
     part.contracts = volumes_on(conn, alloc, date)?;
@@ -72,7 +72,7 @@ fn volumes_on<S: Alter>(
         let new = state S.Store conn.new in
         OfOffice old new (IfOk result (λ table.
         table ≡ contracts_on date (registered_of old.now.trees))) }
-    ensures reading { IsReading (state S.Store conn.old) (state S.Store conn.new) }
+    ensures reading { SelectsOnly (state S.Store conn.old) (state S.Store conn.new) }
     ensures mode { conn.old.in_transaction ≡ false → conn.new.in_transaction ≡ false }
 {
     match select_contracts_on(conn, alloc, &date) {
@@ -126,7 +126,7 @@ fn counterparties_of<S: Alter>(
         let new = state S.Store conn.new in
         OfSettled old new (IfOk result (λ found. found.items
         ≡ flat_map (with_counterparties (rows_under_keys references old.now.trees)) named.now)) }
-    ensures reading { IsReading (state S.Store conn.old) (state S.Store conn.new) }
+    ensures reading { SelectsOnly (state S.Store conn.old) (state S.Store conn.new) }
     ensures mode { conn.old.in_transaction ≡ false → conn.new.in_transaction ≡ false }
 {
     let mut found = Vec::new(alloc);
@@ -147,7 +147,7 @@ fn push_counterparties<S: Alter>(
         let new = state S.Store conn.new in
         OfOffice old new (OnOk result (found.new.items ≡ found.old.items
         ++ with_counterparties (rows_under_keys references old.now.trees) reference.now)) }
-    ensures reading { IsReading (state S.Store conn.old) (state S.Store conn.new) }
+    ensures reading { SelectsOnly (state S.Store conn.old) (state S.Store conn.new) }
     ensures mode { conn.old.in_transaction ≡ false → conn.new.in_transaction ≡ false }
 {
     if let Some(counterparties) = select_reference(conn, alloc, reference)? {

@@ -4,7 +4,7 @@ ghost use Rattle.std.specs.Prelude.{◌≡◌, false, IfOk, OnOk};
 ghost use Rattle.sqlite.specs.Held.{state};
 ghost use Rattle.hh_kept_rows.specs.DayRows.{HasRowsOn};
 ghost use Rattle.hh_sqlrows.specs.Contents.{registered_of};
-ghost use Rattle.hh_sqlparts.specs.Readings.{IsReading, OfSettled};
+ghost use Rattle.hh_sqlparts.specs.Readings.{SelectsOnly, OfSettled};
 ghost use Rattle.hh_sqlparts.specs.steps.DayParts.{with_registered, with_rows_of_units};
 
 use crate::day_contracts::select_contracts;
@@ -29,7 +29,7 @@ pub fn select_day<S: Alter>(
         let new = state S.Store conn.new in
         OfSettled old new (IfOk result (λ part.
         HasRowsOn date (registered_of old.now.trees) part)) }
-    ensures reading { IsReading (state S.Store conn.old) (state S.Store conn.new) }
+    ensures reading { SelectsOnly (state S.Store conn.old) (state S.Store conn.new) }
     ensures mode { conn.old.in_transaction ≡ false → conn.new.in_transaction ≡ false }
 {
     let mut part = KeptRegister::new(alloc);
@@ -50,7 +50,7 @@ fn select_registered<S: Alter>(
         let new = state S.Store conn.new in
         OfSettled old new (OnOk result (part.new
         ≡ with_registered date (registered_of old.now.trees) part.old)) }
-    ensures reading { IsReading (state S.Store conn.old) (state S.Store conn.new) }
+    ensures reading { SelectsOnly (state S.Store conn.old) (state S.Store conn.new) }
     ensures mode { conn.old.in_transaction ≡ false → conn.new.in_transaction ≡ false }
 {
     part.parties = all_parties(conn, alloc)?;
@@ -71,7 +71,7 @@ fn select_of_units<S: Alter>(
         let new = state S.Store conn.new in
         OfSettled old new (OnOk result (part.new
         ≡ with_rows_of_units date (registered_of old.now.trees) part.old)) }
-    ensures reading { IsReading (state S.Store conn.old) (state S.Store conn.new) }
+    ensures reading { SelectsOnly (state S.Store conn.old) (state S.Store conn.new) }
     ensures mode { conn.old.in_transaction ≡ false → conn.new.in_transaction ≡ false }
 {
     let units = ids_on(alloc, part.units.rows(), date)?;

@@ -6,7 +6,7 @@ ghost use Rattle.sqlite.specs.Held.{state};
 ghost use Rattle.hh_sqlrows.specs.Forms.{rows_under_keys};
 ghost use Rattle.hh_sqlrows.specs.OfficeTables.{meters, reallocations};
 ghost use Rattle.hh_sqlrows.specs.Reads.{OfOffice};
-ghost use Rattle.hh_sqlparts.specs.Readings.{IsReading, OfSettled};
+ghost use Rattle.hh_sqlparts.specs.Readings.{SelectsOnly, OfSettled};
 ghost use Rattle.hh_sqlparts.specs.steps.DayParts.{ids_on, readings_on, reallocations_of};
 
 use hh_keyed_rows::RowFault;
@@ -45,7 +45,7 @@ pub(crate) fn readings_of_units<S: Alter>(
         let new = state S.Store conn.new in
         OfSettled old new (IfOk result (λ found. found.items
         ≡ flat_map (readings_on date (rows_under_keys meters old.now.trees)) units.now)) }
-    ensures reading { IsReading (state S.Store conn.old) (state S.Store conn.new) }
+    ensures reading { SelectsOnly (state S.Store conn.old) (state S.Store conn.new) }
     ensures mode { conn.old.in_transaction ≡ false → conn.new.in_transaction ≡ false }
 {
     let mut found = Vec::new(alloc);
@@ -67,7 +67,7 @@ fn append_meters<S: Alter>(
         let new = state S.Store conn.new in
         OfOffice old new (OnOk result (found.new.items ≡ found.old.items
         ++ readings_on date (rows_under_keys meters old.now.trees) unit.now)) }
-    ensures reading { IsReading (state S.Store conn.old) (state S.Store conn.new) }
+    ensures reading { SelectsOnly (state S.Store conn.old) (state S.Store conn.new) }
     ensures mode { conn.old.in_transaction ≡ false → conn.new.in_transaction ≡ false }
 {
     let mut rows = select_meters_on(conn, alloc, unit, &date)?;
@@ -85,7 +85,7 @@ pub(crate) fn reallocations_of_units<S: Alter>(
         let new = state S.Store conn.new in
         OfSettled old new (IfOk result (λ found. found.items
         ≡ flat_map (reallocations_of (rows_under_keys reallocations old.now.trees)) units.now)) }
-    ensures reading { IsReading (state S.Store conn.old) (state S.Store conn.new) }
+    ensures reading { SelectsOnly (state S.Store conn.old) (state S.Store conn.new) }
     ensures mode { conn.old.in_transaction ≡ false → conn.new.in_transaction ≡ false }
 {
     let mut found = Vec::new(alloc);
@@ -106,7 +106,7 @@ fn append_reallocations<S: Alter>(
         let new = state S.Store conn.new in
         OfOffice old new (OnOk result (found.new.items ≡ found.old.items
         ++ reallocations_of (rows_under_keys reallocations old.now.trees) unit.now)) }
-    ensures reading { IsReading (state S.Store conn.old) (state S.Store conn.new) }
+    ensures reading { SelectsOnly (state S.Store conn.old) (state S.Store conn.new) }
     ensures mode { conn.old.in_transaction ≡ false → conn.new.in_transaction ≡ false }
 {
     let mut rows = select_reallocations_of(conn, alloc, unit)?;

@@ -9,8 +9,8 @@ ghost use Rattle.hh_rows.specs.Keys.{contract_key_cmp};
 ghost use Rattle.sqlite.specs.Held.{state};
 ghost use Rattle.hh_sqlrows.specs.Forms.{rows_under_keys};
 ghost use Rattle.hh_sqlrows.specs.OfficeTables.{contracts, is_of_unit_on, meters, period_prices, reallocations, references};
-ghost use Rattle.hh_sqlparts.specs.Readings.{IsReading, OfSettled};
-ghost use Rattle.hh_sqlparts.specs.steps.Named.{entry_of};
+ghost use Rattle.hh_sqlparts.specs.Readings.{SelectsOnly, OfSettled};
+ghost use Rattle.hh_sqlparts.specs.steps.Named.{found_entry};
 
 use crate::named_names::UnitDay;
 use hh_keyed_rows::RowFault;
@@ -33,9 +33,9 @@ pub(crate) fn references_under<S: Alter>(
     ensures value { let old = state S.Store conn.old in
         let new = state S.Store conn.new in
         OfSettled old new (IfOk result (λ found. found.items
-        ≡ flat_map (λ n. entry_of n (find bytes_cmp n
+        ≡ flat_map (λ n. found_entry n (find bytes_cmp n
         (rows_under_keys references old.now.trees))) names.now)) }
-    ensures reading { IsReading (state S.Store conn.old) (state S.Store conn.new) }
+    ensures reading { SelectsOnly (state S.Store conn.old) (state S.Store conn.new) }
     ensures mode { conn.old.in_transaction ≡ false → conn.new.in_transaction ≡ false }
 {
     let mut found = Vec::new(alloc);
@@ -56,9 +56,9 @@ pub(crate) fn contracts_under<S: Alter>(
     ensures value { let old = state S.Store conn.old in
         let new = state S.Store conn.new in
         OfSettled old new (IfOk result (λ found. found.items
-        ≡ flat_map (λ n. entry_of n (find contract_key_cmp n
+        ≡ flat_map (λ n. found_entry n (find contract_key_cmp n
         (rows_under_keys contracts old.now.trees))) names.now)) }
-    ensures reading { IsReading (state S.Store conn.old) (state S.Store conn.new) }
+    ensures reading { SelectsOnly (state S.Store conn.old) (state S.Store conn.new) }
     ensures mode { conn.old.in_transaction ≡ false → conn.new.in_transaction ≡ false }
 {
     let mut found = Vec::new(alloc);
@@ -81,7 +81,7 @@ pub(crate) fn meters_under<S: Alter>(
         OfSettled old new (IfOk result (λ found. found.items
         ≡ flat_map (λ n. filter (λ e. is_of_unit_on n.unit n.date e.0)
         (rows_under_keys meters old.now.trees)) names.now)) }
-    ensures reading { IsReading (state S.Store conn.old) (state S.Store conn.new) }
+    ensures reading { SelectsOnly (state S.Store conn.old) (state S.Store conn.new) }
     ensures mode { conn.old.in_transaction ≡ false → conn.new.in_transaction ≡ false }
 {
     let mut found = Vec::new(alloc);
@@ -103,7 +103,7 @@ pub(crate) fn prices_under<S: Alter>(
         OfSettled old new (IfOk result (λ found. found.items
         ≡ flat_map (λ n. filter (λ e. is_eq (nat_cmp e.0.date n))
         (rows_under_keys period_prices old.now.trees)) names.now)) }
-    ensures reading { IsReading (state S.Store conn.old) (state S.Store conn.new) }
+    ensures reading { SelectsOnly (state S.Store conn.old) (state S.Store conn.new) }
     ensures mode { conn.old.in_transaction ≡ false → conn.new.in_transaction ≡ false }
 {
     let mut found = Vec::new(alloc);
@@ -125,7 +125,7 @@ pub(crate) fn reallocations_under<S: Alter>(
         OfSettled old new (IfOk result (λ found. found.items
         ≡ flat_map (λ n. filter (λ e. is_eq (bytes_cmp e.0.unit_period.unit n))
         (rows_under_keys reallocations old.now.trees)) names.now)) }
-    ensures reading { IsReading (state S.Store conn.old) (state S.Store conn.new) }
+    ensures reading { SelectsOnly (state S.Store conn.old) (state S.Store conn.new) }
     ensures mode { conn.old.in_transaction ≡ false → conn.new.in_transaction ≡ false }
 {
     let mut found = Vec::new(alloc);

@@ -6,7 +6,7 @@ ghost use Rattle.hh_tables.specs.Tables.{IsTable};
 ghost use Rattle.hh_sqlrows.specs.Forms.{rows_under_keys};
 ghost use Rattle.hh_sqlrows.specs.OfficeTables.{parties, units};
 ghost use Rattle.hh_sqlrows.specs.Reads.{OfOffice};
-ghost use Rattle.hh_sqlparts.specs.Readings.{IsReading};
+ghost use Rattle.hh_sqlparts.specs.Readings.{SelectsOnly};
 
 use hh_keyed_rows::RowFault;
 use hh_names::{PartyId, UnitId};
@@ -38,7 +38,7 @@ pub(crate) fn all_parties<S: Alter>(
         let new = state S.Store conn.new in
         OfOffice old new (IfOk result (λ table.
         table ≡ rows_under_keys parties old.now.trees)) }
-    ensures reading { IsReading (state S.Store conn.old) (state S.Store conn.new) }
+    ensures reading { SelectsOnly (state S.Store conn.old) (state S.Store conn.new) }
     ensures mode { conn.old.in_transaction ≡ false → conn.new.in_transaction ≡ false }
 {
     match select_parties(conn, alloc) {
@@ -55,7 +55,7 @@ pub(crate) fn all_units<S: Alter>(
     ensures value { let old = state S.Store conn.old in
         let new = state S.Store conn.new in
         OfOffice old new (IfOk result (λ table. table ≡ rows_under_keys units old.now.trees)) }
-    ensures reading { IsReading (state S.Store conn.old) (state S.Store conn.new) }
+    ensures reading { SelectsOnly (state S.Store conn.old) (state S.Store conn.new) }
     ensures mode { conn.old.in_transaction ≡ false → conn.new.in_transaction ≡ false }
 {
     match select_units(conn, alloc) {

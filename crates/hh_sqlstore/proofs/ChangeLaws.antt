@@ -12,14 +12,14 @@ use Rattle.hh_sqlrows.specs.Contents.{content_of}
 use Rattle.hh_sqlrows.specs.Office.{IsOffice}
 use Rattle.hh_sqlrows.specs.OfficeTables.{one_row_cmp}
 use Rattle.hh_sqlchanges.specs.Writes.{StaysOffice}
-use Rattle.hh_sqlparts.specs.Readings.{IsReading}
+use Rattle.hh_sqlparts.specs.Readings.{SelectsOnly}
 use Rattle.hh_sqlstore.specs.Holds.{Holds}
 use Rattle.hh_sqlstore.specs.Stores.{IsIdle, Stored, content_in}
 use Rattle.hh_sqlstore.specs.steps.Changed.{IsChangedBy}
 use Rattle.hh_sqlstore.specs.steps.Made.{IsUndone}
 
 -- what is undone was but read
-pub reading_of_undone : (old new : State) → (IsTrue new.is_open → HasCleanDisk new) → IsUndone old new → IsReading old new
+pub reading_of_undone : (old new : State) → (IsTrue new.is_open → HasCleanDisk new) → IsUndone old new → SelectsOnly old new
 reading_of_undone old new clean undone = record {
   stood = λ stands. (undone (clean stands) stands).0;
   left = λ stands office settled. let kept = undone (clean stands) stands in (kept.1, kept.2);

@@ -8,16 +8,11 @@ use Rattle.sqlite.specs.State.{State}
 use Rattle.hh_keyed_rows.specs.Values.{version}
 use Rattle.hh_sqlrows.specs.Contents.{content_of}
 use Rattle.hh_sqlrows.specs.Office.{IsOffice}
-use Rattle.hh_sqlrows.specs.Reads.{LeavesOffice, Stood}
-use Rattle.hh_sqlparts.specs.Readings.{IsReading, OfSettled}
+use Rattle.hh_sqlparts.specs.Readings.{SelectsOnly, OfSettled}
 use Rattle.hh_sqlstore.specs.Holds.{Holds}
 use Rattle.hh_sqlstore.specs.Stores.{IsIdle, Stored, content_in}
 
--- what one statement that selects leaves
-pub reading_of : (old new : State) → Stood old new → LeavesOffice old new → IsReading old new
-reading_of old new stood left = record { stood = λ stands. (stood stands).0; left = left }
-
-module _ {S : Type 0} (g : Ghosts S) (t : Stored S) (idle : IsIdle g t) (connection : Held S) (count : ℕ) (reading : IsReading (state g t.connection) (state g connection)) where
+module _ {S : Type 0} (g : Ghosts S) (t : Stored S) (idle : IsIdle g t) (connection : Held S) (count : ℕ) (reading : SelectsOnly (state g t.connection) (state g connection)) where
   abbrev after : Stored S
   after = record { connection = connection; settings = t.settings; refusals = count }
 

@@ -3,7 +3,7 @@
 ghost use Rattle.std.specs.Prelude.{◌≡◌, false, OnErr, OnOk, IsTrue};
 ghost use Rattle.sqlite.specs.Held.{state};
 ghost use Rattle.sqlite.specs.State.{HasCleanDisk};
-ghost use Rattle.hh_sqlchanges.specs.Writes.{WritesLoad, WritesRun};
+ghost use Rattle.hh_sqlchanges.specs.Writes.{StoresLoad, StoresRun};
 ghost use Rattle.hh_sqlstore.specs.steps.Changed.{IsChangedBy};
 ghost use Rattle.hh_sqlstore.specs.steps.Made.{IsUndone};
 
@@ -24,7 +24,7 @@ pub(crate) fn keep_load<S: Alter>(
         IsTrue old.is_open → old.now ≡ old.committed }
     ensures made { let old = state S.Store connection.old in
         let new = state S.Store connection.new in
-        HasCleanDisk new → OnOk result (IsChangedBy (WritesLoad change.now) old new) }
+        HasCleanDisk new → OnOk result (IsChangedBy (StoresLoad change.now) old new) }
     ensures undone { let old = state S.Store connection.old in
         let new = state S.Store connection.new in
         OnErr result (IsUndone old new) }
@@ -49,7 +49,7 @@ pub(crate) fn keep_run<S: Alter>(
         IsTrue old.is_open → old.now ≡ old.committed }
     ensures made { let old = state S.Store connection.old in
         let new = state S.Store connection.new in
-        HasCleanDisk new → OnOk result (IsChangedBy (WritesRun change.now) old new) }
+        HasCleanDisk new → OnOk result (IsChangedBy (StoresRun change.now) old new) }
     ensures undone { let old = state S.Store connection.old in
         let new = state S.Store connection.new in
         OnErr result (IsUndone old new) }

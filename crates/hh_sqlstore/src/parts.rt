@@ -8,7 +8,7 @@ ghost use Rattle.hh_states.specs.Reads.{contracts_of};
 ghost use Rattle.hh_store.specs.DayReads.{IsDayData};
 ghost use Rattle.hh_kept_rows.specs.Parts.{whole_of};
 ghost use Rattle.hh_sqlrows.specs.Contents.{registered_of};
-ghost use Rattle.hh_sqlparts.specs.Readings.{IsReading, OfSettled};
+ghost use Rattle.hh_sqlparts.specs.Readings.{SelectsOnly, OfSettled};
 
 use hh_kept_rows::{contracts_by_their_rows, parts_of_parts, read_by_its_rows};
 use hh_keyed_rows::RowFault;
@@ -33,7 +33,7 @@ pub(crate) fn register_of<S: Alter>(
         let new = state S.Store conn.new in
         OfSettled old new (IfOk result
         (ServesFor rows.now (whole_of lead_minutes (registered_of old.now.trees)))) }
-    ensures reading { IsReading (state S.Store conn.old) (state S.Store conn.new) }
+    ensures reading { SelectsOnly (state S.Store conn.old) (state S.Store conn.new) }
     ensures mode { conn.old.in_transaction ≡ false → conn.new.in_transaction ≡ false }
 {
     // Does nothing, but carries a law for the proof: a part of a part serves.
@@ -54,7 +54,7 @@ pub(crate) fn contracts_of_account<S: Alter>(
         let new = state S.Store conn.new in
         OfSettled old new (IfOk result (λ rows.
         rows.items ≡ contracts_of account.now date (registered_of old.now.trees))) }
-    ensures reading { IsReading (state S.Store conn.old) (state S.Store conn.new) }
+    ensures reading { SelectsOnly (state S.Store conn.old) (state S.Store conn.new) }
     ensures mode { conn.old.in_transaction ≡ false → conn.new.in_transaction ≡ false }
 {
     // Does nothing, but carries a law for the proof: the rows of the date are enough.
@@ -73,7 +73,7 @@ pub(crate) fn data_of_day<S: Alter>(
         let new = state S.Store conn.new in
         OfSettled old new (IfOk result (IsDayData (registered_of old.now.trees)
         (periods_on day.now.date day.now.count))) }
-    ensures reading { IsReading (state S.Store conn.old) (state S.Store conn.new) }
+    ensures reading { SelectsOnly (state S.Store conn.old) (state S.Store conn.new) }
     ensures mode { conn.old.in_transaction ≡ false → conn.new.in_transaction ≡ false }
 {
     // Does nothing, but carries a law for the proof: the rows of the date are enough.

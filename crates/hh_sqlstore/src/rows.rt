@@ -9,7 +9,7 @@ ghost use Rattle.hh_states.specs.Reads.{is_key_known_in, posting_to, result_in, 
 ghost use Rattle.hh_sqlrows.specs.Contents.{registered_of, result_of};
 ghost use Rattle.hh_sqlrows.specs.Forms.{rows_under_keys};
 ghost use Rattle.hh_sqlrows.specs.OfficeTables.{parties, postings, results, runs};
-ghost use Rattle.hh_sqlparts.specs.Readings.{IsReading, OfSettled};
+ghost use Rattle.hh_sqlparts.specs.Readings.{SelectsOnly, OfSettled};
 ghost use Rattle.hh_sqlstore.specs.steps.Reported.{IsReported};
 
 use hh_calc::AccountRow;
@@ -38,7 +38,7 @@ pub(crate) fn is_key_known<S: Alter>(
         let new = state S.Store conn.new in
         OfSettled old new (IfOk result (λ known.
         known ≡ is_key_known_in (registered_of old.now.trees) key.now)) }
-    ensures reading { IsReading (state S.Store conn.old) (state S.Store conn.new) }
+    ensures reading { SelectsOnly (state S.Store conn.old) (state S.Store conn.new) }
     ensures mode { conn.old.in_transaction ≡ false → conn.new.in_transaction ≡ false }
 {
     let parties = select_parties(conn, alloc)?;
@@ -62,7 +62,7 @@ pub(crate) fn runs_of_date<S: Alter>(
         let new = state S.Store conn.new in
         OfSettled old new (IfOk result (λ found.
         found.items ≡ filter_map (summary_on date) (rows_under_keys runs old.now.trees))) }
-    ensures reading { IsReading (state S.Store conn.old) (state S.Store conn.new) }
+    ensures reading { SelectsOnly (state S.Store conn.old) (state S.Store conn.new) }
     ensures mode { conn.old.in_transaction ≡ false → conn.new.in_transaction ≡ false }
 {
     let rows = select_runs_on(conn, alloc, &date)?;
@@ -79,7 +79,7 @@ pub(crate) fn results_of_run<S: Alter>(
         let new = state S.Store conn.new in
         OfSettled old new (IfOk result (λ found. found.items
         ≡ filter_map (result_in run.now) (map result_of (rows_under_keys results old.now.trees)))) }
-    ensures reading { IsReading (state S.Store conn.old) (state S.Store conn.new) }
+    ensures reading { SelectsOnly (state S.Store conn.old) (state S.Store conn.new) }
     ensures mode { conn.old.in_transaction ≡ false → conn.new.in_transaction ≡ false }
 {
     let rows = select_results_of(conn, alloc, run)?;
@@ -109,7 +109,7 @@ pub(crate) fn postings_to_account<S: Alter>(
         let new = state S.Store conn.new in
         OfSettled old new (IfOk result (λ found. found.items
         ≡ filter_map (posting_to account.now) (rows_under_keys postings old.now.trees))) }
-    ensures reading { IsReading (state S.Store conn.old) (state S.Store conn.new) }
+    ensures reading { SelectsOnly (state S.Store conn.old) (state S.Store conn.new) }
     ensures mode { conn.old.in_transaction ≡ false → conn.new.in_transaction ≡ false }
 {
     let rows = select_postings_to(conn, alloc, account)?;
@@ -130,7 +130,7 @@ pub(crate) fn reported_run<S: Alter>(
         let new = state S.Store conn.new in
         OfSettled old new (IfOk result (λ found. found ≡ None
         → find run_key_cmp run.now (rows_under_keys runs old.now.trees) ≡ None)) }
-    ensures reading { IsReading (state S.Store conn.old) (state S.Store conn.new) }
+    ensures reading { SelectsOnly (state S.Store conn.old) (state S.Store conn.new) }
     ensures mode { conn.old.in_transaction ≡ false → conn.new.in_transaction ≡ false }
 {
     let Some(summary) = select_run(conn, alloc, run)? else {
@@ -153,7 +153,7 @@ pub(crate) fn parties_and_postings<S: Alter>(
         let new = state S.Store conn.new in
         OfSettled old new (IfOk result (λ found.
         found.1.items ≡ rows_under_keys postings old.now.trees)) }
-    ensures reading { IsReading (state S.Store conn.old) (state S.Store conn.new) }
+    ensures reading { SelectsOnly (state S.Store conn.old) (state S.Store conn.new) }
     ensures mode { conn.old.in_transaction ≡ false → conn.new.in_transaction ≡ false }
 {
     let parties = select_parties(conn, alloc)?;

@@ -13,7 +13,7 @@ use Rattle.hh_rows.specs.declared.keys.ContractKey.{ContractKey}
 use Rattle.hh_rows.specs.declared.keys.ReallocationKey.{ReallocationKey}
 use Rattle.hh_rows.specs.declared.keys.UnitPeriod.{UnitPeriod}
 use Rattle.hh_rows.specs.declared.rows.UnitRegistration.{UnitRegistration}
-use Rattle.hh_rules.specs.History.{Registered, nothing_registered}
+use Rattle.hh_rules.specs.History.{Registered}
 use Rattle.hh_sqlrows.specs.OfficeTables.{is_of_unit_on}
 
 -- the ids of the units that are effective on a date
@@ -53,8 +53,8 @@ abbrev pub contracts_on : ℕ → Registered → Table ContractKey ℤ
 contracts_on date whole = filter (λ e. is_eq (nat_cmp e.0.at.date date)) whole.contracts
 
 -- the part with the contracts of a date, and the sellers and buyers of their references
-abbrev pub with_contracts : ℕ → Registered → Registered → Registered
-with_contracts date whole part = record part {
+abbrev pub with_day_contracts : ℕ → Registered → Registered → Registered
+with_day_contracts date whole part = record part {
   contracts = contracts_on date whole;
   references = flat_map (with_counterparties whole.references) (references_in (contracts_on date whole));
 }
@@ -73,8 +73,3 @@ with_rows_of_units date whole part = record part {
   meters = flat_map (readings_on date whole.meters) (ids_on date part.units);
   reallocations = flat_map (reallocations_of whole.reallocations) (ids_on date part.units);
 }
-
--- the part that a date is settled from
-abbrev pub day_part : ℕ → Registered → Registered
-day_part date whole =
-    with_rows_of_units date whole (with_registered date whole (with_contracts date whole nothing_registered))

@@ -4,10 +4,9 @@ use Rattle.std.specs.BTreeMap.{is_at}
 use Rattle.std.specs.FinMap.{find}
 use Rattle.std.specs.List.{list_any}
 use Rattle.std.specs.Option.{IfSome}
-use Rattle.std.specs.Ordering.{eq_by_cmp, nat_cmp, on, then_cmp}
+use Rattle.std.specs.Ordering.{eq_by_cmp}
 use Rattle.std.specs.declared.cmp.Ordering.{Ordering}
 use Rattle.hh_tables.specs.Tables.{IsTable, Table}
-use Rattle.hh_names.specs.Accounts.{bytes_cmp}
 use Rattle.hh_names.specs.declared.values.Reallocation.{Reallocation}
 use Rattle.hh_rows.specs.declared.keys.ContractKey.{ContractKey}
 use Rattle.hh_rows.specs.declared.keys.ReallocationKey.{ReallocationKey}
@@ -51,10 +50,6 @@ reallocated_of _ = None
 abbrev pub unit_day : UnitPeriod → UnitDay
 unit_day key = record { unit = key.unit; date = key.at.date }
 
--- the unit decides, then the date
-abbrev pub unit_day_cmp : UnitDay → UnitDay → Ordering
-unit_day_cmp = then_cmp (on (λ n. n.unit) bytes_cmp) (on (λ n. n.date) nat_cmp)
-
 abbrev pub unit_day_of : Row → Option UnitDay
 unit_day_of r = option_map unit_day (reading_key_of r)
 
@@ -71,9 +66,9 @@ IsAmong R name names r = IfSome (name r) (λ n. list_any (is_at (R n)) names ≡
 -- ---- what is selected by a name
 
 -- the entry of a key, if a table has one
-abbrev pub entry_of : {K V : Type 0} → K → Option V → List (K × V)
-entry_of k None = []
-entry_of k (Some v) = (k, v) ∷ []
+abbrev pub found_entry : {K V : Type 0} → K → Option V → List (K × V)
+found_entry k None = []
+found_entry k (Some v) = (k, v) ∷ []
 
 -- ---- what a part has of a table
 

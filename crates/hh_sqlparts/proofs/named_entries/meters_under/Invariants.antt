@@ -3,7 +3,7 @@ use Rattle.std.specs.List.{flat_map}
 use Rattle.sqlite.specs.Held.{state}
 use Rattle.hh_sqlrows.specs.Forms.{rows_under_keys}
 use Rattle.hh_sqlrows.specs.OfficeTables.{meters, is_of_unit_on}
-use Rattle.hh_sqlparts.specs.Readings.{IsReading, OfSettled}
+use Rattle.hh_sqlparts.specs.Readings.{SelectsOnly, OfSettled}
 use Rattle.hh_sqlparts.proofs.named_entries.meters_under.Given as goal
 
 -- what the names so far select
@@ -12,7 +12,7 @@ invariant-names g l =
     let old = state g.S.Store l.fn.conn in
     let now = state g.S.Store l.conn in
     record {
-      reading : IsReading old now;
+      reading : SelectsOnly old now;
       mode : l.fn.conn.in_transaction ≡ false → l.conn.in_transaction ≡ false;
       selected : OfSettled old now (l.found.items ≡ flat_map (λ n. filter (λ e. is_of_unit_on n.unit n.date e.0) (rows_under_keys meters old.now.trees)) (take l.name-index l.names));
     }

@@ -5,7 +5,7 @@ use Rattle.hh_names.specs.Accounts.{bytes_cmp}
 use Rattle.sqlite.specs.Held.{state}
 use Rattle.hh_sqlrows.specs.Forms.{rows_under_keys}
 use Rattle.hh_sqlrows.specs.OfficeTables.{reallocations}
-use Rattle.hh_sqlparts.specs.Readings.{IsReading, OfSettled}
+use Rattle.hh_sqlparts.specs.Readings.{SelectsOnly, OfSettled}
 use Rattle.hh_sqlparts.proofs.named_entries.reallocations_under.Given as goal
 
 -- what the names so far select
@@ -14,7 +14,7 @@ invariant-names g l =
     let old = state g.S.Store l.fn.conn in
     let now = state g.S.Store l.conn in
     record {
-      reading : IsReading old now;
+      reading : SelectsOnly old now;
       mode : l.fn.conn.in_transaction ≡ false → l.conn.in_transaction ≡ false;
       selected : OfSettled old now (l.found.items ≡ flat_map (λ n. filter (λ e. is_eq (bytes_cmp e.0.unit_period.unit n)) (rows_under_keys reallocations old.now.trees)) (take l.name-index l.names));
     }

@@ -6,9 +6,9 @@ use Rattle.sqlite.specs.Held.{state}
 use Rattle.hh_tables.specs.Tables.{put_all}
 use Rattle.hh_sqlrows.specs.Forms.{rows_under_keys}
 use Rattle.hh_sqlrows.specs.OfficeTables.{meters}
-use Rattle.hh_sqlparts.specs.steps.Named.{IsAmong, unit_day_cmp, unit_day_of}
+use Rattle.hh_sqlparts.specs.steps.Named.{IsAmong, unit_day_of}
 use Rattle.hh_sqlparts.proofs.NamedForms.{rows_rise}
-use Rattle.hh_sqlparts.proofs.NamedTables.{meters_named}
+use Rattle.hh_sqlparts.proofs.NamedTables.{meters_named, unit_day_cmp}
 use Rattle.hh_sqlparts.proofs.named_tables.select_meters_named.Goals as goal
 
 pub returns-clause-value : goal.returns-clause-value
