@@ -118,18 +118,18 @@ def print_ratios(times):
     print(f"Python peer / settle script: {median['Python peer'] / ours:.2f}")
 
 
-def pass_mark(pipe, process):
-    """Waits until the program opens this pipe, and answers when that was and when it had its bytes."""
+def pass_mark(pipe, process, data=NO_READINGS):
+    """Waits until the program opens this pipe, and answers when that was and when it had these bytes."""
     while True:
         try:
             end = os.open(pipe, os.O_WRONLY | os.O_NONBLOCK)
             break
         except OSError:
             if process.poll() is not None:
-                sys.exit(f"settle script ended with status {process.returncode} before {pipe}")
+                sys.exit(f"the program ended with status {process.returncode} before {pipe}")
             time.sleep(0.0002)
     reached = time.perf_counter()
-    os.write(end, NO_READINGS)
+    os.write(end, data)
     os.close(end)
     return reached, time.perf_counter()
 
@@ -142,13 +142,13 @@ def marks_of(folder, count):
     return pipes
 
 
-def milliseconds_of_marks(command, pipes):
-    """What a script with marks writes, and what it took from each mark to the next."""
+def milliseconds_of_marks(command, pipes, data=NO_READINGS):
+    """What a script with marks writes, and what it took from each mark to the next. Each mark gives these bytes."""
     with tempfile.TemporaryFile() as out:
         process = subprocess.Popen(command, stdout=out)
-        passed = [pass_mark(pipe, process) for pipe in pipes]
+        passed = [pass_mark(pipe, process, data) for pipe in pipes]
         if process.wait() != 0:
-            sys.exit(f"settle script ended with status {process.returncode}")
+            sys.exit(f"{command[0]} ended with status {process.returncode}")
         out.seek(0)
         output = out.read().decode()
     return output, [(reached - left) * 1000 for (_, left), (reached, _) in zip(passed, passed[1:])]

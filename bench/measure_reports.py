@@ -21,9 +21,9 @@ from measure_run import LATER, dearer_prices, run_line, timed
 from measuring import BENCH, build_rust_peer, print_table, read_words
 
 
-def report_lines(kind):
+def report_lines(kind, date=FIRST):
     """The lines that ask for the day report, for the results and for the balances."""
-    return [f"report {KEY} day {FIRST} {kind}\n", f"report {KEY} csv {FIRST} {kind}\n", f"report {KEY} balances\n"]
+    return [f"report {KEY} day {date} {kind}\n", f"report {KEY} csv {date} {kind}\n", f"report {KEY} balances\n"]
 
 
 def reports_of_rust(peer, script):

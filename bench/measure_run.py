@@ -21,9 +21,9 @@ from measuring import BENCH, build_rust_peer, print_table, read_words
 LATER = 1_719_961_200
 
 
-def dearer_prices(folder):
-    """The path of the day's prices with the first raised by 10 pounds."""
-    prices = next((folder / str(FIRST)).glob("prices*"))
+def dearer_prices(folder, date=FIRST):
+    """The path of a day's prices with the first raised by 10 pounds."""
+    prices = next((folder / str(date)).glob("prices*"))
     lines = prices.read_text().splitlines()
     date, period, price = lines[1].split(",")
     lines[1] = f"{date},{period},{float(price) + 10:.5f}"

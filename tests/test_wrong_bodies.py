@@ -18,7 +18,7 @@ from programs import HOME
 FOLDER = HOME / "wrong-bodies"
 FUNCTION = re.compile(r"(?m)^( *)(?:pub(?:\([a-z]+\))? )?(?:const )?fn (\w+)")
 # Calls that `settle` doesn't make: of a row by itself, of a list of requests, of a date, of devices in memory, and of an office's
-# database and its rows.
+# database, its rows, and scripts over it.
 OFFERED = {
     "check_row", "apply_row", "run_all", "day_of", "day_number", "date_at", "in_pieces",
     "to_columns", "from_columns", "read_entry", "read_entries", "ends", "replace_unit",
@@ -28,6 +28,7 @@ OFFERED = {
     "settings_of_office", "has_office", "is_office", "is_column", "is_meters",
     "select_named", "names_in", "meters_under", "prices_under", "reallocations_under",
     "select_contracts", "push_reference", "select_registered", "select_of_units", "ids_on", "append_meters", "append_reallocations",
+    "run_over", "run_in_new_database", "run_over_database", "after_lines", "not_run",
 }
 # What the language calls without naming it.
 UNNAMED = {"main", "fmt", "cmp", "partial_cmp", "eq", "from", "next", "clone", "drop", "default"}

@@ -1,7 +1,7 @@
 //! The program `hh_bench`.
 #![tactic(auto)]
 
-use hh_measures::run;
+use hh_office_measures::run;
 use std::process::ExitCode;
 
 fn main(rt: HostRuntime) -> ExitCode {

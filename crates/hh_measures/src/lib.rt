@@ -7,8 +7,6 @@
 //! What was done goes to standard output, and the nanoseconds that it took to standard error.
 #![tactic(auto)]
 
-ghost use Rattle.std.specs.Prelude.{◌≤◌};
-
 mod checksum;
 mod draw;
 mod generated;
@@ -26,24 +24,16 @@ use settle::settle_again;
 use std::env;
 use std::io::{Eprint, ErrorKind, Print};
 use std::rt::{Clock, Env, Files};
-use stop::{Stop, tell};
+pub use stop::{Stop, tell};
+pub use watch::Watch;
 use words::{Command, read_words};
 
-/// Does what the program's words ask for, and gives its exit status: 0 where all was done and told, 2
-/// for words that form no command, and 1 for everything else, with a line on standard error.
-pub fn run<R: Env + Files + Clock + Print + Eprint + AllocGlobal>(rt: &R) -> u8
-    ensures status { result ≤ 2 }
-{
-    match measure(rt) {
-        Ok(()) => 0,
-        Err(stop) => tell(rt, stop),
-    }
-}
-
-/// Does what the program's words ask for.
-fn measure<R: Env + Files + Clock + Print + Eprint + AllocGlobal>(rt: &R) -> Result<(), Stop> {
-    let words = words_of(rt)?;
-    match read_words(rt.alloc(), &words)? {
+/// Does what the program's words ask for, its own name in front.
+pub fn measure<R: Files + Clock + Print + Eprint + AllocGlobal>(
+    rt: &R,
+    words: &[String],
+) -> Result<(), Stop> {
+    match read_words(rt.alloc(), words)? {
         Command::Settle { times } => settle_again(rt, times),
         Command::Read { file, times } => read_again(rt, file, times),
         Command::Load { files } => load_files(rt, &files),
@@ -51,7 +41,7 @@ fn measure<R: Env + Files + Clock + Print + Eprint + AllocGlobal>(rt: &R) -> Res
 }
 
 /// The program's words, its own name in front.
-fn words_of<R: Env + AllocGlobal>(rt: &R) -> Result<Vec<String>, Stop> {
+pub fn words_of<R: Env + AllocGlobal>(rt: &R) -> Result<Vec<String>, Stop> {
     match env::args(rt) {
         Ok(words) => Ok(words.collect(rt.alloc())?),
         Err(error) if error.kind() == ErrorKind::OutOfMemory => Err(Stop::no_memory()),

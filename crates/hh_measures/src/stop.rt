@@ -8,11 +8,11 @@ use std::io;
 use std::io::{Eprint, ErrorKind};
 
 const USAGE: &str =
-    "usage: hh_bench settle TIMES | read KIND FILE TIMES | load KIND FILE [KIND FILE ..]";
+    "usage: hh_bench settle TIMES | read KIND FILE TIMES | load KIND FILE [KIND FILE ..] | office DB SCRIPT [OPERATOR-KEY LEAD-MINUTES]";
 
 /// Why the program ends before it is done.
 #[derive(Clone, Copy, Debug, PartialEq, Eq)]
-pub(crate) enum Stop {
+pub enum Stop {
     /// The words form no command.
     Words,
     /// A file, a period or memory was refused.
@@ -60,7 +60,7 @@ impl From<io::Error> for Stop {
 }
 
 /// Tells on standard error why the program ends, and gives its exit status.
-pub(crate) fn tell<R: Eprint>(rt: &R, stop: Stop) -> u8
+pub fn tell<R: Eprint>(rt: &R, stop: Stop) -> u8
     ensures { result ≤ 2 }
 {
     let _told = match stop {

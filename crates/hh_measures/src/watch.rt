@@ -7,20 +7,20 @@ use std::time::Instant;
 
 /// When something began that is measured.
 #[derive(Clone, Copy)]
-pub(crate) struct Watch {
+pub struct Watch {
     begin: Instant,
 }
 
 impl Watch {
     /// It begins now.
-    pub(crate) fn start<R: Clock>(rt: &R) -> Result<Watch, Stop> {
+    pub fn start<R: Clock>(rt: &R) -> Result<Watch, Stop> {
         Ok(Watch {
             begin: Instant::now(rt)?,
         })
     }
 
     /// It ends now: prints on standard error the nanoseconds that it took.
-    pub(crate) fn stop<R: Clock + Eprint>(self, rt: &R) -> Result<(), Stop> {
+    pub fn stop<R: Clock + Eprint>(self, rt: &R) -> Result<(), Stop> {
         let taken = self.begin.elapsed(rt)?;
         eprintln!(rt; "{}", taken.as_nanos()).map_err(|_| Stop::Output)
     }

@@ -74,6 +74,7 @@ impl<S: Alter> SqlTables<S> {
         ensures stands { IfOk result (λ tables. IsTrue (state S.Store tables.connection).is_open
             → (midnight : Midnights)
             → content_in S.Store tables ≡ tables_of midnight (empty_state settings)) }
+        ensures unrefused { IfOk result (λ tables. tables.refusals ≡ 0) }
         ensures undone { IfErr result (λ e.
             LeavesDatabase (state S.Store connection) (state S.Store e.1)) }
         ensures foreign { (state S.Store connection).now.schema ≢ nothing
@@ -93,9 +94,18 @@ impl<S: Alter> SqlTables<S> {
         }
     }
 
+    /// How often the database has refused a call for another cause than memory.
+    pub fn refusals(&self) -> u64
+        ensures { result ≡ self.now.refusals }
+    {
+        self.refusals
+    }
+
     /// The connection, which may be closed then.
     pub fn into_connection(self) -> Connection<S>
-        ensures { result ≡ self.connection }
+        ensures same { result ≡ self.connection }
+        ensures holds { IsTrue (state S.Store result).is_open
+            → Holds version (content_in S.Store self) (state S.Store result).committed }
     {
         let SqlTables {
             alloc: _,
@@ -127,6 +137,7 @@ impl<S: Rising> SqlTables<S> {
             → Holds version content (state S.Store connection).committed
             → IfOk result (λ tables. IsTrue (state S.Store tables.connection).is_open
             → content_in S.Store tables ≡ content) }
+        ensures unrefused { IfOk result (λ tables. tables.refusals ≡ 0) }
         ensures left { MatchResult result
             (λ tables. LeavesDatabase (state S.Store connection) (state S.Store tables.connection))
             (λ e. LeavesDatabase (state S.Store connection) (state S.Store e.1)) }

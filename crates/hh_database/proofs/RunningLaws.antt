@@ -1,0 +1,115 @@
+-- What lines come to over an office whose tables stand in a database, by what the database holds after them.
+use Rattle.std.proofs.Common.{◌≡◌, ℕ, ◌<◌, List, Option, Result, Ok, Err, subst, sym, take, arith}
+use Rattle.std.specs.Prelude.{IfErr, IfOk, MatchResult, OnErr, OnOk}
+use Rattle.jiff.specs.Words.{plain_zone}
+use Rattle.sqlite.specs.Effect.{Database}
+use Rattle.hh_devices.specs.DeviceChanges.{DeviceChange}
+use Rattle.hh_time.specs.Days.{Midnights}
+use Rattle.hh_time.specs.Zone.{midnight_in}
+use Rattle.hh_rows.specs.Values.{AreSettings}
+use Rattle.hh_rows.specs.declared.settings.Settings.{Settings}
+use Rattle.hh_states.specs.Changes.{StandsFor}
+use Rattle.hh_states.specs.Content.{Content, tables_of}
+use Rattle.hh_states.specs.States.{State, empty_state}
+use Rattle.hh_states.specs.Steps.{at_first}
+use Rattle.hh_day.specs.Headline.{ReachedConserve}
+use Rattle.hh_keyed_rows.specs.Values.{version}
+use Rattle.hh_sqlstore.specs.Holds.{Holds}
+use Rattle.hh_script.specs.Steps.{Step}
+use Rattle.hh_session.specs.GivingUp.{CountsMore}
+use Rattle.hh_session.proofs.GivingUpLaws.{script_then}
+use Rattle.hh_database.specs.Running.{CutsFrom, CutsNew, CutsOver, HoldsState, WritesFrom, WritesNew, WritesOver}
+use Rattle.hh_database.specs.steps.Running.{RunsOver, StopsOver}
+
+-- ---- what a result comes to
+
+module _ {A E : Type 0} where
+  pub ok_then : {P : Type 0} (r : Result A E) (x : A) → r ≡ Ok x → OnOk r P → P
+  ok_then {P} r x is holds = subst (λ r. OnOk r P) is holds
+
+  pub err_then : {P : Type 0} (r : Result A E) (e : E) → r ≡ Err e → OnErr r P → P
+  err_then {P} r e is holds = subst (λ r. OnErr r P) is holds
+
+  pub ok_by : {P Q R : A → Type 0} (Q' : E → Type 0) (r : Result A E) → ((x : A) → P x → Q x → R x) → IfOk r P → MatchResult r Q Q' → IfOk r R
+  ok_by Q (Ok x) gives first second = gives x first second
+  ok_by Q (Err e) gives first second = tt
+
+  pub err_by : {P R Q' : E → Type 0} (Q : A → Type 0) (r : Result A E) → ((e : E) → P e → Q' e → R e) → IfErr r P → MatchResult r Q Q' → IfErr r R
+  err_by Q (Ok x) gives first second = tt
+  err_by Q (Err e) gives first second = gives e first second
+
+-- ---- what lines come to
+
+-- a count that has risen from none is above none
+risen : (count : ℕ) → CountsMore 0 count → 0 < count
+risen count more = more (omega arith)
+
+module _ (reads : List ℕ → Option (List ℕ) → Type 0) (refuses : ℕ → Type 0) (device : DeviceChange) (db : Database) (steps : List Step) where
+  -- Lines were run over tables of one content, and left tables of another, which the database holds.
+  module _ (fails : Type 0) (conserve : ReachedConserve) (old new : Content) (holds : Holds version new db) where
+    holds_state : (midnight : Midnights) (t : State) → StandsFor midnight new t → HoldsState midnight t db
+    holds_state midnight t (reached, is) = record {
+      holds = subst (λ c. Holds version c db) is holds;
+      sums = conserve midnight t reached;
+    }
+
+    pub writes_over : RunsOver reads refuses fails device old new steps → WritesOver reads refuses fails device db steps old
+    writes_over (zone, market, runs) = (
+      zone,
+      market,
+      λ s stands.
+          let (text, t, does, went, now) = runs s stands in
+          (text, t, does, went, holds_state _ t now),
+    )
+
+    pub cuts_over : StopsOver reads refuses fails device old new steps → CutsOver reads refuses fails device db steps old
+    cuts_over (zone, market, stops) = (
+      zone,
+      market,
+      λ s stands.
+          let (count, text, t, does, went, now) = stops s stands in
+          (count, text, t, does, went, holds_state _ t now),
+    )
+
+  -- The office had refused nothing before, and has refused so many calls then.
+  module _ (count : ℕ) where
+    writes_where : (midnight : Midnights) (s : State) → WritesFrom reads refuses (CountsMore 0 count) device db steps s midnight
+        → WritesFrom reads refuses (0 < count) device db steps s midnight
+    writes_where midnight s (text, t, does, went, held) =
+        (text, t, script_then (CountsMore 0 count) (0 < count) (risen count) reads refuses midnight s steps text t does, went, held)
+
+    cuts_where : (midnight : Midnights) (s : State) → CutsFrom reads refuses (CountsMore 0 count) device db steps s midnight
+        → CutsFrom reads refuses (0 < count) device db steps s midnight
+    cuts_where midnight s (first, text, t, does, went, held) = (
+      first,
+      text,
+      t,
+      script_then (CountsMore 0 count) (0 < count) (risen count) reads refuses midnight s (take first steps) text t does,
+      went,
+      held,
+    )
+
+    -- the content that the office was taken over with is that which the database held
+    pub writes_held : (old content : Content) → old ≡ content → WritesOver reads refuses (CountsMore 0 count) device db steps old
+        → WritesOver reads refuses (0 < count) device db steps content
+    writes_held old content same (zone, market, writes) =
+        let midnight = midnight_in (plain_zone zone) in
+        (zone, market, λ s stands. writes_where midnight s (writes s (subst (λ c. StandsFor midnight c s) (sym same) stands)))
+
+    pub cuts_held : (old content : Content) → old ≡ content → CutsOver reads refuses (CountsMore 0 count) device db steps old
+        → CutsOver reads refuses (0 < count) device db steps content
+    cuts_held old content same (zone, market, cuts) =
+        let midnight = midnight_in (plain_zone zone) in
+        (zone, market, λ s stands. cuts_where midnight s (cuts s (subst (λ c. StandsFor midnight c s) (sym same) stands)))
+
+    -- a new office stands for the empty state
+    module _ (settings : Settings) (fine : AreSettings settings) (old : Content) (stands : (midnight : Midnights) → old ≡ tables_of midnight (empty_state settings)) where
+      pub writes_new : WritesOver reads refuses (CountsMore 0 count) device db steps old → WritesNew reads refuses (0 < count) device db steps settings
+      writes_new (zone, market, writes) =
+          let midnight = midnight_in (plain_zone zone) in
+          (zone, market, writes_where midnight (empty_state settings) (writes (empty_state settings) (at_first settings fine, stands midnight)))
+
+      pub cuts_new : CutsOver reads refuses (CountsMore 0 count) device db steps old → CutsNew reads refuses (0 < count) device db steps settings
+      cuts_new (zone, market, cuts) =
+          let midnight = midnight_in (plain_zone zone) in
+          (zone, market, cuts_where midnight (empty_state settings) (cuts (empty_state settings) (at_first settings fine, stands midnight)))

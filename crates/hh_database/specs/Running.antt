@@ -1,0 +1,62 @@
+-- What the lines of a script come to over an office whose tables stand in a database.
+use Rattle.std.specs.Prelude.{ℕ, List, Option, take}
+use Rattle.std.specs.Io.KnownBytes.{Appends}
+use Rattle.sqlite.specs.Effect.{Database}
+use Rattle.jiff.specs.declared.tz.timezone.TimeZone.{TimeZone}
+use Rattle.jiff.specs.Words.{plain_zone}
+use Rattle.hh_devices.specs.DeviceChanges.{DeviceChange}
+use Rattle.hh_devices.specs.Devices.{AppendsFront}
+use Rattle.hh_time.specs.Days.{Midnights}
+use Rattle.hh_time.specs.Zone.{midnight_in}
+use Rattle.hh_rows.specs.declared.settings.Settings.{Settings}
+use Rattle.hh_states.specs.Changes.{StandsFor}
+use Rattle.hh_states.specs.Content.{Content, tables_of}
+use Rattle.hh_states.specs.States.{State, empty_state}
+use Rattle.hh_day.specs.Headline.{Conserves}
+use Rattle.hh_keyed_rows.specs.Values.{version}
+use Rattle.hh_sqlstore.specs.Holds.{Holds}
+use Rattle.hh_script.specs.Steps.{Step}
+use Rattle.hh_session.specs.Course.{ScriptDoes}
+use Rattle.hh_session.specs.Script.{IsMarketZone}
+
+-- this holds of the moments at which local midnights fall in the zone of the market
+abbrev pub InMarket : (Midnights → Type 0) → Type 0
+InMarket holds = (zone : TimeZone) × IsMarketZone zone × holds (midnight_in (plain_zone zone))
+
+-- The database holds the tables of a state. They add up: each run's rows, contracts, charges with shares, the credits of units,
+-- and postings.
+pub record HoldsState (midnight : Midnights) (t : State) (db : Database) : Type 0 where
+  pub holds : Holds version (tables_of midnight t) db
+  pub sums : Conserves midnight t (tables_of midnight t)
+
+-- What a path may read as, and which ports may not be listened on. The database may have failed only where this holds. This changes
+-- in an output, and this is what the database holds after the steps.
+module _ (reads : List ℕ → Option (List ℕ) → Type 0) (refuses : ℕ → Type 0) (fails : Type 0) (device : DeviceChange) (db : Database)
+    (steps : List Step) where
+  -- the steps were run from a state, what they write went out, and the database holds the state after them
+  abbrev pub WritesFrom : State → Midnights → Type 0
+  WritesFrom s midnight =
+      (text : List ℕ) × (t : State)
+      × ScriptDoes reads refuses fails midnight s steps text t × Appends device.old device.new text × HoldsState midnight t db
+
+  -- the first of the steps were run from a state, a beginning of what they write went out, and the database holds the state after them
+  abbrev pub CutsFrom : State → Midnights → Type 0
+  CutsFrom s midnight =
+      (count : ℕ) × (text : List ℕ) × (t : State)
+      × ScriptDoes reads refuses fails midnight s (take count steps) text t × AppendsFront device.old device.new text × HoldsState midnight t db
+
+  -- so it is from a new office with these settings
+  module _ (settings : Settings) where
+    abbrev pub WritesNew : Type 0
+    WritesNew = InMarket (WritesFrom (empty_state settings))
+
+    abbrev pub CutsNew : Type 0
+    CutsNew = InMarket (CutsFrom (empty_state settings))
+
+  -- so it is from each state whose tables have this content
+  module _ (content : Content) where
+    abbrev pub WritesOver : Type 0
+    WritesOver = InMarket (λ midnight. (s : State) → StandsFor midnight content s → WritesFrom s midnight)
+
+    abbrev pub CutsOver : Type 0
+    CutsOver = InMarket (λ midnight. (s : State) → StandsFor midnight content s → CutsFrom s midnight)

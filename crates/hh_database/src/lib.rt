@@ -1,0 +1,9 @@
+//! Scripts that are run over an office whose tables stand in a database.
+#![tactic(auto)]
+
+mod over;
+mod running;
+mod stop;
+
+pub use running::{run_in_database, run_in_new_database};
+pub use stop::{AfterLines, DatabaseStop};

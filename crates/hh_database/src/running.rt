@@ -1,0 +1,183 @@
+//! The lines of a script, run over an office whose tables stand in a database.
+
+ghost use Rattle.std.specs.Prelude.{◌≡◌, ◌≢◌, ◌<◌, map, All, IfErr, IfOk, IsTrue, MatchResult, OnOk};
+ghost use Rattle.sqlite.specs.Held.{state};
+ghost use Rattle.hh_devices.specs.DeviceChanges.{change};
+ghost use Rattle.hh_devices.specs.Devices.{Failed};
+ghost use Rattle.hh_states.specs.Content.{Content};
+ghost use Rattle.hh_keyed_rows.specs.Values.{version};
+ghost use Rattle.hh_sqlrows.specs.Making.{nothing};
+ghost use Rattle.hh_sqlrows.specs.OfficeSchema.{office};
+ghost use Rattle.hh_store.specs.declared.store_fault.StoreFault.TheVariants.{Store};
+ghost use Rattle.hh_sqlstore.specs.Holds.{Holds};
+ghost use Rattle.hh_sqlstore.specs.Leaving.{LeavesDatabase};
+ghost use Rattle.hh_sqlstore.specs.Stores.{content_in};
+ghost use Rattle.hh_script.specs.Steps.{IsWellNamed, step_of};
+ghost use Rattle.hh_session.specs.GivingUp.{CountsMore};
+ghost use Rattle.hh_database.specs.Running.{CutsNew, CutsOver, WritesNew, WritesOver};
+
+use crate::over::run_over;
+use crate::stop::{AfterLines, DatabaseStop};
+use hh_day::reached_conserve;
+use hh_devices::{DeviceFailed, Sink};
+use hh_inputs::Inputs;
+use hh_rows::Settings;
+use hh_script::ScriptLine;
+use hh_sockets::Loopback;
+use hh_sqlstore::{Rising, SqlTables};
+use hh_store::StoreFault;
+use sqlite::{Alter, Connection};
+use std::alloc::Global;
+
+/// Makes the tables of an office with these settings in a database that has none, runs the lines of a
+/// script over the office, one after the other, and writes what comes of each, as `run_lines` does. A
+/// line is told 91 only where the database has refused a call of the office.
+///
+/// # Errors
+///
+/// `Refused` where the tables are not made: nothing is written, and the database has what it had.
+/// `Output` where the output failed or took nothing in this call: the first of the lines were run, and a
+/// beginning of what they write went out. The connection comes back.
+pub fn run_in_new_database<S: Alter, I: Inputs, L: Loopback, O: Sink>(
+    alloc: Global,
+    connection: Connection<S>,
+    settings: Settings,
+    inputs: &I,
+    loopback: &L,
+    lines: &[ScriptLine<'_>],
+    out: &mut O,
+) -> Result<AfterLines<S>, (DatabaseStop, AfterLines<S>)>
+    requires { All (λ line. IsWellNamed (step_of line)) lines.now }
+    ensures done { IfOk result (λ after. IsTrue (state S.Store after.connection).is_open
+        → WritesNew (I.reads_as inputs.now) (L.may_refuse loopback.now) (0 < after.refusals)
+        (change O.taken O.failures out.old out.new) (state S.Store after.connection).committed
+        (map step_of lines.now) settings) }
+    ensures well { OnOk result (O.failures out.new ≡ O.failures out.old) }
+    ensures cut { IfErr result (λ e. e.0 ≡ DatabaseStop.Output
+        → IsTrue (state S.Store e.1.connection).is_open
+        → CutsNew (I.reads_as inputs.now) (L.may_refuse loopback.now) (0 < e.1.refusals)
+        (change O.taken O.failures out.old out.new) (state S.Store e.1.connection).committed
+        (map step_of lines.now) settings) }
+    ensures failed { IfErr result (λ e. e.0 ≡ DatabaseStop.Output
+        → Failed (O.failures out.old) (O.failures out.new)) }
+    ensures untouched { IfErr result (λ e. e.0 ≢ DatabaseStop.Output → out.new ≡ out.old) }
+    ensures undone { IfErr result (λ e. e.0 ≢ DatabaseStop.Output
+        → LeavesDatabase (state S.Store connection) (state S.Store e.1.connection)) }
+    ensures foreign { (state S.Store connection).now.schema ≢ nothing
+        → MatchResult result (λ _. ⊥) (λ e. e.0 ≡ DatabaseStop.Refused Store) }
+{
+    // Does nothing, but carries a law for the proof: the settings are within their ranges.
+    settings.are_settings();
+    match SqlTables::create(alloc, connection, settings) {
+        Ok(tables) => run_over_database(alloc, tables, inputs, loopback, lines, out),
+        Err(refused) => Err(not_run(refused)),
+    }
+}
+
+/// Runs the lines of a script over the office whose tables a database has, one after the other, and
+/// writes what comes of each, as `run_lines` does. A line is told 91 only where the database has refused a
+/// call of the office.
+///
+/// # Errors
+///
+/// As of `run_in_new_database`. `Refused` where the tables are not taken over.
+pub fn run_in_database<S: Rising, I: Inputs, L: Loopback, O: Sink>(
+    alloc: Global,
+    connection: Connection<S>,
+    inputs: &I,
+    loopback: &L,
+    lines: &[ScriptLine<'_>],
+    out: &mut O,
+) -> Result<AfterLines<S>, (DatabaseStop, AfterLines<S>)>
+    requires { All (λ line. IsWellNamed (step_of line)) lines.now }
+    ensures done { (content : Content) → Holds version content (state S.Store connection).committed
+        → IfOk result (λ after. IsTrue (state S.Store after.connection).is_open
+        → WritesOver (I.reads_as inputs.now) (L.may_refuse loopback.now) (0 < after.refusals)
+        (change O.taken O.failures out.old out.new) (state S.Store after.connection).committed
+        (map step_of lines.now) content) }
+    ensures well { OnOk result (O.failures out.new ≡ O.failures out.old) }
+    ensures cut { (content : Content) → Holds version content (state S.Store connection).committed
+        → IfErr result (λ e. e.0 ≡ DatabaseStop.Output
+        → IsTrue (state S.Store e.1.connection).is_open
+        → CutsOver (I.reads_as inputs.now) (L.may_refuse loopback.now) (0 < e.1.refusals)
+        (change O.taken O.failures out.old out.new) (state S.Store e.1.connection).committed
+        (map step_of lines.now) content) }
+    ensures failed { IfErr result (λ e. e.0 ≡ DatabaseStop.Output
+        → Failed (O.failures out.old) (O.failures out.new)) }
+    ensures untouched { IfErr result (λ e. e.0 ≢ DatabaseStop.Output → out.new ≡ out.old) }
+    ensures left { IfErr result (λ e. e.0 ≢ DatabaseStop.Output
+        → LeavesDatabase (state S.Store connection) (state S.Store e.1.connection)) }
+    ensures foreign { (state S.Store connection).now.schema ≢ office
+        → MatchResult result (λ _. ⊥) (λ e. e.0 ≡ DatabaseStop.Refused Store) }
+{
+    match SqlTables::adopt(alloc, connection) {
+        Ok(tables) => run_over_database(alloc, tables, inputs, loopback, lines, out),
+        Err(refused) => Err(not_run(refused)),
+    }
+}
+
+/// What comes of lines that are not run, since the tables are refused.
+fn not_run<S: Alter>(refused: (StoreFault, Connection<S>)) -> (DatabaseStop, AfterLines<S>)
+    ensures stop { result.0 ≡ DatabaseStop.Refused refused.0 }
+    ensures connection { result.1.connection ≡ refused.1 }
+{
+    let (fault, connection) = refused;
+    let after = AfterLines {
+        connection,
+        refusals: 0,
+    };
+    (DatabaseStop::Refused(fault), after)
+}
+
+/// Runs lines over an office with these tables, and hands their connection back.
+fn run_over_database<S: Alter, I: Inputs, L: Loopback, O: Sink>(
+    alloc: Global,
+    tables: SqlTables<S>,
+    inputs: &I,
+    loopback: &L,
+    lines: &[ScriptLine<'_>],
+    out: &mut O,
+) -> Result<AfterLines<S>, (DatabaseStop, AfterLines<S>)>
+    requires { All (λ line. IsWellNamed (step_of line)) lines.now }
+    ensures done { IfOk result (λ after. IsTrue (state S.Store after.connection).is_open
+        → WritesOver (I.reads_as inputs.now) (L.may_refuse loopback.now)
+        (CountsMore tables.refusals after.refusals)
+        (change O.taken O.failures out.old out.new) (state S.Store after.connection).committed
+        (map step_of lines.now) (content_in S.Store tables)) }
+    ensures well { OnOk result (O.failures out.new ≡ O.failures out.old) }
+    ensures cut { IfErr result (λ e. IsTrue (state S.Store e.1.connection).is_open
+        → CutsOver (I.reads_as inputs.now) (L.may_refuse loopback.now)
+        (CountsMore tables.refusals e.1.refusals)
+        (change O.taken O.failures out.old out.new) (state S.Store e.1.connection).committed
+        (map step_of lines.now) (content_in S.Store tables)) }
+    ensures output { IfErr result (λ e. e.0 ≡ DatabaseStop.Output) }
+    ensures failed { IfErr result (λ e. Failed (O.failures out.old) (O.failures out.new)) }
+    ensures sure { MatchResult result
+        (λ after. IsTrue (state S.Store after.connection).is_open
+        → IsTrue (state S.Store tables.connection).is_open)
+        (λ e. IsTrue (state S.Store e.1.connection).is_open
+        → IsTrue (state S.Store tables.connection).is_open) }
+{
+    // Does nothing, but carries a law for the proof: the tables of the machine's states add up.
+    reached_conserve();
+    let (ran, tables) = run_over(alloc, tables, inputs, loopback, lines, out);
+    let after = after_lines(tables);
+    match ran {
+        Ok(()) => Ok(after),
+        Err(DeviceFailed) => Err((DatabaseStop::Output, after)),
+    }
+}
+
+/// What tables leave that the office no longer stands over.
+fn after_lines<S: Alter>(tables: SqlTables<S>) -> AfterLines<S>
+    ensures connection { result.connection ≡ tables.connection }
+    ensures refusals { result.refusals ≡ tables.refusals }
+    ensures holds { IsTrue (state S.Store result.connection).is_open
+        → Holds version (content_in S.Store tables) (state S.Store result.connection).committed }
+{
+    let refusals = tables.refusals();
+    AfterLines {
+        connection: tables.into_connection(),
+        refusals,
+    }
+}

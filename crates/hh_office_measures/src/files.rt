@@ -1,0 +1,134 @@
+//! The files of a database: opened, used and closed.
+
+ghost use Rattle.std.specs.Prelude.{All};
+ghost use Rattle.hh_script.specs.Steps.{IsWellNamed, step_of};
+
+use hh_database::{AfterLines, DatabaseStop, run_in_database, run_in_new_database};
+use hh_devices::Sink;
+use hh_inputs::Inputs;
+use hh_measures::{Stop, Watch};
+use hh_names::Refusal;
+use hh_rows::Settings;
+use hh_script::ScriptLine;
+use hh_sockets::Loopback;
+use hh_sqlstore::Rising;
+use hh_store::StoreFault;
+use sqlite::{Connection, Error, ErrorCode, FileStore, Options};
+use sqlite_disk::{Disk, Files};
+use std::alloc::Global;
+use std::io::Eprint;
+use std::rt::Clock;
+
+/// Opens the files, which the watch measures, runs the lines over the office there, and closes them.
+pub(crate) fn run_in_files<
+    R: Clock + Eprint + AllocGlobal,
+    D: Disk + Drop,
+    I: Inputs,
+    L: Loopback,
+    O: Sink,
+>(
+    rt: &R,
+    watch: Watch,
+    files: Files<D>,
+    options: Options,
+    settings: Option<Settings>,
+    inputs: &I,
+    loopback: &L,
+    lines: &[ScriptLine<'_>],
+    out: &mut O,
+) -> Result<(), Stop>
+    requires { All (λ line. IsWellNamed (step_of line)) lines.now }
+{
+    let connection = open(rt.alloc(), files, options)?;
+    let opened = watch.stop(rt);
+    let watch = Watch::start(rt);
+    let (ran, connection) = run_over(
+        rt.alloc(),
+        connection,
+        settings,
+        inputs,
+        loopback,
+        lines,
+        out,
+    );
+    let closed = close(connection);
+    opened?;
+    watch?.stop(rt)?;
+    ran?;
+    closed
+}
+
+/// Opens a database.
+fn open<D: Disk + Drop>(
+    alloc: Global,
+    files: Files<D>,
+    options: Options,
+) -> Result<Connection<FileStore<D>>, Stop> {
+    if !files.may_be_used() {
+        return Err(Stop::Refused(Refusal::Store));
+    }
+    match Connection::open_files(alloc, files, options) {
+        Ok(connection) => Ok(connection),
+        Err((error, _)) => Err(refused(error)),
+    }
+}
+
+/// Runs the lines over the office in a database, which is made where settings are given.
+fn run_over<S: Rising, I: Inputs, L: Loopback, O: Sink>(
+    alloc: Global,
+    connection: Connection<S>,
+    settings: Option<Settings>,
+    inputs: &I,
+    loopback: &L,
+    lines: &[ScriptLine<'_>],
+    out: &mut O,
+) -> (Result<(), Stop>, Connection<S>)
+    requires { All (λ line. IsWellNamed (step_of line)) lines.now }
+{
+    let ran = match settings {
+        Some(settings) => run_in_new_database(
+            alloc, connection, settings, inputs, loopback, lines, out,
+        ),
+        None => run_in_database(alloc, connection, inputs, loopback, lines, out),
+    };
+    match ran {
+        Ok(
+            AfterLines {
+                connection,
+                refusals: _,
+            },
+        ) => (Ok(()), connection),
+        Err(
+            (
+                stop,
+                AfterLines {
+                    connection,
+                    refusals: _,
+                },
+            ),
+        ) => (Err(stopped(stop)), connection),
+    }
+}
+
+/// Copies the log into the file, and closes both.
+fn close<D: Disk + Drop>(connection: Connection<FileStore<D>>) -> Result<(), Stop> {
+    match connection.close() {
+        Ok(()) => Ok(()),
+        Err(error) => Err(refused(error)),
+    }
+}
+
+fn stopped(stop: DatabaseStop) -> Stop {
+    match stop {
+        DatabaseStop::Refused(StoreFault::Memory) => Stop::Refused(Refusal::Memory),
+        DatabaseStop::Refused(StoreFault::Store) => Stop::Refused(Refusal::Store),
+        DatabaseStop::Output => Stop::Output,
+    }
+}
+
+fn refused(error: Error) -> Stop {
+    match error {
+        Error::SqliteFailure(ErrorCode::OutOfMemory) => Stop::Refused(Refusal::Memory),
+        _ => Stop::Refused(Refusal::Store),
+    }
+}

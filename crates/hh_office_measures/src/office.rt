@@ -1,0 +1,78 @@
+//! The command `office`: a script run over the office in a database file.
+
+use crate::files::run_in_files;
+use crate::words::Paths;
+use hh_devices::StreamSink;
+use hh_inputs::{FileInputs, InputFault, Inputs, RuntimeFiles};
+use hh_measures::{Stop, Watch};
+use hh_names::Refusal;
+use hh_rows::Settings;
+use hh_script::{ScriptFault, read_script};
+use hh_session::MOST_SCRIPT_BYTES;
+use hh_sockets::RuntimeLoopback;
+use sqlite::Options;
+use sqlite_disk::Files;
+use sqlite_std_file::{File, OpenError, Unknown};
+use std::hash::{BuildHasher, RandomState};
+
+/// How many pages of 4,096 bytes are kept in memory: those of a market day are some 12,000.
+const PAGES: usize = 16_384;
+
+/// Runs the script over the office in the files at a path, and prints on standard error the nanoseconds
+/// that it took to open them, and then those of the rest.
+pub(crate) fn run_office(
+    rt: &HostRuntime,
+    paths: Paths<'_>,
+    settings: Option<Settings>,
+) -> Result<(), Stop> {
+    let inputs = FileInputs(RuntimeFiles(rt));
+    let script = script_of(rt, &inputs, paths.script)?;
+    let lines = match read_script(rt.alloc(), &script) {
+        Ok(lines) => lines,
+        Err(ScriptFault::Off { .. }) => return Err(Stop::Words),
+        Err(ScriptFault::Memory) => return Err(Stop::Refused(Refusal::Memory)),
+    };
+    let options = options(rt)?;
+    let watch = Watch::start(rt)?;
+    let files = files_at(rt, paths.database)?;
+    let mut out = StreamSink::new(rt.stdout());
+    run_in_files(
+        rt,
+        watch,
+        files,
+        options,
+        settings,
+        &inputs,
+        &RuntimeLoopback(rt),
+        &lines,
+        &mut out,
+    )
+}
+
+/// The bytes of a script, of which too many are none.
+fn script_of<I: Inputs>(rt: &HostRuntime, inputs: &I, path: &str) -> Result<Vec<u8>, Stop> {
+    match inputs.read(rt.alloc(), path, MOST_SCRIPT_BYTES) {
+        Ok(bytes) => Ok(bytes),
+        Err(InputFault::Unreadable) => Err(Stop::Input),
+        Err(InputFault::Memory) => Err(Stop::Refused(Refusal::Memory)),
+    }
+}
+
+/// A cache for a market day, with a new number for the log.
+fn options(rt: &HostRuntime) -> Result<Options, Stop> {
+    let seed = RandomState::new(rt)?.hash_one(&0u8);
+    Ok(Options {
+        cache_pages: PAGES,
+        spill_pages: PAGES,
+        ..Options::new(seed)
+    })
+}
+
+/// The files at a path, which are made where they are not there.
+fn files_at(rt: &HostRuntime, path: &str) -> Result<Files<File>, Stop> {
+    match sqlite_std_file::open(rt, path, Unknown) {
+        Ok(files) => Ok(files),
+        Err(OpenError::OutOfMemory) => Err(Stop::Refused(Refusal::Memory)),
+        Err(_) => Err(Stop::Refused(Refusal::Store)),
+    }
+}

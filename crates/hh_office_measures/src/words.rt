@@ -1,0 +1,50 @@
+//! The words of the command `office`.
+
+use hh_measures::Stop;
+use hh_names::OperatorKey;
+use hh_rows::{LeadMinutes, Settings};
+
+/// The files that a line of words names: that of the database, and that of the script.
+#[derive(Clone, Copy)]
+pub(crate) struct Paths<'a> {
+    pub(crate) database: &'a str,
+    pub(crate) script: &'a str,
+}
+
+/// Whether a line of words, the program's own name in front, is one of this command.
+pub(crate) fn is_office(words: &[String]) -> bool {
+    match words {
+        [_, command, ..] => command.as_str() == "office",
+        _ => false,
+    }
+}
+
+/// The files that a line of words of this command names.
+pub(crate) fn paths_in(words: &[String]) -> Result<Paths<'_>, Stop> {
+    match words {
+        [_, _, database, script, ..] => Ok(Paths {
+            database: database.as_str(),
+            script: script.as_str(),
+        }),
+        _ => Err(Stop::Words),
+    }
+}
+
+/// What the office is made with, if it is made.
+pub(crate) fn settings_in(words: &[String]) -> Result<Option<Settings>, Stop> {
+    match words {
+        [_, _, _, _] => Ok(None),
+        [_, _, _, _, key, minutes] => match settings_of(key, minutes) {
+            Some(settings) => Ok(Some(settings)),
+            None => Err(Stop::Words),
+        },
+        _ => Err(Stop::Words),
+    }
+}
+
+fn settings_of(key: &String, minutes: &String) -> Option<Settings> {
+    Some(Settings {
+        lead_minutes: LeadMinutes::read(minutes.as_bytes())?,
+        operator_key: OperatorKey::read(key.as_bytes())?,
+    })
+}

@@ -1,0 +1,602 @@
+"""An office in a database file, through `hh_bench office`: scripts over a file are answered as over tables in
+memory, `sqlite3` reads the file and finds what was loaded and settled, and a file that is no office's is refused."""
+import contextlib
+import csv
+import io
+import os
+import random
+import re
+import resource
+import runpy
+import shutil
+import signal
+import sqlite3
+import subprocess
+import unittest
+import unittest.mock
+
+import test_desk
+import test_reports
+from programs import BENCH, HOME, as_nobody, need, settle
+from test_desk import DAY, DEADLINE, DEARER, EARLY, END, LOADED, MARKET, NEXT_END, OPERATOR, SETTLED, START, Desk, text_of
+from test_reports import BALANCES, DAY_REPORT, RESULTS, balances, report
+
+STORE = "refused 91 Store"
+MOST_CALLS = 200
+# Each table with its columns, whole numbers but for those that a word follows. The first so many columns are its key.
+TABLES = {
+    "settings": (1, "id version lead_minutes operator_key:TEXT"),
+    "parties": (1, "party:TEXT day_from day_to access_key:TEXT"),
+    "units": (1, "unit:TEXT party:TEXT side interconnector day_from day_to"),
+    "meters": (3, "unit:TEXT day period metered tlm balancing"),
+    "prices": (2, "day period price"),
+    "refs": (1, "reference:TEXT seller:TEXT seller_side buyer:TEXT buyer_side"),
+    "contracts": (3, "reference:TEXT day period kwh"),
+    "reallocations": (5, "unit:TEXT party:TEXT side day period percent fixed"),
+    "files": (2, "kind:TEXT name:TEXT body:BLOB applied late"),
+    "runs": (2, "day kind periods accounts residual postings"),
+    "results": (5, "day kind period party:TEXT side credited balancing contracts imbalance charge share"),
+    "credits": (6, "day kind period unit:TEXT party:TEXT side credited"),
+    "postings": (4, "day kind party:TEXT side pence"),
+    "positions": (4, "day period party:TEXT side kwh lost"),
+    "touched": (2, "day period"),
+    "marks": (1, "id positions"),
+}
+# 2024-07-01 is the 19,905th day after 1970-01-01, and 2024-01-01 the 19,723rd; 2099-12-31 is the 47,481st.
+TODAY, NEW_YEAR, LAST_DAY = 19_905, 19_723, 47_481
+
+
+def office(database, script, *made, **how):
+    """The status of `hh_bench office`, and what it wrote on standard output and error."""
+    words = [BENCH, "office", str(database), str(script), *made]
+    done = subprocess.run(words, stdin=subprocess.DEVNULL, capture_output=True, **how)
+    return done.returncode, done.stdout, done.stderr
+
+
+def rows_of(database, table, order=None):
+    """The rows of a table, in the order of its key."""
+    keys, columns = TABLES[table]
+    order = order or ", ".join(column.partition(":")[0] for column in columns.split()[:keys])
+    with contextlib.closing(sqlite3.connect(database)) as connection:
+        return connection.execute(f"SELECT * FROM {table} ORDER BY {order}").fetchall()
+
+
+def content_of(database):
+    """All rows of an office's database, by table."""
+    return {table: rows_of(database, table) for table in TABLES}
+
+
+def changed_by(database, *statements):
+    """Runs statements over a file by sqlite3."""
+    with contextlib.closing(sqlite3.connect(database)) as connection:
+        for statement in statements:
+            connection.execute(statement)
+        connection.commit()
+
+
+class InAFile(Desk):
+    """A test whose scripts are run over an office in a new file. The two times are taken off what is told."""
+
+    ANEW = False
+
+    def setUp(self):
+        need(BENCH)
+        super().setUp()
+        self.offices = 0
+
+    def database(self):
+        """The path of a file that is not there yet."""
+        self.offices += 1
+        return self.room / f"office{self.offices}.db"
+
+    def over(self, database, text, *made, **how):
+        """Runs a script over a file, and takes the two times off what is told."""
+        status, written, told = office(database, self.file("script", text), *made, **how)
+        return status, written, re.sub(rb"\A[0-9]+\n[0-9]+\n", b"", told)
+
+    def replies_over(self, database, *lines, made=()):
+        """What is printed for these lines over the office in a file."""
+        status, written, told = self.over(database, "".join(f"{line}\n" for line in lines), *made)
+        self.assertEqual((status, told), (0, b""))
+        return written.decode().splitlines()
+
+    def run_script(self, text, *options, **how):
+        minutes = "60"
+        for word, value in zip(options[::2], options[1::2]):
+            self.assertEqual(word, "--lead-minutes")
+            minutes = value
+        database = self.database()
+        pieces = [text]
+        if self.ANEW and text.count("\n") <= MOST_CALLS:
+            pieces = ["", *text.splitlines(keepends=True)]
+        written = b""
+        for number, piece in enumerate(pieces):
+            made = (OPERATOR, minutes) if number == 0 else ()
+            status, more, told = self.over(database, piece, *made, **how)
+            written += more
+            if status:
+                return status, written, told
+        return 0, written, b""
+
+    def loaded(self, *more):
+        """A file with the market's office, and what is printed for some lines more."""
+        database = self.database()
+        found = self.replies_over(database, *self.market(), *more, made=(OPERATOR, "60"))
+        self.assertEqual(found[:5], LOADED)
+        return database, found[5:]
+
+
+class Anew(InAFile):
+    """A test whose scripts are run a line a call: each opens the file anew."""
+
+    ANEW = True
+
+
+# The desk's tests, over a file. What they expect is derived beside them.
+class Runs(InAFile, test_desk.Runs):
+    pass
+
+
+class Deadlines(InAFile, test_desk.Deadlines):
+    pass
+
+
+class Repeats(InAFile, test_desk.Repeats):
+    pass
+
+
+class Rows(InAFile, test_desk.Rows):
+    pass
+
+
+class Whole(InAFile, test_desk.Whole):
+    pass
+
+
+class Reports(InAFile, test_reports.Reports):
+    # (these look at what else `settle` tells)
+    test_lines_off_their_form = None
+    test_an_output_that_takes_a_part = None
+
+
+class RunsAnew(Anew, test_desk.Runs):
+    pass
+
+
+class DeadlinesAnew(Anew, test_desk.Deadlines):
+    pass
+
+
+class RepeatsAnew(Anew, test_desk.Repeats):
+    pass
+
+
+class RowsAnew(Anew, test_desk.Rows):
+    pass
+
+
+class ReportsAnew(Anew, test_reports.Reports):
+    test_lines_off_their_form = None
+    test_an_output_that_takes_a_part = None
+
+
+class Beside(InAFile):
+    """Lists of requests, drawn at random: the answers over a file are those over tables in memory."""
+
+    PARTIES = ("GENCO", "SUPCO", "NEWCO")
+    ACCOUNTS = [f"{party}-{side}" for party in PARTIES for side in "PC"]
+    UNITS = ("G1", "S1", "N1")
+    KINDS = ("SF", "R1", "R2", "R3", "RF", "DF")
+
+    def row(self, draw, kind):
+        """A row of a kind, good or bad."""
+        party, unit, period = draw.choice(self.PARTIES), draw.choice(self.UNITS), draw.randint(1, 49)
+        if kind == "parties":
+            return f"{party},{draw.choice(('2024-01-01', '2023-01-01', '2024-02-01'))},,{party.lower()}000{draw.randint(1, 2)}"
+        if kind == "units":
+            return f"{unit},{party},{draw.choice('PC')},{draw.choice(('no', 'no', 'yes'))},2024-01-01,"
+        if kind == "meters":
+            return f"{unit},{DAY},{period},{draw.randint(-99, 99)}.5,0.99,{draw.choice((0, 0, 1.25))}"
+        if kind == "prices":
+            return f"{DAY},{period},{draw.choice(('50', '-5.00001', '99999.99999', '100000'))}"
+        if kind == "contracts":
+            seller, buyer = draw.choice(self.ACCOUNTS), draw.choice(self.ACCOUNTS)
+            return f"C{draw.randint(1, 3)},{seller},{buyer},{DAY},{period},{draw.randint(-9, 9)}.125"
+        return f"{unit},{draw.choice(self.ACCOUNTS)},{DAY},{period},{draw.choice((0, 10, 60, 100))},{draw.choice((0, 1.5))}"
+
+    def line(self, draw, market):
+        """A line of a script: a load, mostly of a new file; a repeat; a run; or a report."""
+        moment = draw.choice((EARLY, DEADLINE - 1, DEADLINE, DEADLINE + 1800 * 20, NEXT_END, -1))
+        key = draw.choice((OPERATOR,) * 9 + ("genco0001", "op-nobody001"))
+        what = draw.randint(0, 9)
+        if what <= 3:
+            kind = draw.choice(list(test_desk.HEADERS))
+            rows = [self.row(draw, kind) for _ in range(draw.randint(0, 4))]
+            return self.load(kind, rows, f"r{draw.randint(1, 6)}.csv", moment, key)
+        if what == 4:
+            return draw.choice(market)
+        if what <= 7:
+            return self.order(draw.choice(self.KINDS), draw.choice((END - 1, END, NEXT_END)), draw.choice((DAY, DAY, "2024-07-02")), key)
+        return draw.choice((report("day", draw.choice(self.KINDS), key), report("csv", draw.choice(self.KINDS), key), balances(key)))
+
+    def script(self, seed):
+        draw = random.Random(seed)
+        market = self.market()
+        first = [] if seed % 3 == 0 else market
+        lines = [*first, *(self.line(draw, market) for _ in range(30))]
+        if seed % 2:
+            draw.shuffle(lines)
+        return "".join(f"{line}\n" for line in lines)
+
+    def test_lists_of_requests(self):
+        for seed in range(12):
+            text = self.script(seed)
+            wanted = settle("script", "--operator-key", OPERATOR, self.file("script", text))
+            self.assertEqual((wanted[0], wanted[2]), (0, b""))
+            self.assertIn(b"applied=", wanted[1])
+            for anew in (False, True):
+                with self.subTest(seed=seed, anew=anew):
+                    self.ANEW = anew
+                    self.assertEqual(self.run_script(text), wanted)
+
+    def test_a_day_beside_the_peer(self):
+        """A day of 20 parties and 60 units: the tables of the file are those that `bench/peer_office.py` keeps."""
+        folder = self.room / "day"
+        words = ["--parties=20", "--units=60", "--contracts=20", "--reallocations=10"]
+        subprocess.run(["python3", str(HOME / "bench" / "gen_day.py"), str(folder), *words], check=True)
+        files = [line.split() for line in (folder / "order").read_text().splitlines()]
+        database = self.database()
+        lines = [f"load {EARLY} {OPERATOR} {kind} {folder}/{name}" for kind, name in files]
+        made = self.replies_over(database, *lines, self.order("SF"), made=(OPERATOR, "60"))
+        peer = self.peer_of(folder, files)
+        told = io.StringIO()
+        with contextlib.redirect_stdout(told):
+            peer["run"](peer["connection"], DAY, "SF")
+        self.assertEqual(made[-1:], told.getvalue().splitlines())
+        for table in TABLES:
+            if table not in ("settings", "positions", "touched", "marks"):
+                with self.subTest(table):
+                    self.assertEqual(set(rows_of(database, table)), set(peer["connection"].execute(f"SELECT * FROM {table}")))
+
+    def peer_of(self, folder, files):
+        """The peer over tables in memory that has loaded these files."""
+        path = str(HOME / "bench" / "peer_office.py")
+        with contextlib.redirect_stdout(io.StringIO()):
+            with unittest.mock.patch("sys.argv", [path, "init", ":memory:"]):
+                peer = runpy.run_path(path)
+            for kind, name in files:
+                peer["load"](peer["connection"], kind, f"{folder}/{name}")
+        return peer
+
+
+class Kept(InAFile):
+    """What sqlite3 reads in the file."""
+
+    def test_the_tables_and_their_columns(self):
+        database, _ = self.loaded()
+        with contextlib.closing(sqlite3.connect(database)) as connection:
+            self.assertEqual(connection.execute("PRAGMA integrity_check").fetchall(), [("ok",)])
+            found = connection.execute("SELECT name, sql FROM sqlite_schema WHERE type = 'table'").fetchall()
+            self.assertEqual([name for name, _ in found], list(TABLES))
+            others = "SELECT name FROM sqlite_schema WHERE type <> 'table' AND name NOT LIKE 'sqlite_autoindex_%'"
+            self.assertEqual(connection.execute(others).fetchall(), [])
+            for name, text in found:
+                keys, columns = TABLES[name]
+                wanted = [column.partition(":")[::2] for column in columns.split()]
+                told = connection.execute(f"PRAGMA table_info({name})").fetchall()
+                places = [*range(1, keys + 1), *[0] * (len(wanted) - keys)]
+                with self.subTest(name):
+                    self.assertTrue(text.endswith(") STRICT"))
+                    self.assertEqual(
+                        [(column, kind, missing, key) for _, column, kind, missing, _, key in told],
+                        [(column, kind or "INT", 1, place) for (column, kind), place in zip(wanted, places)],
+                    )
+
+    def test_a_new_office(self):
+        database = self.database()
+        self.assertEqual(self.replies_over(database, made=(OPERATOR, "45")), [])
+        content = content_of(database)
+        self.assertEqual(content.pop("settings"), [(1, 1, 45, OPERATOR)])
+        self.assertEqual(content.pop("marks"), [(1, 0)])
+        self.assertEqual(content, dict.fromkeys(content, []))
+
+    def test_the_market(self):
+        """Energies are kept in kWh, multipliers with 7 decimals, percentages and prices with 5, dates as days."""
+        database, _ = self.loaded(self.load("reallocations", f"G1,SUPCO-C,{DAY},1,12.5,-0.5"))
+        idle = range(2, 49)
+        meters = [("G1", TODAY, 1, 100_000, 9_950_000, 0), *(("G1", TODAY, period, 0, 10_000_000, 0) for period in idle)]
+        meters += [("S1", TODAY, 1, -98_000, 10_050_000, 0), *(("S1", TODAY, period, 0, 10_000_000, 0) for period in idle)]
+        wanted = {
+            "settings": [(1, 1, 60, OPERATOR)],
+            "parties": [("GENCO", NEW_YEAR, LAST_DAY, "genco0001"), ("SUPCO", NEW_YEAR, LAST_DAY, "supco0001")],
+            "units": [("G1", "GENCO", 0, 0, NEW_YEAR, LAST_DAY), ("S1", "SUPCO", 1, 0, NEW_YEAR, LAST_DAY)],
+            "meters": meters,
+            "prices": [(TODAY, 1, 5_000_000), *((TODAY, period, 0) for period in idle)],
+            "refs": [("C1", "GENCO", 0, "SUPCO", 1)],
+            "contracts": [("C1", TODAY, 1, 99_000)],
+            "reallocations": [("G1", "SUPCO", 1, TODAY, 1, 1_250_000, -500)],
+            "marks": [(1, 0)],
+        }
+        content = content_of(database)
+        files = {(kind, name): (body, applied, late) for kind, name, body, applied, late in content.pop("files")}
+        for number, (kind, rows) in enumerate(MARKET, 1):
+            self.assertEqual(files[kind, f"f{number}.csv"], (text_of(kind, rows), len(rows), 0))
+        self.assertEqual(len(files), 6)
+        for table, rows in content.items():
+            with self.subTest(table):
+                self.assertEqual(rows, wanted.get(table, []))
+
+    def test_what_is_settled(self):
+        """The rows of the run are those of the text that was derived by hand, and each unit's credit is its lead's."""
+        database, found = self.loaded(self.order("SF", END))
+        self.assertEqual(found, [SETTLED])
+        results = []
+        for row in csv.DictReader(io.StringIO(RESULTS)):
+            party, _, side = row["account"].partition("-")
+            energies = [int(row[name].replace(".", "")) for name in ("credited", "balancing", "contracts", "imbalance")]
+            results.append((TODAY, 0, int(row["period"]), party, "PC".index(side), *energies, int(row["charge"]), int(row["share"])))
+        self.assertEqual(sorted(rows_of(database, "results")), sorted(results))
+        self.assertEqual(rows_of(database, "runs"), [(TODAY, 0, 48, 4, 5050, 2)])
+        self.assertEqual(rows_of(database, "postings"), [(TODAY, 0, "GENCO", 0, 38), (TODAY, 0, "SUPCO", 1, -38)])
+        credits = [(TODAY, 0, 1, "G1", "GENCO", 0, 995_000_000_000), (TODAY, 0, 1, "S1", "SUPCO", 1, -984_900_000_000)]
+        idle = [(TODAY, 0, period, unit, party, side, 0) for period in range(2, 49) for unit, party, side in (("G1", "GENCO", 0), ("S1", "SUPCO", 1))]
+        self.assertEqual(rows_of(database, "credits"), sorted([*credits, *idle]))
+
+    def test_a_later_run(self):
+        """It has rows of its own, and those of the first stay."""
+        database, _ = self.loaded(self.order("SF", END))
+        first = content_of(database)
+        self.assertEqual(self.replies_over(database, self.dearer(), self.order("R1")), ["applied=1 late=0", DEARER])
+        second = content_of(database)
+        for table in ("results", "credits", "runs", "postings"):
+            with self.subTest(table):
+                self.assertEqual([row for row in second[table] if row[1] == 0], first[table])
+                self.assertEqual(len([row for row in second[table] if row[1] == 1]), len(first[table]))
+        self.assertEqual([row for row in second["postings"] if row[1]], [(TODAY, 1, "GENCO", 0, 7), (TODAY, 1, "SUPCO", 1, -7)])
+
+    def test_what_is_in_force_after_many_files(self):
+        """Each key has the row accepted last; a late row fixes its reference alone; a refused file leaves nothing."""
+        draw = random.Random(7)
+        database, _ = self.loaded()
+        force = {("C1", TODAY, 1): 99_000}
+        refs = {"C1": ("GENCO", 0, "SUPCO", 1)}
+        lines, kept = [], []
+        for number in range(60):
+            reference = f"C{draw.randint(1, 9)}"
+            ends = draw.choice((("GENCO", 0, "SUPCO", 1), ("SUPCO", 0, "GENCO", 1)))
+            moment, period, kwh = draw.choice((EARLY, DEADLINE, DEADLINE + 1800 * 24)), draw.randint(1, 48), draw.randint(-99_999, 99_999)
+            seller, buyer = f"{ends[0]}-{'PC'[ends[1]]}", f"{ends[2]}-{'PC'[ends[3]]}"
+            sign, size = "-" if kwh < 0 else "", abs(kwh)
+            row = f"{reference},{seller},{buyer},{DAY},{period},{sign}{size // 1000}.{size % 1000:03}"
+            lines.append(self.load("contracts", row, f"g{number}.csv", moment))
+            if refs.setdefault(reference, ends) != ends:
+                kept.append("refused 36 ReferenceMoved row 1")
+            elif moment >= DEADLINE + 1800 * (period - 1):
+                kept.append("applied=0 late=1")
+            else:
+                kept.append("applied=1 late=0")
+                force[reference, TODAY, period] = kwh
+        self.assertEqual(len(set(kept)), 3)
+        self.assertEqual(self.replies_over(database, *lines), kept)
+        self.assertEqual(rows_of(database, "contracts"), sorted((*key, kwh) for key, kwh in force.items()))
+        self.assertEqual(rows_of(database, "refs"), sorted((reference, *ends) for reference, ends in refs.items()))
+        self.assertEqual(len(rows_of(database, "files")), 5 + sum(not reply.startswith("refused") for reply in kept))
+
+    def test_a_file_that_sqlite3_has_packed(self):
+        """Rows moved to other pages by sqlite3 are the same rows."""
+        database, _ = self.loaded(self.order("SF", END))
+        changed_by(database, "VACUUM")
+        self.assertEqual("".join(f"{line}\n" for line in self.replies_over(database, report("day"), balances())), DAY_REPORT + BALANCES)
+
+    def test_a_copy(self):
+        """The file alone is the whole office: it is copied, and both go on by themselves."""
+        database, _ = self.loaded(self.order("SF", END))
+        copy = self.room / "copy.db"
+        shutil.copy(database, copy)
+        self.assertEqual(self.replies_over(copy, self.dearer(), self.order("R1")), ["applied=1 late=0", DEARER])
+        self.assertEqual(self.replies_over(database, report("day", "R1")), ["refused 63 NoRun"])
+
+
+class Bad(InAFile):
+    """Files that are no office's, and disks that fail: the answer is 91, nothing changes, and the next call goes on."""
+
+    def refused(self, database, *made):
+        """The office is not taken over or made: nothing is printed, and 91 is told."""
+        status, written, told = office(database, self.file("script", f"{balances()}\n"), *made)
+        self.assertEqual((status, written, told.decode().splitlines()[-1]), (1, b"", STORE))
+
+    def unharmed(self, database, *made):
+        """It is refused, and the file has the bytes that it had."""
+        before = database.read_bytes()
+        self.refused(database, *made)
+        self.assertEqual(database.read_bytes(), before)
+
+    def test_files_that_are_no_database(self):
+        database = self.database()
+        for data in (b"xy", b"party,from,to,key\n" * 400, bytes(range(256)) * 64, b"\0" * 8192, b"SQLite format 3\0" * 512):
+            with self.subTest(data[:16]):
+                database.write_bytes(data)
+                self.unharmed(database)
+                self.unharmed(database, OPERATOR, "60")
+
+    def test_a_damaged_file(self):
+        """An office's, cut short or with a page of another file."""
+        whole, _ = self.loaded()
+        data = whole.read_bytes()
+        database = self.database()
+        for damaged in (data[: len(data) // 2], data[:4096] + b"\xff" * 4096 + data[8192:], data[:-4096]):
+            database.write_bytes(damaged)
+            self.unharmed(database)
+
+    def test_an_empty_file(self):
+        """No office stands there, so that there is none to take over; and one can be made."""
+        database = self.database()
+        database.write_bytes(b"")
+        self.refused(database)
+        self.assertEqual(self.replies_over(database, *self.market(), made=(OPERATOR, "60")), LOADED)
+        self.refused(database, OPERATOR, "60")
+
+    def test_no_file(self):
+        self.refused(self.room / "missing.db")
+        self.refused(self.room / "folder" / "missing.db", OPERATOR, "60")
+        self.refused(self.room, OPERATOR, "60")
+
+    def test_a_database_with_other_tables(self):
+        database = self.database()
+        changed_by(database, "CREATE TABLE notes (text)", "INSERT INTO notes VALUES ('kept')")
+        for made in ((), (OPERATOR, "60")):
+            self.refused(database, *made)
+            with contextlib.closing(sqlite3.connect(database)) as connection:
+                self.assertEqual(connection.execute("SELECT text FROM notes").fetchall(), [("kept",)])
+                self.assertEqual(len(connection.execute("SELECT * FROM sqlite_schema").fetchall()), 1)
+
+    def test_an_office_with_other_tables(self):
+        """A table more, a table less, a column more, another key, another declared type."""
+        for statements in (
+            ["CREATE TABLE more (id INT)"],
+            ["DROP TABLE touched"],
+            ["ALTER TABLE marks ADD COLUMN more INT"],
+            ["DROP TABLE touched", "CREATE TABLE touched (day INT NOT NULL, period INT NOT NULL, PRIMARY KEY (period, day)) STRICT"],
+            ["DROP TABLE touched", "CREATE TABLE touched (day INT NOT NULL, period TEXT NOT NULL, PRIMARY KEY (day, period)) STRICT"],
+            ["DROP TABLE touched", "CREATE TABLE touched (day INT NOT NULL, period INT NOT NULL, PRIMARY KEY (day, period))"],
+        ):
+            with self.subTest(statements[-1]):
+                database, _ = self.loaded()
+                changed_by(database, *statements)
+                before = rows_of(database, "meters")
+                self.refused(database)
+                self.assertEqual(rows_of(database, "meters"), before)
+
+    def test_settings_that_are_none(self):
+        """Another version, minutes off their range, keys off their grammar, no settings."""
+        database, _ = self.loaded()
+        data = database.read_bytes()
+        for statement in (
+            "UPDATE settings SET version = 2",
+            "UPDATE settings SET version = 0",
+            "UPDATE settings SET lead_minutes = 1441",
+            "UPDATE settings SET lead_minutes = -1",
+            "UPDATE settings SET operator_key = 'op-short1'",
+            "UPDATE settings SET operator_key = 'genco0001000'",
+            "UPDATE settings SET operator_key = 'op-settle_001'",
+            "DELETE FROM settings",
+        ):
+            with self.subTest(statement):
+                database.write_bytes(data)
+                changed_by(database, statement)
+                before = content_of(database)
+                self.refused(database)
+                self.assertEqual(content_of(database), before)
+        database.write_bytes(data)
+        self.assertEqual(self.replies_over(database, self.load(*MARKET[0], name="f1.csv")), LOADED[:1])
+
+    def test_rows_off_their_range(self):
+        """What needs such a row is answered by 91, and all else as ever; no row changes."""
+        whole, _ = self.loaded(self.order("SF", END))
+        data = whole.read_bytes()
+        for statement, line in (
+            ("UPDATE meters SET metered = 10000001 WHERE unit = 'G1' AND period = 1", self.order("R1")),
+            ("UPDATE meters SET tlm = -1 WHERE unit = 'G1' AND period = 1", self.order("R1")),
+            ("UPDATE prices SET price = 10000000000 WHERE period = 1", self.order("R1")),
+            ("UPDATE units SET interconnector = 2 WHERE unit = 'G1'", self.order("R1")),
+            ("UPDATE parties SET day_to = day_from - 1", balances()),
+            ("UPDATE parties SET access_key = 'short' WHERE party = 'GENCO'", balances()),
+            ("UPDATE postings SET side = 2 WHERE party = 'GENCO'", balances()),
+            ("UPDATE results SET party = 'genco' WHERE period = 7 AND party = 'GENCO' AND side = 0", report("day")),
+            ("UPDATE runs SET periods = 256", report("day")),
+        ):
+            database = self.database()
+            database.write_bytes(data)
+            changed_by(database, statement)
+            before = content_of(database)
+            with self.subTest(statement):
+                found = self.replies_over(database, line, self.load(*MARKET[4], name="f5.csv"), line)
+                self.assertEqual(found, [STORE, LOADED[4], STORE])
+                self.assertEqual(content_of(database), before)
+
+    def test_a_file_in_use(self):
+        """Another process has it open: it is refused until that ends."""
+        database, _ = self.loaded()
+        with contextlib.closing(sqlite3.connect(database)) as connection:
+            connection.execute("BEGIN EXCLUSIVE")
+            self.refused(database)
+            connection.execute("ROLLBACK")
+        self.assertEqual(len(self.replies_over(database, balances())), 5)
+
+    def test_a_file_of_others(self):
+        """Root may write every file, so it calls a copy of the program as nobody."""
+        nobody = as_nobody()
+        if nobody is None:
+            self.skipTest("root may write every file, and setpriv doesn't give up its rights here")
+        database, _ = self.loaded()
+        os.chmod(self.room, 0o755)
+        program = shutil.copy(BENCH, self.room / "hh_bench")
+        os.chmod(program, 0o755)
+        script = self.file("script", f"{balances()}\n")
+        os.chmod(script, 0o644)
+        before = database.read_bytes()
+        for mode in (0o444, 0):
+            os.chmod(database, mode)
+            made = subprocess.run([*nobody, program, "office", database, script], capture_output=True)
+            self.assertEqual((made.returncode, made.stdout, made.stderr.decode().splitlines()[-1:]), (1, b"", [STORE]))
+        os.chmod(database, 0o644)
+        self.assertEqual(database.read_bytes(), before)
+        self.assertEqual(len(self.replies_over(database, balances())), 5)
+
+    def limited(self, size):
+        """For the program alone: no file grows past so many bytes, and a write that would is told as failed."""
+
+        def limit():
+            signal.signal(signal.SIGXFSZ, signal.SIG_IGN)
+            resource.setrlimit(resource.RLIMIT_FSIZE, (size, size))
+
+        return limit
+
+    def test_a_full_disk(self):
+        """However early the disk is full: each line is answered or told 91, and later the office has what was answered."""
+        whole, _ = self.loaded()
+        data = whole.read_bytes()
+        rows = [f"U{number},GENCO,P,no,2024-01-01," for number in range(1500)]
+        lines = [self.load("units", rows), self.load("prices", f"{DAY},1,51.00000", "p9.csv"), balances()]
+        text = "".join(f"{line}\n" for line in lines)
+        refusals = 0
+        for more in (0, 4096, 40_960, 131_072, 409_600, 1_638_400):
+            database = self.database()
+            database.write_bytes(data)
+            before = content_of(database)
+            status, written, told = office(database, self.file("script", text), preexec_fn=self.limited(len(data) + more))
+            found = written.decode().splitlines()
+            with self.subTest(more=more):
+                self.assertIn(status, (0, 1))
+                if status:
+                    self.assertEqual(told.decode().splitlines()[-1], STORE)
+                accepted = [line for line in found if line.startswith("applied=")]
+                refusals += found.count(STORE)
+                self.assertEqual(self.replies_over(database, balances())[0], "account,moved_pence")
+                after = content_of(database)
+                self.assertIn(len(after["units"]), (2, 1502))
+                self.assertLessEqual(len(accepted), len(after["files"]) - len(before["files"]))
+                self.assertEqual(self.replies_over(database, *lines[:2]), ["applied=1500 late=0", "applied=1 late=0"])
+        self.assertGreater(refusals, 0)
+
+    def test_an_output_that_fails(self):
+        """What was answered is kept."""
+        database, _ = self.loaded()
+        words = [BENCH, "office", str(database), self.file("script", f"{self.dearer()}\n{balances()}\n")]
+        made = subprocess.run(["sh", "-c", '"$@" >/dev/full', "sh", *words], capture_output=True)
+        self.assertEqual((made.returncode, made.stderr.decode().splitlines()[-1]), (1, "fault output"))
+        self.assertIn((TODAY, 1, 6_000_000), rows_of(database, "prices"))
+
+    def test_words_and_scripts_that_are_none(self):
+        database = self.database()
+        script = self.file("script", "")
+        for words in ((), (database,), (database, script, OPERATOR), (database, script, OPERATOR, "60", "60"), (database, script, "short", "60"), (database, script, OPERATOR, "1441")):
+            made = subprocess.run([BENCH, "office", *map(str, words)], capture_output=True)
+            self.assertEqual((made.returncode, made.stdout), (2, b""))
+        self.assertEqual(office(database, self.file("script", "x\n"), OPERATOR, "60")[:2], (2, b""))
+        self.assertEqual(office(database, self.room / "none", OPERATOR, "60"), (1, b"", b"fault input\n"))
+        self.assertFalse(database.exists())
+
+
+if __name__ == "__main__":
+    unittest.main()
