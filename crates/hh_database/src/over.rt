@@ -1,9 +1,9 @@
 //! The lines of a script, run over an office with given tables.
 
-ghost use Rattle.std.specs.Prelude.{◌≡◌, map, All, IsTrue, OnErr, OnOk};
+ghost use Rattle.std.specs.Prelude.{◌≡◌, map, IsTrue, OnErr, OnOk};
 ghost use Rattle.hh_devices.specs.DeviceChanges.{change};
 ghost use Rattle.hh_devices.specs.Devices.{Failed};
-ghost use Rattle.hh_script.specs.Steps.{IsWellNamed, step_of};
+ghost use Rattle.hh_script.specs.Steps.{step_of};
 ghost use Rattle.hh_session.specs.GivingUp.{CountsMore};
 ghost use Rattle.hh_database.specs.steps.Running.{RunsOver, StopsOver};
 
@@ -26,7 +26,6 @@ pub(crate) fn run_over<T: Tables, I: Inputs, L: Loopback, O: Sink>(
     lines: &[ScriptLine<'_>],
     out: &mut O,
 ) -> (Result<(), DeviceFailed>, T)
-    requires { All (λ line. IsWellNamed (step_of line)) lines.now }
     ensures done { IsTrue (T.is_open result.1)
         → OnOk result.0 (RunsOver (I.reads_as inputs.now) (L.may_refuse loopback.now)
         (CountsMore (T.refusals tables) (T.refusals result.1))

@@ -1,6 +1,6 @@
 //! The lines of a script, run over an office whose tables stand in a database.
 
-ghost use Rattle.std.specs.Prelude.{◌≡◌, ◌≢◌, ◌<◌, map, All, IfErr, IfOk, IsTrue, MatchResult, OnOk};
+ghost use Rattle.std.specs.Prelude.{◌≡◌, ◌≢◌, ◌<◌, map, IfErr, IfOk, IsTrue, MatchResult, OnOk};
 ghost use Rattle.sqlite.specs.Held.{state};
 ghost use Rattle.hh_devices.specs.DeviceChanges.{change};
 ghost use Rattle.hh_devices.specs.Devices.{Failed};
@@ -12,7 +12,7 @@ ghost use Rattle.hh_store.specs.declared.store_fault.StoreFault.TheVariants.{Sto
 ghost use Rattle.hh_sqlstore.specs.Holds.{Holds};
 ghost use Rattle.hh_sqlstore.specs.Leaving.{LeavesDatabase};
 ghost use Rattle.hh_sqlstore.specs.Stores.{content_in};
-ghost use Rattle.hh_script.specs.Steps.{IsWellNamed, step_of};
+ghost use Rattle.hh_script.specs.Steps.{step_of};
 ghost use Rattle.hh_session.specs.GivingUp.{CountsMore};
 ghost use Rattle.hh_database.specs.Running.{CutsNew, CutsOver, WritesNew, WritesOver};
 
@@ -47,7 +47,6 @@ pub fn run_in_new_database<S: Alter, I: Inputs, L: Loopback, O: Sink>(
     lines: &[ScriptLine<'_>],
     out: &mut O,
 ) -> Result<AfterLines<S>, (DatabaseStop, AfterLines<S>)>
-    requires { All (λ line. IsWellNamed (step_of line)) lines.now }
     ensures done { IfOk result (λ after. IsTrue (state S.Store after.connection).is_open
         → WritesNew (I.reads_as inputs.now) (L.may_refuse loopback.now) (0 < after.refusals)
         (change O.taken O.failures out.old out.new) (state S.Store after.connection).committed
@@ -89,7 +88,6 @@ pub fn run_in_database<S: Rising, I: Inputs, L: Loopback, O: Sink>(
     lines: &[ScriptLine<'_>],
     out: &mut O,
 ) -> Result<AfterLines<S>, (DatabaseStop, AfterLines<S>)>
-    requires { All (λ line. IsWellNamed (step_of line)) lines.now }
     ensures done { (content : Content) → Holds version content (state S.Store connection).committed
         → IfOk result (λ after. IsTrue (state S.Store after.connection).is_open
         → WritesOver (I.reads_as inputs.now) (L.may_refuse loopback.now) (0 < after.refusals)
@@ -138,7 +136,6 @@ fn run_over_database<S: Alter, I: Inputs, L: Loopback, O: Sink>(
     lines: &[ScriptLine<'_>],
     out: &mut O,
 ) -> Result<AfterLines<S>, (DatabaseStop, AfterLines<S>)>
-    requires { All (λ line. IsWellNamed (step_of line)) lines.now }
     ensures done { IfOk result (λ after. IsTrue (state S.Store after.connection).is_open
         → WritesOver (I.reads_as inputs.now) (L.may_refuse loopback.now)
         (CountsMore tables.refusals after.refusals)

@@ -8,12 +8,12 @@ use Rattle.hh_names.specs.declared.fault.Refusal.{Refusal}
 use Rattle.hh_names.specs.declared.fault.Refusal.TheVariants as refusal
 use Rattle.hh_names.specs.declared.fault.Refusal.TheVariants.{Forbidden, NoRun}
 use Rattle.hh_names.specs.Faults.{plain_fault}
+use Rattle.hh_requests.specs.declared.report.Report.{Report}
+use Rattle.hh_requests.specs.declared.report.Report.TheVariants.{Balances, Day, Results}
 use Rattle.hh_states.specs.States.{State}
 use Rattle.hh_store.specs.declared.output_fault.OutputFault.{OutputFault}
 use Rattle.hh_store.specs.declared.output_fault.OutputFault.TheVariants as output
 use Rattle.hh_office.specs.ReportTexts.{balances_of, day_report_of, export_of}
-use Rattle.hh_office.specs.declared.report.Report.{Report}
-use Rattle.hh_office.specs.declared.report.Report.TheVariants.{Balances, Day, Results}
 use Rattle.hh_office.specs.declared.report.ReportStop.{ReportStop}
 use Rattle.hh_office.specs.declared.report.ReportStop.TheVariants.{Refused, Write}
 use Rattle.hh_office.specs.Machine.{is_operator}

@@ -11,5 +11,5 @@ mod reports;
 mod runs;
 
 pub use office::Office;
-pub use report::{Report, ReportStop};
+pub use report::ReportStop;
 pub use report_texts::kept_reports;

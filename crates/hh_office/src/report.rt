@@ -1,23 +1,11 @@
-//! Which reports there are, and why one is not written whole.
+//! Why a report is not written whole.
 
 ghost use Rattle.std.specs.Prelude.{◌≡◌};
 ghost use Rattle.hh_names.specs.Faults.{plain_fault};
 ghost use Rattle.hh_office.specs.declared.report.ReportStop.TheVariants.{Refused};
 
 use hh_names::{Fault, Refusal};
-use hh_runs::RunKey;
 use hh_store::{OutputFault, StoreFault};
-
-/// Which report is asked for (profile).
-#[derive(Clone, Copy, Debug, PartialEq, Eq)]
-pub enum Report {
-    /// The day report of a run.
-    Day(RunKey),
-    /// The results of a run, as comma-separated values.
-    Results(RunKey),
-    /// The balances of both accounts of every registered party, as comma-separated values.
-    Balances,
-}
 
 /// Why a report is not written whole.
 #[derive(Clone, Copy, Debug, PartialEq, Eq)]

@@ -3,21 +3,22 @@
 ghost use Rattle.std.specs.Prelude.{◌≡◌, IfOk};
 ghost use Rattle.std.specs.FinMap.{find};
 ghost use Rattle.hh_devices.specs.DeviceChanges.{change};
+ghost use Rattle.hh_requests.specs.declared.report.Report.TheVariants.{Balances, Day, Results};
 ghost use Rattle.hh_states.specs.Runs.{run_key_cmp};
 ghost use Rattle.hh_store.specs.Outputs.{balances_in, day_report_in, export_in};
 ghost use Rattle.hh_store.specs.Reached.{AreReached};
 ghost use Rattle.hh_store.specs.StoreFaults.{CountsRefusal};
 ghost use Rattle.hh_office.specs.Refusals.{CountsReportStop};
 ghost use Rattle.hh_office.specs.Reports.{CountsReport, Reports, ReportsAs, WritesReport, or_no_run};
-ghost use Rattle.hh_office.specs.declared.report.Report.TheVariants.{Balances, Day, Results};
 ghost use Rattle.hh_office.specs.Views.{IsSure};
 
 use crate::office::Office;
-use crate::report::{Report, ReportStop};
+use crate::report::ReportStop;
 use crate::report_texts::kept_reports;
 use crate::runs::summary_of;
 use hh_devices::Sink;
 use hh_names::Refusal;
+use hh_requests::Report;
 use hh_runs::{RunKey, RunKind, Summary};
 use hh_store::{StoreFault, Tables};
 use hh_time::SettlementDate;

@@ -1,8 +1,5 @@
 //! The files of a database: opened, used and closed.
 
-ghost use Rattle.std.specs.Prelude.{All};
-ghost use Rattle.hh_script.specs.Steps.{IsWellNamed, step_of};
-
 use hh_database::{AfterLines, DatabaseStop, run_in_database, run_in_new_database};
 use hh_devices::Sink;
 use hh_inputs::Inputs;
@@ -36,9 +33,7 @@ pub(crate) fn run_in_files<
     loopback: &L,
     lines: &[ScriptLine<'_>],
     out: &mut O,
-) -> Result<(), Stop>
-    requires { All (λ line. IsWellNamed (step_of line)) lines.now }
-{
+) -> Result<(), Stop> {
     let connection = open(rt.alloc(), files, options)?;
     let opened = watch.stop(rt);
     let watch = Watch::start(rt);
@@ -82,9 +77,7 @@ fn run_over<S: Rising, I: Inputs, L: Loopback, O: Sink>(
     loopback: &L,
     lines: &[ScriptLine<'_>],
     out: &mut O,
-) -> (Result<(), Stop>, Connection<S>)
-    requires { All (λ line. IsWellNamed (step_of line)) lines.now }
-{
+) -> (Result<(), Stop>, Connection<S>) {
     let ran = match settings {
         Some(settings) => run_in_new_database(
             alloc, connection, settings, inputs, loopback, lines, out,

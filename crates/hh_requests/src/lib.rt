@@ -2,7 +2,9 @@
 #![tactic(auto)]
 
 mod reply;
+mod report;
 mod request;
 
 pub use reply::{AccountReply, ContractsReply, Loaded, Reply, RunsReply};
+pub use report::Report;
 pub use request::{Action, Bytes, Request, Upload};

@@ -3,7 +3,7 @@ use Rattle.std.proofs.Common.{◌≡◌, ℕ, ◌<◌, List, [], ◌∷◌, leng
 use Rattle.std.specs.Prelude.{◌==◌}
 use Rattle.std.proofs.lemmas.List.Splits.{length-slice_split}
 use Rattle.hh_script.specs.Steps.{load_value}
-use Rattle.hh_script.specs.WordValues.{words_of}
+use Rattle.hh_script.specs.Words.{words_of}
 
 -- a text has some word
 pub some_word : (text : List ℕ) → 0 < length (words_of text)

@@ -1,14 +1,13 @@
 -- The lines of a script, one after the other.
-use Rattle.std.proofs.Common.{◌≡◌, ℕ, ◌+◌, ◌-◌, ◌<◌, List, [], ◌∷◌, ◌++◌, length, take, drop, map, Bool, true, false, cond, refl, sym, ap, subst, ◌∙◌, arith, Option, Some, None}
-use Rattle.std.specs.Prelude.{◌==◌, position, is_none, All}
-use Rattle.std.proofs.lemmas.List.Elements.{All-append, All-cons, All-nil}
+use Rattle.std.proofs.Common.{◌≡◌, ℕ, ◌+◌, ◌-◌, ◌<◌, List, [], ◌∷◌, ◌++◌, length, take, drop, map, Bool, true, false, cond, refl, sym, ap, ◌∙◌, arith, Option, Some, None}
+use Rattle.std.specs.Prelude.{◌==◌, position, is_none}
 use Rattle.std.specs.List.{onto_first, position_from, slice_split}
-use Rattle.std.proofs.lemmas.List.{append-nil, append_assoc, drop_all, length_push, map-append}
+use Rattle.std.proofs.lemmas.List.{append-nil, append_assoc, drop_all, length_push, map-append, take_rest}
 use Rattle.std.proofs.lemmas.Bool.Decides.{nat_tests}
-use Rattle.hh_script.specs.Steps.{IsWellNamed, step_of, step_value}
+use Rattle.hh_script.specs.Steps.{step_of, step_value}
 use Rattle.hh_script.specs.declared.script_line.ScriptLine.{ScriptLine}
 use Rattle.hh_script.specs.Script.{all_values, but_empty_last, first_off, is_off, lines_of, onto, script_value, unless_empty}
-use Rattle.hh_script.proofs.LineFacts.{cut_parts, the_rest, uncut}
+use Rattle.hh_script.proofs.LineFacts.{cut_parts, uncut}
 
 abbrev is_end : ℕ → Bool
 is_end b = b == 10
@@ -38,7 +37,7 @@ lines_of-cut bytes end is = ap but_empty_last (cut_parts is_end bytes end is) �
 pub lines_of-uncut : (bytes : List ℕ) → None ≡ position is_end bytes → 0 < length bytes → lines_of bytes ≡ bytes ∷ lines_of (take (length bytes - length bytes) (drop (length bytes) bytes))
 unfolding lines_of
 lines_of-uncut bytes is some =
-    let none : [] ≡ take (length bytes - length bytes) (drop (length bytes) bytes) = sym (the_rest (length bytes) bytes ∙ drop_all (length bytes) bytes (omega arith)) in
+    let none : [] ≡ take (length bytes - length bytes) (drop (length bytes) bytes) = sym (take_rest bytes (length bytes) ∙ drop_all (length bytes) bytes (omega arith)) in
     ap but_empty_last (uncut is_end bytes is) ∙ only_part bytes some ∙ ap (λ l. bytes ∷ but_empty_last (slice_split is_end l)) none
 
 pub no_lines : (rest : List ℕ) → rest ≡ [] → lines_of rest ≡ []
@@ -58,12 +57,11 @@ all_behind-onto front x (Some xs) = ap Some (sym (append_assoc front (x ∷ []) 
 pub record IsReadTo (bytes rest : List ℕ) (lines : List ScriptLine) : Type 0 where
   pub values : script_value bytes ≡ all_behind (map step_of lines) (script_value rest)
   pub off : first_off bytes ≡ position_from is_off (length lines + 1) (lines_of rest)
-  pub named : All (λ l. IsWellNamed (step_of l)) lines
 
 -- One line more.
 pub read_more : (bytes rest : List ℕ) (lines : List ScriptLine) → IsReadTo bytes rest lines → (text more : List ℕ) (line : ScriptLine) (now : List ScriptLine) → lines_of rest ≡ text ∷ lines_of more
-    → Some (step_of line) ≡ step_value text → IsWellNamed (step_of line) → now ≡ lines ++ line ∷ [] → IsReadTo bytes more now
-read_more bytes rest lines so_far text more line now is value named last = record {
+    → Some (step_of line) ≡ step_value text → now ≡ lines ++ line ∷ [] → IsReadTo bytes more now
+read_more bytes rest lines so_far text more line now is value last = record {
   values = so_far.values ∙ ap (λ ls. all_behind (map step_of lines) (all_values step_value ls)) is
       ∙ ap (λ v. all_behind (map step_of lines) (onto v (script_value more))) (sym value)
       ∙ all_behind-onto (map step_of lines) (step_of line) (script_value more)
@@ -71,7 +69,6 @@ read_more bytes rest lines so_far text more line now is value named last = recor
   off = so_far.off ∙ ap (position_from is_off (length lines + 1)) is
       ∙ ap (λ v. cond (is_none v) (Some (length lines + 1)) (position_from is_off (length lines + 1 + 1) (lines_of more))) (sym value)
       ∙ ap (λ n. position_from is_off (n + 1) (lines_of more)) (sym (ap length last ∙ length_push lines line));
-  named = let good : ScriptLine → Type 0 = λ l. IsWellNamed (step_of l) in subst (All good) (sym last) (All-append good lines (line ∷ []) so_far.named (All-cons good line [] named (All-nil good)));
 }
 
 -- At the end all is read.

@@ -3,4 +3,4 @@ pub mod Reports
 pub mod Script
 pub mod Serves
 pub mod Steps
-pub mod WordValues
+pub mod Words

@@ -1,16 +1,8 @@
 -- The lines that serve connections.
 use Rattle.std.specs.Prelude.{ℕ, ℤ, List, [], ◌∷◌, Option, Some, None}
-use Rattle.hh_num.specs.Naturals.{natural_up_to}
+use Rattle.hh_word_values.specs.Connections.{count_value, port_value}
+use Rattle.hh_word_values.specs.Values.{moment_value}
 use Rattle.hh_script.specs.declared.serve.ServeLine.{ServeLine}
-use Rattle.hh_script.specs.WordValues.{moment_value}
-
--- a port, in digits alone: 0 to 65,535
-unfoldable pub port_value : List ℕ → Option ℕ
-port_value word = natural_up_to 65_535 word
-
--- a count of connections, in digits alone: 0 to 1,000,000
-unfoldable pub count_value : List ℕ → Option ℕ
-count_value word = natural_up_to 1_000_000 word
 
 -- the values of a line that serves, if all are there
 abbrev pub serve_from : Option ℤ → Option ℕ → Option ℕ → Option ServeLine

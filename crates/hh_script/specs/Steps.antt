@@ -1,30 +1,18 @@
 -- The steps of a script: what its lines ask for by their words.
-use Rattle.std.specs.Prelude.{◌≡◌, ℕ, ℤ, ◌==◌, List, [], ◌∷◌, Option, Some, None, option_map, codes, bytes_eq, IsTrue, if◌then◌else◌}
-use Rattle.std.specs.List.{after_last}
-use Rattle.std.specs.Str.{is_utf8}
-use Rattle.hh_time.specs.DateText.{date_value}
-use Rattle.hh_time.specs.Days.{is_accepted}
-use Rattle.hh_names.specs.Words.{is_file_name_byte, word_value}
+use Rattle.std.specs.Prelude.{ℕ, ℤ, List, [], ◌∷◌, Option, Some, None, option_map, codes, bytes_eq, if◌then◌else◌}
 use Rattle.hh_rows.specs.Kinds.{kind_value}
 use Rattle.hh_rows.specs.declared.file_kind.FileKind.{FileKind}
-use Rattle.hh_runs.specs.RunKinds.{run_kind_value}
-use Rattle.hh_runs.specs.declared.run_kind.RunKind.{RunKind}
+use Rattle.hh_runs.specs.declared.run_key.RunKey.{RunKey}
+use Rattle.hh_word_values.specs.Reports.{run_key_value}
+use Rattle.hh_word_values.specs.Values.{moment_value, path_name, path_value, shown_key_value}
 use Rattle.hh_script.specs.declared.load.LoadLine.{LoadLine}
 use Rattle.hh_script.specs.declared.run.RunLine.{RunLine}
 use Rattle.hh_script.specs.declared.serve.ServeLine.{ServeLine}
 use Rattle.hh_script.specs.declared.script_line.ScriptLine.{ScriptLine}
 use Rattle.hh_script.specs.declared.script_line.ScriptLine.TheVariants as line
-use Rattle.hh_script.specs.Reports.{IsOfAcceptedDate, ReportStep, report_of, report_value}
+use Rattle.hh_script.specs.Reports.{ReportStep, report_of, report_value}
 use Rattle.hh_script.specs.Serves.{serve_value}
-use Rattle.hh_script.specs.WordValues.{moment_value, shown_key_value, words_of}
-
--- the name of what lies at a path: what follows the last `/`
-unfoldable pub path_name : List ℕ → Option (List ℕ)
-path_name path = word_value is_file_name_byte 1 64 (after_last (λ b. b == 47) path)
-
--- the path that a text is
-abbrev pub path_value : List ℕ → Option (List ℕ)
-path_value word = if is_utf8 word then Some word else None
+use Rattle.hh_script.specs.Words.{words_of}
 
 -- a file to be loaded: when, by whom, of which kind, where it lies, and the name by which it is registered
 pub record LoadStep : Type 0 where
@@ -34,12 +22,11 @@ pub record LoadStep : Type 0 where
   pub path : List ℕ
   pub name : List ℕ
 
--- a run to be made: when, by whom, of which date and kind
+-- a run to be made: when, by whom, and which
 pub record RunStep : Type 0 where
   pub moment : ℤ
   pub key : List ℕ
-  pub date : ℕ
-  pub kind : RunKind
+  pub run : RunKey
 
 -- a step of a script
 pub data Step : Type 0 where
@@ -48,20 +35,13 @@ pub data Step : Type 0 where
   WriteReport : ReportStep → Step
   Serve : ServeLine → Step
 
--- a step names its file as the register can, or a date that is accepted
-abbrev pub IsWellNamed : Step → Type 0
-IsWellNamed (LoadFile load) = word_value is_file_name_byte 1 64 load.name ≡ Some load.name
-IsWellNamed (MakeRun run) = IsTrue (is_accepted run.date)
-IsWellNamed (WriteReport asked) = IsOfAcceptedDate asked.report
-IsWellNamed (Serve line) = Unit {0}
-
 -- the load that a line says
 abbrev pub load_of : LoadLine → LoadStep
-load_of l = record { moment = l.moment; key = l.key.now; kind = l.kind; path = l.path.now; name = l.name.now }
+load_of l = record { moment = l.moment; key = l.key.now; kind = l.kind; path = l.path.now; name = l.name }
 
 -- the run that a line says
 abbrev pub run_of : RunLine → RunStep
-run_of r = record { moment = r.moment; key = r.key.now; date = r.date; kind = r.kind }
+run_of r = record { moment = r.moment; key = r.key.now; run = r.run }
 
 -- the step that a line says
 abbrev pub step_of : ScriptLine → Step
@@ -83,15 +63,14 @@ load_value (moment ∷ key ∷ kind ∷ path ∷ []) =
 load_value _ = None
 
 -- the values of a run, if all are there
-abbrev pub run_from : Option ℤ → Option (List ℕ) → Option ℕ → Option RunKind → Option RunStep
-run_from (Some moment) (Some key) (Some date) (Some kind) =
-    Some (record { moment = moment; key = key; date = date; kind = kind })
-run_from _ _ _ _ = None
+abbrev pub run_from : Option ℤ → Option (List ℕ) → Option RunKey → Option RunStep
+run_from (Some moment) (Some key) (Some run) = Some (record { moment = moment; key = key; run = run })
+run_from _ _ _ = None
 
 -- SECONDS KEY DATE KIND
 abbrev pub run_value : List (List ℕ) → Option RunStep
 run_value (moment ∷ key ∷ date ∷ kind ∷ []) =
-    run_from (moment_value moment) (shown_key_value key) (date_value date) (run_kind_value kind)
+    run_from (moment_value moment) (shown_key_value key) (run_key_value date kind)
 run_value _ = None
 
 -- the step that words ask for: the first says of which kind

@@ -2,7 +2,6 @@
 #![tactic(auto)]
 
 mod load;
-mod path;
 mod report;
 mod run;
 mod script;
@@ -11,7 +10,7 @@ mod serve;
 mod words;
 
 pub use load::LoadLine;
-pub use report::{AskedReport, ReportLine};
+pub use report::ReportLine;
 pub use run::RunLine;
 pub use script::{ScriptFault, read_script};
 pub use script_line::ScriptLine;

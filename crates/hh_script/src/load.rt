@@ -1,14 +1,15 @@
 //! Lines that load a file.
 
-ghost use Rattle.std.specs.Prelude.{◌≡◌, option_map, IfSome};
+ghost use Rattle.std.specs.Prelude.{◌≡◌, option_map};
 ghost use Rattle.hh_rows.specs.Kinds.{kind_value};
-ghost use Rattle.hh_script.specs.Steps.{IsWellNamed, LoadFile, load_from, load_of, load_value, path_name, path_value};
-ghost use Rattle.hh_script.specs.WordValues.{moment_value, shown_key_value, words_of};
+ghost use Rattle.hh_word_values.specs.Values.{moment_value, path_name, path_value, shown_key_value};
+ghost use Rattle.hh_script.specs.Steps.{load_from, load_of, load_value};
+ghost use Rattle.hh_script.specs.Words.{words_of};
 
-use crate::path::{read_path, read_path_name};
-use crate::words::{only_word, read_shown_key, split_word};
-use hh_num::read_fixed;
+use crate::words::{only_word, split_word};
+use hh_names::FileName;
 use hh_rows::FileKind;
+use hh_word_values::{read_moment, read_path, read_path_name, read_shown_key};
 
 /// `load SECONDS KEY KIND PATH`: a file to be loaded (profile).
 #[derive(Clone, Copy, Debug, PartialEq, Eq)]
@@ -20,16 +21,14 @@ pub struct LoadLine<'a> {
     pub kind: FileKind,
     /// Where the file lies.
     pub path: &'a str,
-    /// The name by which the file is registered: what follows the path's last `/`, in the grammar of
-    /// `FileName`.
-    pub name: &'a [u8],
+    /// The name by which the file is registered: what follows the path's last `/`.
+    pub name: FileName,
 }
 
 impl<'a> LoadLine<'a> {
     /// The line that the words behind `load` are, if they are one.
     pub(crate) fn read(text: &'a [u8]) -> Option<LoadLine<'a>>
-        ensures value { option_map load_of result ≡ load_value (words_of text.entry.now) }
-        ensures named { IfSome result (λ line. IsWellNamed (LoadFile (load_of line))) }
+        ensures { option_map load_of result ≡ load_value (words_of text.entry.now) }
     {
         let (moment, text) = split_word(text)?;
         let (key, text) = split_word(text)?;
@@ -39,13 +38,12 @@ impl<'a> LoadLine<'a> {
 
     /// The line of these four words, if each is on its grammar.
     fn of(moment: &[u8], key: &'a [u8], kind: &[u8], path: &'a [u8]) -> Option<LoadLine<'a>>
-        ensures value { option_map load_of result ≡ load_from (moment_value moment.now)
+        ensures { option_map load_of result ≡ load_from (moment_value moment.now)
             (shown_key_value key.entry.now) (kind_value kind.now) (path_value path.entry.now)
             (path_name path.entry.now) }
-        ensures named { IfSome result (λ line. IsWellNamed (LoadFile (load_of line))) }
     {
         Some(LoadLine {
-            moment: read_fixed(moment, 0)?,
+            moment: read_moment(moment)?,
             key: read_shown_key(key)?,
             kind: FileKind::read(kind)?,
             path: read_path(path)?,

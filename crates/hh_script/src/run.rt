@@ -1,15 +1,14 @@
 //! Lines that make a run.
 
-ghost use Rattle.std.specs.Prelude.{◌≡◌, option_map, IfSome};
-ghost use Rattle.hh_runs.specs.RunKinds.{run_kind_value};
-ghost use Rattle.hh_time.specs.DateText.{date_value};
-ghost use Rattle.hh_script.specs.Steps.{IsWellNamed, MakeRun, run_from, run_of, run_value};
-ghost use Rattle.hh_script.specs.WordValues.{moment_value, shown_key_value, words_of};
+ghost use Rattle.std.specs.Prelude.{◌≡◌, option_map};
+ghost use Rattle.hh_word_values.specs.Reports.{run_key_value};
+ghost use Rattle.hh_word_values.specs.Values.{moment_value, shown_key_value};
+ghost use Rattle.hh_script.specs.Steps.{run_from, run_of, run_value};
+ghost use Rattle.hh_script.specs.Words.{words_of};
 
-use crate::words::{only_word, read_shown_key, split_word};
-use hh_num::read_fixed;
-use hh_runs::RunKind;
-use hh_time::SettlementDate;
+use crate::words::{only_word, split_word};
+use hh_runs::RunKey;
+use hh_word_values::{read_moment, read_run_key, read_shown_key};
 
 /// `run SECONDS KEY DATE KIND`: a run to be made (profile).
 #[derive(Clone, Copy, Debug, PartialEq, Eq)]
@@ -18,16 +17,14 @@ pub struct RunLine<'a> {
     pub moment: i64,
     /// The key that is shown, in the grammar of the operator's key or of a party's.
     pub key: &'a [u8],
-    /// The date that is settled, by its days since 1970-01-01: one that is accepted.
-    pub date: u16,
-    pub kind: RunKind,
+    /// The date that is settled, and the kind of the run.
+    pub run: RunKey,
 }
 
 impl<'a> RunLine<'a> {
     /// The line that the words behind `run` are, if they are one.
     pub(crate) fn read(text: &'a [u8]) -> Option<RunLine<'a>>
-        ensures value { option_map run_of result ≡ run_value (words_of text.entry.now) }
-        ensures named { IfSome result (λ line. IsWellNamed (MakeRun (run_of line))) }
+        ensures { option_map run_of result ≡ run_value (words_of text.entry.now) }
     {
         let (moment, text) = split_word(text)?;
         let (key, text) = split_word(text)?;
@@ -37,15 +34,13 @@ impl<'a> RunLine<'a> {
 
     /// The line of these four words, if each is on its grammar.
     fn of(moment: &[u8], key: &'a [u8], date: &[u8], kind: &[u8]) -> Option<RunLine<'a>>
-        ensures value { option_map run_of result ≡ run_from (moment_value moment.now)
-            (shown_key_value key.entry.now) (date_value date.now) (run_kind_value kind.now) }
-        ensures named { IfSome result (λ line. IsWellNamed (MakeRun (run_of line))) }
+        ensures { option_map run_of result ≡ run_from (moment_value moment.now)
+            (shown_key_value key.entry.now) (run_key_value date.now kind.now) }
     {
         Some(RunLine {
-            moment: read_fixed(moment, 0)?,
+            moment: read_moment(moment)?,
             key: read_shown_key(key)?,
-            date: SettlementDate::read(date)?.number(),
-            kind: RunKind::read(kind)?,
+            run: read_run_key(date, kind)?,
         })
     }
 }

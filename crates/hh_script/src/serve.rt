@@ -1,14 +1,13 @@
 //! Lines that serve connections.
 
 ghost use Rattle.std.specs.Prelude.{◌≡◌};
-ghost use Rattle.hh_script.specs.Serves.{count_value, port_value, serve_from, serve_value};
-ghost use Rattle.hh_script.specs.WordValues.{moment_value, words_of};
+ghost use Rattle.hh_word_values.specs.Connections.{count_value, port_value};
+ghost use Rattle.hh_word_values.specs.Values.{moment_value};
+ghost use Rattle.hh_script.specs.Serves.{serve_from, serve_value};
+ghost use Rattle.hh_script.specs.Words.{words_of};
 
 use crate::words::{only_word, split_word};
-use hh_num::{read_fixed, read_natural};
-
-/// The most connections that a line may serve (profile).
-const MOST_CONNECTIONS: u32 = 1_000_000;
+use hh_word_values::{read_count, read_moment, read_port};
 
 /// `serve SECONDS PORT COUNT`: connections to be served on a port of the loopback (profile).
 #[derive(Clone, Copy, Debug, PartialEq, Eq)]
@@ -37,30 +36,9 @@ impl ServeLine {
             (count_value count.now) }
     {
         Some(ServeLine {
-            moment: read_fixed(moment, 0)?,
+            moment: read_moment(moment)?,
             port: read_port(port)?,
             count: read_count(count)?,
         })
-    }
-}
-
-/// The port that a word is, in digits alone: 0 to 65,535.
-#[tactic(auto, unfolding(crate::specs::Serves::port_value))]
-fn read_port(word: &[u8]) -> Option<u16>
-    ensures { result ≡ port_value word.now }
-{
-    u16::try_from(read_natural(word)?).ok()
-}
-
-/// The count of connections that a word is, in digits alone: 0 to 1,000,000.
-#[tactic(auto, unfolding(crate::specs::Serves::count_value))]
-fn read_count(word: &[u8]) -> Option<u32>
-    ensures { result ≡ count_value word.now }
-{
-    let count = u32::try_from(read_natural(word)?).ok()?;
-    if count <= MOST_CONNECTIONS {
-        Some(count)
-    } else {
-        None
     }
 }

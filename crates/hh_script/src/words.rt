@@ -1,10 +1,7 @@
-//! The words of a line, and the keys among them.
+//! The words of a line.
 
 ghost use Rattle.std.specs.Prelude.{◌≡◌, ◌<◌, ◌==◌, [], ◌∷◌, length, position, IfNone, IfSome};
-ghost use Rattle.std.specs.Option.{option_copied};
-ghost use Rattle.hh_script.specs.WordValues.{shown_key_value, words_of};
-
-use hh_names::{AccessKey, OperatorKey};
+ghost use Rattle.hh_script.specs.Words.{words_of};
 
 /// Where a byte first stands in a text.
 pub(crate) fn place_of(text: &[u8], byte: u8) -> Option<usize>
@@ -31,17 +28,5 @@ pub(crate) fn only_word(text: &[u8]) -> Option<&[u8]>
     match split_word(text) {
         Some(_) => None,
         None => Some(text),
-    }
-}
-
-/// The key that a word is: the operator's, or that of a party, which may or may not be registered.
-#[tactic(auto, unfolding(crate::specs::WordValues::shown_key_value))]
-pub(crate) fn read_shown_key(word: &[u8]) -> Option<&[u8]>
-    ensures { option_copied result ≡ shown_key_value word.now }
-{
-    if OperatorKey::read(word).is_some() || AccessKey::read(word).is_some() {
-        Some(word)
-    } else {
-        None
     }
 }

@@ -33,7 +33,7 @@ use Rattle.hh_session.specs.Course.{FirstConserve, IsLineOf, LoadDoes, RunDoes, 
 use Rattle.hh_session.specs.steps.Course.{BeginsLine, LeavesRefused, MakesRun, RunsLoad, RunsStep, StopsStep, TellsLine}
 use Rattle.hh_session.specs.GivingUp.{CountsMore}
 use Rattle.hh_session.specs.Lines.{told_line}
-use Rattle.hh_session.specs.Reporting.{report_asked, report_begun}
+use Rattle.hh_session.specs.Reporting.{report_begun}
 use Rattle.hh_session.proofs.GivingUpLaws.{more_at_first, more_later, reply_where, script_then, step_then}
 
 -- A load asks the machine for the same by so many bytes of its file that a larger one is told.
@@ -121,7 +121,7 @@ gives_up : (reads : List ℕ → Option (List ℕ) → Type 0) (refuses : ℕ �
 gives_up reads refuses fails midnight s (LoadFile load) = (no_memory, load_gives_up reads fails midnight load s, refl)
 gives_up reads refuses fails midnight s (MakeRun run) = (no_memory, run_gives_up fails midnight run s, refl)
 gives_up reads refuses fails midnight s (WriteReport asked) =
-    (inr ([], report_begun (report_for midnight s asked.key (report_asked asked.report)), memory_fault, refl, inl refl, refl), refl)
+    (inr ([], report_begun (report_for midnight s asked.key asked.report), memory_fault, refl, inl refl, refl), refl)
 gives_up reads refuses fails midnight s (Serve line) = inl (inr refl, refl)
 
 -- What a line that is told in a line of its own does, by what it came to and what went out.

@@ -35,7 +35,7 @@ request_of load body = record {
 
 -- what a run asks of the office
 abbrev pub request_for : RunStep → Request
-request_for run = record { key = run.key; action = ask.Run (record { date = run.date; kind = run.kind }) }
+request_for run = record { key = run.key; action = ask.Run run.run }
 
 -- What a run comes to in a state, and the state after it: it is answered, or it is given up. The store may have failed only where this
 -- holds.

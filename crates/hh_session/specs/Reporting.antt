@@ -5,20 +5,10 @@ use Rattle.hh_names.specs.declared.fault.Fault.{Fault}
 use Rattle.hh_names.specs.declared.fault.Refusal.{Refusal}
 use Rattle.hh_names.specs.Faults.{plain_fault}
 use Rattle.hh_states.specs.States.{State}
-use Rattle.hh_office.specs.declared.report.Report.{Report}
-use Rattle.hh_office.specs.declared.report.Report.TheVariants.{Balances, Day, Results}
 use Rattle.hh_office.specs.Reports.{report_for}
-use Rattle.hh_script.specs.declared.report.AskedReport.{AskedReport}
-use Rattle.hh_script.specs.declared.report.AskedReport.TheVariants as asked
 use Rattle.hh_script.specs.Reports.{ReportStep}
 use Rattle.hh_session.specs.GivingUp.{GivesUpWhere}
 use Rattle.hh_session.specs.Lines.{refusal_line}
-
--- the report that the words of a line ask for
-abbrev pub report_asked : AskedReport → Report
-report_asked (asked.Day date kind) = Day (record { date = date; kind = kind })
-report_asked (asked.Results date kind) = Results (record { date = date; kind = kind })
-report_asked asked.Balances = Balances
 
 -- what is written of a report: its text, or the line of its refusal
 abbrev pub report_written : Result (List ℕ) Refusal → List ℕ
@@ -41,5 +31,5 @@ module _ (fails : Type 0) where
   -- what a line that asks for a report writes in a state
   abbrev pub ReportDoes : Midnights → State → ReportStep → List ℕ → Type 0
   ReportDoes midnight s step text =
-      let report : Result (List ℕ) Refusal = report_for midnight s step.key (report_asked step.report) in
+      let report : Result (List ℕ) Refusal = report_for midnight s step.key step.report in
       (text ≡ report_written report) ⊎ IsGivenUp report text

@@ -1,11 +1,11 @@
 //! The lines of a script, run one after the other.
 
-ghost use Rattle.std.specs.Prelude.{◌≡◌, ℕ, List, Some, None, map, take, All, IfOk, IsErrOf, OnErr, OnOk};
+ghost use Rattle.std.specs.Prelude.{◌≡◌, ℕ, List, Some, None, map, take, IfOk, IsErrOf, OnErr, OnOk};
 ghost use Rattle.hh_devices.specs.DeviceChanges.{change};
 ghost use Rattle.hh_devices.specs.Devices.{Failed};
 ghost use Rattle.hh_office.specs.Views.{IsSure};
 ghost use Rattle.hh_serve.specs.Serves.{CountsUp};
-ghost use Rattle.hh_script.specs.Steps.{IsWellNamed, LoadFile, MakeRun, load_of, run_of, step_of};
+ghost use Rattle.hh_script.specs.Steps.{load_of, run_of, step_of};
 ghost use Rattle.hh_session.specs.Course.{FirstConserve, RunsScript, ScriptConserves, StopsScript, request_for, request_of};
 ghost use Rattle.hh_session.specs.GivingUp.{HasRefused};
 ghost use Rattle.hh_session.specs.steps.Course.{LeavesRefused, MakesRun, RunsLoad, RunsStep, StopsStep};
@@ -18,15 +18,12 @@ use crate::told::Told;
 use hh_day::reached_conserve;
 use hh_devices::{DeviceFailed, Sink};
 use hh_inputs::{InputFault, Inputs};
-use hh_names::FileName;
 use hh_office::Office;
 use hh_requests::{Action, Bytes, Request, Upload};
-use hh_runs::RunKey;
 use hh_script::{LoadLine, RunLine, ScriptLine};
 use hh_sockets::Loopback;
 use hh_store::Tables;
 use hh_texts::MOST_BYTES;
-use hh_time::SettlementDate;
 use std::alloc::{AllocError, Global};
 
 /// The most bytes that are read of a file: one more than a file may have, so that a larger one is
@@ -50,7 +47,6 @@ pub fn run_lines<T: Tables, I: Inputs, L: Loopback, O: Sink>(
     lines: &[ScriptLine<'_>],
     out: &mut O,
 ) -> Result<(), DeviceFailed>
-    requires { All (λ line. IsWellNamed (step_of line)) lines.now }
     ensures done { IsSure T.is_open office.new
         → OnOk result (RunsScript (I.reads_as inputs.now) (L.may_refuse loopback.now)
         (HasRefused T.refusals office.old office.new) office.old.seen office.new.seen
@@ -89,7 +85,6 @@ fn run_line<T: Tables, I: Inputs, L: Loopback, O: Sink>(
     line: &ScriptLine<'_>,
     out: &mut O,
 ) -> Result<(), DeviceFailed>
-    requires { IsWellNamed (step_of line.now) }
     ensures done { IsSure T.is_open office.new
         → OnOk result (RunsStep (I.reads_as inputs.now) (L.may_refuse loopback.now)
         (HasRefused T.refusals office.old office.new) office.old.seen office.new.seen
@@ -122,37 +117,29 @@ fn run_line<T: Tables, I: Inputs, L: Loopback, O: Sink>(
 }
 
 /// What a run comes to.
-fn make_run<T: Tables>(alloc: Global, office: &mut Office<'_, T>, run: &RunLine<'_>) -> Told
-    requires { IsWellNamed (MakeRun (run_of run.now)) }
+fn make_run<T: Tables>(alloc: Global, office: &mut Office<'_, T>, line: &RunLine<'_>) -> Told
     ensures runs { IsSure T.is_open office.new
         → MakesRun (HasRefused T.refusals office.old office.new)
-        office.old.seen office.new.seen (run_of run.now) result }
+        office.old.seen office.new.seen (run_of line.now) result }
     ensures untouched { IsSure T.is_open office.new
         → LeavesRefused office.old.seen office.new.seen result }
     ensures refusals_up { IsSure T.is_open office.new → CountsUp T.refusals office.old office.new }
     ensures sure { IsSure T.is_open office.new → IsSure T.is_open office.old }
 {
-    match run_request(alloc, run) {
-        Ok(request) => Told::Replied(office.handle(run.moment, &request)),
+    match run_request(alloc, line) {
+        Ok(request) => Told::Replied(office.handle(line.moment, &request)),
         Err(AllocError) => Told::no_memory(),
     }
 }
 
 /// What a run asks of the office.
-fn run_request(alloc: Global, run: &RunLine<'_>) -> Result<Request, AllocError>
-    requires { IsWellNamed (MakeRun (run_of run.now)) }
-    ensures { IfOk result (λ request. request ≡ request_for (run_of run.now)) }
+fn run_request(alloc: Global, line: &RunLine<'_>) -> Result<Request, AllocError>
+    ensures { IfOk result (λ request. request ≡ request_for (run_of line.now)) }
 {
-    let key = Vec::from_slice(alloc, run.key)?;
-    let Some(date) = SettlementDate::new(run.date) else {
-        unreachable!()
-    };
+    let key = Vec::from_slice(alloc, line.key)?;
     Ok(Request {
         key: Bytes::new(key),
-        action: Action::Run(RunKey {
-            date,
-            kind: run.kind,
-        }),
+        action: Action::Run(line.run),
     })
 }
 
@@ -163,7 +150,6 @@ fn run_load<T: Tables, I: Inputs>(
     inputs: &I,
     load: &LoadLine<'_>,
 ) -> Told
-    requires { IsWellNamed (LoadFile (load_of load.now)) }
     ensures runs { IsSure T.is_open office.new
         → RunsLoad (HasRefused T.refusals office.old office.new) (I.reads_as inputs.now)
         office.old.seen office.new.seen (load_of load.now) result }
@@ -185,7 +171,6 @@ fn read_request<I: Inputs>(
     inputs: &I,
     load: &LoadLine<'_>,
 ) -> Result<Request, InputFault>
-    requires { IsWellNamed (LoadFile (load_of load.now)) }
     ensures request { IfOk result (λ request. (all : List ℕ)
         × I.reads_as inputs.now load.now.path.now (Some all)
         × (request ≡ request_of (load_of load.now) (take MOST_READ all))) }
@@ -194,14 +179,11 @@ fn read_request<I: Inputs>(
 {
     let body = inputs.read(alloc, load.path, MOST_READ)?;
     let key = Vec::from_slice(alloc, load.key)?;
-    let Some(name) = FileName::read(load.name) else {
-        unreachable!()
-    };
     Ok(Request {
         key: Bytes::new(key),
         action: Action::Load(Upload {
             kind: load.kind,
-            name,
+            name: load.name,
             body: Bytes::new(body),
         }),
     })

@@ -1,9 +1,9 @@
 //! The script in a file, run over a new office.
 
-ghost use Rattle.std.specs.Prelude.{◌≡◌, ◌≢◌, ◌≤◌, Some, length, map, All, IfErr, IfOk, OnErr, OnOk};
+ghost use Rattle.std.specs.Prelude.{◌≡◌, ◌≢◌, ◌≤◌, Some, length, map, IfErr, IfOk, OnErr, OnOk};
 ghost use Rattle.hh_devices.specs.DeviceChanges.{change};
 ghost use Rattle.hh_devices.specs.Devices.{Failed};
-ghost use Rattle.hh_script.specs.Steps.{IsWellNamed, step_of};
+ghost use Rattle.hh_script.specs.Steps.{step_of};
 ghost use Rattle.hh_session.specs.Script.{IsUnread, NewOfficeCuts, NewOfficeWrites, StopsAt, WritesScript, most_script_bytes};
 
 use crate::run::run_lines;
@@ -116,7 +116,6 @@ fn run_new_office<I: Inputs, L: Loopback, O: Sink>(
     lines: &[ScriptLine<'_>],
     out: &mut O,
 ) -> Result<(), DeviceFailed>
-    requires { All (λ line. IsWellNamed (step_of line)) lines.now }
     ensures done { OnOk result (NewOfficeWrites (I.reads_as inputs.now)
         (L.may_refuse loopback.now) settings (change O.taken O.failures out.old out.new)
         (map step_of lines.now)) }

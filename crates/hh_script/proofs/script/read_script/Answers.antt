@@ -1,3 +1,4 @@
+use Rattle.std.proofs.Common.{◌≡◌, [], ◌∷◌, ◌++◌, rules}
 use Rattle.hh_script.proofs.ScriptFacts.{nothing_left, read_all, read_more}
 use Rattle.hh_script.proofs.script.read_script.Goals as goal
 
@@ -8,5 +9,6 @@ returns-clause-lines c =
 
 pub loop-rest-preserved : goal.loop-rest-preserved
 loop-rest-preserved c =
+    let last : c.push.new.self.items ≡ c.loop-rest.lines.items ++ c.in-Some.line ∷ [] = search rules in
     read_more c.args.bytes.now c.loop-rest.rest.now c.loop-rest.lines.items c.loop-rest.invariant c.split_line.result.0.now c.split_line.result.1.now c.in-Some.line c.push.new.self.items
-    c.split_line.ensures.lines c.in-Some.ensures.value c.in-Some.ensures.named c.in_ok-push-in-Some.ensures.items
+    c.split_line.ensures.lines c.in-Some.ensures last

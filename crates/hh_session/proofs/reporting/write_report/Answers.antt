@@ -5,7 +5,6 @@ use Rattle.hh_office.specs.Promises.{Stands}
 use Rattle.hh_office.specs.Refusals.{CountsReportStop, CountsStoreFault}
 use Rattle.hh_office.specs.Reports.{ReportsAs, report_for}
 use Rattle.hh_office.specs.Views.{midnight_of}
-use Rattle.hh_session.specs.Reporting.{report_asked}
 use Rattle.hh_session.proofs.CourseLaws.{OnErr-map, OnOk-map}
 use Rattle.hh_session.proofs.GivingUpLaws.{report_up}
 use Rattle.hh_session.proofs.ReportingLaws.{reached_by, begun_report, cut_report, told_report}
@@ -16,16 +15,16 @@ returns-in-Err-Refused-clause-done g c sure =
     let taken = g.O.Sink.taken in
     let failures = g.O.Sink.failures in
     let old = c.args.out.now in
-    let mid = c.ask.new.out in
+    let mid = c.report.new.out in
     let fault = c.in-Err-Refused.fault in
     let earlier = g.T.Tables.refusals c.args.office.now.tables in
-    let later = g.T.Tables.refusals c.ask.new.office.tables in
+    let later = g.T.Tables.refusals c.report.new.self.tables in
     let store : (s : State) → Stands c.args.office.now.seen s → CountsStoreFault fault earlier later =
     λ s stands. subst (λ stop. CountsReportStop {A = Unit {0}} (Err stop) earlier later) c.in-Err-Refused.field-0-is
     (c.in-Err-Refused.ensures.refusals_counted sure (midnight_of c.args.office.now.seen, s, stands)) in
     OnOk-map c.tell_refused.result _ _
     (λ told s stands.
-    let report = report_for (midnight_of c.args.office.now.seen) s c.args.line.now.key.now (report_asked c.args.line.now.report) in
+    let report = report_for (midnight_of c.args.office.now.seen) s c.args.line.now.key.now c.args.line.now.report in
     told_report taken failures old mid c.tell_refused.new.out fault earlier later (store s stands) report
     (subst (λ stop. ReportsAs (change taken failures old mid) {A = Unit {0}} report (Err stop))
     c.in-Err-Refused.field-0-is (c.in-Err-Refused.ensures.reports sure s stands)) told) c.tell_refused.ensures.told
@@ -35,16 +34,16 @@ returns-in-Err-Refused-clause-cut g c sure =
     let taken = g.O.Sink.taken in
     let failures = g.O.Sink.failures in
     let old = c.args.out.now in
-    let mid = c.ask.new.out in
+    let mid = c.report.new.out in
     let fault = c.in-Err-Refused.fault in
     let earlier = g.T.Tables.refusals c.args.office.now.tables in
-    let later = g.T.Tables.refusals c.ask.new.office.tables in
+    let later = g.T.Tables.refusals c.report.new.self.tables in
     let store : (s : State) → Stands c.args.office.now.seen s → CountsStoreFault fault earlier later =
     λ s stands. subst (λ stop. CountsReportStop {A = Unit {0}} (Err stop) earlier later) c.in-Err-Refused.field-0-is
     (c.in-Err-Refused.ensures.refusals_counted sure (midnight_of c.args.office.now.seen, s, stands)) in
     OnErr-map c.tell_refused.result _ _
     (λ told s stands.
-    let report = report_for (midnight_of c.args.office.now.seen) s c.args.line.now.key.now (report_asked c.args.line.now.report) in
+    let report = report_for (midnight_of c.args.office.now.seen) s c.args.line.now.key.now c.args.line.now.report in
     begun_report taken failures old mid c.tell_refused.new.out fault earlier later (store s stands) report
     (subst (λ stop. ReportsAs (change taken failures old mid) {A = Unit {0}} report (Err stop))
     c.in-Err-Refused.field-0-is (c.in-Err-Refused.ensures.reports sure s stands)) told) c.tell_refused.ensures.cut
@@ -54,21 +53,21 @@ returns-in-Err-Write-clause-cut g c sure =
     let taken = g.O.Sink.taken in
     let failures = g.O.Sink.failures in
     let old = c.args.out.now in
-    let mid = c.ask.new.out in
+    let mid = c.report.new.out in
     λ s stands.
-    let report = report_for (midnight_of c.args.office.now.seen) s c.args.line.now.key.now (report_asked c.args.line.now.report) in
+    let report = report_for (midnight_of c.args.office.now.seen) s c.args.line.now.key.now c.args.line.now.report in
     cut_report taken failures old mid mid _ report
     (subst (λ stop. ReportsAs (change taken failures old mid) {A = Unit {0}} report (Err stop))
     c.in-Err-Write.field-0-is (c.in-Err-Write.ensures.reports sure s stands))
 
 pub returns-in-Ok-clause-refusals_up : goal.returns-in-Ok-clause-refusals_up
 returns-in-Ok-clause-refusals_up g c sure some =
-    report_up _ _ c.ask.result (c.ask.ensures.refusals_counted sure (reached_by c.args.office.now.seen some))
+    report_up _ _ c.report.result (c.report.ensures.refusals_counted sure (reached_by c.args.office.now.seen some))
 
 pub returns-in-Err-Refused-clause-refusals_up : goal.returns-in-Err-Refused-clause-refusals_up
 returns-in-Err-Refused-clause-refusals_up g c sure some =
-    report_up _ _ c.ask.result (c.ask.ensures.refusals_counted sure (reached_by c.args.office.now.seen some))
+    report_up _ _ c.report.result (c.report.ensures.refusals_counted sure (reached_by c.args.office.now.seen some))
 
 pub returns-in-Err-Write-clause-refusals_up : goal.returns-in-Err-Write-clause-refusals_up
 returns-in-Err-Write-clause-refusals_up g c sure some =
-    report_up _ _ c.ask.result (c.ask.ensures.refusals_counted sure (reached_by c.args.office.now.seen some))
+    report_up _ _ c.report.result (c.report.ensures.refusals_counted sure (reached_by c.args.office.now.seen some))

@@ -10,7 +10,7 @@ pub returns-in-Ok-clause-runs : goal.returns-in-Ok-clause-runs
 returns-in-Ok-clause-runs g c sure =
     let old = c.args.office.now.seen in
     let new = c.handle.new.self.seen in
-    let run = run_of c.args.run.now in
+    let run = run_of c.args.line.now in
     let fits : SFits w64 run.moment = search rules in
     run_answered old new _ _ run c.in-Ok.request c.in-Ok.ensures c.handle.result (c.handle.ensures.refusals_counted sure)
     (subst (λ m. HandleStep old new m c.in-Ok.request c.handle.result) (to_z-of_z w64 run.moment fits) (c.handle.ensures.step sure))

@@ -13,7 +13,7 @@ use Rattle.hh_session.proofs.run.run_lines.Goals as goal
 
 -- the line that a place has which no line has
 abbrev no_line : ScriptLine
-no_line = Load (record { moment = pos 0; key = record { ref_ptr = (0, 0); now = [] }; kind = Parties; path = record { ref_ptr = (0, 0); now = [] }; name = record { ref_ptr = (0, 0); now = [] } })
+no_line = Load (record { moment = pos 0; key = record { ref_ptr = (0, 0); now = [] }; kind = Parties; path = record { ref_ptr = (0, 0); now = [] }; name = [] })
 
 pub returns-in_err-run_line-clause-cut : goal.returns-in_err-run_line-clause-cut
 returns-in_err-run_line-clause-cut g c sure =

@@ -1,5 +1,5 @@
 use Rattle.std.proofs.Common.{◌≡◌, ℕ, ◌-◌, ◌<◌, ◌≤◌, get_or}
-use Rattle.hh_script.proofs.path.behind_last.Given as goal
+use Rattle.hh_word_values.proofs.paths.behind_last.Given as goal
 
 abbrev pub invariant-loop-place : goal.invariant-loop-place
 invariant-loop-place l = record {

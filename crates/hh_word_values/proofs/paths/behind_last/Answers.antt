@@ -1,6 +1,6 @@
 use Rattle.std.proofs.Common.{arith}
-use Rattle.hh_script.proofs.LineFacts.{behind_last_is}
-use Rattle.hh_script.proofs.path.behind_last.Goals as goal
+use Rattle.hh_word_values.proofs.PathFacts.{behind_last_is}
+use Rattle.hh_word_values.proofs.paths.behind_last.Goals as goal
 
 pub returns : goal.returns
 returns c =

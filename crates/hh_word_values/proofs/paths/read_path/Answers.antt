@@ -1,5 +1,5 @@
-use Rattle.hh_script.proofs.LineFacts.{no_path, text_path}
-use Rattle.hh_script.proofs.path.read_path.Goals as goal
+use Rattle.hh_word_values.proofs.PathFacts.{no_path, text_path}
+use Rattle.hh_word_values.proofs.paths.read_path.Goals as goal
 
 pub returns-in-Ok : goal.returns-in-Ok
 returns-in-Ok c = text_path c.args.word.now c.in-Ok.path.now c.in-Ok.ensures.cases.0 c.in-Ok.ensures.cases.1

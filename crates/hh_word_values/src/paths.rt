@@ -1,0 +1,39 @@
+//! Paths, and the names of what lies there.
+
+ghost use Rattle.std.specs.Prelude.{◌≡◌, ◌==◌};
+ghost use Rattle.std.specs.List.{after_last};
+ghost use Rattle.std.specs.Option.{option_copied};
+ghost use Rattle.hh_word_values.specs.Values.{path_name, path_value};
+
+use hh_names::FileName;
+
+/// The path that a word is, if it is text (UTF-8; profile).
+pub fn read_path(word: &[u8]) -> Option<&str>
+    ensures { option_copied result ≡ path_value word.now }
+{
+    match str::from_utf8(word) {
+        Ok(path) => Some(path),
+        Err(_) => None,
+    }
+}
+
+/// The name by which the file at a path is registered, if what follows the last `/` is one (profile).
+#[tactic(auto, unfolding(crate::specs::Values::path_name))]
+pub fn read_path_name(path: &[u8]) -> Option<FileName>
+    ensures { result ≡ path_name path.now }
+{
+    FileName::read(behind_last(path, b'/'))
+}
+
+/// What follows the last of a byte, or all where there is none.
+fn behind_last(text: &[u8], byte: u8) -> &[u8]
+    ensures { result.now ≡ after_last (λ b. b == byte) text.now }
+{
+    let mut start = 0;
+    for (place, other) in text.iter().enumerate() {
+        if *other == byte {
+            start = place + 1;
+        }
+    }
+    &text[start..]
+}
