@@ -1,10 +1,12 @@
-//! What no clause says: that `run_all`, which no program calls, answers requests where memory is ample.
+//! What no clause says: that `run_all`, and the calls for each report, which no program makes, answer where memory is ample.
 
+use hh_devices::MemorySink;
 use hh_names::{Account, OperatorKey, Refusal};
-use hh_office::Office;
+use hh_office::{Office, ReportStop};
 use hh_plain_tables::PlainTables;
 use hh_requests::{Action, Bytes, Reply, Request};
 use hh_rows::{LeadMinutes, Settings};
+use hh_runs::RunKind;
 use hh_time::{SettlementDate, london};
 use std::alloc::Global;
 use std::test::Fail;
@@ -79,5 +81,34 @@ fn requests_are_run_in_order(rt: HostRuntime) -> Result<(), Fail> {
     let requests = requests(rt.alloc())?;
     let mut office = new_office(rt.alloc()).ok_or("office")?;
     assert!(rt; are_answered(&mut office, &requests, b"rfb"));
+    Ok(())
+}
+
+/// Whether a report is refused because its run is not there.
+fn lacks_its_run(done: Result<(), ReportStop>) -> bool {
+    match done {
+        Err(ReportStop::Refused(fault)) => fault.refusal == Refusal::NoRun,
+        _ => false,
+    }
+}
+
+/// Whether an office without runs tells so of the reports of one, and writes the balances.
+fn are_reported(
+    office: &mut Office<'_, PlainTables>,
+    date: SettlementDate,
+    out: &mut MemorySink,
+) -> bool {
+    lacks_its_run(office.report_day(OPERATOR, date, RunKind::SF, out))
+        && lacks_its_run(office.report_results(OPERATOR, date, RunKind::SF, out))
+        && office.report_balances(OPERATOR, out) == Ok(())
+}
+
+#[test]
+fn each_report_is_asked_for(rt: HostRuntime) -> Result<(), Fail> {
+    let date = SettlementDate::read(b"2024-07-01").ok_or("date")?;
+    let mut office = new_office(rt.alloc()).ok_or("office")?;
+    let mut out = MemorySink::with_room(rt.alloc(), 100)?;
+    assert!(rt; are_reported(&mut office, date, &mut out));
+    assert_eq!(rt; out.taken(), b"account,moved_pence\n".as_slice());
     Ok(())
 }
