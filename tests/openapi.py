@@ -107,9 +107,13 @@ class Description:
     def response_to(self, method, target, status):
         """What is said of a reply, which is none of an operation where the path or its method is not there."""
         path = self.path_of(target)
-        operation = self.whole["paths"].get(path, {}).get(method.lower())
+        methods = self.whole["paths"].get(path, {})
+        operation = methods.get(method.lower())
+        if methods and status == 405:
+            # Each operation of a path says what another method gets.
+            operation = next(iter(methods.values()))
         if operation is None:
-            names = {404: "NoRoute", 405: "BadMethod", 400: "BadRequest"}
+            names = {404: "NoRoute", 400: "BadRequest"}
             return self.parts["responses"][names[status]]
         return self.resolved(operation["responses"][str(status)])
 

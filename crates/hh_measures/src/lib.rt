@@ -24,7 +24,7 @@ use settle::settle_again;
 use std::env;
 use std::io::{Eprint, ErrorKind, Print};
 use std::rt::{Clock, Env, Files};
-pub use stop::{Stop, tell};
+pub use stop::{MeasureStop, tell};
 pub use watch::Watch;
 use words::{Command, read_words};
 
@@ -32,7 +32,7 @@ use words::{Command, read_words};
 pub fn measure<R: Files + Clock + Print + Eprint + AllocGlobal>(
     rt: &R,
     words: &[String],
-) -> Result<(), Stop> {
+) -> Result<(), MeasureStop> {
     match read_words(rt.alloc(), words)? {
         Command::Settle { times } => settle_again(rt, times),
         Command::Read { file, times } => read_again(rt, file, times),
@@ -41,10 +41,10 @@ pub fn measure<R: Files + Clock + Print + Eprint + AllocGlobal>(
 }
 
 /// The program's words, its own name in front.
-pub fn words_of<R: Env + AllocGlobal>(rt: &R) -> Result<Vec<String>, Stop> {
+pub fn words_of<R: Env + AllocGlobal>(rt: &R) -> Result<Vec<String>, MeasureStop> {
     match env::args(rt) {
         Ok(words) => Ok(words.collect(rt.alloc())?),
-        Err(error) if error.kind() == ErrorKind::OutOfMemory => Err(Stop::no_memory()),
-        Err(_) => Err(Stop::Words),
+        Err(error) if error.kind() == ErrorKind::OutOfMemory => Err(MeasureStop::no_memory()),
+        Err(_) => Err(MeasureStop::Words),
     }
 }

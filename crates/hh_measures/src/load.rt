@@ -1,6 +1,6 @@
 //! The command `load`: rows judged, and applied to a register.
 
-use crate::stop::Stop;
+use crate::stop::MeasureStop;
 use crate::watch::Watch;
 use crate::words::NamedFile;
 use hh_rules::{Fault, LeadMinutes, Refusal, Register, Row, RowDone};
@@ -24,11 +24,11 @@ struct Counts {
 
 impl Counts {
     /// Counts one row more. `Err` only where memory was refused.
-    fn add(&mut self, judged: Result<RowDone, Fault>) -> Result<(), Stop> {
+    fn add(&mut self, judged: Result<RowDone, Fault>) -> Result<(), MeasureStop> {
         match judged {
             Ok(RowDone::Applied { .. }) => self.applied = self.applied.saturating_add(1),
             Ok(RowDone::Late { .. }) => self.late = self.late.saturating_add(1),
-            Err(fault) if fault.refusal == Refusal::Memory => return Err(Stop::no_memory()),
+            Err(fault) if fault.refusal == Refusal::Memory => return Err(MeasureStop::no_memory()),
             Err(_) => self.refused = self.refused.saturating_add(1),
         }
         Ok(())
@@ -39,7 +39,7 @@ impl Counts {
 pub(crate) fn load_files<R: Files + Clock + Print + Eprint + AllocGlobal>(
     rt: &R,
     files: &[NamedFile<'_>],
-) -> Result<(), Stop> {
+) -> Result<(), MeasureStop> {
     let mut register = Register::new(rt.alloc(), LeadMinutes::default());
     let zone = london();
     for file in files {
@@ -55,7 +55,7 @@ fn load_file<R: Files + Clock + Print + Eprint + AllocGlobal>(
     register: &mut Register,
     zone: &TimeZone<'_>,
     file: NamedFile<'_>,
-) -> Result<(), Stop> {
+) -> Result<(), MeasureStop> {
     let bytes = fs::read(rt, file.path)?;
     let rows = read_file(rt.alloc(), file.kind, &bytes)?;
     let watch = Watch::start(rt)?;
@@ -65,7 +65,7 @@ fn load_file<R: Files + Clock + Print + Eprint + AllocGlobal>(
 }
 
 /// Judges each row and applies it, if it is accepted.
-fn apply_rows(register: &mut Register, zone: &TimeZone<'_>, rows: &[Row]) -> Result<Counts, Stop> {
+fn apply_rows(register: &mut Register, zone: &TimeZone<'_>, rows: &[Row]) -> Result<Counts, MeasureStop> {
     let mut counts = Counts::default();
     for row in rows {
         counts.add(register.apply_row(zone, MOMENT, *row))?;
@@ -73,11 +73,11 @@ fn apply_rows(register: &mut Register, zone: &TimeZone<'_>, rows: &[Row]) -> Res
     Ok(counts)
 }
 
-fn print_counts<R: Print>(rt: &R, kind: &str, counts: Counts) -> Result<(), Stop> {
+fn print_counts<R: Print>(rt: &R, kind: &str, counts: Counts) -> Result<(), MeasureStop> {
     let Counts {
         applied,
         late,
         refused,
     } = counts;
-    println!(rt; "{kind} applied {applied} late {late} refused {refused}").map_err(|_| Stop::Output)
+    println!(rt; "{kind} applied {applied} late {late} refused {refused}").map_err(|_| MeasureStop::Output)
 }

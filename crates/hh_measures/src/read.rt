@@ -1,7 +1,7 @@
 //! The command `read`: the rows of a file's bytes.
 
 use crate::row_checksum::checksum_of_rows;
-use crate::stop::Stop;
+use crate::stop::MeasureStop;
 use crate::watch::Watch;
 use crate::words::NamedFile;
 use hh_rules::{FileKind, Refusal};
@@ -23,7 +23,7 @@ pub(crate) fn read_again<R: Files + Clock + Print + Eprint + AllocGlobal>(
     rt: &R,
     file: NamedFile<'_>,
     times: u32,
-) -> Result<(), Stop> {
+) -> Result<(), MeasureStop> {
     let bytes = fs::read(rt, file.path)?;
     let mut outcome = Outcome::Rows {
         count: 0,
@@ -40,7 +40,7 @@ fn read_once<R: Clock + Eprint + AllocGlobal>(
     rt: &R,
     kind: FileKind,
     bytes: &[u8],
-) -> Result<Outcome, Stop> {
+) -> Result<Outcome, MeasureStop> {
     let watch = Watch::start(rt)?;
     let read = read_file(rt.alloc(), kind, bytes);
     watch.stop(rt)?;
@@ -49,17 +49,17 @@ fn read_once<R: Clock + Eprint + AllocGlobal>(
             count: rows.len(),
             checksum: checksum_of_rows(&rows),
         }),
-        Err(fault) if fault.refusal == Refusal::Memory => Err(Stop::no_memory()),
+        Err(fault) if fault.refusal == Refusal::Memory => Err(MeasureStop::no_memory()),
         Err(fault) => Ok(Outcome::Refused(fault.refusal)),
     }
 }
 
-fn print_outcome<R: Print>(rt: &R, outcome: Outcome) -> Result<(), Stop> {
+fn print_outcome<R: Print>(rt: &R, outcome: Outcome) -> Result<(), MeasureStop> {
     let printed = match outcome {
         Outcome::Rows { count, checksum } => println!(rt; "{count} {checksum}"),
         Outcome::Refused(refusal) => {
             println!(rt; "refused {} {}", refusal.number(), refusal.name())
         }
     };
-    printed.map_err(|_| Stop::Output)
+    printed.map_err(|_| MeasureStop::Output)
 }

@@ -12,7 +12,7 @@ const USAGE: &str =
 
 /// Why the program ends before it is done.
 #[derive(Clone, Copy, Debug, PartialEq, Eq)]
-pub enum Stop {
+pub enum MeasureStop {
     /// The words form no command.
     Words,
     /// A file, a period or memory was refused.
@@ -25,52 +25,52 @@ pub enum Stop {
     Output,
 }
 
-impl Stop {
+impl MeasureStop {
     /// Memory was refused.
-    pub(crate) fn no_memory() -> Stop {
-        Stop::Refused(Refusal::Memory)
+    pub(crate) fn no_memory() -> MeasureStop {
+        MeasureStop::Refused(Refusal::Memory)
     }
 }
 
-impl From<AllocError> for Stop {
-    fn from(_error: AllocError) -> Stop {
-        Stop::no_memory()
+impl From<AllocError> for MeasureStop {
+    fn from(_error: AllocError) -> MeasureStop {
+        MeasureStop::no_memory()
     }
 }
 
-impl<T: Drop> From<AllocFailed<T>> for Stop {
-    fn from(_error: AllocFailed<T>) -> Stop {
-        Stop::no_memory()
+impl<T: Drop> From<AllocFailed<T>> for MeasureStop {
+    fn from(_error: AllocFailed<T>) -> MeasureStop {
+        MeasureStop::no_memory()
     }
 }
 
-impl From<Fault> for Stop {
-    fn from(fault: Fault) -> Stop {
-        Stop::Refused(fault.refusal)
+impl From<Fault> for MeasureStop {
+    fn from(fault: Fault) -> MeasureStop {
+        MeasureStop::Refused(fault.refusal)
     }
 }
 
-impl From<io::Error> for Stop {
-    fn from(error: io::Error) -> Stop {
+impl From<io::Error> for MeasureStop {
+    fn from(error: io::Error) -> MeasureStop {
         match error.kind() {
-            ErrorKind::OutOfMemory => Stop::no_memory(),
-            _ => Stop::Input,
+            ErrorKind::OutOfMemory => MeasureStop::no_memory(),
+            _ => MeasureStop::Input,
         }
     }
 }
 
 /// Tells on standard error why the program ends, and gives its exit status.
-pub fn tell<R: Eprint>(rt: &R, stop: Stop) -> u8
+pub fn tell<R: Eprint>(rt: &R, stop: MeasureStop) -> u8
     ensures { result ≤ 2 }
 {
     let _told = match stop {
-        Stop::Words => eprintln!(rt; "{USAGE}"),
-        Stop::Refused(refusal) => {
+        MeasureStop::Words => eprintln!(rt; "{USAGE}"),
+        MeasureStop::Refused(refusal) => {
             eprintln!(rt; "refused {} {}", refusal.number(), refusal.name())
         }
-        Stop::NotReady => eprintln!(rt; "fault period"),
-        Stop::Input => eprintln!(rt; "fault input"),
-        Stop::Output => eprintln!(rt; "fault output"),
+        MeasureStop::NotReady => eprintln!(rt; "fault period"),
+        MeasureStop::Input => eprintln!(rt; "fault input"),
+        MeasureStop::Output => eprintln!(rt; "fault output"),
     };
-    if stop == Stop::Words { 2 } else { 1 }
+    if stop == MeasureStop::Words { 2 } else { 1 }
 }

@@ -1,6 +1,6 @@
 //! The clock that measures.
 
-use crate::stop::Stop;
+use crate::stop::MeasureStop;
 use std::io::Eprint;
 use std::rt::Clock;
 use std::time::Instant;
@@ -13,15 +13,15 @@ pub struct Watch {
 
 impl Watch {
     /// It begins now.
-    pub fn start<R: Clock>(rt: &R) -> Result<Watch, Stop> {
+    pub fn start<R: Clock>(rt: &R) -> Result<Watch, MeasureStop> {
         Ok(Watch {
             begin: Instant::now(rt)?,
         })
     }
 
     /// It ends now: prints on standard error the nanoseconds that it took.
-    pub fn stop<R: Clock + Eprint>(self, rt: &R) -> Result<(), Stop> {
+    pub fn stop<R: Clock + Eprint>(self, rt: &R) -> Result<(), MeasureStop> {
         let taken = self.begin.elapsed(rt)?;
-        eprintln!(rt; "{}", taken.as_nanos()).map_err(|_| Stop::Output)
+        eprintln!(rt; "{}", taken.as_nanos()).map_err(|_| MeasureStop::Output)
     }
 }

@@ -1,6 +1,6 @@
 //! The words of the command line.
 
-use crate::stop::Stop;
+use crate::stop::MeasureStop;
 use hh_rules::FileKind;
 use std::alloc::Global;
 
@@ -20,40 +20,40 @@ pub(crate) struct NamedFile<'a> {
 }
 
 /// Reads a line of words, the program's own name in front.
-pub(crate) fn read_words(alloc: Global, words: &[String]) -> Result<Command<'_>, Stop> {
+pub(crate) fn read_words(alloc: Global, words: &[String]) -> Result<Command<'_>, MeasureStop> {
     let [_, command, given @ ..] = words else {
-        return Err(Stop::Words);
+        return Err(MeasureStop::Words);
     };
     match command.as_str() {
         "settle" => settle_of(given),
         "read" => read_of(given),
         "load" => load_of(alloc, given),
-        _ => Err(Stop::Words),
+        _ => Err(MeasureStop::Words),
     }
 }
 
-fn settle_of(words: &[String]) -> Result<Command<'_>, Stop> {
+fn settle_of(words: &[String]) -> Result<Command<'_>, MeasureStop> {
     match words {
         [times] => Ok(Command::Settle {
             times: number_of(times)?,
         }),
-        _ => Err(Stop::Words),
+        _ => Err(MeasureStop::Words),
     }
 }
 
-fn read_of(words: &[String]) -> Result<Command<'_>, Stop> {
+fn read_of(words: &[String]) -> Result<Command<'_>, MeasureStop> {
     match words {
         [file @ .., times] => Ok(Command::Read {
             file: file_of(file)?,
             times: number_of(times)?,
         }),
-        _ => Err(Stop::Words),
+        _ => Err(MeasureStop::Words),
     }
 }
 
-fn load_of(alloc: Global, words: &[String]) -> Result<Command<'_>, Stop> {
+fn load_of(alloc: Global, words: &[String]) -> Result<Command<'_>, MeasureStop> {
     if words.is_empty() {
-        return Err(Stop::Words);
+        return Err(MeasureStop::Words);
     }
     let mut files = Vec::new(alloc);
     for pair in words.chunks(2) {
@@ -63,19 +63,19 @@ fn load_of(alloc: Global, words: &[String]) -> Result<Command<'_>, Stop> {
 }
 
 /// The file that a kind's word and a path name.
-fn file_of(words: &[String]) -> Result<NamedFile<'_>, Stop> {
+fn file_of(words: &[String]) -> Result<NamedFile<'_>, MeasureStop> {
     match words {
         [kind, path] => Ok(NamedFile {
-            kind: FileKind::read(kind.as_bytes()).ok_or(Stop::Words)?,
+            kind: FileKind::read(kind.as_bytes()).ok_or(MeasureStop::Words)?,
             path: path.as_str(),
         }),
-        _ => Err(Stop::Words),
+        _ => Err(MeasureStop::Words),
     }
 }
 
-fn number_of(word: &String) -> Result<u32, Stop> {
+fn number_of(word: &String) -> Result<u32, MeasureStop> {
     match word.parse() {
         Ok(number) => Ok(number),
-        Err(_) => Err(Stop::Words),
+        Err(_) => Err(MeasureStop::Words),
     }
 }

@@ -3,7 +3,7 @@
 use hh_database::{AfterLines, DatabaseStop, run_in_database, run_in_new_database};
 use hh_devices::Sink;
 use hh_inputs::Inputs;
-use hh_measures::{Stop, Watch};
+use hh_measures::{MeasureStop, Watch};
 use hh_names::Refusal;
 use hh_rows::Settings;
 use hh_script::ScriptLine;
@@ -33,7 +33,7 @@ pub(crate) fn run_in_files<
     loopback: &L,
     lines: &[ScriptLine<'_>],
     out: &mut O,
-) -> Result<(), Stop> {
+) -> Result<(), MeasureStop> {
     let connection = open(rt.alloc(), files, options)?;
     let opened = watch.stop(rt);
     let watch = Watch::start(rt);
@@ -58,9 +58,9 @@ fn open<D: Disk + Drop>(
     alloc: Global,
     files: Files<D>,
     options: Options,
-) -> Result<Connection<FileStore<D>>, Stop> {
+) -> Result<Connection<FileStore<D>>, MeasureStop> {
     if !files.may_be_used() {
-        return Err(Stop::Refused(Refusal::Store));
+        return Err(MeasureStop::Refused(Refusal::Store));
     }
     match Connection::open_files(alloc, files, options) {
         Ok(connection) => Ok(connection),
@@ -77,7 +77,7 @@ fn run_over<S: Rising, I: Inputs, L: Loopback, O: Sink>(
     loopback: &L,
     lines: &[ScriptLine<'_>],
     out: &mut O,
-) -> (Result<(), Stop>, Connection<S>) {
+) -> (Result<(), MeasureStop>, Connection<S>) {
     let ran = match settings {
         Some(settings) => run_in_new_database(
             alloc, connection, settings, inputs, loopback, lines, out,
@@ -104,24 +104,24 @@ fn run_over<S: Rising, I: Inputs, L: Loopback, O: Sink>(
 }
 
 /// Copies the log into the file, and closes both.
-fn close<D: Disk + Drop>(connection: Connection<FileStore<D>>) -> Result<(), Stop> {
+fn close<D: Disk + Drop>(connection: Connection<FileStore<D>>) -> Result<(), MeasureStop> {
     match connection.close() {
         Ok(()) => Ok(()),
         Err(error) => Err(refused(error)),
     }
 }
 
-fn stopped(stop: DatabaseStop) -> Stop {
+fn stopped(stop: DatabaseStop) -> MeasureStop {
     match stop {
-        DatabaseStop::Refused(StoreFault::Memory) => Stop::Refused(Refusal::Memory),
-        DatabaseStop::Refused(StoreFault::Store) => Stop::Refused(Refusal::Store),
-        DatabaseStop::Output => Stop::Output,
+        DatabaseStop::Refused(StoreFault::Memory) => MeasureStop::Refused(Refusal::Memory),
+        DatabaseStop::Refused(StoreFault::Store) => MeasureStop::Refused(Refusal::Store),
+        DatabaseStop::Output => MeasureStop::Output,
     }
 }
 
-fn refused(error: Error) -> Stop {
+fn refused(error: Error) -> MeasureStop {
     match error {
-        Error::SqliteFailure(ErrorCode::OutOfMemory) => Stop::Refused(Refusal::Memory),
-        _ => Stop::Refused(Refusal::Store),
+        Error::SqliteFailure(ErrorCode::OutOfMemory) => MeasureStop::Refused(Refusal::Memory),
+        _ => MeasureStop::Refused(Refusal::Store),
     }
 }

@@ -14,7 +14,7 @@ mod files;
 mod office;
 mod words;
 
-use hh_measures::{Stop, measure, tell, words_of};
+use hh_measures::{MeasureStop, measure, tell, words_of};
 use office::run_office;
 use words::{is_office, paths_in, settings_in};
 
@@ -30,7 +30,7 @@ pub fn run(rt: &HostRuntime) -> u8
 }
 
 /// Does what the program's words ask for.
-fn done(rt: &HostRuntime) -> Result<(), Stop> {
+fn done(rt: &HostRuntime) -> Result<(), MeasureStop> {
     let words = words_of(rt)?;
     if !is_office(&words) {
         return measure(rt, &words);

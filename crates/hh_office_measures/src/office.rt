@@ -4,7 +4,7 @@ use crate::files::run_in_files;
 use crate::words::Paths;
 use hh_devices::StreamSink;
 use hh_inputs::{FileInputs, InputFault, Inputs, RuntimeFiles};
-use hh_measures::{Stop, Watch};
+use hh_measures::{MeasureStop, Watch};
 use hh_names::Refusal;
 use hh_rows::Settings;
 use hh_script::{ScriptFault, read_script};
@@ -24,13 +24,13 @@ pub(crate) fn run_office(
     rt: &HostRuntime,
     paths: Paths<'_>,
     settings: Option<Settings>,
-) -> Result<(), Stop> {
+) -> Result<(), MeasureStop> {
     let inputs = FileInputs(RuntimeFiles(rt));
     let script = script_of(rt, &inputs, paths.script)?;
     let lines = match read_script(rt.alloc(), &script) {
         Ok(lines) => lines,
-        Err(ScriptFault::Off { .. }) => return Err(Stop::Words),
-        Err(ScriptFault::Memory) => return Err(Stop::Refused(Refusal::Memory)),
+        Err(ScriptFault::Off { .. }) => return Err(MeasureStop::Words),
+        Err(ScriptFault::Memory) => return Err(MeasureStop::Refused(Refusal::Memory)),
     };
     let options = options(rt)?;
     let watch = Watch::start(rt)?;
@@ -50,16 +50,16 @@ pub(crate) fn run_office(
 }
 
 /// The bytes of a script, of which too many are none.
-fn script_of<I: Inputs>(rt: &HostRuntime, inputs: &I, path: &str) -> Result<Vec<u8>, Stop> {
+fn script_of<I: Inputs>(rt: &HostRuntime, inputs: &I, path: &str) -> Result<Vec<u8>, MeasureStop> {
     match inputs.read(rt.alloc(), path, MOST_SCRIPT_BYTES) {
         Ok(bytes) => Ok(bytes),
-        Err(InputFault::Unreadable) => Err(Stop::Input),
-        Err(InputFault::Memory) => Err(Stop::Refused(Refusal::Memory)),
+        Err(InputFault::Unreadable) => Err(MeasureStop::Input),
+        Err(InputFault::Memory) => Err(MeasureStop::Refused(Refusal::Memory)),
     }
 }
 
 /// A cache for a market day, with a new number for the log.
-fn options(rt: &HostRuntime) -> Result<Options, Stop> {
+fn options(rt: &HostRuntime) -> Result<Options, MeasureStop> {
     let seed = RandomState::new(rt)?.hash_one(&0u8);
     Ok(Options {
         cache_pages: PAGES,
@@ -69,10 +69,10 @@ fn options(rt: &HostRuntime) -> Result<Options, Stop> {
 }
 
 /// The files at a path, which are made where they are not there.
-fn files_at(rt: &HostRuntime, path: &str) -> Result<Files<File>, Stop> {
+fn files_at(rt: &HostRuntime, path: &str) -> Result<Files<File>, MeasureStop> {
     match sqlite_std_file::open(rt, path, Unknown) {
         Ok(files) => Ok(files),
-        Err(OpenError::OutOfMemory) => Err(Stop::Refused(Refusal::Memory)),
-        Err(_) => Err(Stop::Refused(Refusal::Store)),
+        Err(OpenError::OutOfMemory) => Err(MeasureStop::Refused(Refusal::Memory)),
+        Err(_) => Err(MeasureStop::Refused(Refusal::Store)),
     }
 }

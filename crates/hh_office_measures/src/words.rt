@@ -1,6 +1,6 @@
 //! The words of the command `office`.
 
-use hh_measures::Stop;
+use hh_measures::MeasureStop;
 use hh_names::OperatorKey;
 use hh_rows::{LeadMinutes, Settings};
 
@@ -20,25 +20,25 @@ pub(crate) fn is_office(words: &[String]) -> bool {
 }
 
 /// The files that a line of words of this command names.
-pub(crate) fn paths_in(words: &[String]) -> Result<Paths<'_>, Stop> {
+pub(crate) fn paths_in(words: &[String]) -> Result<Paths<'_>, MeasureStop> {
     match words {
         [_, _, database, script, ..] => Ok(Paths {
             database: database.as_str(),
             script: script.as_str(),
         }),
-        _ => Err(Stop::Words),
+        _ => Err(MeasureStop::Words),
     }
 }
 
 /// What the office is made with, if it is made.
-pub(crate) fn settings_in(words: &[String]) -> Result<Option<Settings>, Stop> {
+pub(crate) fn settings_in(words: &[String]) -> Result<Option<Settings>, MeasureStop> {
     match words {
         [_, _, _, _] => Ok(None),
         [_, _, _, _, key, minutes] => match settings_of(key, minutes) {
             Some(settings) => Ok(Some(settings)),
-            None => Err(Stop::Words),
+            None => Err(MeasureStop::Words),
         },
-        _ => Err(Stop::Words),
+        _ => Err(MeasureStop::Words),
     }
 }
 

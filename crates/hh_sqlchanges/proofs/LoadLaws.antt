@@ -1,6 +1,7 @@
 -- What the rows of a load make of the content.
 use Rattle.std.proofs.Common.{◌≡◌, ◌++◌, List, [], ◌∷◌, ℕ, Result, OnOk, map, arith, refl, ap, subst}
 use Rattle.std.specs.FinMap.{put}
+use Rattle.std.proofs.lemmas.Result.{on_ok_weaker}
 use Rattle.hh_tables.specs.Tables.{put_all}
 use Rattle.sqlite.specs.Effect.{Database}
 use Rattle.hh_names.specs.Accounts.{bytes_cmp}
@@ -23,7 +24,7 @@ use Rattle.hh_sqlrows.specs.Forms.{Puts, PutsAll}
 use Rattle.hh_sqlrows.specs.OfficeTables as forms
 use Rattle.hh_sqlchanges.specs.Writes.{Becomes, StoresLoad}
 use Rattle.hh_sqlchanges.specs.steps.FileRows.{with_file_row, with_file_rows}
-use Rattle.hh_sqlchanges.proofs.StayLaws.{becomes_as, becomes_then, contracts_kept, credits_kept, meters_kept, on_ok, parties_kept, postings_kept, prices_kept, reallocations_kept, references_kept, registered_becomes, registered_kept, results_kept, runs_kept, stays_office, units_kept}
+use Rattle.hh_sqlchanges.proofs.StayLaws.{becomes_as, becomes_then, contracts_kept, credits_kept, meters_kept, parties_kept, postings_kept, prices_kept, reallocations_kept, references_kept, registered_becomes, registered_kept, results_kept, runs_kept, stays_office, units_kept}
 
 -- ---- one row
 
@@ -160,7 +161,7 @@ load_written w old first second new file rows references =
 pub load_made : {X E : Type 0} (w : LoadWrites) (key : FileKey) (file : AcceptedFile) (rows : List Row) (references : List (List ℕ × Counterparties))
     → key ≡ w.key → file ≡ w.file → rows ≡ w.rows → references ≡ w.references → (old first second new : Database) (result : Result X E)
     → Puts forms.files key file old first → Becomes (with_file_rows rows) first second → OnOk result (PutsAll forms.references references second new) → OnOk result (StoresLoad w old new)
-load_made w key file rows references is_key is_file is_rows is_references old first second new result filed rowed referred = on_ok result (λ put. load_written w old first second new
+load_made w key file rows references is_key is_file is_rows is_references old first second new result filed rowed referred = on_ok_weaker result (λ put. load_written w old first second new
     (subst (λ (k : FileKey). Puts forms.files k w.file old first) is_key (subst (λ (f : AcceptedFile). Puts forms.files key f old first) is_file filed))
     (subst (λ (rs : List Row). Becomes (with_file_rows rs) first second) is_rows rowed)
     (subst (λ (es : List (List ℕ × Counterparties)). PutsAll forms.references es second new) is_references put)) referred

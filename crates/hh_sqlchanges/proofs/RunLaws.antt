@@ -5,6 +5,7 @@ use Rattle.std.specs.FinMap.Entries.{by_order}
 use Rattle.std.specs.declared.cmp.Ordering.TheVariants.{Less, Equal, Greater}
 use Rattle.std.proofs.lemmas.List.Elements.{All-head, All-tail}
 use Rattle.std.proofs.lemmas.Map.Lookups.{CmpEqualImpliesEq}
+use Rattle.std.proofs.lemmas.Result.{on_ok_weaker}
 use Rattle.hh_tables.specs.Tables.{Table, put_all}
 use Rattle.sqlite.specs.Effect.{Database}
 use Rattle.hh_calc.specs.declared.result.AccountRow.{AccountRow}
@@ -24,7 +25,7 @@ use Rattle.hh_sqlrows.specs.Forms.{Puts, PutsAll}
 use Rattle.hh_sqlrows.specs.OfficeTables as forms
 use Rattle.hh_sqlchanges.specs.OwnAccounts.{AreOfTheirAccounts}
 use Rattle.hh_sqlchanges.specs.Writes.{Becomes, StoresRun}
-use Rattle.hh_sqlchanges.proofs.StayLaws.{credits_kept, files_kept, on_ok, postings_kept, registered_kept, results_kept, runs_kept, stays_office, stays_then}
+use Rattle.hh_sqlchanges.proofs.StayLaws.{credits_kept, files_kept, postings_kept, registered_kept, results_kept, runs_kept, stays_office, stays_then}
 
 -- ---- values that a function makes of a key and of what stands there
 
@@ -134,7 +135,7 @@ pub run_made : {X E : Type 0} (w : RunWrites) (key : RunKey) (summary : Summary)
     → key ≡ w.key → summary ≡ w.summary → results ≡ w.results → credits ≡ w.credits → postings ≡ w.postings → (old first second third new : Database) (result : Result X E)
     → Puts forms.runs key summary old first → PutsAll forms.results (map forms.amount_entry results) first second → PutsAll forms.credits credits second third
     → OnOk result (PutsAll forms.postings postings third new) → OnOk result (StoresRun w old new)
-run_made w key summary results credits postings is_key is_summary is_results is_credits is_postings old first second third new result run resulted credited posted = on_ok result (λ put. run_written w old first second third new
+run_made w key summary results credits postings is_key is_summary is_results is_credits is_postings old first second third new result run resulted credited posted = on_ok_weaker result (λ put. run_written w old first second third new
     (subst (λ (k : RunKey). Puts forms.runs k w.summary old first) is_key (subst (λ (s : Summary). Puts forms.runs key s old first) is_summary run))
     (subst (λ (es : List (ResultKey × AccountRow)). PutsAll forms.results (map forms.amount_entry es) first second) is_results resulted)
     (subst (λ (es : List (CreditKey × ℤ)). PutsAll forms.credits es second third) is_credits credited)

@@ -1,5 +1,5 @@
 -- What a change of one table leaves of an office, and how changes follow each other.
-use Rattle.std.proofs.Common.{◌≡◌, ◌≢◌, ◌<◌, ◌∙◌, ℕ, Result, Ok, Err, OnOk, arith, map, refl, ap}
+use Rattle.std.proofs.Common.{◌≡◌, ◌≢◌, ◌<◌, ◌∙◌, ℕ, arith, map, refl, ap}
 use Rattle.sqlite_trees.specs.Tree.{Trees}
 use Rattle.sqlite.specs.Effect.{Database}
 use Rattle.hh_rules.specs.History.{Registered}
@@ -113,12 +113,3 @@ becomes_then f g old mid new first second = record {
 
 pub becomes_as : (f g : Content → Content) (old new : Database) → ((c : Content) → f c ≡ g c) → Becomes f old new → Becomes g old new
 becomes_as f g old new same it = record { stays = it.stays; content = λ kept. it.content kept ∙ same _ }
-
-pub becomes_nothing : (db : Database) → IsOffice db → Becomes (λ c. c) db db
-becomes_nothing db is = record { stays = record { is_office = is; settings = refl; mark = refl }; content = λ kept. refl }
-
--- ---- what an answered call does
-
-pub on_ok : {X E P Q : Type 0} (r : Result X E) → (P → Q) → OnOk r P → OnOk r Q
-on_ok (Ok x) f p = f p
-on_ok (Err e) f p = tt
