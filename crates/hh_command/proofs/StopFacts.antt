@@ -13,6 +13,7 @@ use Rattle.hh_period.specs.Outcome.{period_outcome, rejections, Outcome, Writes,
 use Rattle.hh_command.specs.declared.program.Stop.{Stop}
 use Rattle.clap.specs.Words.{Text}
 use Rattle.hh_rows.specs.declared.settings.Settings.{Settings}
+use Rattle.hh_sockets.specs.Ports.{Ports}
 use Rattle.hh_session.specs.declared.script.ScriptStop.{ScriptStop}
 use Rattle.hh_session.specs.declared.script.ScriptStop.TheVariants as script
 use Rattle.hh_session.specs.Script.{StopsAt}
@@ -67,9 +68,9 @@ module _ (reads : List ℕ → Option (List ℕ) → Type 0) (most : ℕ) (enoug
     stopped_by_period fault h (Err s) passed = subst (StopsPeriod reads device meter contracts price) (sym passed) (line_stops fault h)
 
 -- A line stops as one of a script that is off its form, and that is told: the words are wrong.
-module _ (reads : List ℕ → Option (List ℕ) → Type 0) (refuses : ℕ → Type 0) (words : List Text) (out err : DeviceChange) where
+module _ (reads : List ℕ → Option (List ℕ) → Type 0) (ports : Ports) (words : List Text) (out err : DeviceChange) where
   off_at : (settings : Settings) (file : Text) → line_value words ≡ Some (ScriptCommand settings file) → (line : ℕ) → TellsOff err line
-      → (why : ScriptStop) → script_stop why ≡ stop.Off line → StopsAt reads file refuses settings out why → AreWrong reads words err
+      → (why : ScriptStop) → script_stop why ≡ stop.Off line → StopsAt reads file ports settings out why → AreWrong reads words err
   off_at settings file is line told script.File same at = cc same
   off_at settings file is line told (script.Off n) same at =
       let number : n ≡ line = cc same in
@@ -77,7 +78,7 @@ module _ (reads : List ℕ → Option (List ℕ) → Type 0) (refuses : ℕ → 
   off_at settings file is line told (script.Refused fault) same at = cc same
   off_at settings file is line told script.Output same at = cc same
 
-  pub wrong_by_off : (l : Line) → line_value words ≡ Some l → (s : Stop) → StopsLine reads refuses out l s → IsOffAndTold err s → AreWrong reads words err
+  pub wrong_by_off : (l : Line) → line_value words ≡ Some l → (s : Stop) → StopsLine reads ports out l s → IsOffAndTold err s → AreWrong reads words err
   wrong_by_off (PeriodCommand meter contracts price) is s stops (line, same, told) =
       absurd (subst (StopsBy out (ComesTo reads meter contracts price) (HasUnreadable reads meter contracts)) same stops)
   wrong_by_off (ScriptCommand settings file) is s (why, from, at) (line, same, told) = off_at settings file is line told why (sym from ∙ same) at

@@ -8,6 +8,7 @@ use Rattle.hh_names.specs.Faults.{ByRefusal}
 use Rattle.hh_rows.specs.declared.settings.Settings.{Settings}
 use Rattle.hh_inputs.specs.declared.inputs.InputFault.{InputFault}
 use Rattle.hh_inputs.specs.declared.inputs.InputFault.TheVariants.{Unreadable, Memory}
+use Rattle.hh_sockets.specs.Ports.{Ports}
 use Rattle.hh_session.specs.declared.script.ScriptStop.{ScriptStop}
 use Rattle.hh_session.specs.declared.script.ScriptStop.TheVariants as script
 use Rattle.hh_session.specs.Script.{IsUnread, StopsAt, WritesScript}
@@ -108,17 +109,17 @@ module _ (reads : List ℕ → Option (List ℕ) → Type 0) where
   abbrev pub StopsPeriod : DeviceChange → Text → Text → Text → Stop → Type 0
   StopsPeriod device meter contracts price = StopsBy device (ComesTo meter contracts price) (HasUnreadable meter contracts)
 
--- What a path may read as, and which ports may not be listened on.
-module _ (reads : List ℕ → Option (List ℕ) → Type 0) (refuses : ℕ → Type 0) where
+-- What a path may read as, and what is known of ports.
+module _ (reads : List ℕ → Option (List ℕ) → Type 0) (ports : Ports) where
   -- the line is done, and known bytes grow by its text
   abbrev pub Does : Line → DeviceChange → Type 0
   Does (PeriodCommand meter contracts price) device = DoesPeriod reads meter contracts price device
-  Does (ScriptCommand settings file) device = WritesScript reads file refuses settings device
+  Does (ScriptCommand settings file) device = WritesScript reads file ports settings device
 
   -- a line stops so, where this changes in the output
   abbrev pub StopsLine : DeviceChange → Line → Stop → Type 0
   StopsLine device (PeriodCommand meter contracts price) = StopsPeriod reads device meter contracts price
-  StopsLine device (ScriptCommand settings file) = λ s. (why : ScriptStop) × (s ≡ script_stop why) × StopsAt reads file refuses settings device why
+  StopsLine device (ScriptCommand settings file) = λ s. (why : ScriptStop) × (s ≡ script_stop why) × StopsAt reads file ports settings device why
 
   -- words form a line, and it is done
   abbrev pub DoesWords : List Text → DeviceChange → Type 0

@@ -126,14 +126,14 @@ pub fn run<R: Env + AllocGlobal, I: Inputs, L: Loopback, O: Sink, E: Sink>(
 
     // Some words form a line, and it was done.
     ensures done { result ≡ 0 → (words : List Text)
-        × DoesWords (I.reads_as inputs.now) (L.may_refuse loopback.now) words
+        × DoesWords (I.reads_as inputs.now) (L.ports loopback.now) words
         (change O.taken O.failures out.old out.new) }
     ensures well { result ≡ 0 → O.failures out.new ≡ O.failures out.old }
     ensures silent { result ≡ 0 → err.new ≡ err.old }
 
     // Some words form a line that stops so, or memory ran out before they were read.
     ensures stopped { result ≡ 1 → (words : List Text)
-        × Stops (I.reads_as inputs.now) (L.may_refuse loopback.now) words
+        × Stops (I.reads_as inputs.now) (L.ports loopback.now) words
         (change O.taken O.failures out.old out.new) (change E.taken E.failures err.old err.new) }
 
     // The words form no line, or are not text.
@@ -171,13 +171,13 @@ pub fn command<I: Inputs, L: Loopback, O: Sink, E: Sink>(
     ensures status { result ≤ 2 }
 
     // Done is what the words ask for, and nothing is said on `err` then.
-    ensures done { result ≡ 0 → DoesWords (I.reads_as inputs.now) (L.may_refuse loopback.now)
+    ensures done { result ≡ 0 → DoesWords (I.reads_as inputs.now) (L.ports loopback.now)
         (map string_bytes words.now) (change O.taken O.failures out.old out.new) }
     ensures well { result ≡ 0 → O.failures out.new ≡ O.failures out.old }
     ensures silent { result ≡ 0 → err.new ≡ err.old }
 
     // A stop is one that the words, the files and `out` have, and it is told, unless `err` failed.
-    ensures stopped { result ≡ 1 → Stops (I.reads_as inputs.now) (L.may_refuse loopback.now)
+    ensures stopped { result ≡ 1 → Stops (I.reads_as inputs.now) (L.ports loopback.now)
         (map string_bytes words.now) (change O.taken O.failures out.old out.new)
         (change E.taken E.failures err.old err.new) }
 
@@ -206,11 +206,11 @@ fn perform<I: Inputs, L: Loopback, O: Sink>(
     command: &Command<'_>,
     out: &mut O,
 ) -> Result<(), Stop>
-    ensures done { OnOk result (Does (I.reads_as inputs.now) (L.may_refuse loopback.now)
+    ensures done { OnOk result (Does (I.reads_as inputs.now) (L.ports loopback.now)
         (line_of command.now) (change O.taken O.failures out.old out.new)) }
     ensures well { OnOk result (O.failures out.new ≡ O.failures out.old) }
     ensures stopped { IfErr result (λ stop. StopsLine (I.reads_as inputs.now)
-        (L.may_refuse loopback.now) (change O.taken O.failures out.old out.new)
+        (L.ports loopback.now) (change O.taken O.failures out.old out.new)
         (line_of command.now) stop) }
     ensures untouched { IfErr result (λ stop. stop ≢ Stop.Output → out.new ≡ out.old) }
 {

@@ -27,13 +27,13 @@ pub(crate) fn run_over<T: Tables, I: Inputs, L: Loopback, O: Sink>(
     out: &mut O,
 ) -> (Result<(), DeviceFailed>, T)
     ensures done { IsTrue (T.is_open result.1)
-        → OnOk result.0 (RunsOver (I.reads_as inputs.now) (L.may_refuse loopback.now)
+        → OnOk result.0 (RunsOver (I.reads_as inputs.now) (L.ports loopback.now)
         (CountsMore (T.refusals tables) (T.refusals result.1))
         (change O.taken O.failures out.old out.new) (T.content tables) (T.content result.1)
         (map step_of lines.now)) }
     ensures well { OnOk result.0 (O.failures out.new ≡ O.failures out.old) }
     ensures cut { IsTrue (T.is_open result.1)
-        → OnErr result.0 (StopsOver (I.reads_as inputs.now) (L.may_refuse loopback.now)
+        → OnErr result.0 (StopsOver (I.reads_as inputs.now) (L.ports loopback.now)
         (CountsMore (T.refusals tables) (T.refusals result.1))
         (change O.taken O.failures out.old out.new) (T.content tables) (T.content result.1)
         (map step_of lines.now)) }

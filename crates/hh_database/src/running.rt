@@ -48,13 +48,13 @@ pub fn run_in_new_database<S: Alter, I: Inputs, L: Loopback, O: Sink>(
     out: &mut O,
 ) -> Result<AfterLines<S>, (DatabaseStop, AfterLines<S>)>
     ensures done { IfOk result (λ after. IsTrue (state S.Store after.connection).is_open
-        → WritesNew (I.reads_as inputs.now) (L.may_refuse loopback.now) (0 < after.refusals)
+        → WritesNew (I.reads_as inputs.now) (L.ports loopback.now) (0 < after.refusals)
         (change O.taken O.failures out.old out.new) (state S.Store after.connection).committed
         (map step_of lines.now) settings) }
     ensures well { OnOk result (O.failures out.new ≡ O.failures out.old) }
     ensures cut { IfErr result (λ e. e.0 ≡ DatabaseStop.Output
         → IsTrue (state S.Store e.1.connection).is_open
-        → CutsNew (I.reads_as inputs.now) (L.may_refuse loopback.now) (0 < e.1.refusals)
+        → CutsNew (I.reads_as inputs.now) (L.ports loopback.now) (0 < e.1.refusals)
         (change O.taken O.failures out.old out.new) (state S.Store e.1.connection).committed
         (map step_of lines.now) settings) }
     ensures failed { IfErr result (λ e. e.0 ≡ DatabaseStop.Output
@@ -90,14 +90,14 @@ pub fn run_in_database<S: Rising, I: Inputs, L: Loopback, O: Sink>(
 ) -> Result<AfterLines<S>, (DatabaseStop, AfterLines<S>)>
     ensures done { (content : Content) → Holds version content (state S.Store connection).committed
         → IfOk result (λ after. IsTrue (state S.Store after.connection).is_open
-        → WritesOver (I.reads_as inputs.now) (L.may_refuse loopback.now) (0 < after.refusals)
+        → WritesOver (I.reads_as inputs.now) (L.ports loopback.now) (0 < after.refusals)
         (change O.taken O.failures out.old out.new) (state S.Store after.connection).committed
         (map step_of lines.now) content) }
     ensures well { OnOk result (O.failures out.new ≡ O.failures out.old) }
     ensures cut { (content : Content) → Holds version content (state S.Store connection).committed
         → IfErr result (λ e. e.0 ≡ DatabaseStop.Output
         → IsTrue (state S.Store e.1.connection).is_open
-        → CutsOver (I.reads_as inputs.now) (L.may_refuse loopback.now) (0 < e.1.refusals)
+        → CutsOver (I.reads_as inputs.now) (L.ports loopback.now) (0 < e.1.refusals)
         (change O.taken O.failures out.old out.new) (state S.Store e.1.connection).committed
         (map step_of lines.now) content) }
     ensures failed { IfErr result (λ e. e.0 ≡ DatabaseStop.Output
@@ -137,13 +137,13 @@ fn run_over_database<S: Alter, I: Inputs, L: Loopback, O: Sink>(
     out: &mut O,
 ) -> Result<AfterLines<S>, (DatabaseStop, AfterLines<S>)>
     ensures done { IfOk result (λ after. IsTrue (state S.Store after.connection).is_open
-        → WritesOver (I.reads_as inputs.now) (L.may_refuse loopback.now)
+        → WritesOver (I.reads_as inputs.now) (L.ports loopback.now)
         (CountsMore tables.refusals after.refusals)
         (change O.taken O.failures out.old out.new) (state S.Store after.connection).committed
         (map step_of lines.now) (content_in S.Store tables)) }
     ensures well { OnOk result (O.failures out.new ≡ O.failures out.old) }
     ensures cut { IfErr result (λ e. IsTrue (state S.Store e.1.connection).is_open
-        → CutsOver (I.reads_as inputs.now) (L.may_refuse loopback.now)
+        → CutsOver (I.reads_as inputs.now) (L.ports loopback.now)
         (CountsMore tables.refusals e.1.refusals)
         (change O.taken O.failures out.old out.new) (state S.Store e.1.connection).committed
         (map step_of lines.now) (content_in S.Store tables)) }

@@ -1,14 +1,16 @@
-//! What no clause says: that a connection of the loopback is had, and what goes over it.
+//! What no clause says: that a connection of the loopback is had, and what goes over it; and that what went out over one in memory is
+//! kept.
 
 use hh_devices::{Sink, Source};
 use hh_sockets::*;
+use std::cell::RefCell;
 use std::io;
 use std::io::Write;
 use std::net::{Ipv4Addr, TcpStream};
 use std::test::Fail;
 
 /// Answers one connection with its first bytes.
-fn answer_one<L: Listener>(listener: &L) -> Result<usize, SocketFailed> {
+fn answer_one<L: Listener>(listener: &mut L) -> Result<usize, SocketFailed> {
     let mut connection = listener.accept()?;
     let mut piece = [0u8; 5];
     let read = connection.source.read(&mut piece).unwrap_or(0);
@@ -20,16 +22,49 @@ fn answer_one<L: Listener>(listener: &L) -> Result<usize, SocketFailed> {
 #[test]
 fn a_client_of_the_loopback_is_answered(rt: HostRuntime) -> Result<(), Fail> {
     let loopback = RuntimeLoopback(&rt);
-    let Ok(listener) = loopback.listen(0) else {
+    let Ok(mut listener) = loopback.listen(0) else {
         assert_eq!(&rt; "a free port", "none");
         return Ok(());
     };
     let mut client = TcpStream::connect(&rt, (Ipv4Addr::LOCALHOST, listener.port()))?;
     client.write_all(b"hello, there")?;
     client.shutdown(std::net::Shutdown::Write)?;
-    assert_eq!(&rt; answer_one(&listener), Ok(5));
+    assert_eq!(&rt; answer_one(&mut listener), Ok(5));
     let text = io::read_to_string(rt.alloc(), client)?;
     assert_eq!(&rt; text.as_str(), "hello");
     assert_eq!(&rt; loopback.listen(listener.port()).is_err(), true);
+    Ok(())
+}
+
+#[test]
+fn connections_in_memory_come_in_their_order(rt: HostRuntime) -> Result<(), Fail> {
+    let connections: [&[u8]; 2] = [b"hello, there", b"bye"];
+    let ports = [MemoryPort {
+        port: 8080,
+        connections: &connections,
+    }];
+    let replies = RefCell::new(Vec::new(rt.alloc()));
+    let loopback = MemoryLoopback {
+        alloc: rt.alloc(),
+        ports: &ports,
+        room: 16,
+        replies: &replies,
+    };
+    assert_eq!(&rt; loopback.listen(80).is_err(), true);
+    let Ok(mut listener) = loopback.listen(0) else {
+        assert_eq!(&rt; "a port in memory", "none");
+        return Ok(());
+    };
+    assert_eq!(&rt; listener.port(), 8080);
+    assert_eq!(&rt; answer_one(&mut listener), Ok(5));
+    assert_eq!(&rt; answer_one(&mut listener), Ok(3));
+    assert_eq!(&rt; answer_one(&mut listener), Err(SocketFailed));
+    let Ok(kept) = replies.try_borrow() else {
+        assert_eq!(&rt; "replies", "lent");
+        return Ok(());
+    };
+    assert_eq!(&rt; kept.len(), 2);
+    assert_eq!(&rt; kept[0].taken(), b"hello".as_slice());
+    assert_eq!(&rt; kept[1].taken(), b"bye".as_slice());
     Ok(())
 }

@@ -25,11 +25,12 @@ use Rattle.hh_office.specs.Promises.{HandleStep, Stands, StandsAfter, is_given_u
 use Rattle.hh_office.specs.Refusals.{CountsReply, StandsForSome}
 use Rattle.hh_office.specs.Reports.{report_for}
 use Rattle.hh_office.specs.Views.{OfficeView, midnight_of}
+use Rattle.hh_sockets.specs.Ports.{Ports}
 use Rattle.hh_script.specs.declared.script_line.ScriptLine.{ScriptLine}
 use Rattle.hh_script.specs.Steps.{LoadFile, LoadStep, MakeRun, RunStep, Serve, Step, WriteReport, step_of}
 use Rattle.hh_session.specs.declared.told.Told.{Told}
 use Rattle.hh_session.specs.declared.told.Told.TheVariants.{Replied}
-use Rattle.hh_session.specs.Course.{FirstConserve, IsLineOf, LoadDoes, RunDoes, RunsScript, ScriptConserves, ScriptDoes, StandsNow, StepDoes, StopsScript, no_memory, request_for, request_of}
+use Rattle.hh_session.specs.Course.{FirstConserve, IsLineOf, LoadDoes, RunDoes, RunsScript, ScriptConserves, ScriptDoes, StandsNow, StepDoes, StopsScript, cut_last, cut_short, no_memory, request_for, request_of}
 use Rattle.hh_session.specs.steps.Course.{BeginsLine, LeavesRefused, MakesRun, RunsLoad, RunsStep, StopsStep, TellsLine}
 use Rattle.hh_session.specs.GivingUp.{CountsMore}
 use Rattle.hh_session.specs.Lines.{told_line}
@@ -116,13 +117,13 @@ pub run_gives_up : (fails : Type 0) (midnight : Midnights) (run : RunStep) (s : 
 run_gives_up fails midnight run s = inr (inl refl, refl)
 
 -- and so does each step
-gives_up : (reads : List ℕ → Option (List ℕ) → Type 0) (refuses : ℕ → Type 0) (fails : Type 0) (midnight : Midnights) (s : State) (step : Step)
-    → StepDoes reads refuses fails midnight s step (told_line no_memory) s
-gives_up reads refuses fails midnight s (LoadFile load) = (no_memory, load_gives_up reads fails midnight load s, refl)
-gives_up reads refuses fails midnight s (MakeRun run) = (no_memory, run_gives_up fails midnight run s, refl)
-gives_up reads refuses fails midnight s (WriteReport asked) =
+gives_up : (reads : List ℕ → Option (List ℕ) → Type 0) (ports : Ports) (fails : Type 0) (midnight : Midnights) (s : State) (step : Step)
+    → StepDoes reads ports fails midnight s step (told_line no_memory) s
+gives_up reads ports fails midnight s (LoadFile load) = (no_memory, load_gives_up reads fails midnight load s, refl)
+gives_up reads ports fails midnight s (MakeRun run) = (no_memory, run_gives_up fails midnight run s, refl)
+gives_up reads ports fails midnight s (WriteReport asked) =
     (inr ([], report_begun (report_for midnight s asked.key asked.report), memory_fault, refl, inl refl, refl), refl)
-gives_up reads refuses fails midnight s (Serve line) = inl (inr refl, refl)
+gives_up reads ports fails midnight s (Serve line) = inl (inr refl, refl)
 
 -- What a line that is told in a line of its own does, by what it came to and what went out.
 module _ (old new : OfficeView) (device : DeviceChange) (told : Told) (does : State → Told → State → Type 0) (up : (s : State) → does s no_memory s)
@@ -142,12 +143,12 @@ module _ (old new : OfficeView) (device : DeviceChange) (told : Told) (does : St
       (told_line no_memory, s, (no_memory, up s, refl), went, (subst (λ o. Stands o s) (sym same) stands, ap (λ (o : OfficeView). o.zone) same))
 
 -- a line for which memory is refused before anything is done
-module _ (reads : List ℕ → Option (List ℕ) → Type 0) (refuses : ℕ → Type 0) (fails : Type 0) (old : OfficeView) (device : DeviceChange) (step : Step) where
-  pub memory_done : Appends device.old device.new (told_line no_memory) → RunsStep reads refuses fails old old device step
-  memory_done went s stands = (told_line no_memory, s, gives_up reads refuses fails (midnight_of old) s step, went, (stands, refl))
+module _ (reads : List ℕ → Option (List ℕ) → Type 0) (ports : Ports) (fails : Type 0) (old : OfficeView) (device : DeviceChange) (step : Step) where
+  pub memory_done : Appends device.old device.new (told_line no_memory) → RunsStep reads ports fails old old device step
+  memory_done went s stands = (told_line no_memory, s, gives_up reads ports fails (midnight_of old) s step, went, (stands, refl))
 
-  pub memory_cut : AppendsFront device.old device.new (told_line no_memory) → StopsStep reads refuses fails old old device step
-  memory_cut went s stands = (told_line no_memory, s, gives_up reads refuses fails (midnight_of old) s step, went, (stands, refl))
+  pub memory_cut : AppendsFront device.old device.new (told_line no_memory) → StopsStep reads ports fails old old device step
+  memory_cut went s stands = (told_line no_memory, s, gives_up reads ports fails (midnight_of old) s (cut_short step), went, (stands, refl))
 
 -- ---- lines one after the other
 
@@ -157,14 +158,14 @@ appends_more (Some xs) None after text line first second = absurd first
 appends_more (Some xs) (Some ys) None text line first second = absurd second
 appends_more (Some xs) (Some ys) (Some zs) text line first second = second ∙ ap (λ bytes. bytes ++ line) first ∙ append_assoc xs text line
 
-module _ (reads : List ℕ → Option (List ℕ) → Type 0) (refuses : ℕ → Type 0) (fails : Type 0) (midnight : Midnights) where
-  does_more : (s t u : State) (steps : List Step) (text : List ℕ) (step : Step) (line : List ℕ) → ScriptDoes reads refuses fails midnight s steps text t
-      → StepDoes reads refuses fails midnight t step line u → ScriptDoes reads refuses fails midnight s (steps ++ step ∷ []) (text ++ line) u
+module _ (reads : List ℕ → Option (List ℕ) → Type 0) (ports : Ports) (fails : Type 0) (midnight : Midnights) where
+  does_more : (s t u : State) (steps : List Step) (text : List ℕ) (step : Step) (line : List ℕ) → ScriptDoes reads ports fails midnight s steps text t
+      → StepDoes reads ports fails midnight t step line u → ScriptDoes reads ports fails midnight s (steps ++ step ∷ []) (text ++ line) u
   does_more s t u [] text step line (none, same) does = (
     line,
     u,
     [],
-    subst (λ v. StepDoes reads refuses fails midnight v step line u) same does,
+    subst (λ v. StepDoes reads ports fails midnight v step line u) same does,
     (refl, refl),
     ap (λ bytes. bytes ++ line) none ∙ sym (append-nil line),
   )
@@ -177,10 +178,16 @@ module _ (reads : List ℕ → Option (List ℕ) → Type 0) (refuses : ℕ → 
     ap (λ bytes. bytes ++ line) is ∙ append_assoc line0 rest line,
   )
 
+-- the last of some steps is cut short
+cut_behind : (steps : List Step) (step : Step) → cut_last (steps ++ step ∷ []) ≡ steps ++ cut_short step ∷ []
+cut_behind [] step = refl
+cut_behind (first ∷ []) step = refl
+cut_behind (first ∷ second ∷ steps) step = ap (λ more. first ∷ more) (cut_behind (second ∷ steps) step)
+
 -- The office's store had counted so many refusals at first, so many then, and counts so many in the end.
-module _ (reads : List ℕ → Option (List ℕ) → Type 0) (refuses : ℕ → Type 0) (old now new : OfficeView) (first mid last : ℕ)
+module _ (reads : List ℕ → Option (List ℕ) → Type 0) (ports : Ports) (old now new : OfficeView) (first mid last : ℕ)
     {S : Type 0} (taken : S → Option (List ℕ)) (failures : S → ℕ) (before between after : S)
-    (steps : List Step) (step : Step) (ran : RunsScript reads refuses (CountsMore first mid) old now (change taken failures before between) steps) where
+    (steps : List Step) (step : Step) (ran : RunsScript reads ports (CountsMore first mid) old now (change taken failures before between) steps) where
   -- the office stands for some state after the lines so far
   pub some_between : StandsForSome old → StandsForSome now
   some_between (s, stands) = let (text, t, does, went, (now_stands, zone)) = ran s stands in (t, now_stands)
@@ -190,40 +197,40 @@ module _ (reads : List ℕ → Option (List ℕ) → Type 0) (refuses : ℕ → 
     pub up_more : StandsForSome old → first ≤ last
     up_more some = omega (arith, up some, further (some_between some))
 
-    does_both : (s t u : State) (text line : List ℕ) → Stands old s → Stands now t → now.zone ≡ old.zone
-        → ScriptDoes reads refuses (CountsMore first mid) (midnight_of old) s steps text t
-        → StepDoes reads refuses (CountsMore mid last) (midnight_of now) t step line u
-        → ScriptDoes reads refuses (CountsMore first last) (midnight_of old) s (steps ++ step ∷ []) (text ++ line) u
-    does_both s t u text line stands now_stands zone does done =
-        does_more reads refuses (CountsMore first last) (midnight_of old) s t u steps text step line
-        (script_then (CountsMore first mid) (CountsMore first last) (more_at_first first mid last (up (s, stands)) (further (t, now_stands))) reads refuses (midnight_of old) s steps text t does)
-        (step_then (CountsMore mid last) (CountsMore first last) (more_later first mid last (up (s, stands)) (further (t, now_stands))) reads refuses (midnight_of old) t step line u
-        (subst (λ z. StepDoes reads refuses (CountsMore mid last) (midnight_in (plain_zone z)) t step line u) zone done))
+    does_both : (s t u : State) (text line : List ℕ) (step : Step) → Stands old s → Stands now t → now.zone ≡ old.zone
+        → ScriptDoes reads ports (CountsMore first mid) (midnight_of old) s steps text t
+        → StepDoes reads ports (CountsMore mid last) (midnight_of now) t step line u
+        → ScriptDoes reads ports (CountsMore first last) (midnight_of old) s (steps ++ step ∷ []) (text ++ line) u
+    does_both s t u text line step stands now_stands zone does done =
+        does_more reads ports (CountsMore first last) (midnight_of old) s t u steps text step line
+        (script_then (CountsMore first mid) (CountsMore first last) (more_at_first first mid last (up (s, stands)) (further (t, now_stands))) reads ports (midnight_of old) s steps text t does)
+        (step_then (CountsMore mid last) (CountsMore first last) (more_later first mid last (up (s, stands)) (further (t, now_stands))) reads ports (midnight_of old) t step line u
+        (subst (λ z. StepDoes reads ports (CountsMore mid last) (midnight_in (plain_zone z)) t step line u) zone done))
 
     -- one more line of a script
-    pub script_more : RunsStep reads refuses (CountsMore mid last) now new (change taken failures between after) step
-        → RunsScript reads refuses (CountsMore first last) old new (change taken failures before after) (steps ++ step ∷ [])
+    pub script_more : RunsStep reads ports (CountsMore mid last) now new (change taken failures between after) step
+        → RunsScript reads ports (CountsMore first last) old new (change taken failures before after) (steps ++ step ∷ [])
     script_more runs s stands =
         let (text, t, does, went, (now_stands, zone)) = ran s stands in
         let (line, u, done, line_went, (new_stands, new_zone)) = runs t now_stands in (
           text ++ line,
           u,
-          does_both s t u text line stands now_stands zone does done,
+          does_both s t u text line step stands now_stands zone does done,
           appends_more (taken before) (taken between) (taken after) text line went line_went,
           (new_stands, new_zone ∙ zone),
         )
 
     -- a line that stops a script
-    pub script_stops : (all : List Step) (count : ℕ) → take count all ≡ steps ++ step ∷ [] → StopsStep reads refuses (CountsMore mid last) now new (change taken failures between after) step
-        → StopsScript reads refuses (CountsMore first last) old new (change taken failures before after) all
+    pub script_stops : (all : List Step) (count : ℕ) → take count all ≡ steps ++ step ∷ [] → StopsStep reads ports (CountsMore mid last) now new (change taken failures between after) step
+        → StopsScript reads ports (CountsMore first last) old new (change taken failures before after) all
     script_stops all count is stops s stands =
         let (text, t, does, went, (now_stands, zone)) = ran s stands in
         let (line, u, done, (front, rest, cut, line_went), (new_stands, new_zone)) = stops t now_stands in (
           count,
           text ++ line,
           u,
-          subst (λ xs. ScriptDoes reads refuses (CountsMore first last) (midnight_of old) s xs (text ++ line) u) (sym is)
-              (does_both s t u text line stands now_stands zone does done),
+          subst (λ xs. ScriptDoes reads ports (CountsMore first last) (midnight_of old) s xs (text ++ line) u) (sym (ap cut_last is ∙ cut_behind steps step))
+              (does_both s t u text line (cut_short step) stands now_stands zone does done),
           (
             text ++ front,
             rest,
@@ -234,16 +241,16 @@ module _ (reads : List ℕ → Option (List ℕ) → Type 0) (refuses : ℕ → 
         )
 
 -- The tables of a state that an office stands for add up.
-module _ (conserve : ReachedConserve) (reads : List ℕ → Option (List ℕ) → Type 0) (refuses : ℕ → Type 0) (fails : Type 0) (old new : OfficeView) (device : DeviceChange) (steps : List Step) where
+module _ (conserve : ReachedConserve) (reads : List ℕ → Option (List ℕ) → Type 0) (ports : Ports) (fails : Type 0) (old new : OfficeView) (device : DeviceChange) (steps : List Step) where
   sums_now : (t : State) → StandsNow old new t → Conserves (midnight_of old) t new.content
   sums_now t ((reached, is), zone) =
       subst (λ z. Conserves (midnight_in (plain_zone z)) t new.content) zone
       (subst (λ content. Conserves (midnight_of new) t content) (sym is) (conserve (midnight_of new) t reached))
 
-  pub script_conserves : RunsScript reads refuses fails old new device steps → ScriptConserves reads refuses fails old new steps
+  pub script_conserves : RunsScript reads ports fails old new device steps → ScriptConserves reads ports fails old new steps
   script_conserves runs s stands = let (text, t, does, went, now) = runs s stands in (text, t, does, sums_now t now)
 
-  pub first_conserve : StopsScript reads refuses fails old new device steps → FirstConserve reads refuses fails old new steps
+  pub first_conserve : StopsScript reads ports fails old new device steps → FirstConserve reads ports fails old new steps
   first_conserve stops s stands = let (count, text, t, does, cut, now) = stops s stands in (count, text, t, does, sums_now t now)
 
 -- ---- results

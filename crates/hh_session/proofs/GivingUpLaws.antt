@@ -17,11 +17,13 @@ use Rattle.hh_office.specs.declared.report.ReportStop.{ReportStop}
 use Rattle.hh_office.specs.declared.report.ReportStop.TheVariants.{Refused, Write}
 use Rattle.hh_office.specs.Promises.{gives_up, is_failure, is_given_up, is_plain}
 use Rattle.hh_office.specs.Refusals.{CountsReply, CountsReportStop, CountsStoreFault, is_of_store}
+use Rattle.hh_sockets.specs.Ports.{Ports}
 use Rattle.hh_script.specs.Steps.{LoadFile, LoadStep, MakeRun, RunStep, Serve, Step, WriteReport}
 use Rattle.hh_session.specs.declared.told.Told.{Told}
 use Rattle.hh_session.specs.declared.told.Told.TheVariants.{Replied, Unreadable}
 use Rattle.hh_session.specs.Course.{LoadDoes, RunDoes, ScriptDoes, StepDoes}
 use Rattle.hh_session.specs.GivingUp.{CountsMore, GivesUpWhere, IsGivenUpWhere}
+use Rattle.hh_session.proofs.ServedLaws.{served_then}
 
 -- ---- what is counted
 
@@ -122,7 +124,7 @@ module _ (fails others : Type 0) (implies : fails → others) where
   reply_then (reply.Contracts x) none = absurd none
   reply_then (reply.Runs x) none = absurd none
 
-  module _ (reads : List ℕ → Option (List ℕ) → Type 0) (refuses : ℕ → Type 0) (midnight : Midnights) where
+  module _ (reads : List ℕ → Option (List ℕ) → Type 0) (ports : Ports) (midnight : Midnights) where
     load_then : (s : State) (load : LoadStep) (told : Told) (t : State) → LoadDoes reads fails midnight s load told t
         → LoadDoes reads others midnight s load told t
     load_then s load Unreadable t does = does
@@ -134,17 +136,19 @@ module _ (fails others : Type 0) (implies : fails → others) where
     run_then s run (Replied given) t (inl answered) = inl answered
     run_then s run (Replied given) t (inr (up, same)) = inr (reply_then given up, same)
 
-    pub step_then : (s : State) (step : Step) (text : List ℕ) (t : State) → StepDoes reads refuses fails midnight s step text t
-        → StepDoes reads refuses others midnight s step text t
+    pub step_then : (s : State) (step : Step) (text : List ℕ) (t : State) → StepDoes reads ports fails midnight s step text t
+        → StepDoes reads ports others midnight s step text t
     step_then s (LoadFile load) text t (told, does, is) = (told, load_then s load told t does, is)
     step_then s (MakeRun run) text t (told, does, is) = (told, run_then s run told t does, is)
     step_then s (WriteReport asked) text t (inl written, same) = (inl written, same)
     step_then s (WriteReport asked) text t (inr (front, rest, fault, cut, up, is), same) =
         (inr (front, rest, fault, cut, fault_then fault up, is), same)
-    step_then s (Serve line) text t does = does
+    step_then s (Serve line) text t (inl unserved) = inl unserved
+    step_then s (Serve line) text t (inr (port, is, told, (arrivals, brings, many, served))) =
+        inr (port, is, told, (arrivals, brings, many, served_then fails others implies midnight line.moment arrivals s t served))
 
-    pub script_then : (s : State) (steps : List Step) (text : List ℕ) (t : State) → ScriptDoes reads refuses fails midnight s steps text t
-        → ScriptDoes reads refuses others midnight s steps text t
+    pub script_then : (s : State) (steps : List Step) (text : List ℕ) (t : State) → ScriptDoes reads ports fails midnight s steps text t
+        → ScriptDoes reads ports others midnight s steps text t
     script_then s [] text t does = does
     script_then s (step ∷ steps) text t (line, between, rest, does, more, is) =
         (line, between, rest, step_then s step line between does, script_then between steps rest t more, is)

@@ -2,4 +2,5 @@ pub mod CourseLaws
 pub mod GivingUpLaws
 pub mod ReportingLaws
 pub mod ScriptLaws
+pub mod ServedLaws
 pub mod ServingLaws

@@ -48,20 +48,20 @@ pub fn run_lines<T: Tables, I: Inputs, L: Loopback, O: Sink>(
     out: &mut O,
 ) -> Result<(), DeviceFailed>
     ensures done { IsSure T.is_open office.new
-        → OnOk result (RunsScript (I.reads_as inputs.now) (L.may_refuse loopback.now)
+        → OnOk result (RunsScript (I.reads_as inputs.now) (L.ports loopback.now)
         (HasRefused T.refusals office.old office.new) office.old.seen office.new.seen
         (change O.taken O.failures out.old out.new) (map step_of lines.now)) }
     ensures well { OnOk result (O.failures out.new ≡ O.failures out.old) }
     ensures cut { IsSure T.is_open office.new
-        → OnErr result (StopsScript (I.reads_as inputs.now) (L.may_refuse loopback.now)
+        → OnErr result (StopsScript (I.reads_as inputs.now) (L.ports loopback.now)
         (HasRefused T.refusals office.old office.new) office.old.seen office.new.seen
         (change O.taken O.failures out.old out.new) (map step_of lines.now)) }
     ensures sums { IsSure T.is_open office.new
-        → OnOk result (ScriptConserves (I.reads_as inputs.now) (L.may_refuse loopback.now)
+        → OnOk result (ScriptConserves (I.reads_as inputs.now) (L.ports loopback.now)
         (HasRefused T.refusals office.old office.new) office.old.seen office.new.seen
         (map step_of lines.now)) }
     ensures sums_cut { IsSure T.is_open office.new
-        → OnErr result (FirstConserve (I.reads_as inputs.now) (L.may_refuse loopback.now)
+        → OnErr result (FirstConserve (I.reads_as inputs.now) (L.ports loopback.now)
         (HasRefused T.refusals office.old office.new) office.old.seen office.new.seen
         (map step_of lines.now)) }
     ensures failed { OnErr result (Failed (O.failures out.old) (O.failures out.new)) }
@@ -86,12 +86,12 @@ fn run_line<T: Tables, I: Inputs, L: Loopback, O: Sink>(
     out: &mut O,
 ) -> Result<(), DeviceFailed>
     ensures done { IsSure T.is_open office.new
-        → OnOk result (RunsStep (I.reads_as inputs.now) (L.may_refuse loopback.now)
+        → OnOk result (RunsStep (I.reads_as inputs.now) (L.ports loopback.now)
         (HasRefused T.refusals office.old office.new) office.old.seen office.new.seen
         (change O.taken O.failures out.old out.new) (step_of line.now)) }
     ensures well { OnOk result (O.failures out.new ≡ O.failures out.old) }
     ensures cut { IsSure T.is_open office.new
-        → OnErr result (StopsStep (I.reads_as inputs.now) (L.may_refuse loopback.now)
+        → OnErr result (StopsStep (I.reads_as inputs.now) (L.ports loopback.now)
         (HasRefused T.refusals office.old office.new) office.old.seen office.new.seen
         (change O.taken O.failures out.old out.new) (step_of line.now)) }
     ensures failed { OnErr result (Failed (O.failures out.old) (O.failures out.new)) }

@@ -79,10 +79,10 @@ pub fn run_script<I: Inputs, L: Loopback, O: Sink>(
     out: &mut O,
 ) -> Result<(), ScriptStop>
     ensures done { OnOk result (WritesScript (I.reads_as inputs.now) path.now
-        (L.may_refuse loopback.now) settings (change O.taken O.failures out.old out.new)) }
+        (L.ports loopback.now) settings (change O.taken O.failures out.old out.new)) }
     ensures well { OnOk result (O.failures out.new ≡ O.failures out.old) }
     ensures stopped { IfErr result (StopsAt (I.reads_as inputs.now) path.now
-        (L.may_refuse loopback.now) settings (change O.taken O.failures out.old out.new)) }
+        (L.ports loopback.now) settings (change O.taken O.failures out.old out.new)) }
     ensures untouched { IfErr result (λ stop. stop ≢ ScriptStop.Output → out.new ≡ out.old) }
 {
     let bytes = read_whole(alloc, inputs, path)?;
@@ -117,11 +117,11 @@ fn run_new_office<I: Inputs, L: Loopback, O: Sink>(
     out: &mut O,
 ) -> Result<(), DeviceFailed>
     ensures done { OnOk result (NewOfficeWrites (I.reads_as inputs.now)
-        (L.may_refuse loopback.now) settings (change O.taken O.failures out.old out.new)
+        (L.ports loopback.now) settings (change O.taken O.failures out.old out.new)
         (map step_of lines.now)) }
     ensures well { OnOk result (O.failures out.new ≡ O.failures out.old) }
     ensures cut { OnErr result (NewOfficeCuts (I.reads_as inputs.now)
-        (L.may_refuse loopback.now) settings (change O.taken O.failures out.old out.new)
+        (L.ports loopback.now) settings (change O.taken O.failures out.old out.new)
         (map step_of lines.now)) }
     ensures failed { OnErr result (Failed (O.failures out.old) (O.failures out.new)) }
 {

@@ -4,10 +4,11 @@ ghost use Rattle.std.specs.Prelude.{◌≡◌, ◌≤◌, [], vec_capacity, OnEr
 ghost use Rattle.std.specs.Io.KnownBytes.{Appends};
 ghost use Rattle.hh_devices.specs.DeviceChanges.{change};
 ghost use Rattle.hh_devices.specs.Devices.{AppendsFront, Failed};
-ghost use Rattle.hh_serve.specs.Serves.{CountsUp, StandsAfterOne};
+ghost use Rattle.hh_serve.specs.Serves.{CountsUp};
 ghost use Rattle.hh_office.specs.Views.{IsSure};
+ghost use Rattle.hh_session.specs.GivingUp.{HasRefused};
 ghost use Rattle.hh_session.specs.Serving.{listening_line};
-ghost use Rattle.hh_session.specs.steps.Serving.{RunsServing, ServesUpTo, StopsServing};
+ghost use Rattle.hh_session.specs.steps.Serving.{RunsServing, ServesEach, ServesNext, StopsServing};
 
 use crate::lines::push_listening;
 use hh_devices::{DeviceFailed, Sink, write_whole};
@@ -31,20 +32,22 @@ pub(crate) fn serve_connections<T: Tables, L: Loopback, O: Sink>(
     requires empty { room.items ≡ [] }
     requires ample { 217 ≤ vec_capacity room }
     ensures done { IsSure T.is_open office.new
-        → OnOk result (RunsServing (L.may_refuse loopback.now) office.old.seen office.new.seen
+        → OnOk result (RunsServing (L.ports loopback.now)
+        (HasRefused T.refusals office.old office.new) office.old.seen office.new.seen
         (change O.taken O.failures out.old out.new) line.now) }
     ensures well { OnOk result (O.failures out.new ≡ O.failures out.old) }
     ensures cut { IsSure T.is_open office.new
-        → OnErr result (StopsServing (L.may_refuse loopback.now) office.old.seen office.new.seen
+        → OnErr result (StopsServing (L.ports loopback.now)
+        (HasRefused T.refusals office.old office.new) office.old.seen office.new.seen
         (change O.taken O.failures out.old out.new) line.now) }
     ensures failed { OnErr result (Failed (O.failures out.old) (O.failures out.new)) }
     ensures refusals_up { IsSure T.is_open office.new → CountsUp T.refusals office.old office.new }
     ensures sure { IsSure T.is_open office.new → IsSure T.is_open office.old }
 {
     match loopback.listen(line.port) {
-        Ok(listener) => {
+        Ok(mut listener) => {
             tell_listening(room, listener.port(), out)?;
-            serve_each(alloc, office, &listener, line.moment, line.count);
+            serve_each(alloc, office, &mut listener, line.moment, line.count);
             Ok(())
         }
         Err(SocketFailed) => write_whole(out, b"fault socket\n"),
@@ -66,16 +69,17 @@ fn tell_listening<O: Sink>(mut room: Vec<u8>, port: u16, out: &mut O) -> Result<
     write_whole(out, &room)
 }
 
-/// Serves so many connections, whatever becomes of each.
+/// Serves so many connections of a new listener, whatever becomes of each.
 fn serve_each<T: Tables, L: Listener>(
     alloc: Global,
     office: &mut Office<'_, T>,
-    listener: &L,
+    listener: &mut L,
     moment: i64,
     count: u32,
 )
     ensures serves { IsSure T.is_open office.new
-        → ServesUpTo office.old.seen office.new.seen moment count }
+        → ServesEach (HasRefused T.refusals office.old office.new) office.old.seen
+        office.new.seen moment L.leads listener.old listener.new count }
     ensures refusals_up { IsSure T.is_open office.new → CountsUp T.refusals office.old office.new }
     ensures sure { IsSure T.is_open office.new → IsSure T.is_open office.old }
 {
@@ -84,15 +88,16 @@ fn serve_each<T: Tables, L: Listener>(
     }
 }
 
-/// Serves the next connection. What fails in it ends it alone.
+/// Awaits the next connection and serves it, if it comes. What fails in it ends it alone.
 fn serve_next<T: Tables, L: Listener>(
     alloc: Global,
     office: &mut Office<'_, T>,
-    listener: &L,
+    listener: &mut L,
     moment: i64,
 )
-    ensures stands { IsSure T.is_open office.new
-        → StandsAfterOne office.old.seen office.new.seen moment }
+    ensures serves { IsSure T.is_open office.new
+        → ServesNext (HasRefused T.refusals office.old office.new) office.old.seen
+        office.new.seen moment L.leads listener.old listener.new }
     ensures refusals_up { IsSure T.is_open office.new → CountsUp T.refusals office.old office.new }
     ensures sure { IsSure T.is_open office.new → IsSure T.is_open office.old }
 {

@@ -1,1 +1,3 @@
+pub mod Arrivals
+pub mod Memory
 pub mod Ports

@@ -2,7 +2,9 @@
 #![tactic(auto)]
 
 mod loopback;
+mod memory;
 mod runtime;
 
 pub use loopback::{Connection, Listener, Loopback, SocketFailed};
+pub use memory::{MemoryListener, MemoryLoopback, MemoryPort};
 pub use runtime::{RuntimeListener, RuntimeLoopback};

@@ -1,7 +1,8 @@
 //! What listens on ports of the loopback, and what comes of it.
 
-ghost use Rattle.std.specs.Prelude.{◌≡◌, ℕ, IfOk, OnErr};
-ghost use Rattle.hh_sockets.specs.Ports.{IsPortFor};
+ghost use Rattle.std.specs.Prelude.{◌≡◌, ℕ, List, [], IfOk, OnErr};
+ghost use Rattle.hh_sockets.specs.Arrivals.{Arrival, AwaitsOne, TakesBack};
+ghost use Rattle.hh_sockets.specs.Ports.{IsBroughtBy, IsPortFor, Ports};
 
 use hh_devices::{Sink, Source};
 use std::io;
@@ -27,13 +28,17 @@ pub struct Connection<S, K> {
 pub trait Loopback {
     type Listener: Listener + Drop;
 
-    /// On which ports it may be that nothing is listened.
-    ghost may_refuse: { Self → ℕ → Type 0 };
+    /// On which ports it may be that nothing is listened, and what may come on each.
+    ghost ports: { Self → Ports };
 
-    /// Listens on a port; for 0 the machine chooses a free one.
+    /// Listens on a port; for 0 the machine chooses a free one. Nothing has come yet, and what will
+    /// come is what the port may bring.
     fn listen(&self, port: u16) -> Result<Self::Listener, SocketFailed>
         ensures port { IfOk result (λ listener. IsPortFor port (Self.Listener.port_of listener)) }
-        ensures refused { OnErr result (may_refuse self.now port) };
+        ensures begins { IfOk result (λ listener. Self.Listener.leads listener [] listener) }
+        ensures brings { IfOk result (λ listener. IsBroughtBy Self.Listener.leads
+            ((ports self.now).brings port) listener) }
+        ensures refused { OnErr result ((ports self.now).refuses port) };
 }
 
 /// What awaits connections on a port.
@@ -45,13 +50,22 @@ pub trait Listener {
     /// The port.
     ghost port_of: { Self → ℕ };
 
+    /// What came of awaiting connections, one after the other, and so led from one state of the
+    /// listener to another. The last connection may still be in hand; it has done nothing then.
+    ghost leads: { Self → List Arrival → Self → Type 0 };
+
     /// The port.
     fn port(&self) -> u16
         ensures { result ≡ port_of self.now };
 
     /// Awaits the next connection.
-    fn accept(&self) -> Result<Connection<Self::Source, Self::Sink>, SocketFailed>;
+    fn accept(&mut self) -> Result<Connection<Self::Source, Self::Sink>, SocketFailed>
+        ensures { AwaitsOne Self.Source.remaining Self.Source.failures Self.Sink.taken
+            Self.Sink.failures leads self.old self.new result };
 
-    /// Takes leave of a connection, so that its client can read what went out to it.
-    fn close(&self, connection: Connection<Self::Source, Self::Sink>);
+    /// Takes back the connection that was handed over last, so that its client can read what went out
+    /// to it.
+    fn close(&mut self, connection: Connection<Self::Source, Self::Sink>)
+        ensures { TakesBack Self.Source.remaining Self.Source.failures Self.Sink.taken
+            Self.Sink.failures leads self.old self.new connection };
 }

@@ -19,8 +19,8 @@ const MOST_READS_BEHIND: u32 = 4_096;
 /// How many bytes of a client that has its reply are read in one call.
 const PIECE: usize = 8_192;
 
-/// The loopback of the system. No clause of std ties a port to what is listened on, or to whether it is,
-/// so none does here beside the port's number.
+/// The loopback of the system. No clause of std ties a port to what is listened on, to whether it is, or to
+/// what comes on it, so none does here beside the port's number.
 #[derive(Clone, Copy)]
 pub struct RuntimeLoopback<'a, R>(pub &'a R);
 
@@ -34,7 +34,7 @@ pub struct RuntimeListener<L> {
 impl<R: Net> Loopback for RuntimeLoopback<'_, R> {
     type Listener = RuntimeListener<R::Listener>;
 
-    ghost may_refuse = { λ _ _. ⊤ };
+    ghost ports = { λ _. record { refuses = λ _. ⊤; brings = λ _ _. ⊤ } };
 
     fn listen(&self, port: u16) -> Result<RuntimeListener<R::Listener>, SocketFailed> {
         let listener = TcpListener::bind(self.0, (Ipv4Addr::LOCALHOST, port))?;
@@ -61,12 +61,14 @@ where
 
     ghost port_of = { λ l. l.port };
 
+    ghost leads = { λ _ _ _. ⊤ };
+
     fn port(&self) -> u16 {
         self.port
     }
 
     /// A client that is silent or reads nothing for ten seconds has failed.
-    fn accept(&self) -> Result<Connection<Self::Source, Self::Sink>, SocketFailed> {
+    fn accept(&mut self) -> Result<Connection<Self::Source, Self::Sink>, SocketFailed> {
         let (stream, _) = self.listener.accept()?;
         let most = Some(Duration::from_secs(MOST_SECONDS));
         stream.set_read_timeout(most)?;
@@ -79,7 +81,9 @@ where
 
     /// Says that no more goes out, and reads what the client still sends, for a while: a system that
     /// closes a socket with bytes unread may take back what went out before.
-    fn close(&self, connection: Connection<Self::Source, Self::Sink>) {
+    fn close(&mut self, connection: Connection<Self::Source, Self::Sink>)
+        ensures { ⊤ }
+    {
         let Connection { mut source, sink } = connection;
         let stream = sink.into_inner();
         if stream.shutdown(Shutdown::Write).is_err() {

@@ -7,11 +7,12 @@ use Rattle.hh_states.specs.States.{State}
 use Rattle.hh_office.specs.Machine.{step}
 use Rattle.hh_office.specs.Promises.{Stands, is_refused}
 use Rattle.hh_office.specs.Views.{OfficeView, midnight_of}
+use Rattle.hh_sockets.specs.Ports.{Ports}
 use Rattle.hh_script.specs.Steps.{LoadStep, RunStep, Step}
 use Rattle.hh_session.specs.declared.told.Told.{Told}
 use Rattle.hh_session.specs.declared.told.Told.TheVariants.{Replied, Unreadable}
 use Rattle.hh_session.specs.Lines.{told_line}
-use Rattle.hh_session.specs.Course.{LoadDoes, RunDoes, StandsNow, StepDoes, no_memory}
+use Rattle.hh_session.specs.Course.{LoadDoes, RunDoes, StandsNow, StepDoes, cut_short, no_memory}
 
 -- a request was refused
 abbrev pub IsRefusal : Told → Type 0
@@ -44,13 +45,13 @@ abbrev pub LeavesRefused : OfficeView → OfficeView → Told → Type 0
 LeavesRefused old new told = IsRefusal told → new ≡ old
 
 -- What changes in an output. The store may have failed only where this holds.
-module _ (reads : List ℕ → Option (List ℕ) → Type 0) (refuses : ℕ → Type 0) (fails : Type 0) (old new : OfficeView) (device : DeviceChange) where
+module _ (reads : List ℕ → Option (List ℕ) → Type 0) (ports : Ports) (fails : Type 0) (old new : OfficeView) (device : DeviceChange) where
   -- a step was run from each state that the office stood for, and what it writes went out
   abbrev pub RunsStep : Step → Type 0
   RunsStep step = (s : State) → Stands old s
-      → (text : List ℕ) × (t : State) × StepDoes reads refuses fails (midnight_of old) s step text t × Appends device.old device.new text × StandsNow old new t
+      → (text : List ℕ) × (t : State) × StepDoes reads ports fails (midnight_of old) s step text t × Appends device.old device.new text × StandsNow old new t
 
-  -- a step was run from each state that the office stood for, and a beginning of what it writes went out
+  -- a step was run from each state that the office stood for, it was cut short, and a beginning of what it writes went out
   abbrev pub StopsStep : Step → Type 0
   StopsStep step = (s : State) → Stands old s
-      → (text : List ℕ) × (t : State) × StepDoes reads refuses fails (midnight_of old) s step text t × AppendsFront device.old device.new text × StandsNow old new t
+      → (text : List ℕ) × (t : State) × StepDoes reads ports fails (midnight_of old) s (cut_short step) text t × AppendsFront device.old device.new text × StandsNow old new t

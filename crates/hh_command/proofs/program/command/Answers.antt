@@ -11,5 +11,5 @@ returns-in-Err-clause-stopped g c one =
 
 pub returns-in-Err-clause-wrong : goal.returns-in-Err-clause-wrong
 returns-in-Err-clause-wrong g c two =
-    wrong_by_off (g.I.Inputs.reads_as c.args.inputs.now) (g.L.Loopback.may_refuse c.args.loopback.now) (map string_bytes c.args.words.now) _ _ (line_of c.in-Ok.command) c.in-Ok.ensures.command c.in-Err.stop
+    wrong_by_off (g.I.Inputs.reads_as c.args.inputs.now) (g.L.Loopback.ports c.args.loopback.now) (map string_bytes c.args.words.now) _ _ (line_of c.in-Ok.command) c.in-Ok.ensures.command c.in-Err.stop
     c.in-Err.ensures.stopped (c.stopped.ensures.two two)

@@ -10,7 +10,7 @@ use Rattle.hh_session.proofs.run.run_lines.Given as goal
 -- the lines so far were run
 abbrev pub invariant-loop-line : goal.invariant-loop-line
 invariant-loop-line g l = record {
-  run : IsSure g.T.Tables.is_open l.office → RunsScript (g.I.Inputs.reads_as l.inputs) (g.L.Loopback.may_refuse l.loopback) (HasRefused g.T.Tables.refusals l.fn.office l.office)
+  run : IsSure g.T.Tables.is_open l.office → RunsScript (g.I.Inputs.reads_as l.inputs) (g.L.Loopback.ports l.loopback) (HasRefused g.T.Tables.refusals l.fn.office l.office)
       l.fn.office.seen l.office.seen (change g.O.Sink.taken g.O.Sink.failures l.fn.out l.out) (map step_of (take l.line-index l.lines));
   refusals_up : IsSure g.T.Tables.is_open l.office → CountsUp g.T.Tables.refusals l.fn.office l.office;
   sure : IsSure g.T.Tables.is_open l.office → IsSure g.T.Tables.is_open l.fn.office;

@@ -1,12 +1,14 @@
 use Rattle.hh_office.specs.Views.{IsSure}
 use Rattle.hh_serve.specs.Serves.{CountsUp}
-use Rattle.hh_session.specs.steps.Serving.{ServesUpTo}
+use Rattle.hh_session.specs.GivingUp.{HasRefused}
+use Rattle.hh_session.specs.steps.Serving.{ServesEach}
 use Rattle.hh_session.proofs.serving.serve_each.Given as goal
 
 -- so many connections were served
 abbrev pub invariant-loop : goal.invariant-loop
 invariant-loop g l = record {
-  serves : IsSure g.T.Tables.is_open l.office → ServesUpTo l.fn.office.seen l.office.seen l.moment l.counter;
+  serves : IsSure g.T.Tables.is_open l.office → ServesEach (HasRefused g.T.Tables.refusals l.fn.office l.office) l.fn.office.seen l.office.seen l.moment
+      g.L.Listener.leads l.fn.listener l.listener l.counter;
   refusals_up : IsSure g.T.Tables.is_open l.office → CountsUp g.T.Tables.refusals l.fn.office l.office;
   sure : IsSure g.T.Tables.is_open l.office → IsSure g.T.Tables.is_open l.fn.office;
 }
