@@ -1,13 +1,47 @@
 -- Fronts of bytes that come in pieces.
-use Rattle.std.proofs.Common.{◌≡◌, ◌≢◌, ◌∙◌, ℕ, ◌+◌, ◌≤◌, ◌<◌, List, [], ◌++◌, length, take, drop, Option, Some, None, IfSome, refl, sym, ap, subst, arith}
+use Rattle.std.proofs.Common.{◌≡◌, ◌≢◌, ◌∙◌, ℕ, zero, suc, ◌+◌, ◌≤◌, ◌<◌, List, [], ◌∷◌, ◌++◌, length, take, drop, Option, Some, None, IfSome, All, IsTrue, IsAscii, inl, codes, refl, sym, ap, subst, arith}
 use Rattle.std.proofs.KnownBytes.{Consumes-trans}
 use Rattle.std.proofs.Math.Seq.{take-append-add}
 use Rattle.std.proofs.lemmas.List.{length-append, length-take, length-take-le, take-append-drop, take-append-le, take_at, append-nil}
 use Rattle.std.specs.Io.KnownBytes.{Consumes, IsAtEnd}
 use borrow.Rule.Slice.PartMut.{put_mid, post_of}
-use Rattle.httparse.specs.Grammar.{print_request, HasNoRequest}
+use Rattle.std.proofs.lemmas.Str.{IsUtf8-from_ascii}
+use Rattle.httparse.specs.Grammar.{LineEnd, RequestHead, print_request, is_token_byte, is_uri_byte, HasNoRequest, IsRequestHead, MayBecomeRequest}
 use Rattle.httparse.specs.Spans.{RequestOverflows}
 use Rattle.hh_heads.specs.Fronts.{HasNoFront}
+
+-- no bytes are no head, but a head may come, as the shortest one
+pub none_at_first : HasNoRequest []
+unfolding print_request
+none_at_first head rest is =
+    let long : length (print_request head ++ rest) ≡ 0 = ap length (sym is.1) in
+    let some : 0 < length (print_request head) = simp length-append (omega arith) in
+    omega (arith, length-append (print_request head) rest)
+
+all_of_one : (Is : ℕ → Type 0) (b : ℕ) → Is b → All Is (b ∷ [])
+all_of_one Is b is zero d below = is
+all_of_one Is b is (suc k) d below = absurd (omega arith)
+
+one_ascii : (b : ℕ) → b < 128 → IsAscii (b ∷ [])
+one_ascii b below zero = below
+one_ascii b below (suc i) = omega arith
+
+abbrev shortest : RequestHead
+shortest = record { blank = []; method = codes "A"; target = codes "/"; minor = 0; line_end = LineEnd.lf; fields = []; last = LineEnd.lf }
+
+is_shortest : IsRequestHead shortest
+unfolding is_token_byte
+is_shortest =
+    let some : 0 < 1 = omega arith in record {
+      method = (some, all_of_one (λ b. IsTrue (is_token_byte b)) 65 refl);
+      target = (some, all_of_one (λ b. IsTrue (is_uri_byte b)) 47 refl);
+      target_text = IsUtf8-from_ascii (codes "/") (one_ascii 47 (omega arith));
+      minor = omega arith;
+      fields = λ k d below. absurd (omega arith);
+    }
+
+pub may_at_first : MayBecomeRequest []
+may_at_first = inl (print_request shortest ++ [], shortest, (is_shortest, refl))
 
 -- no head with so few headers begins with the bytes, whatever follows
 overflow_has_none : (front more : List ℕ) → RequestOverflows 32 front → HasNoFront (front ++ more)

@@ -8,6 +8,10 @@ use Rattle.hh_heads.specs.Fronts.{HasNoFront}
 use Rattle.hh_heads.specs.declared.front.Front.{Front}
 use Rattle.hh_heads.specs.declared.front.Front.TheVariants.{Nothing, NoHead, Head}
 
+-- what a source gave between two states is of a kind
+abbrev pub HasGiven : (List ℕ → Type 0) → Option (List ℕ) → Option (List ℕ) → Type 0
+HasGiven Is old new = (given : List ℕ) × Consumes old new given × Is given
+
 -- the spans are those of a head at the front of what was read
 pub record FindsHead (old new : Option (List ℕ)) (buffer : List ℕ) (headers : List HeaderSpan) (read : ℕ) (spans : RequestSpans) : Type 0 where
   pub fits : read ≤ length buffer

@@ -1,6 +1,6 @@
 -- The head of a request at the front of bytes (RFC 9112, by the grammar of the crate httparse), within the limits.
-use Rattle.std.specs.Prelude.{ℕ, ◌≤◌, List, length}
-use Rattle.httparse.specs.Grammar.{RequestHead, print_request, ReadsRequest}
+use Rattle.std.specs.Prelude.{ℕ, ◌<◌, ◌≤◌, List, length}
+use Rattle.httparse.specs.Grammar.{RequestHead, print_request, HasNoRequest, MayBecomeRequest, ReadsRequest}
 
 -- the most bytes of a head, with its empty line and the empty lines before it
 abbrev pub most_head_bytes : ℕ
@@ -19,3 +19,9 @@ pub record IsFront (bytes : List ℕ) (head : RequestHead) (rest : List ℕ) : T
 -- bytes begin with no such head
 abbrev pub HasNoFront : List ℕ → Type 0
 HasNoFront bytes = (head : RequestHead) (rest : List ℕ) → ¬ (IsFront bytes head rest)
+
+-- bytes wait for the rest of a head: they hold none yet, more bytes may make them one, and they have room for more
+pub record AwaitsHead (bytes : List ℕ) : Type 0 where
+  pub none : HasNoRequest bytes
+  pub may : MayBecomeRequest bytes
+  pub short : length bytes < most_head_bytes

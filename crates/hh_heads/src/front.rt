@@ -1,9 +1,9 @@
 //! The head of a request at the front of what a connection gives.
 
-ghost use Rattle.std.specs.Prelude.{◌≡◌, ◌≤◌, length, take, IfOk};
+ghost use Rattle.std.specs.Prelude.{◌≡◌, ◌≤◌, length, take, IfOk, OnErr};
 ghost use Rattle.hh_devices.specs.Devices.{CountsErr};
-ghost use Rattle.hh_heads.specs.Fronts.{most_head_bytes, most_headers};
-ghost use Rattle.hh_heads.specs.Found.{FindsFront};
+ghost use Rattle.hh_heads.specs.Fronts.{AwaitsHead, most_head_bytes, most_headers};
+ghost use Rattle.hh_heads.specs.Found.{FindsFront, HasGiven};
 ghost use Rattle.hh_heads.specs.steps.Found.{Parses};
 
 use crate::piece::fill;
@@ -28,12 +28,12 @@ pub enum Front {
     Head { read: usize, spans: RequestSpans },
 }
 
-/// Reads until a head is whole, or none within the limits can come, or the source ends (profile). The buffer
-/// has room for `MOST_HEAD_BYTES` and the spans for `MOST_HEADERS`.
+/// Reads until a head is whole, or none within the limits can come, or the source ends (profile), and no
+/// further. The buffer has room for `MOST_HEAD_BYTES` and the spans for `MOST_HEADERS`.
 ///
 /// # Errors
 ///
-/// A call of the source failed.
+/// A call of the source failed, while the bytes before it still waited for the rest of a head.
 pub fn read_front<S: Source>(
     source: &mut S,
     buffer: &mut [u8],
@@ -43,6 +43,8 @@ pub fn read_front<S: Source>(
     requires spans { length headers.old ≡ most_headers }
     ensures front { IfOk result (FindsFront (S.remaining source.old) (S.remaining source.new)
         buffer.new headers.new) }
+    ensures awaited { OnErr result
+        (HasGiven AwaitsHead (S.remaining source.old) (S.remaining source.new)) }
     ensures failed { CountsErr result (S.failures source.old) (S.failures source.new) }
 {
     let mut read = 0;

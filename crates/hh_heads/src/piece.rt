@@ -1,7 +1,7 @@
 //! Bytes that come in pieces.
 
-ghost use Rattle.std.specs.Prelude.{◌≡◌, ℕ, ◌+◌, ◌<◌, ◌≤◌, List, length, take, Option, IfOk};
-ghost use Rattle.std.specs.Io.KnownBytes.{Consumes, IsAtEnd};
+ghost use Rattle.std.specs.Prelude.{◌≡◌, ℕ, ◌+◌, ◌<◌, ◌≤◌, List, length, take, Option, IfOk, OnErr};
+ghost use Rattle.std.specs.Io.KnownBytes.{Consumes, IsAtEnd, Keeps};
 ghost use Rattle.hh_devices.specs.Devices.{CountsErr};
 
 use hh_devices::{DeviceFailed, Source};
@@ -11,7 +11,7 @@ use hh_devices::{DeviceFailed, Source};
 ///
 /// # Errors
 ///
-/// The call of the source failed.
+/// The call of the source failed, and gave nothing.
 pub fn fill<S: Source>(
     source: &mut S,
     buffer: &mut [u8],
@@ -24,6 +24,7 @@ pub fn fill<S: Source>(
         Consumes before (S.remaining source.old) (take filled buffer.old)
         → Consumes before (S.remaining source.new) (take (filled + n) buffer.new)) }
     ensures end { IfOk result (λ n. n ≡ 0 → IsAtEnd (S.remaining source.old)) }
+    ensures untouched { OnErr result (Keeps (S.remaining source.old) (S.remaining source.new)) }
     ensures failed { CountsErr result (S.failures source.old) (S.failures source.new) }
 {
     source.read(&mut buffer[filled..])

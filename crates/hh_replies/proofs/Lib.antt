@@ -1,2 +1,3 @@
+mod RefusedLaws
 pub mod ReplyLemmas
 pub mod TextLemmas

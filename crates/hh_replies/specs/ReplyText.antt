@@ -1,5 +1,5 @@
 -- The bytes of replies (RFC 9112 in the office's profile): a status line, the headers, an empty line, and a body of compact JSON.
-use Rattle.std.specs.Prelude.{ℕ, List, [], ◌++◌, length, Bool, decimal, codes, if◌then◌else◌}
+use Rattle.std.specs.Prelude.{◌≡◌, ◌⊎◌, ℕ, List, [], ◌++◌, length, Bool, decimal, codes, if◌then◌else◌}
 use Rattle.serde_json.specs.Written.{compact_text}
 use Rattle.hh_names.specs.Faults.{plain_fault}
 use Rattle.hh_requests.specs.declared.reply.Reply.{Reply}
@@ -37,3 +37,11 @@ allow_line cause = []
 -- the reply to a request that is refused before the office is asked
 abbrev pub refused_text : Refused → List ℕ
 refused_text r = reply_with (allow_line r.cause) (reply.Refused (plain_fault (refusal_of r.cause))) r.head_only
+
+-- the reply where memory was refused, or its head where that alone is asked for
+abbrev pub memory_text : Bool → List ℕ
+memory_text head_only = refused_text (record { cause = refusal.Memory; head_only = head_only })
+
+-- bytes reply to a refused request: they tell its refusal, or that memory was refused to build the reply that does
+abbrev pub RepliesRefused : Refused → List ℕ → Type 0
+RepliesRefused r text = (text ≡ refused_text r) ⊎ (text ≡ memory_text r.head_only)

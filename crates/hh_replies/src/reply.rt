@@ -3,8 +3,8 @@
 ghost use Rattle.std.specs.Prelude.{◌≡◌, ◌≢◌, Err, IsTrue};
 ghost use Rattle.hh_devices.specs.DeviceChanges.{change};
 ghost use Rattle.hh_names.specs.Faults.{memory_fault};
-ghost use Rattle.hh_replies.specs.Writes.{WritesReply};
-ghost use Rattle.hh_replies.specs.ReplyText.{refused_text, reply_text};
+ghost use Rattle.hh_replies.specs.Writes.{WritesRefusal, WritesReply};
+ghost use Rattle.hh_replies.specs.ReplyText.{reply_text};
 
 use crate::refusal::{Refused, RequestRefusal};
 use crate::reply_text::{memory_text, refused_text, reply_with};
@@ -74,26 +74,26 @@ fn tells_no_memory(reply: &Reply) -> bool
 }
 
 /// Writes the reply to a request that is refused before the office is asked (profile): its head alone
-/// where the head of a reply was asked for. The reply to refused memory takes none.
+/// where the head of a reply was asked for. Where memory is refused for that reply, the one that tells so
+/// goes out in its place, which takes none.
 ///
 /// # Errors
 ///
-/// `Write` where the sink failed or took nothing in this call, and then a beginning of the reply went
-/// out. `Memory` where the reply cannot be built, and then nothing went out.
+/// The sink failed or took nothing in this call, and then a beginning of the reply went out.
 pub fn write_refused<S: Sink>(
     alloc: Global,
     refused: &Refused,
     sink: &mut S,
-) -> Result<(), WriteFault>
-    ensures reply { WritesReply (change S.taken S.failures sink.old sink.new)
-        (refused_text refused.now) result }
-    ensures no_memory { refused.now.cause ≡ RequestRefusal.Memory → result ≢ Err WriteFault.Memory }
+) -> Result<(), DeviceFailed>
+    ensures { WritesRefusal (change S.taken S.failures sink.old sink.new) refused.now result }
 {
     if let RequestRefusal::Memory = refused.cause {
-        return send(sink, memory_text(refused.head_only));
+        return write_whole(sink, memory_text(refused.head_only));
     }
-    let text = refused_text(alloc, refused)?;
-    send(sink, text.as_bytes())
+    match refused_text(alloc, refused) {
+        Ok(text) => write_whole(sink, text.as_bytes()),
+        Err(_) => write_whole(sink, memory_text(refused.head_only)),
+    }
 }
 
 /// Writes a reply that is built.

@@ -3,8 +3,7 @@
 ghost use Rattle.std.specs.Prelude.{◌≡◌, string_bytes, IfOk};
 ghost use Rattle.serde_json.specs.Written.{compact_text};
 ghost use Rattle.hh_replies.specs.Bodies.{reply_body};
-ghost use Rattle.hh_replies.specs.ReplyText.{allow_line, refused_text, reply_head, reply_with};
-ghost use Rattle.hh_replies.specs.steps.ReplyText.{memory_text};
+ghost use Rattle.hh_replies.specs.ReplyText.{allow_line, memory_text, refused_text, reply_head, reply_with};
 
 use crate::refusal::{Refused, RequestRefusal};
 use crate::reply_value::reply_value;

@@ -2,6 +2,8 @@
 use Rattle.std.proofs.Common.{◌≡◌, ◌≤◌, ◌⊎◌, ℕ, ℤ, List, Bool, true, false, cond, Option, Result, Ok, Err, inl, inr, refl, sym, subst, ap, arith}
 use Rattle.std.specs.Prelude.{MatchBool, IsErrAnd}
 use Rattle.hh_devices.specs.DeviceChanges.{DeviceChange}
+use Rattle.hh_devices.specs.declared.device.DeviceFailed.{DeviceFailed}
+use Rattle.hh_names.specs.Faults.{memory_fault}
 use Rattle.hh_requests.specs.declared.reply.Reply.{Reply}
 use Rattle.hh_requests.specs.declared.reply.Reply.TheVariants as reply
 use Rattle.hh_requests.specs.declared.request.Request.{Request}
@@ -13,17 +15,20 @@ use Rattle.hh_office.specs.Promises.{ConservesAfter, HandleStep, RefusalLeaves, 
 use Rattle.hh_office.specs.Refusals.{CountsReply, StandsForSome, is_of_store}
 use Rattle.hh_office.specs.Transitions.{Transition}
 use Rattle.hh_office.specs.Views.{OfficeView, midnight_of}
+use Rattle.hh_replies.specs.ReplyText.{reply_text}
+use Rattle.hh_replies.specs.declared.refusal.Refused.{Refused}
 use Rattle.hh_replies.specs.declared.reply.WriteFault.{WriteFault}
 use Rattle.hh_replies.specs.declared.reply.WriteFault.TheVariants as write
-use Rattle.hh_replies.specs.Writes.{WritesReply}
+use Rattle.hh_replies.specs.Writes.{WritesRefusal, WritesReply}
 use Rattle.hh_store.specs.StoreFaults.{CountsOneMore}
 use Rattle.hh_wire.specs.declared.incoming.Incoming.{Incoming}
 use Rattle.hh_wire.specs.declared.incoming.Incoming.TheVariants.{Asked}
 use Rattle.hh_serve.specs.declared.serve.ServeFault.{ServeFault}
+use Rattle.hh_serve.specs.declared.serve.ServeFault.TheVariants.{Write}
 use Rattle.hh_serve.specs.declared.serve.Served.{Served}
 use Rattle.hh_serve.specs.declared.serve.Served.TheVariants.{Replied}
 use Rattle.hh_serve.specs.ServeFaults.{serve_fault}
-use Rattle.hh_serve.specs.Serves.{Answer, IsAnswer, IsReadOf, Serves, StandsAfterOne, TellsNoMemory, answer_text}
+use Rattle.hh_serve.specs.Serves.{IsAnswer, IsReadOf, Serves, StandsAfterOne}
 
 -- the store counts no fewer refusals after a reply
 counts_up : (b : Bool) (old new : ℕ) → MatchBool b (CountsOneMore old new) (new ≡ old) → old ≤ new
@@ -48,22 +53,30 @@ passed_on (Err served) fault is = ap Err (sym is)
 abbrev pub unwritten : WriteFault → Result (Unit {0}) WriteFault
 unwritten fault = Err fault
 
--- A reply was written, or not to its end.
-module _ (source : Option (List ℕ)) (old new : OfficeView) (counted counts : ℕ) (moment : ℤ) (device : DeviceChange) (answer : Answer)
-    (is : IsAnswer source old new counted counts moment answer) where
-  pub replied : WritesReply device (answer_text answer) (Ok tt) → Serves source old new counted counts moment device (Ok Replied)
-  replied writes = (answer, is, writes.0)
+module _ (source : Option (List ℕ)) (old new : OfficeView) (counted counts : ℕ) (moment : ℤ) (device : DeviceChange) where
+  -- A reply of the office was written, or not to its end.
+  module _ (given : Reply) (is : IsAnswer source old new counted counts moment (Ok given)) where
+    pub replied : WritesReply device (reply_text given false) (Ok tt) → Serves source old new counted counts moment device (Ok Replied)
+    replied writes = (Ok given, reply_text given false, is, refl, writes.0)
 
-  unreplied : (fault : WriteFault) → WritesReply device (answer_text answer) (Err fault)
-      → (TellsNoMemory answer → unwritten fault ≡ Err write.Memory → ⊥) → Serves source old new counted counts moment device (Err (serve_fault fault))
-  unreplied write.Write writes wants = (answer, is, writes.0)
-  unreplied write.Memory writes wants = (answer, is, (λ tells. wants tells refl), writes.0)
+    unreplied : (fault : WriteFault) → WritesReply device (reply_text given false) (Err fault)
+        → (given ≡ reply.Refused memory_fault → unwritten fault ≡ Err write.Memory → ⊥) → Serves source old new counted counts moment device (Err (serve_fault fault))
+    unreplied write.Write writes wants = (Ok given, reply_text given false, is, refl, writes.0)
+    unreplied write.Memory writes wants = (given, is, (λ tells. wants tells refl), writes.0)
 
-  pub not_replied : (fault : WriteFault) (result : Result Served ServeFault) → IsErrAnd result (λ served. served ≡ serve_fault fault)
-      → WritesReply device (answer_text answer) (Err fault) → (TellsNoMemory answer → unwritten fault ≡ Err write.Memory → ⊥)
-      → Serves source old new counted counts moment device result
-  not_replied fault result told writes wants =
-      subst (λ (r : Result Served ServeFault). Serves source old new counted counts moment device r) (passed_on result fault told) (unreplied fault writes wants)
+    pub not_replied : (fault : WriteFault) (result : Result Served ServeFault) → IsErrAnd result (λ served. served ≡ serve_fault fault)
+        → WritesReply device (reply_text given false) (Err fault) → (given ≡ reply.Refused memory_fault → unwritten fault ≡ Err write.Memory → ⊥)
+        → Serves source old new counted counts moment device result
+    not_replied fault result told writes wants =
+        subst (λ (r : Result Served ServeFault). Serves source old new counted counts moment device r) (passed_on result fault told) (unreplied fault writes wants)
+
+  -- The reply to a refused request was.
+  module _ (refused : Refused) (is : IsAnswer source old new counted counts moment (Err refused)) where
+    pub refusal_replied : WritesRefusal device refused (Ok tt) → Serves source old new counted counts moment device (Ok Replied)
+    refusal_replied (text, replies, writes, well) = (Err refused, text, is, replies, writes)
+
+    pub refusal_unreplied : (failed : DeviceFailed) → WritesRefusal device refused (Err failed) → Serves source old new counted counts moment device (Err Write)
+    refusal_unreplied failed (text, replies, writes, failures) = (Err refused, text, is, replies, writes)
 
 -- A request was read and handled, at a moment that is written in two ways.
 module _ (old new : OfficeView) (moment at : ℤ) (same : at ≡ moment) (request : Request) (given : Reply) (steps : HandleStep old new at request given)

@@ -1,8 +1,9 @@
 -- What serving a connection comes to: a request is read, the office handles it, and one reply goes out.
-use Rattle.std.specs.Prelude.{◌≡◌, ◌≤◌, ◌⊎◌, ℕ, ℤ, List, false, Option, IfSome, Result, Ok, Err}
+use Rattle.std.specs.Prelude.{◌≡◌, ◌≢◌, ◌≤◌, ◌⊎◌, ℕ, ℤ, List, false, Option, IfSome, Result, Ok, Err}
 use Rattle.std.specs.Io.KnownBytes.{Appends, Keeps}
 use Rattle.hh_devices.specs.DeviceChanges.{DeviceChange, HasFailed, IsWell}
 use Rattle.hh_devices.specs.Devices.{AppendsFront, Failed}
+use Rattle.hh_heads.specs.Found.{HasGiven}
 use Rattle.hh_names.specs.Faults.{memory_fault}
 use Rattle.hh_requests.specs.declared.reply.Reply.{Reply}
 use Rattle.hh_requests.specs.declared.reply.Reply.TheVariants as reply
@@ -14,13 +15,12 @@ use Rattle.hh_office.specs.Promises.{ConservesAfter, HandleStep, RefusalLeaves, 
 use Rattle.hh_office.specs.Refusals.{CountsReply, StandsForSome}
 use Rattle.hh_office.specs.Views.{Kept, OfficeView, midnight_of}
 use Rattle.hh_replies.specs.declared.refusal.Refused.{Refused}
-use Rattle.hh_replies.specs.declared.refusal.RequestRefusal.TheVariants as refusal
-use Rattle.hh_replies.specs.ReplyText.{refused_text, reply_text}
+use Rattle.hh_replies.specs.ReplyText.{RepliesRefused, reply_text}
 use Rattle.hh_wire.specs.declared.incoming.Incoming.{Incoming}
 use Rattle.hh_wire.specs.declared.incoming.Incoming.TheVariants as incoming
 use Rattle.hh_wire.specs.declared.incoming.WireFault.{WireFault}
 use Rattle.hh_wire.specs.declared.incoming.WireFault.TheVariants as fault
-use Rattle.hh_wire.specs.Message.{Reads}
+use Rattle.hh_wire.specs.Message.{Awaits, Reads}
 use Rattle.hh_serve.specs.declared.serve.ServeFault.{ServeFault}
 use Rattle.hh_serve.specs.declared.serve.ServeFault.TheVariants.{Memory, Read, Write}
 use Rattle.hh_serve.specs.declared.serve.Served.{Served}
@@ -41,15 +41,10 @@ pub record Handles (old new : OfficeView) (counted counts : ℕ) (moment : ℤ) 
 abbrev pub Answer : Type 0
 Answer = Result Reply Refused
 
--- the bytes of an answer
-abbrev pub answer_text : Answer → List ℕ
-answer_text (Ok given) = reply_text given false
-answer_text (Err refused) = refused_text refused
-
--- the answer is that memory was refused
-abbrev pub TellsNoMemory : Answer → Type 0
-TellsNoMemory (Ok given) = given ≡ reply.Refused memory_fault
-TellsNoMemory (Err refused) = refused.cause ≡ refusal.Memory
+-- bytes tell an answer: they are those of the reply, or those of the refusal or of memory that was refused to build them
+abbrev pub Tells : Answer → List ℕ → Type 0
+Tells (Ok given) text = text ≡ reply_text given false
+Tells (Err refused) text = RepliesRefused refused text
 
 -- this was read of a source, which had these bytes where it tells them
 abbrev pub IsReadOf : Option (List ℕ) → Result Incoming WireFault → Type 0
@@ -67,13 +62,14 @@ module _ (source : Option (List ℕ)) (old new : OfficeView) (counted counts : �
   -- What changes in a sink by the call.
   module _ (device : DeviceChange) where
     -- Nothing was sent, and nothing is done; an answer went out; a read failed, and nothing is done; a beginning of an answer went
-    -- out; or nothing of it did, since memory was refused to write it, which is never so of the answer that memory was refused.
+    -- out; or nothing did, since memory was refused to build the reply of the office to a request that it handled, and that reply
+    -- tells something else than refused memory.
     abbrev pub Serves : Result Served ServeFault → Type 0
     Serves (Ok Closed) = IsReadOf source (Ok incoming.Closed) × (new ≡ old) × Keeps device.old device.new
-    Serves (Ok Replied) = (answer : Answer) × IsAnswer answer × Appends device.old device.new (answer_text answer)
+    Serves (Ok Replied) = (answer : Answer) × (text : List ℕ) × IsAnswer answer × Tells answer text × Appends device.old device.new text
     Serves (Err Read) = (new ≡ old) × Keeps device.old device.new
-    Serves (Err Write) = (answer : Answer) × IsAnswer answer × AppendsFront device.old device.new (answer_text answer)
-    Serves (Err Memory) = (answer : Answer) × IsAnswer answer × (¬ (TellsNoMemory answer)) × Keeps device.old device.new
+    Serves (Err Write) = (answer : Answer) × (text : List ℕ) × IsAnswer answer × Tells answer text × AppendsFront device.old device.new text
+    Serves (Err Memory) = (given : Reply) × IsAnswer (Ok given) × (given ≢ reply.Refused memory_fault) × Keeps device.old device.new
 
 -- an office stands for the state that it stood for, or for the machine's state after one request that came at a moment
 abbrev pub StandsAfterOne : OfficeView → OfficeView → ℤ → Type 0
@@ -95,3 +91,8 @@ CountsReading served old new = new ≡ old
 abbrev pub CountsWriting : DeviceChange → Result Served ServeFault → Type 0
 CountsWriting device (Err Write) = HasFailed device
 CountsWriting device served = IsWell device
+
+-- where a read failed, what the source had given till then waits for more
+abbrev pub ServingFailsAwaiting : Result Served ServeFault → Option (List ℕ) → Option (List ℕ) → Type 0
+ServingFailsAwaiting (Err Read) old new = HasGiven Awaits old new
+ServingFailsAwaiting served old new = Unit {0}

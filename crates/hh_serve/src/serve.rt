@@ -2,9 +2,9 @@
 
 ghost use Rattle.hh_devices.specs.DeviceChanges.{change};
 ghost use Rattle.hh_office.specs.Views.{IsSure};
-ghost use Rattle.hh_serve.specs.Serves.{CountsReading, CountsUp, CountsWriting, Serves, StandsAfterOne};
+ghost use Rattle.hh_serve.specs.Serves.{CountsReading, CountsUp, CountsWriting, Serves, ServingFailsAwaiting, StandsAfterOne};
 
-use hh_devices::{Sink, Source};
+use hh_devices::{DeviceFailed, Sink, Source};
 use hh_office::Office;
 use hh_replies::{WriteFault, write_refused, write_reply};
 use hh_store::Tables;
@@ -27,7 +27,7 @@ pub enum ServeFault {
     Read,
     /// The sink failed or took nothing, and a beginning of the reply went out.
     Write,
-    /// Memory was refused for the reply, and nothing was written.
+    /// The request was handled, but memory was refused for the reply, and nothing was written.
     Memory,
 }
 
@@ -47,13 +47,15 @@ impl From<WriteFault> for ServeFault {
 
 /// Serves a connection (profile): reads what the client sends, has the office handle the request at a
 /// moment, in seconds since 1970-01-01T00:00:00Z, and writes one reply. A request that is refused before
-/// the office is asked, and memory that is refused for reading one, are replied too.
+/// the office is asked, and memory that is refused for reading one, are replied too. Once the request is
+/// whole, or refused, nothing more is read.
 ///
 /// # Errors
 ///
 /// `Read` where a call of the source failed in this call, and then nothing was done. `Write` where the
-/// sink failed or took nothing in this call, and `Memory` where the reply cannot be built: the request
-/// was handled then, or refused, and if it loads a file or orders a run it may come again.
+/// sink failed or took nothing in this call: the request was handled then, or refused. `Memory` where the
+/// reply of the office cannot be built: the request was handled then, and nothing was written. One that
+/// loads a file or orders a run may come again after either.
 pub fn serve_one<T: Tables, I: Source, O: Sink>(
     alloc: Global,
     office: &mut Office<'_, T>,
@@ -69,6 +71,8 @@ pub fn serve_one<T: Tables, I: Source, O: Sink>(
         → StandsAfterOne office.old.seen office.new.seen moment }
     ensures refusals_up { IsSure T.is_open office.new → CountsUp T.refusals office.old office.new }
     ensures sure { IsSure T.is_open office.new → IsSure T.is_open office.old }
+    ensures awaited { ServingFailsAwaiting result
+        (I.remaining source.old) (I.remaining source.new) }
     ensures read { CountsReading result (I.failures source.old) (I.failures source.new) }
     ensures written { CountsWriting (change O.taken O.failures sink.old sink.new) result }
 {
@@ -79,10 +83,10 @@ pub fn serve_one<T: Tables, I: Source, O: Sink>(
             write_reply(alloc, &reply, false, sink)?;
             Ok(Served::Replied)
         }
-        Err(WireFault::Refused(refused)) => {
-            write_refused(alloc, &refused, sink)?;
-            Ok(Served::Replied)
-        }
+        Err(WireFault::Refused(refused)) => match write_refused(alloc, &refused, sink) {
+            Ok(()) => Ok(Served::Replied),
+            Err(DeviceFailed) => Err(ServeFault::Write),
+        },
         Err(WireFault::Read) => Err(ServeFault::Read),
     }
 }

@@ -1,8 +1,10 @@
 -- Bodies of which the first bytes are at hand.
-use Rattle.std.proofs.Common.{◌≡◌, ◌∙◌, ℕ, ◌≤◌, ◌<◌, min, Bool, true, ◌⊎◌, inl, inr, List, ◌++◌, length, take, Option, Some, None, IfSome, sym, ap, subst, arith}
+use Rattle.std.proofs.Common.{◌≡◌, ◌∙◌, ℕ, ◌≤◌, ◌<◌, min, Bool, true, ◌⊎◌, inl, inr, Result, Ok, Err, OnErr, List, ◌++◌, length, take, Option, Some, None, IfSome, sym, ap, subst, arith}
 use Rattle.std.proofs.lemmas.Bool.{cases_lt}
 use Rattle.std.proofs.lemmas.List.{length-append, length-take, take-append-le, take_all, take_at}
-use Rattle.hh_wire.specs.steps.Stops.{Fills}
+use Rattle.std.specs.Io.KnownBytes.{Consumes, prepend_known}
+use Rattle.hh_heads.specs.Found.{HasGiven}
+use Rattle.hh_wire.specs.steps.Stops.{Fills, IsShort}
 
 -- a buffer that the bytes at hand and the rest fill, by whether those at hand are enough
 module _ (behind rest items after : List ℕ) (size : ℕ) (long : length items ≡ size) (same : take (min (length behind) size) behind ++ rest ≡ items ++ after) where
@@ -27,3 +29,16 @@ filled_whole (Some rest) behind items old final size len count b is least long f
     let (after, same) = subst (λ (b : Bool). Fills (take count behind ++ rest) items b) is fills in
     let whole = by_length behind rest items after size long (ap (λ (m : ℕ). take m behind ++ rest) (sym least) ∙ same) (cases_lt (length behind) size) in
     (whole.0, final_is ∙ take_at items old len fits ∙ whole.1)
+
+-- a fact that stands where a call fails
+pub on_err : {X E : Type 0} (r : Result X E) (Fact : Type 0) → Fact → OnErr r Fact
+on_err (Ok x) Fact fact = tt
+on_err (Err e) Fact fact = fact
+
+-- where a read for a body failed, all that came with its head was at hand
+pub short_behind : (behind : List ℕ) (size count : ℕ) (old new : Option (List ℕ)) → count ≡ min (length behind) size
+    → HasGiven (IsShort (length (take count behind)) size) (prepend_known (take count behind) old) new
+    → HasGiven (λ given. length given < size) (prepend_known behind old) new
+short_behind behind size count old new least (given, consumed, short) =
+    let all : take count behind ≡ behind = take_all count behind (omega (arith, length-take count behind, short.0, short.1)) in
+    (given, subst (λ (t : List ℕ). Consumes (prepend_known t old) new given) all consumed, short.1)

@@ -1,8 +1,9 @@
 -- What the bytes of a connection ask of the office.
-use Rattle.std.specs.Prelude.{◌≡◌, ◌≢◌, ◌⊎◌, ℕ, nat_lt, List, [], length, take, Bool, false, not, ◌&&◌, is_none, if◌then◌else◌, Some, None, Result, Ok, Err, bytes_eq}
+use Rattle.std.specs.Prelude.{◌≡◌, ◌≢◌, ◌⊎◌, ℕ, ◌<◌, ◌≤◌, nat_lt, List, [], length, take, Bool, false, not, ◌&&◌, is_none, if◌then◌else◌, Option, Some, None, Result, Ok, Err, bytes_eq}
 use Rattle.httparse.specs.Grammar.{RequestHead}
 use Rattle.hh_devices.specs.Devices.{Failed}
-use Rattle.hh_heads.specs.Fronts.{HasNoFront, IsFront}
+use Rattle.hh_heads.specs.Found.{HasGiven}
+use Rattle.hh_heads.specs.Fronts.{AwaitsHead, HasNoFront, IsFront}
 use Rattle.hh_heads.specs.Headings.{Heading, asks_head, heading_of, is_bad, key_shown, length_given, length_of}
 use Rattle.hh_replies.specs.declared.refusal.Refused.{Refused}
 use Rattle.hh_replies.specs.declared.refusal.RequestRefusal.{RequestRefusal}
@@ -54,6 +55,20 @@ IsMessage bytes message =
     ⊎ (((head : RequestHead) × (rest : List ℕ) × IsFront bytes head rest × (message ≡ asked_by (heading_of head) rest))
     ⊎ ((bytes ≢ []) × HasNoFront bytes × (message ≡ no_head)))
 
+-- the rest of a body is still to come behind a head that keeps the rules, and it is not too long
+pub record LacksBody (h : Heading) (rest : List ℕ) : Type 0 where
+  pub kept : is_bad h ≡ false
+  pub small : length_of h ≤ most_body_bytes
+  pub lacks : length rest < length_of h
+
+-- bytes wait for the rest of a body
+abbrev pub AwaitsBody : List ℕ → Type 0
+AwaitsBody bytes = (head : RequestHead) × (rest : List ℕ) × IsFront bytes head rest × LacksBody (heading_of head) rest
+
+-- bytes wait for more: what follows them decides what they ask
+abbrev pub Awaits : List ℕ → Type 0
+Awaits bytes = AwaitsHead bytes ⊎ AwaitsBody bytes
+
 -- one fact for the refusal of memory, another for any other
 abbrev pub ByCause : RequestRefusal → Type 0 → Type 0 → Type 0
 ByCause refusal.Memory memory other = memory
@@ -74,3 +89,9 @@ abbrev pub CountsRead : Result Incoming WireFault → ℕ → ℕ → Type 0
 CountsRead (Ok incoming) old new = new ≡ old
 CountsRead (Err fault.Read) old new = Failed old new
 CountsRead (Err (fault.Refused r)) old new = new ≡ old
+
+-- where a read failed, what the source had given till then waits for more
+abbrev pub FailsAwaiting : Result Incoming WireFault → Option (List ℕ) → Option (List ℕ) → Type 0
+FailsAwaiting (Ok incoming) old new = Unit {0}
+FailsAwaiting (Err fault.Read) old new = HasGiven Awaits old new
+FailsAwaiting (Err (fault.Refused r)) old new = Unit {0}

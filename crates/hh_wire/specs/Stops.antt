@@ -1,6 +1,7 @@
--- Where reading ends before a request is whole, by the count of the source's failures, and of a body by its bytes.
-use Rattle.std.specs.Prelude.{◌≡◌, ℕ, Result, Ok, Err}
+-- Where reading ends before a request is whole, by the count of the source's failures and by what the source gave.
+use Rattle.std.specs.Prelude.{◌≡◌, ℕ, List, Option, Result, Ok, Err}
 use Rattle.hh_devices.specs.Devices.{Failed}
+use Rattle.hh_heads.specs.Found.{HasGiven}
 use Rattle.hh_wire.specs.declared.stop.Stop.{Stop}
 use Rattle.hh_wire.specs.declared.stop.Stop.TheVariants.{Read, Refused}
 
@@ -9,3 +10,9 @@ abbrev pub CountsStop : {X : Type 0} → Result X Stop → ℕ → ℕ → Type 
 CountsStop (Ok x) old new = new ≡ old
 CountsStop (Err Read) old new = Failed old new
 CountsStop (Err (Refused r)) old new = new ≡ old
+
+-- where a read failed, what was given till then is of a kind
+abbrev pub StopsWith : {X : Type 0} → (List ℕ → Type 0) → Result X Stop → Option (List ℕ) → Option (List ℕ) → Type 0
+StopsWith Is (Ok x) old new = Unit {0}
+StopsWith Is (Err Read) old new = HasGiven Is old new
+StopsWith Is (Err (Refused r)) old new = Unit {0}

@@ -1,9 +1,11 @@
 //! Bodies of a known length.
 
-ghost use Rattle.std.specs.Prelude.{◌≡◌, ◌≤◌, ◌++◌, length, IfOk, IfSome};
+ghost use Rattle.std.specs.Prelude.{◌≡◌, ◌<◌, ◌≤◌, ◌++◌, length, IfOk, IfSome, OnErr};
+ghost use Rattle.std.specs.Io.KnownBytes.{prepend_known};
 ghost use Rattle.hh_devices.specs.Devices.{CountsErr};
-ghost use Rattle.hh_wire.specs.Stops.{CountsStop};
-ghost use Rattle.hh_wire.specs.steps.Stops.{Fills, ReadsBody};
+ghost use Rattle.hh_heads.specs.Found.{HasGiven};
+ghost use Rattle.hh_wire.specs.Stops.{CountsStop, StopsWith};
+ghost use Rattle.hh_wire.specs.steps.Stops.{Fills, IsShort, ReadsBody};
 
 use crate::stop::Stop;
 use hh_devices::{DeviceFailed, Source};
@@ -12,7 +14,7 @@ use hh_replies::RequestRefusal;
 use std::alloc::Global;
 
 /// Reads a body of that length, whose first bytes came with its head. What follows the body is
-/// left.
+/// left, and nothing is read where the body is whole.
 ///
 /// # Errors
 ///
@@ -26,6 +28,8 @@ pub(crate) fn read_body<S: Source>(
 ) -> Result<Vec<u8>, Stop>
     ensures body { IfSome (S.remaining source.old) (λ rest.
         ReadsBody (behind.now ++ rest) size result) }
+    ensures awaited { StopsWith (λ given. length given < size) result
+        (prepend_known behind.now (S.remaining source.old)) (S.remaining source.new) }
     ensures failed { CountsStop result (S.failures source.old) (S.failures source.new) }
 {
     let mut body = vec![in alloc; 0u8; size]?;
@@ -47,6 +51,8 @@ fn fill_body<S: Source>(
     ensures kept { length body.new ≡ length body.old }
     ensures filled { IfSome (S.remaining source.old) (λ rest.
         IfOk result (Fills (at_hand.now ++ rest) body.new)) }
+    ensures awaited { OnErr result (HasGiven (IsShort (length at_hand.now) (length body.old))
+        (prepend_known at_hand.now (S.remaining source.old)) (S.remaining source.new)) }
     ensures failed { CountsErr result (S.failures source.old) (S.failures source.new) }
 {
     let mut filled = at_hand.len();

@@ -1,20 +1,25 @@
 //! Requests, read from connections.
 
 ghost use Rattle.std.specs.Prelude.{◌≡◌, ℕ, List, ◌++◌, IfSome};
+ghost use Rattle.std.specs.Io.KnownBytes.{prepend_known};
 ghost use Rattle.hh_heads.specs.Heads.{HoldsTerms, heading_in};
 ghost use Rattle.hh_wire.specs.Behind.{Asks, ReadsBehind};
-ghost use Rattle.hh_wire.specs.Message.{CountsRead, IsMessage, Message, Reads, asked_by, asked_with};
-ghost use Rattle.hh_wire.specs.Stops.{CountsStop};
+ghost use Rattle.hh_wire.specs.Message.{CountsRead, FailsAwaiting, IsMessage, LacksBody, Message, Reads, asked_by, asked_with};
+ghost use Rattle.hh_wire.specs.Stops.{CountsStop, StopsWith};
+ghost use Rattle.hh_wire.specs.steps.Behind.{AsksFor};
+ghost use Rattle.hh_wire.specs.steps.RouteRows.{rows};
 
 use crate::body::read_body;
 use crate::incoming::{Incoming, WireFault};
 use crate::route::{action_at, method_of};
+use crate::router::{Route, office_router};
 use crate::stop::Stop;
 use hh_devices::Source;
 use hh_heads::{Front, MOST_HEAD_BYTES, MOST_HEADERS, Terms, WholeHead, read_front};
 use hh_replies::{Refused, RequestRefusal};
 use hh_requests::{Action, Bytes, Request};
 use httparse::spans::EMPTY_HEADER_SPAN;
+use matchit::Router;
 use std::alloc::Global;
 
 /// The most bytes of a body (profile).
@@ -30,9 +35,10 @@ const MOST_BODY_BYTES: u64 = 1_048_576;
 /// head that is none, is cut, has more than 8,192 bytes or 32 headers, or breaks a rule;
 /// `BodyTooLarge`; `BadRequest` for a cut body; `NoRoute`; `BadMethod`; `LengthRequired`. Once a
 /// head was read `Memory` may come in the place of any answer. `Read` comes where a call of the
-/// source failed in this call.
+/// source failed in this call, and then the bytes before it waited for more.
 pub fn read_request<S: Source>(alloc: Global, source: &mut S) -> Result<Incoming, WireFault>
     ensures message { IfSome (S.remaining source.old) (λ bytes. Reads bytes result) }
+    ensures awaited { FailsAwaiting result (S.remaining source.old) (S.remaining source.new) }
     ensures failed { CountsRead result (S.failures source.old) (S.failures source.new) }
 {
     let mut buffer = [0u8; MOST_HEAD_BYTES];
@@ -68,6 +74,8 @@ fn read_behind<S: Source>(
     ensures comes { IfSome (S.remaining source.old) (λ rest.
         let heading = heading_in head.now in
         ReadsBehind heading (asked_by heading (head.now.behind.now ++ rest)) result) }
+    ensures awaited { StopsWith (LacksBody (heading_in head.now)) result
+        (prepend_known head.now.behind.now (S.remaining source.old)) (S.remaining source.new) }
     ensures failed { CountsStop result (S.failures source.old) (S.failures source.new) }
 {
     let terms = Terms::of(head)?;
@@ -90,7 +98,27 @@ fn request_with(
     ensures { let heading = heading_in head.now in
         Asks heading (asked_with heading body.items) result }
 {
-    let Some(action) = action_at(alloc, head.target, Bytes::new(body))? else {
+    let router = office_router(alloc)?;
+    let action = action_asked(&router, head, terms, body)?;
+    Ok(Request {
+        key: Bytes::new(Vec::from_slice(alloc, terms.key)?),
+        action,
+    })
+}
+
+/// What a head asks for with a body, or the cause for which that is refused. It takes no memory.
+fn action_asked(
+    router: &Router<Route>,
+    head: &WholeHead<'_>,
+    terms: &Terms<'_>,
+    body: Vec<u8>,
+) -> Result<Action, RequestRefusal>
+    requires routes { router.now ≡ rows }
+    requires terms { HoldsTerms (heading_in head.now) terms.now }
+    ensures { let heading = heading_in head.now in
+        AsksFor heading (asked_with heading body.items) result }
+{
+    let Some(action) = action_at(router, head.target, Bytes::new(body)) else {
         return Err(RequestRefusal::NoRoute);
     };
     let allow = method_of(&action);
@@ -100,8 +128,5 @@ fn request_with(
     if terms.length.is_none() && matches!(action, Action::Load(_)) {
         return Err(RequestRefusal::LengthRequired);
     }
-    Ok(Request {
-        key: Bytes::new(Vec::from_slice(alloc, terms.key)?),
-        action,
-    })
+    Ok(action)
 }

@@ -1,7 +1,8 @@
 //! What paths ask for.
 
-ghost use Rattle.std.specs.Prelude.{◌≡◌, ◌<◌, ◌==◌, [], ◌∷◌, length, position, IfNone, IfOk, IfSome};
+ghost use Rattle.std.specs.Prelude.{◌≡◌, ◌<◌, ◌==◌, [], ◌∷◌, length, position, IfNone, IfSome};
 ghost use Rattle.hh_wire.specs.steps.Paths.{action_of, one_part_of, two_parts_of};
+ghost use Rattle.hh_wire.specs.steps.RouteRows.{rows};
 ghost use Rattle.hh_wire.specs.Routes.{action_at, method_of, parts_of};
 
 use crate::router::{Route, route_at};
@@ -11,20 +12,17 @@ use hh_rows::FileKind;
 use hh_runs::{RunKey, RunKind};
 use hh_time::SettlementDate;
 use http::Method;
-use std::alloc::{AllocError, Global};
+use matchit::Router;
 
 /// What a path asks for with a body (profile), or `None` where there is no such path, or a part of
 /// it does not read. Only a file that is sent has a use for the body.
-pub(crate) fn action_at(
-    alloc: Global,
-    target: &[u8],
-    body: Bytes,
-) -> Result<Option<Action>, AllocError>
-    ensures { IfOk result (λ action. action ≡ action_at (parts_of target.now) body) }
+pub(crate) fn action_at(router: &Router<Route>, target: &[u8], body: Bytes) -> Option<Action>
+    requires { router.now ≡ rows }
+    ensures { result ≡ action_at (parts_of target.now) body }
 {
-    match route_at(alloc, target)? {
-        Some(route) => Ok(action_of(route, target, body)),
-        None => Ok(None),
+    match route_at(router, target) {
+        Some(route) => action_of(route, target, body),
+        None => None,
     }
 }
 

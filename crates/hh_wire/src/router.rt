@@ -25,28 +25,34 @@ pub(crate) enum Route {
     RunsOfDate,
 }
 
-/// The route of a path, if it has one.
-pub(crate) fn route_at(alloc: Global, target: &[u8]) -> Result<Option<Route>, AllocError>
-    ensures known { IfOk result (λ found.
-        (route : Route) → IsPathOf route target.now → found ≡ Some route) }
-    ensures begins { IfOk result (λ found.
-        IfSome found (λ route. BeginsWith route target.now)) }
+/// The route of a path, if it has one. It is looked up in the router of the office.
+pub(crate) fn route_at(router: &Router<Route>, target: &[u8]) -> Option<Route>
+    requires { router.now ≡ rows }
+    ensures known { (route : Route) → IsPathOf route target.now → result ≡ Some route }
+    ensures begins { IfSome result (λ route. BeginsWith route target.now) }
 {
-    // No route is ill-formed or conflicts with another, so memory alone is refused.
-    let Ok(router) = office_router(alloc) else {
-        return Err(AllocError);
-    };
     let Ok(path) = str::from_utf8(target) else {
-        return Ok(None);
+        return None;
     };
     match router.at(path) {
-        Ok(found) => Ok(Some(*found.value)),
-        Err(_) => Ok(None),
+        Ok(found) => Some(*found.value),
+        Err(_) => None,
     }
 }
 
 /// A router with the routes of the office (profile).
-fn office_router(alloc: Global) -> Result<Router<Route>, InsertError>
+pub(crate) fn office_router(alloc: Global) -> Result<Router<Route>, AllocError>
+    ensures { IfOk result (λ router. router ≡ rows) }
+{
+    // No route is ill-formed or conflicts with another, so memory alone is refused.
+    match build_router(alloc) {
+        Ok(router) => Ok(router),
+        Err(_) => Err(AllocError),
+    }
+}
+
+/// The same, with the error of the router.
+fn build_router(alloc: Global) -> Result<Router<Route>, InsertError>
     ensures rows { IfOk result (λ router. router ≡ rows) }
     ensures memory { IfErr result (λ error. error ≡ InsertError.OutOfMemory) }
 {

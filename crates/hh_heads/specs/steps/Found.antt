@@ -1,6 +1,6 @@
 -- What the parser of requests says of the bytes that it was given.
 use Rattle.std.specs.Prelude.{ℕ, List}
-use Rattle.httparse.specs.Grammar.{HasNoRequest}
+use Rattle.httparse.specs.Grammar.{HasNoRequest, MayBecomeRequest}
 use Rattle.httparse.specs.Spans.{IsRequestOf, IsRequestWithin, RequestOverflows}
 use Rattle.httparse.specs.declared.spans.HeaderSpan.{HeaderSpan}
 use Rattle.hh_heads.specs.declared.front.Parsed.{Parsed}
@@ -9,5 +9,5 @@ use Rattle.hh_heads.specs.declared.front.Parsed.TheVariants.{Whole, Part, Refuse
 -- what the parser says of bytes, with room for so many headers
 abbrev pub Parses : List ℕ → ℕ → List HeaderSpan → Parsed → Type 0
 Parses bytes room headers (Whole spans) = IsRequestWithin bytes headers spans × IsRequestOf bytes headers spans
-Parses bytes room headers Part = HasNoRequest bytes
+Parses bytes room headers Part = HasNoRequest bytes × MayBecomeRequest bytes
 Parses bytes room headers Refused = RequestOverflows room bytes

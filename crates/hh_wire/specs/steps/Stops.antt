@@ -17,3 +17,7 @@ ReadsBody bytes len (Err Read) = Unit {0}
 ReadsBody bytes len (Err (Refused refusal.Memory)) = Unit {0}
 ReadsBody bytes len (Err (Refused refusal.BadRequest)) = length bytes < len
 ReadsBody bytes len (Err (Refused _)) = ⊥
+
+-- bytes of which so many were at hand, and which are fewer than a body has
+abbrev pub IsShort : ℕ → ℕ → List ℕ → Type 0
+IsShort at_hand size bytes = (at_hand ≤ length bytes) × (length bytes < size)

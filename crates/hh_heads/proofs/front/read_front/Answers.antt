@@ -1,12 +1,16 @@
-use Rattle.std.proofs.Common.{◌≡◌, ℕ, ◌+◌, length, take, subst, arith}
+use Rattle.std.proofs.Common.{◌≡◌, ℕ, ◌+◌, length, take, refl, subst, arith}
 use Rattle.httparse.specs.Spans.{RequestOverflows}
-use Rattle.hh_heads.proofs.FrontLemmas.{end_front, full_front, refused_front}
+use Rattle.std.proofs.KnownBytes.{Consumes-nil}
+use Rattle.hh_heads.proofs.FrontLemmas.{end_front, full_front, may_at_first, none_at_first, refused_front}
 use Rattle.hh_heads.proofs.front.read_front.Goals as goal
+
+pub loop-read-init : goal.loop-read-init
+loop-read-init g c = record { in_range = omega arith; taken = Consumes-nil _; well = refl; none = none_at_first; may = may_at_first }
 
 pub returns-else-read-eq0-clause-front : goal.returns-else-read-eq0-clause-front
 returns-else-read-eq0-clause-front g c =
     end_front (g.S.Source.remaining c.args.source.now) (g.S.Source.remaining c.loop-read.source) c.loop-read.buffer c.loop-read.read
-    c.loop-read.invariant.taken (c.in_ok-count.ensures.end c.if-count-eq0.true) (omega arith) (omega arith) (c.loop-read.invariant.none (omega arith))
+    c.loop-read.invariant.taken (c.in_ok-count.ensures.end c.if-count-eq0.true) (omega arith) (omega arith) c.loop-read.invariant.none
 
 pub returns-in-Refused-clause-front : goal.returns-in-Refused-clause-front
 returns-in-Refused-clause-front g c =
@@ -19,4 +23,4 @@ returns-in-Refused-clause-front g c =
 pub returns-clause-front : goal.returns-clause-front
 returns-clause-front g c =
     full_front (g.S.Source.remaining c.args.source.now) (g.S.Source.remaining c.loop-read.source) c.loop-read.buffer c.loop-read.read
-    c.loop-read.invariant.taken (omega arith) (omega arith) (c.loop-read.invariant.none (omega arith))
+    c.loop-read.invariant.taken (omega arith) (omega arith) c.loop-read.invariant.none

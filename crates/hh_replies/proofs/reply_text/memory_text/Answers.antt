@@ -1,7 +1,7 @@
 use Rattle.std.proofs.Common.{◌≡◌, ◌∙◌, refl, sym, ap, true, false, codes}
 use Rattle.std.specs.Fmt.{digits}
 use Rattle.serde_json.proofs.OnLiterals.{serde_json_on_literals}
-use Rattle.hh_replies.specs.steps.ReplyText.{memory_text}
+use Rattle.hh_replies.specs.ReplyText.{memory_text}
 use Rattle.hh_replies.proofs.reply_text.memory_text.Goals as goal
 
 head : codes "HTTP/1.1 503 Service Unavailable\r\nContent-Type: application/json\r\nContent-Length: 30\r\nConnection: close\r\n\r\n" ≡ memory_text true

@@ -9,7 +9,7 @@ use Rattle.matchit.specs.declared.error.InsertError.TheVariants.{Conflict, Inval
 use Rattle.hh_wire.specs.steps.RouteRows.{pattern_of}
 use Rattle.hh_wire.specs.declared.router.Route.{Route}
 use Rattle.hh_wire.specs.declared.router.Route.TheVariants as route
-use Rattle.hh_wire.proofs.router.office_router.Goals as goal
+use Rattle.hh_wire.proofs.router.build_router.Goals as goal
 
 -- where no row conflicts with a pattern, memory alone is refused
 memory_alone : (p : List ℕ) (rs : RowsOf (RouteOf Route)) (e : InsertError) → nearest p rs ≡ None → Refused p rs e → e ≡ OutOfMemory
