@@ -12,7 +12,7 @@ use hh_time::london;
 use std::alloc::Global;
 
 /// The moment of all connections, 2024-06-29T22:26:40Z.
-const MOMENT: i64 = 1_719_700_000;
+pub const MOMENT: i64 = 1_719_700_000;
 
 /// More room than any reply takes.
 pub const ROOM: usize = 1_000;
