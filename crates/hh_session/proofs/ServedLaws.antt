@@ -1,5 +1,5 @@
 -- What connections that are served lead to, one after the other.
-use Rattle.std.proofs.Common.{◌≡◌, ℤ, List, [], ◌∷◌, ◌++◌, Some, None, sym, subst}
+use Rattle.std.proofs.Common.{ℤ, List, [], ◌∷◌, ◌++◌, Some, None, subst}
 use Rattle.hh_time.specs.Days.{Midnights}
 use Rattle.hh_states.specs.States.{State}
 use Rattle.hh_sockets.specs.Arrivals.{Arrival, Exchange}

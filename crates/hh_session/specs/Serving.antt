@@ -42,7 +42,6 @@ module _ (fails : Type 0) (midnight : Midnights) (moment : ℤ) where
     pub counted : ℕ
     pub counts : ℕ
     pub served : Result Served ServeFault
-
     pub zone : midnight_of old ≡ midnight
     pub stood : Stands old s
     pub stands : Stands new t

@@ -2,7 +2,7 @@ use Rattle.std.proofs.Common.{◌≡◌, ◌∙◌, rules, subst, w64, SFits}
 use Rattle.std.proofs.lemmas.Int.{to_z-of_z}
 use Rattle.hh_session.specs.GivingUp.{CountsMore}
 use Rattle.hh_session.specs.steps.Serving.{ServesAll}
-use Rattle.hh_session.proofs.ServingLaws.{refusals_more, serves_more, serves_none}
+use Rattle.hh_session.proofs.ServingLaws.{refusals_more, serves_more}
 use Rattle.hh_session.proofs.serving.serve_each.Goals as goal
 
 pub loop-preserved : goal.loop-preserved

@@ -14,7 +14,7 @@ returns-in-Ok-clause-serves g c sure =
     let new = c.serve_one.new.office.seen in
     let given = c.in-Ok.connection in
     let e = exchange g.L.Source.Source.remaining g.L.Source.Source.failures g.L.Sink.Sink.taken g.L.Sink.Sink.failures
-            given (record { source = c.serve_one.new.source; sink = c.serve_one.new.sink }) in
+    given (record { source = c.serve_one.new.source; sink = c.serve_one.new.sink }) in
     let fits : SFits w64 c.args.moment = search rules in (
       Some e,
       (λ first arrivals leads. c.close.ensures first arrivals given (c.in-Ok.ensures first arrivals leads)),
