@@ -27,7 +27,7 @@ OFFERED = {
     "make_office", "write_new_office", "keep_load", "keep_run", "refuse", "reported_run", "contracts_of_account",
     "settings_of_office", "has_office", "is_office", "is_column", "is_meters",
     "select_named", "names_in", "meters_under", "prices_under", "reallocations_under",
-    "select_contracts", "push_reference", "select_registered", "select_of_units", "ids_on", "append_meters", "append_reallocations",
+    "select_contracts", "references_in", "select_registered", "select_of_units", "ids_on",
     "run_over", "run_in_new_database", "run_over_database", "after_lines", "not_run",
 }
 # What the language calls without naming it.

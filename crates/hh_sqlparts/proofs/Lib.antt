@@ -1,5 +1,4 @@
 pub mod DayLaws
-pub mod FoundLaws
 pub mod NamedForms
 pub mod NamedNames
 pub mod NamedParts

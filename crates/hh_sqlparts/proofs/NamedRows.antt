@@ -1,31 +1,21 @@
--- What is found in a table of rows that were selected by names, one name after the other.
+-- What is found in rows of a table that were selected by names, one name after the other.
 use Rattle.std.proofs.Common.{◌≡◌, List, [], ◌∷◌, ◌++◌, Bool, true, false, cond, refl, sym, ap, ◌∙◌, Option, Some, None, Ordering}
 use Rattle.std.specs.Prelude.{◌||◌, is_some, filter, T}
 use Rattle.std.specs.Cmp.{IsTotalOrder, Equal-is, eq_by_cmp_equiv}
 use Rattle.std.specs.FinMap.{find, is_sorted, put}
 use Rattle.std.specs.FinMap.Entries.{below_all, find-put, find-where_key, find_tied, is_sorted-where_key, same_entries}
-use Rattle.std.specs.List.{AllByRecursion, flat_map, list_any}
+use Rattle.std.specs.List.{All, AllByRecursion, flat_map, list_any}
 use Rattle.std.specs.Ordering.{eq_by_cmp, is_eq, ordering_reverse}
 use Rattle.std.specs.declared.cmp.Ordering.TheVariants.{Equal, Greater}
+use Rattle.std.proofs.lemmas.List.Elements.{All-append, All-filter, All-from_recursion, All-nil, recursion_from_All}
 use Rattle.hh_tables.specs.Tables.{Table, put_all}
 use Rattle.hh_tables.proofs.RowLaws.{first, less, second}
-use Rattle.hh_sqlparts.specs.steps.Named.{found_entry}
+use Rattle.hh_sqlparts.specs.steps.Named.{entry_of, found_entry}
 
--- what holds of all of a list holds of those that pass a test, and what holds of two lists holds of them joined
-all_filter : {X : Type 0} (P : X → Type 0) (test : X → Bool) (xs : List X) → AllByRecursion P xs → AllByRecursion P (filter test xs)
-all_filter P test [] all = tt
-all_filter P test (x ∷ xs) all = elim (test x) as (λ b. AllByRecursion P (cond b (x ∷ filter test xs) (filter test xs))) [
-  | true ↦ (all.0, all_filter P test xs all.1)
-  | false ↦ all_filter P test xs all.1
-]
-
-all_joined : {X : Type 0} (P : X → Type 0) (xs ys : List X) → AllByRecursion P xs → AllByRecursion P ys → AllByRecursion P (xs ++ ys)
-all_joined P [] ys all more = more
-all_joined P (x ∷ xs) ys all more = (all.0, all_joined P xs ys all.1 more)
-
-all_flat : {N X : Type 0} (P : X → Type 0) (rows : N → List X) → ((n : N) → AllByRecursion P (rows n)) → (ns : List N) → AllByRecursion P (flat_map rows ns)
-all_flat P rows each [] = tt
-all_flat P rows each (n ∷ ns) = all_joined P (rows n) (flat_map rows ns) (each n) (all_flat P rows each ns)
+-- what holds of lists holds of them joined
+all_flat : {N X : Type 0} (P : X → Type 0) (rows : N → List X) → ((n : N) → All P (rows n)) → (ns : List N) → All P (flat_map rows ns)
+all_flat P rows each [] = All-nil P
+all_flat P rows each (n ∷ ns) = All-append P (rows n) (flat_map rows ns) (each n) (all_flat P rows each ns)
 
 -- what is found in the first of two, or in both alike
 found_once : {V : Type 0} (b : Bool) (o : Option V) → cond (is_some o) o (cond b o None) ≡ o
@@ -50,6 +40,31 @@ module _ {K V : Type 0} (R : K → K → Ordering) where
   abbrev pub IsOf : Table K V → K × V → Type 0
   IsOf whole e = find R e.0 whole ≡ Some e.1
 
+  -- Rows that are selected by names: those of a name are the rows of a table under the keys that the name keeps.
+  module _ (whole : Table K V) {N : Type 0} (rows : N → Table K V) (keeps : N → K → Bool) (found : (n : N) (k : K) → find R k (rows n) ≡ cond (keeps n k) (find R k whole) None) where
+    find_selected : (k : K) (ns : List N) → find R k (flat_map rows ns) ≡ cond (list_any (λ n. keeps n k) ns) (find R k whole) None
+    find_selected k [] = refl
+    find_selected k (n ∷ ns) =
+        find_joined k (rows n) (flat_map rows ns)
+        ∙ (λ i. cond (is_some (found n k i)) (found n k i) (find_selected k ns i))
+        ∙ elim (keeps n k) as (λ b. cond (is_some (cond b (find R k whole) None)) (cond b (find R k whole) None) (cond (list_any (λ m. keeps m k) ns) (find R k whole) None)
+        ≡ cond (b || list_any (λ m. keeps m k) ns) (find R k whole) None) [
+          | true ↦ found_once (list_any (λ m. keeps m k) ns) (find R k whole)
+          | false ↦ refl
+        ]
+
+    -- under a key that a name keeps they have what the table has
+    pub find_kept_by : (ns : List N) (k : K) → list_any (λ n. keeps n k) ns ≡ true → find R k (flat_map rows ns) ≡ find R k whole
+    find_kept_by ns k named = find_selected k ns ∙ ap (λ b. cond b (find R k whole) None) named
+
+  -- the rows that pass a test of their keys
+  module _ (exact : (x y : K) → R x y ≡ Equal → x ≡ y) (whole : Table K V) (test : K → Bool) (k : K) where
+    pub tested_found : find R k (filter (λ e. test e.0) whole) ≡ cond (test k) (find R k whole) None
+    tested_found = find-where_key R test k (λ x same. ap test (sym (exact k x same))) whole
+
+    pub tested_kept : test k ≡ true → find R k (filter (λ e. test e.0) whole) ≡ find R k whole
+    tested_kept passes = tested_found ∙ ap (λ b. cond b (find R k whole) None) passes
+
 module _ {K V : Type 0} (R : K → K → Ordering) (o : IsTotalOrder R) where
   -- entries above one that is put before them are still found
   found_above : (e : K × V) (whole es : Table K V) → T (below_all R e.0 es) → AllByRecursion (IsOf R whole) es → AllByRecursion (IsOf R (e ∷ whole)) es
@@ -59,7 +74,7 @@ module _ {K V : Type 0} (R : K → K → Ordering) (o : IsTotalOrder R) where
       (ap (λ r. cond (is_eq r) (Some e.1) (find R x.0 whole)) later ∙ are.0, found_above e whole es (second _ _ above) are.1)
 
   -- the entries of a table are its own
-  pub own_entries : (es : Table K V) → T (is_sorted R es) → AllByRecursion (IsOf R es) es
+  own_entries : (es : Table K V) → T (is_sorted R es) → AllByRecursion (IsOf R es) es
   own_entries [] rising = tt
   own_entries (e ∷ es) rising = (
     ap (λ b. cond b (Some e.1) (find R e.0 es)) ((eq_by_cmp_equiv o).refl e.0),
@@ -83,58 +98,42 @@ module _ {K V : Type 0} (R : K → K → Ordering) (o : IsTotalOrder R) where
           | false ↦ λ apart. refl
         ] refl
 
-    -- Rows that are selected by names: those of a name are of the table, and are its rows of the keys that the name keeps.
-    module _ {N : Type 0} (rows : N → Table K V) (keeps : N → K → Bool) (are : (n : N) → AllByRecursion (IsOf R whole) (rows n))
-        (found : (n : N) (k : K) → find R k (rows n) ≡ cond (keeps n k) (find R k whole) None) where
-      find_selected : (k : K) (ns : List N) → find R k (flat_map rows ns) ≡ cond (list_any (λ n. keeps n k) ns) (find R k whole) None
-      find_selected k [] = refl
-      find_selected k (n ∷ ns) =
-          find_joined R k (rows n) (flat_map rows ns)
-          ∙ (λ i. cond (is_some (found n k i)) (found n k i) (find_selected k ns i))
-          ∙ elim (keeps n k) as (λ b. cond (is_some (cond b (find R k whole) None)) (cond b (find R k whole) None) (cond (list_any (λ m. keeps m k) ns) (find R k whole) None)
-          ≡ cond (b || list_any (λ m. keeps m k) ns) (find R k whole) None) [
-            | true ↦ found_once (list_any (λ m. keeps m k) ns) (find R k whole)
-            | false ↦ refl
-          ]
-
-      -- under a key that a name keeps the table of the rows has what the whole has
-      pub find_named : (ns : List N) (k : K) → list_any (λ n. keeps n k) ns ≡ true → find R k (put_all R (flat_map rows ns) []) ≡ find R k whole
-      find_named ns k named =
-          find-put_all (flat_map rows ns) [] k (all_flat (IsOf R whole) rows are ns)
-          ∙ ap (λ f. cond (is_some f) (find R k whole) None) (find_selected k ns ∙ ap (λ b. cond b (find R k whole) None) named)
-          ∙ found_later (find R k whole)
-
-  module _ (exact : (x y : K) → R x y ≡ Equal → x ≡ y) (whole : Table K V) (rising : T (is_sorted R whole)) where
-    -- the rows that pass a test of their keys
-    pub tested_are : (test : K → Bool) → AllByRecursion (IsOf R whole) (filter (λ e. test e.0) whole)
-    tested_are test = all_filter (IsOf R whole) (λ e. test e.0) whole (own_entries whole rising)
-
-    pub tested_found : (test : K → Bool) (k : K) → find R k (filter (λ e. test e.0) whole) ≡ cond (test k) (find R k whole) None
-    tested_found test k = find-where_key R test k (λ x same. ap test (sym (exact k x same))) whole
+    -- under a key that a name keeps the table of the rows of names has what the whole has
+    pub find_named : {N : Type 0} (rows : N → Table K V) (keeps : N → K → Bool) → ((n : N) → All (IsOf R whole) (rows n)) → ((n : N) (k : K) → find R k (rows n) ≡ cond (keeps n k) (find R k whole) None)
+        → (ns : List N) (k : K) → list_any (λ n. keeps n k) ns ≡ true → find R k (put_all R (flat_map rows ns) []) ≡ find R k whole
+    find_named rows keeps are found ns k named =
+        find-put_all (flat_map rows ns) [] k (recursion_from_All (IsOf R whole) (flat_map rows ns) (all_flat (IsOf R whole) rows are ns))
+        ∙ ap (λ f. cond (is_some f) (find R k whole) None) (find_kept_by R whole rows keeps found ns k named)
+        ∙ found_later (find R k whole)
 
     -- the row of a key
-    pub entry_is : (n : K) → AllByRecursion (IsOf R whole) (found_entry n (find R n whole))
-    entry_is n = elim (find R n whole) as (λ f. find R n whole ≡ f → AllByRecursion (IsOf R whole) (found_entry n f)) [
-      | None ↦ λ is. tt
-      | Some v ↦ λ is. (is, tt)
+    pub entry_is : (n : K) → All (IsOf R whole) (entry_of R whole n)
+    entry_is n = elim (find R n whole) as (λ f. find R n whole ≡ f → All (IsOf R whole) (found_entry n f)) [
+      | None ↦ λ is. All-nil (IsOf R whole)
+      | Some v ↦ λ is. All-from_recursion (IsOf R whole) ((n, v) ∷ []) (is, tt)
     ] refl
 
-    pub entry_found : (n k : K) → find R k (found_entry n (find R n whole)) ≡ cond (eq_by_cmp R k n) (find R k whole) None
+    pub entry_found : (n k : K) → find R k (entry_of R whole n) ≡ cond (eq_by_cmp R k n) (find R k whole) None
     entry_found n k =
-        elim (find R n whole) as (λ f. find R n whole ≡ f → find R k (found_entry n f) ≡ cond (eq_by_cmp R k n) f None) [
-          | None ↦ λ is. elim (eq_by_cmp R k n) as (λ b. ◌≡◌ {A = Option V} None (cond b None None)) [ true ↦ refl | false ↦ refl ]
-          | Some v ↦ λ is. refl
-        ] refl
+        elim (find R n whole) as (λ f. find R k (found_entry n f) ≡ cond (eq_by_cmp R k n) f None) [
+          | None ↦ elim (eq_by_cmp R k n) as (λ b. ◌≡◌ {A = Option V} None (cond b None None)) [ true ↦ refl | false ↦ refl ]
+          | Some v ↦ refl
+        ]
         ∙ elim (eq_by_cmp R k n) as (λ b. eq_by_cmp R k n ≡ b → cond b (find R n whole) None ≡ cond b (find R k whole) None) [
           | true ↦ λ same. find_tied R o k n ((Equal-is (R k n)).0 same) whole
           | false ↦ λ apart. refl
         ] refl
 
-    -- Two tables that have the same under all keys that pass a test have the same rows of them.
-    pub same_tested : (test : K → Bool) (es : Table K V) → T (is_sorted R es) → ((k : K) → test k ≡ true → find R k es ≡ find R k whole)
-        → filter (λ e. test e.0) es ≡ filter (λ e. test e.0) whole
-    same_tested test es ordered alike =
-        same_entries R o exact _ _ (is_sorted-where_key R test es ordered) (is_sorted-where_key R test whole rising)
-        (λ q. find-where_key R test q (λ x same. ap test (sym (exact q x same))) es
-        ∙ elim (test q) as (λ b. test q ≡ b → cond b (find R q es) None ≡ cond b (find R q whole) None) [ true ↦ λ passes. alike q passes | false ↦ λ fails. refl ] refl
-        ∙ sym (tested_found test q))
+    module _ (rising : T (is_sorted R whole)) where
+      -- the rows that pass a test
+      pub tested_are : (test : K × V → Bool) → All (IsOf R whole) (filter test whole)
+      tested_are test = All-filter test (IsOf R whole) whole (All-from_recursion (IsOf R whole) whole (own_entries whole rising))
+
+      -- Two tables that have the same under all keys that pass a test have the same rows of them.
+      pub same_tested : ((x y : K) → R x y ≡ Equal → x ≡ y) → (test : K → Bool) (es : Table K V) → T (is_sorted R es) → ((k : K) → test k ≡ true → find R k es ≡ find R k whole)
+          → filter (λ e. test e.0) es ≡ filter (λ e. test e.0) whole
+      same_tested exact test es ordered alike =
+          same_entries R o exact _ _ (is_sorted-where_key R test es ordered) (is_sorted-where_key R test whole rising)
+          (λ q. tested_found R exact es test q
+          ∙ elim (test q) as (λ b. test q ≡ b → cond b (find R q es) None ≡ cond b (find R q whole) None) [ true ↦ λ passes. alike q passes | false ↦ λ fails. refl ] refl
+          ∙ sym (tested_found R exact whole test q))

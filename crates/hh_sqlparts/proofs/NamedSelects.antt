@@ -9,17 +9,17 @@ use Rattle.hh_sqlparts.specs.Readings.{SelectsOnly, OfSettled}
 use Rattle.hh_sqlparts.proofs.ReadingLaws.{found_first, found_last, found_last_of_office}
 
 -- one more name
-module _ {N E : Type 0} (rows : N → Database → List E) (old mid new : State) (first : SelectsOnly old mid) (last : SelectsOnly mid new)
+module _ {N E : Type 0} (rows : Database → N → List E) (old mid new : State) (first : SelectsOnly old mid) (last : SelectsOnly mid new)
     (names : List N) (i : ℕ) (name : N) (inside : i < length names) (is : name ≡ get_or names i name) where
-  flat_more : (db : Database) → flat_map (λ n. rows n db) (take i names) ++ rows name db ≡ flat_map (λ n. rows n db) (take (i + 1) names)
-  flat_more db = flat_map_more (λ n. rows n db) [] (take i names) name ∙ ap (flat_map (λ n. rows n db)) (ap (λ n. take i names ++ n ∷ []) is ∙ sym (take_more names i name inside))
+  flat_more : (db : Database) → flat_map (rows db) (take i names) ++ rows db name ≡ flat_map (rows db) (take (i + 1) names)
+  flat_more db = flat_map_more (rows db) [] (take i names) name ∙ ap (flat_map (rows db)) (ap (λ n. take i names ++ n ∷ []) is ∙ sym (take_more names i name inside))
 
-  pub selects_more : (before more after : List E) → OfSettled old mid (before ≡ flat_map (λ n. rows n old.now) (take i names)) → OfOffice mid new (more ≡ rows name mid.now)
-      → after ≡ before ++ more → OfSettled old new (after ≡ flat_map (λ n. rows n old.now) (take (i + 1) names))
+  pub selects_more : (before more after : List E) → OfSettled old mid (before ≡ flat_map (rows old.now) (take i names)) → OfOffice mid new (more ≡ rows mid.now name)
+      → after ≡ before ++ more → OfSettled old new (after ≡ flat_map (rows old.now) (take (i + 1) names))
   selects_more before more after so_far found became stands office settled =
       became
-      ∙ (λ j. found_first old mid new first last (before ≡ flat_map (λ n. rows n old.now) (take i names)) so_far stands office settled j
-      ++ found_last_of_office old mid new first last (λ db. more ≡ rows name db) found stands office settled j)
+      ∙ (λ j. found_first old mid new first last (before ≡ flat_map (rows old.now) (take i names)) so_far stands office settled j
+      ++ found_last_of_office old mid new first last (λ db. more ≡ rows db name) found stands office settled j)
       ∙ flat_more old.now
 
 -- what one reading finds and what the next finds stand for both

@@ -2,13 +2,16 @@
 
 ghost use Rattle.std.specs.Prelude.{◌≡◌, false, IfOk, OnOk};
 ghost use Rattle.sqlite.specs.Held.{state};
+ghost use Rattle.hh_tables.specs.Tables.{IsTable};
+ghost use Rattle.hh_rows.specs.Keys.{reallocation_key_cmp};
 ghost use Rattle.hh_kept_rows.specs.DayRows.{HasRowsOn};
 ghost use Rattle.hh_sqlrows.specs.Contents.{registered_of};
 ghost use Rattle.hh_sqlparts.specs.Readings.{SelectsOnly, OfSettled};
 ghost use Rattle.hh_sqlparts.specs.steps.DayParts.{with_registered, with_rows_of_units};
 
 use crate::day_contracts::select_contracts;
-use crate::day_units::{ids_on, readings_of_units, reallocations_of_units};
+use crate::day_units::{ids_on, unit_days};
+use crate::named_entries::{meters_under, reallocations_under};
 use crate::tables::{all_parties, all_units, table_of};
 use hh_kept_rows::KeptRegister;
 use hh_keyed_rows::RowFault;
@@ -71,11 +74,13 @@ fn select_of_units<S: Alter>(
         let new = state S.Store conn.new in
         OfSettled old new (OnOk result (part.new
         ≡ with_rows_of_units date (registered_of old.now.trees) part.old)) }
+    ensures rises { OnOk result (IsTable reallocation_key_cmp part.new.reallocations) }
     ensures reading { SelectsOnly (state S.Store conn.old) (state S.Store conn.new) }
     ensures mode { conn.old.in_transaction ≡ false → conn.new.in_transaction ≡ false }
 {
     let units = ids_on(alloc, part.units.rows(), date)?;
-    part.meters = table_of(readings_of_units(conn, alloc, &units, date)?)?;
-    part.reallocations = table_of(reallocations_of_units(conn, alloc, &units)?)?;
+    let days = unit_days(alloc, &units, date)?;
+    part.meters = table_of(meters_under(conn, alloc, &days)?)?;
+    part.reallocations = table_of(reallocations_under(conn, alloc, &units)?)?;
     Ok(())
 }

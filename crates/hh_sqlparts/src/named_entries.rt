@@ -1,16 +1,14 @@
 //! The rows of the tables that names select.
 
-ghost use Rattle.std.specs.Prelude.{◌≡◌, false, filter, IfOk};
-ghost use Rattle.std.specs.FinMap.{find};
+ghost use Rattle.std.specs.Prelude.{◌≡◌, false, IfOk};
 ghost use Rattle.std.specs.List.{flat_map};
-ghost use Rattle.std.specs.Ordering.{is_eq, nat_cmp};
 ghost use Rattle.hh_names.specs.Accounts.{bytes_cmp};
 ghost use Rattle.hh_rows.specs.Keys.{contract_key_cmp};
 ghost use Rattle.sqlite.specs.Held.{state};
 ghost use Rattle.hh_sqlrows.specs.Forms.{rows_under_keys};
-ghost use Rattle.hh_sqlrows.specs.OfficeTables.{contracts, is_of_unit_on, meters, period_prices, reallocations, references};
+ghost use Rattle.hh_sqlrows.specs.OfficeTables.{contracts, meters, period_prices, reallocations, references};
 ghost use Rattle.hh_sqlparts.specs.Readings.{SelectsOnly, OfSettled};
-ghost use Rattle.hh_sqlparts.specs.steps.Named.{found_entry};
+ghost use Rattle.hh_sqlparts.specs.steps.Named.{entry_of, prices_of, readings_of, reallocations_of};
 
 use crate::named_names::UnitDay;
 use hh_keyed_rows::RowFault;
@@ -33,8 +31,7 @@ pub(crate) fn references_under<S: Alter>(
     ensures value { let old = state S.Store conn.old in
         let new = state S.Store conn.new in
         OfSettled old new (IfOk result (λ found. found.items
-        ≡ flat_map (λ n. found_entry n (find bytes_cmp n
-        (rows_under_keys references old.now.trees))) names.now)) }
+        ≡ flat_map (entry_of bytes_cmp (rows_under_keys references old.now.trees)) names.now)) }
     ensures reading { SelectsOnly (state S.Store conn.old) (state S.Store conn.new) }
     ensures mode { conn.old.in_transaction ≡ false → conn.new.in_transaction ≡ false }
 {
@@ -56,8 +53,8 @@ pub(crate) fn contracts_under<S: Alter>(
     ensures value { let old = state S.Store conn.old in
         let new = state S.Store conn.new in
         OfSettled old new (IfOk result (λ found. found.items
-        ≡ flat_map (λ n. found_entry n (find contract_key_cmp n
-        (rows_under_keys contracts old.now.trees))) names.now)) }
+        ≡ flat_map (entry_of contract_key_cmp (rows_under_keys contracts old.now.trees))
+        names.now)) }
     ensures reading { SelectsOnly (state S.Store conn.old) (state S.Store conn.new) }
     ensures mode { conn.old.in_transaction ≡ false → conn.new.in_transaction ≡ false }
 {
@@ -79,8 +76,7 @@ pub(crate) fn meters_under<S: Alter>(
     ensures value { let old = state S.Store conn.old in
         let new = state S.Store conn.new in
         OfSettled old new (IfOk result (λ found. found.items
-        ≡ flat_map (λ n. filter (λ e. is_of_unit_on n.unit n.date e.0)
-        (rows_under_keys meters old.now.trees)) names.now)) }
+        ≡ flat_map (readings_of (rows_under_keys meters old.now.trees)) names.now)) }
     ensures reading { SelectsOnly (state S.Store conn.old) (state S.Store conn.new) }
     ensures mode { conn.old.in_transaction ≡ false → conn.new.in_transaction ≡ false }
 {
@@ -101,8 +97,7 @@ pub(crate) fn prices_under<S: Alter>(
     ensures value { let old = state S.Store conn.old in
         let new = state S.Store conn.new in
         OfSettled old new (IfOk result (λ found. found.items
-        ≡ flat_map (λ n. filter (λ e. is_eq (nat_cmp e.0.date n))
-        (rows_under_keys period_prices old.now.trees)) names.now)) }
+        ≡ flat_map (prices_of (rows_under_keys period_prices old.now.trees)) names.now)) }
     ensures reading { SelectsOnly (state S.Store conn.old) (state S.Store conn.new) }
     ensures mode { conn.old.in_transaction ≡ false → conn.new.in_transaction ≡ false }
 {
@@ -123,8 +118,7 @@ pub(crate) fn reallocations_under<S: Alter>(
     ensures value { let old = state S.Store conn.old in
         let new = state S.Store conn.new in
         OfSettled old new (IfOk result (λ found. found.items
-        ≡ flat_map (λ n. filter (λ e. is_eq (bytes_cmp e.0.unit_period.unit n))
-        (rows_under_keys reallocations old.now.trees)) names.now)) }
+        ≡ flat_map (reallocations_of (rows_under_keys reallocations old.now.trees)) names.now)) }
     ensures reading { SelectsOnly (state S.Store conn.old) (state S.Store conn.new) }
     ensures mode { conn.old.in_transaction ≡ false → conn.new.in_transaction ≡ false }
 {

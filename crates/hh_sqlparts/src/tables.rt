@@ -1,6 +1,6 @@
 //! Rows as a table in the order of its keys, and whole tables of what is registered.
 
-ghost use Rattle.std.specs.Prelude.{◌≡◌, false, IfOk, IsOk};
+ghost use Rattle.std.specs.Prelude.{◌≡◌, false, IfOk};
 ghost use Rattle.sqlite.specs.Held.{state};
 ghost use Rattle.hh_tables.specs.Tables.{IsTable};
 ghost use Rattle.hh_sqlrows.specs.Forms.{rows_under_keys};
@@ -21,7 +21,7 @@ pub(crate) fn table_of<K: Ord + Copy, V: Drop>(
     rows: Vec<(K, V)>,
 ) -> Result<ListTable<K, V>, RowFault>
     ensures value { IfOk result (λ table. table ≡ rows.items) }
-    ensures rises { IsOk result → IsTable K.cmp rows.items }
+    ensures rises { IfOk result (IsTable K.cmp) }
 {
     match ListTable::of_rows(rows) {
         Some(table) => Ok(table),

@@ -1,12 +1,14 @@
 -- What rows name of each table, and what is selected of it by the names.
-use Rattle.std.specs.Prelude.{◌≡◌, ℕ, List, [], ◌∷◌, true, Option, Some, None, option_map, filter, All}
+use Rattle.std.specs.Prelude.{◌≡◌, ℕ, ℤ, List, [], ◌∷◌, true, Option, Some, None, option_map, filter, All}
 use Rattle.std.specs.BTreeMap.{is_at}
 use Rattle.std.specs.FinMap.{find}
 use Rattle.std.specs.List.{list_any}
 use Rattle.std.specs.Option.{IfSome}
-use Rattle.std.specs.Ordering.{eq_by_cmp}
+use Rattle.std.specs.Ordering.{eq_by_cmp, is_eq, nat_cmp}
 use Rattle.std.specs.declared.cmp.Ordering.{Ordering}
 use Rattle.hh_tables.specs.Tables.{IsTable, Table}
+use Rattle.hh_names.specs.Accounts.{bytes_cmp}
+use Rattle.hh_names.specs.declared.values.Reading.{Reading}
 use Rattle.hh_names.specs.declared.values.Reallocation.{Reallocation}
 use Rattle.hh_rows.specs.declared.keys.ContractKey.{ContractKey}
 use Rattle.hh_rows.specs.declared.keys.ReallocationKey.{ReallocationKey}
@@ -15,6 +17,7 @@ use Rattle.hh_rows.specs.declared.settlement_period.SettlementPeriod.{Settlement
 use Rattle.hh_rows.specs.declared.rows.Row.{Row}
 use Rattle.hh_rows.specs.declared.rows.Row.TheVariants as row
 use Rattle.hh_rows.specs.Keys.{reallocation_key_cmp, unit_period_cmp}
+use Rattle.hh_sqlrows.specs.OfficeTables.{is_of_unit_on}
 use Rattle.hh_sqlparts.specs.declared.named_names.UnitDay.{UnitDay}
 
 -- ---- what of each table a row is judged by; a row of another kind by nothing of it
@@ -69,6 +72,21 @@ IsAmong R name names r = IfSome (name r) (λ n. list_any (is_at (R n)) names ≡
 abbrev pub found_entry : {K V : Type 0} → K → Option V → List (K × V)
 found_entry k None = []
 found_entry k (Some v) = (k, v) ∷ []
+
+abbrev pub entry_of : {K V : Type 0} → (K → K → Ordering) → Table K V → K → Table K V
+entry_of R es k = found_entry k (find R k es)
+
+-- the readings of a unit on a date
+abbrev pub readings_of : Table UnitPeriod Reading → UnitDay → Table UnitPeriod Reading
+readings_of es n = filter (λ e. is_of_unit_on n.unit n.date e.0) es
+
+-- the prices of a date
+abbrev pub prices_of : Table SettlementPeriod ℤ → ℕ → Table SettlementPeriod ℤ
+prices_of es date = filter (λ e. is_eq (nat_cmp e.0.date date)) es
+
+-- the reallocations of a unit
+abbrev pub reallocations_of : Table ReallocationKey Reallocation → List ℕ → Table ReallocationKey Reallocation
+reallocations_of es unit = filter (λ e. is_eq (bytes_cmp e.0.unit_period.unit unit)) es
 
 -- ---- what a part has of a table
 

@@ -1,7 +1,8 @@
-use Rattle.std.proofs.Common.{arith}
-use Rattle.std.proofs.lemmas.Grind.{common_steps}
-use Rattle.std.proofs.lemmas.List.Sums.{fold-append}
+use Rattle.std.proofs.Common.{ap, ◌∙◌}
+use Rattle.std.specs.List.{dedup}
+use Rattle.std.specs.Str.{bytes_eq}
+use Rattle.std.proofs.lemmas.List.Filters.{dedup_is}
 use Rattle.hh_sqlparts.proofs.day_contracts.references_in.Goals as goal
 
-pub contracts-preserved : goal.contracts-preserved
-contracts-preserved c = grind (arith, common_steps, fold-append)
+pub returns : goal.returns
+returns c = dedup_is bytes_eq _ _ c.dedup.ensures.filtered ∙ ap (dedup bytes_eq) c.in_ok-named.ensures

@@ -1,9 +1,10 @@
-use Rattle.std.proofs.Common.{◌≡◌, false, take, filter}
+use Rattle.std.proofs.Common.{◌≡◌, false, take}
 use Rattle.std.specs.List.{flat_map}
 use Rattle.sqlite.specs.Held.{state}
 use Rattle.hh_sqlrows.specs.Forms.{rows_under_keys}
-use Rattle.hh_sqlrows.specs.OfficeTables.{meters, is_of_unit_on}
+use Rattle.hh_sqlrows.specs.OfficeTables.{meters}
 use Rattle.hh_sqlparts.specs.Readings.{SelectsOnly, OfSettled}
+use Rattle.hh_sqlparts.specs.steps.Named.{readings_of}
 use Rattle.hh_sqlparts.proofs.named_entries.meters_under.Given as goal
 
 -- what the names so far select
@@ -14,5 +15,5 @@ invariant-names g l =
     record {
       reading : SelectsOnly old now;
       mode : l.fn.conn.in_transaction ≡ false → l.conn.in_transaction ≡ false;
-      selected : OfSettled old now (l.found.items ≡ flat_map (λ n. filter (λ e. is_of_unit_on n.unit n.date e.0) (rows_under_keys meters old.now.trees)) (take l.name-index l.names));
+      selected : OfSettled old now (l.found.items ≡ flat_map (readings_of (rows_under_keys meters old.now.trees)) (take l.name-index l.names));
     }

@@ -1,8 +1,8 @@
-use Rattle.std.proofs.Common.{◌++◌, ap, arith, filter, ◌∙◌}
-use Rattle.std.specs.Ordering.{is_eq, nat_cmp}
+use Rattle.std.proofs.Common.{◌++◌, ap, arith, ◌∙◌}
 use Rattle.sqlite.specs.Held.{state}
 use Rattle.hh_sqlrows.specs.Forms.{rows_under_keys}
 use Rattle.hh_sqlrows.specs.OfficeTables.{period_prices}
+use Rattle.hh_sqlparts.specs.steps.Named.{prices_of}
 use Rattle.hh_sqlparts.proofs.NamedSelects.{selects_more}
 use Rattle.hh_sqlparts.proofs.ReadingLaws.{reading_of_statement, reading_then}
 use Rattle.hh_sqlparts.proofs.named_entries.prices_under.Goals as goal
@@ -18,7 +18,7 @@ names-preserved g c =
     record {
       reading = reading_then old mid new so_far.reading last;
       mode = λ h. one.mode (so_far.mode h);
-      selected = selects_more (λ n db. filter (λ e. is_eq (nat_cmp e.0.date n)) (rows_under_keys period_prices db.trees)) old mid new so_far.reading last
+      selected = selects_more (λ db. prices_of (rows_under_keys period_prices db.trees)) old mid new so_far.reading last
           c.args.names.now c.names.name-index c.name-item.result (omega arith) c.name-item.is
           c.names.found.items c.in_ok-prices.prices.items c.extend_from_slice.new.self.items so_far.selected c.in_ok-prices.ensures.value
           (c.in_ok-extend_from_slice.ensures.items ∙ ap (λ more. c.names.found.items ++ more) c.deref.ensures.value);

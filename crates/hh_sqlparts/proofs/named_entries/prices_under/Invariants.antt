@@ -1,10 +1,10 @@
-use Rattle.std.proofs.Common.{◌≡◌, false, take, filter}
+use Rattle.std.proofs.Common.{◌≡◌, false, take}
 use Rattle.std.specs.List.{flat_map}
-use Rattle.std.specs.Ordering.{is_eq, nat_cmp}
 use Rattle.sqlite.specs.Held.{state}
 use Rattle.hh_sqlrows.specs.Forms.{rows_under_keys}
 use Rattle.hh_sqlrows.specs.OfficeTables.{period_prices}
 use Rattle.hh_sqlparts.specs.Readings.{SelectsOnly, OfSettled}
+use Rattle.hh_sqlparts.specs.steps.Named.{prices_of}
 use Rattle.hh_sqlparts.proofs.named_entries.prices_under.Given as goal
 
 -- what the names so far select
@@ -15,5 +15,5 @@ invariant-names g l =
     record {
       reading : SelectsOnly old now;
       mode : l.fn.conn.in_transaction ≡ false → l.conn.in_transaction ≡ false;
-      selected : OfSettled old now (l.found.items ≡ flat_map (λ n. filter (λ e. is_eq (nat_cmp e.0.date n)) (rows_under_keys period_prices old.now.trees)) (take l.name-index l.names));
+      selected : OfSettled old now (l.found.items ≡ flat_map (prices_of (rows_under_keys period_prices old.now.trees)) (take l.name-index l.names));
     }

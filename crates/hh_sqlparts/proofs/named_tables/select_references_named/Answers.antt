@@ -1,13 +1,11 @@
 use Rattle.std.proofs.Common.{ap, subst, sym, ◌∙◌}
 use Rattle.std.specs.List.{All}
 use Rattle.hh_names.specs.Accounts.{bytes_cmp}
-use Rattle.hh_names.proofs.AccountLaws.{bytes_total}
 use Rattle.sqlite.specs.Held.{state}
 use Rattle.hh_tables.specs.Tables.{put_all}
 use Rattle.hh_sqlrows.specs.Forms.{rows_under_keys}
 use Rattle.hh_sqlrows.specs.OfficeTables.{references}
 use Rattle.hh_sqlparts.specs.steps.Named.{IsAmong, reference_of}
-use Rattle.hh_sqlparts.proofs.NamedForms.{rows_rise}
 use Rattle.hh_sqlparts.proofs.NamedTables.{references_named}
 use Rattle.hh_sqlparts.proofs.named_tables.select_references_named.Goals as goal
 
@@ -16,6 +14,6 @@ returns-clause-value g c stands office settled =
     let trees = (state g.S.Store c.args.conn.now).now.trees in
     let among : All (IsAmong bytes_cmp reference_of c.deref.result.now) c.args.rows.now =
     subst (λ names. All (IsAmong bytes_cmp reference_of names) c.args.rows.now) (sym c.deref.ensures.value) c.in_ok-names.ensures in
-    references_named c.args.rows.now (rows_under_keys references trees) (rows_rise references bytes_total trees) c.deref.result.now among
+    references_named c.args.rows.now (rows_under_keys references trees) c.deref.result.now among
     c.in_ok-found.found.items c.in_ok-with_rows.field-0 (c.in_ok-found.ensures.value stands office settled)
     (c.in_ok-with_rows.ensures ∙ ap (put_all bytes_cmp c.in_ok-found.found.items) c.new.ensures)
