@@ -1,7 +1,5 @@
 //! Clients of an office in memory, and what they are to get.
 
-ghost use Rattle.std.specs.Prelude.{◌<◌};
-
 use hh_devices::{MemorySink, MemorySource};
 use hh_names::OperatorKey;
 use hh_office::Office;
@@ -63,28 +61,72 @@ pub fn new_office(alloc: Global) -> Option<Office<'static, PlainTables>> {
     Some(Office::new(alloc, PlainTables::new(alloc, settings), london()))
 }
 
+/// A client: what it sends, in pieces of so many bytes, and behind how many bytes a read of them fails.
+#[derive(Clone, Copy)]
+pub struct Client<'a> {
+    pub sends: &'a [u8],
+    pub piece: usize,
+    pub fails_after: Option<usize>,
+}
+
+impl<'a> Client<'a> {
+    /// One that sends all at once, with no failure.
+    pub fn sending(sends: &'a [u8]) -> Client<'a> {
+        Client {
+            sends,
+            piece: WHOLE,
+            fails_after: None,
+        }
+    }
+
+    /// What it sends, as a source.
+    fn source(&self) -> MemorySource<'a> {
+        let source = MemorySource::new(self.sends).in_pieces(self.piece.max(1));
+        match self.fails_after {
+            Some(count) => source.failing_after(count),
+            None => source,
+        }
+    }
+}
+
 /// What came of a connection, and how many of its reads failed.
+type Outcome = (Result<Served, ServeFault>, u64);
+
+/// One reply went out.
+pub const REPLIED: Outcome = (Ok(Served::Replied), 0);
+
+/// The client closed at once.
+pub const CLOSED: Outcome = (Ok(Served::Closed), 0);
+
+/// A read failed.
+pub const READ_FAILED: Outcome = (Err(ServeFault::Read), 1);
+
+/// A write failed, or took nothing.
+pub const WRITE_FAILED: Outcome = (Err(ServeFault::Write), 0);
+
+/// Serves a client.
 pub fn served(
     alloc: Global,
     office: &mut Office<'_, PlainTables>,
-    mut source: MemorySource<'_>,
+    client: &Client<'_>,
     sink: &mut MemorySink,
-) -> (Result<Served, ServeFault>, u64) {
+) -> Outcome {
+    let mut source = client.source();
     let served = serve_one(alloc, office, MOMENT, &mut source, sink);
     (served, source.failures())
 }
 
-/// Whether a connection comes to this, with so many reads that failed, and these bytes go out.
+/// Whether serving a client comes to this, and these bytes go out.
 pub fn comes_to(
     alloc: Global,
     office: &mut Office<'_, PlainTables>,
-    source: MemorySource<'_>,
-    outcome: (Result<Served, ServeFault>, u64),
+    client: &Client<'_>,
+    outcome: &Outcome,
     sent: &[u8],
 ) -> bool {
     match MemorySink::with_room(alloc, ROOM) {
         Ok(mut sink) => {
-            served(alloc, office, source, &mut sink) == outcome
+            served(alloc, office, client, &mut sink) == *outcome
                 && sink.taken() == sent
                 && sink.failures() == 0
         }
@@ -92,16 +134,12 @@ pub fn comes_to(
     }
 }
 
-/// Whether a client that sends these bytes, so many a piece, gets this reply.
+/// Whether a client that sends these bytes all at once gets this reply.
 pub fn gets(
     alloc: Global,
     office: &mut Office<'_, PlainTables>,
-    bytes: &[u8],
-    piece: usize,
+    sends: &[u8],
     reply: &[u8],
-) -> bool
-    requires { 0 < piece }
-{
-    let source = MemorySource::new(bytes).in_pieces(piece);
-    comes_to(alloc, office, source, (Ok(Served::Replied), 0), reply)
+) -> bool {
+    comes_to(alloc, office, &Client::sending(sends), &REPLIED, reply)
 }
