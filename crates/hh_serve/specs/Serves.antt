@@ -42,9 +42,9 @@ abbrev pub Answer : Type 0
 Answer = Result Reply Refused
 
 -- bytes tell an answer: they are those of the reply, or those of the refusal or of memory that was refused to build them
-abbrev pub Tells : Answer → List ℕ → Type 0
-Tells (Ok given) text = text ≡ reply_text given false
-Tells (Err refused) text = RepliesRefused refused text
+abbrev pub RepliesAnswer : Answer → List ℕ → Type 0
+RepliesAnswer (Ok given) text = text ≡ reply_text given false
+RepliesAnswer (Err refused) text = RepliesRefused refused text
 
 -- this was read of a source, which had these bytes where it tells them
 abbrev pub IsReadOf : Option (List ℕ) → Result Incoming WireFault → Type 0
@@ -66,9 +66,9 @@ module _ (source : Option (List ℕ)) (old new : OfficeView) (counted counts : �
     -- tells something else than refused memory.
     abbrev pub Serves : Result Served ServeFault → Type 0
     Serves (Ok Closed) = IsReadOf source (Ok incoming.Closed) × (new ≡ old) × Keeps device.old device.new
-    Serves (Ok Replied) = (answer : Answer) × (text : List ℕ) × IsAnswer answer × Tells answer text × Appends device.old device.new text
+    Serves (Ok Replied) = (answer : Answer) × (text : List ℕ) × IsAnswer answer × RepliesAnswer answer text × Appends device.old device.new text
     Serves (Err Read) = (new ≡ old) × Keeps device.old device.new
-    Serves (Err Write) = (answer : Answer) × (text : List ℕ) × IsAnswer answer × Tells answer text × AppendsFront device.old device.new text
+    Serves (Err Write) = (answer : Answer) × (text : List ℕ) × IsAnswer answer × RepliesAnswer answer text × AppendsFront device.old device.new text
     Serves (Err Memory) = (given : Reply) × IsAnswer (Ok given) × (given ≢ reply.Refused memory_fault) × Keeps device.old device.new
 
 -- an office stands for the state that it stood for, or for the machine's state after one request that came at a moment

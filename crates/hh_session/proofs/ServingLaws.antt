@@ -85,10 +85,6 @@ one_served old new counted counts moment e served serves after read written s st
       (after s stood).0,
     )
 
--- a connection that was not had
-pub none_served : (fails : Type 0) (office : OfficeView) (moment : ℤ) → ServesAll fails office office moment (None ∷ [])
-none_served fails office moment s stood = (s, refl, stood, refl)
-
 -- ---- one after the other
 
 -- an office stands for some state after what came was served
@@ -129,11 +125,6 @@ module _ {L : Type 0} (leads : L → List Arrival → L → Type 0) (before betw
   pub refusals_more : (count : ℕ) → ServesEach (CountsMore first mid) old now moment leads before between count → StandsForSome old → first ≤ last
   refusals_more count (arrivals, many, led, served) some =
       omega (arith, up some, further (some_served (CountsMore first mid) old now moment arrivals served some))
-
--- no connection was awaited yet
-pub serves_none : {L : Type 0} (leads : L → List Arrival → L → Type 0) (listener : L) (fails : Type 0) (office : OfficeView) (moment : ℤ)
-    → ServesEach fails office office moment leads listener listener 0
-serves_none leads listener fails office moment = ([], refl, (λ start begins. begins), λ s stands. (s, refl, stands, refl))
 
 -- ---- a line that serves
 

@@ -27,7 +27,7 @@ use Rattle.hh_kept_rows.specs.DayRows.{AgreesOnUnitAt, HasContractsOn, HasRowsOn
 use Rattle.hh_sqlrows.specs.OfficeTables.{is_of_unit_on, unit_date_cmp}
 use Rattle.hh_sqlparts.specs.declared.named_names.UnitDay.{UnitDay}
 use Rattle.hh_sqlparts.specs.steps.DayParts.{contracts_on, ids_on, on_date, references_in, with_day_contracts, with_registered, with_rows_of_units}
-use Rattle.hh_sqlparts.specs.steps.Named.{entry_of, readings_of, reallocations_of}
+use Rattle.hh_sqlparts.specs.steps.Named.{entry_under, readings_of, reallocations_of}
 use Rattle.hh_sqlparts.proofs.NamedRows.{entry_found, find_kept_by, same_tested, tested_kept}
 use Rattle.hh_sqlparts.proofs.NamedTables.{reading_found, reallocation_found, same_reallocated}
 
@@ -73,7 +73,7 @@ module _ (date : ℕ) (whole part : Registered) where
       (ap (λ b. b && is_own (get_or whole.contracts i d).0.reference) (is_on (get_or whole.contracts i d).0.at.date date on) ∙ (eq_by_cmp_equiv bytes_total).refl (get_or whole.contracts i d).0.reference))
 
   -- what was selected of a date's contracts has the contracts of the date
-  has_contracts : T (is_sorted contract_key_cmp whole.contracts) → part.contracts ≡ contracts_on date whole → part.references ≡ flat_map (entry_of bytes_cmp whole.references) (references_in (contracts_on date whole))
+  has_contracts : T (is_sorted contract_key_cmp whole.contracts) → part.contracts ≡ contracts_on date whole → part.references ≡ flat_map (entry_under bytes_cmp whole.references) (references_in (contracts_on date whole))
       → HasContractsOn date whole part
   has_contracts rises contracts references = record {
     volumes = λ at on. ap (filter (λ e. eq_by_cmp settlement_period_cmp e.0.at at)) contracts
@@ -81,7 +81,7 @@ module _ (date : ℕ) (whole part : Registered) where
         (contracts_on date whole) (is_sorted-where_key contract_key_cmp (λ k. is_eq (nat_cmp k.at.date date)) whole.contracts rises)
         (λ k same. tested_kept contract_key_cmp exact_contract_keys whole.contracts (λ k. is_eq (nat_cmp k.at.date date)) k (is_on k.at.date date (ap (λ at. at.date) (same_period k.at at same) ∙ on)));
     references = λ i d inside on. ap (find bytes_cmp (get_or whole.contracts i d).0.reference) references
-        ∙ find_kept_by bytes_cmp whole.references (entry_of bytes_cmp whole.references) (λ n k. eq_by_cmp bytes_cmp k n) (entry_found bytes_cmp bytes_total whole.references)
+        ∙ find_kept_by bytes_cmp whole.references (entry_under bytes_cmp whole.references) (λ n k. eq_by_cmp bytes_cmp k n) (entry_found bytes_cmp bytes_total whole.references)
         (references_in (contracts_on date whole)) (get_or whole.contracts i d).0.reference (reference_among i d inside on);
   }
 

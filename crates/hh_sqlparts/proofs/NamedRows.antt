@@ -10,7 +10,7 @@ use Rattle.std.specs.declared.cmp.Ordering.TheVariants.{Equal, Greater}
 use Rattle.std.proofs.lemmas.List.Elements.{All-append, All-filter, All-from_recursion, All-nil, recursion_from_All}
 use Rattle.hh_tables.specs.Tables.{Table, put_all}
 use Rattle.hh_tables.proofs.RowLaws.{first, less, second}
-use Rattle.hh_sqlparts.specs.steps.Named.{entry_of, found_entry}
+use Rattle.hh_sqlparts.specs.steps.Named.{entry_under, found_entry}
 
 -- what holds of lists holds of them joined
 all_flat : {N X : Type 0} (P : X → Type 0) (rows : N → List X) → ((n : N) → All P (rows n)) → (ns : List N) → All P (flat_map rows ns)
@@ -107,13 +107,13 @@ module _ {K V : Type 0} (R : K → K → Ordering) (o : IsTotalOrder R) where
         ∙ found_later (find R k whole)
 
     -- the row of a key
-    pub entry_is : (n : K) → All (IsOf R whole) (entry_of R whole n)
+    pub entry_is : (n : K) → All (IsOf R whole) (entry_under R whole n)
     entry_is n = elim (find R n whole) as (λ f. find R n whole ≡ f → All (IsOf R whole) (found_entry n f)) [
       | None ↦ λ is. All-nil (IsOf R whole)
       | Some v ↦ λ is. All-from_recursion (IsOf R whole) ((n, v) ∷ []) (is, tt)
     ] refl
 
-    pub entry_found : (n k : K) → find R k (entry_of R whole n) ≡ cond (eq_by_cmp R k n) (find R k whole) None
+    pub entry_found : (n k : K) → find R k (entry_under R whole n) ≡ cond (eq_by_cmp R k n) (find R k whole) None
     entry_found n k =
         elim (find R n whole) as (λ f. find R k (found_entry n f) ≡ cond (eq_by_cmp R k n) f None) [
           | None ↦ elim (eq_by_cmp R k n) as (λ b. ◌≡◌ {A = Option V} None (cond b None None)) [ true ↦ refl | false ↦ refl ]

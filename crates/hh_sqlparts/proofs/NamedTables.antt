@@ -25,7 +25,7 @@ use Rattle.hh_rows.specs.Keys.{contract_key_cmp, reallocation_key_cmp, settlemen
 use Rattle.hh_rows.proofs.KeyLaws.{contract_key_total, exact_reallocation_keys, exact_settlement_periods, exact_unit_periods, reallocation_key_total, settlement_period_total, unit_period_total}
 use Rattle.hh_sqlrows.specs.OfficeTables.{is_of_unit_on}
 use Rattle.hh_sqlparts.specs.declared.named_names.UnitDay.{UnitDay}
-use Rattle.hh_sqlparts.specs.steps.Named.{FindsNamed, HasReallocated, IsAmong, date_of, entry_of, price_key_of, prices_of, reading_key_of, readings_of, reallocated_at, reallocated_of, reallocations_of, reference_of, unit_day, unit_day_of, unit_of, volume_key_of}
+use Rattle.hh_sqlparts.specs.steps.Named.{FindsNamed, HasReallocated, IsAmong, date_of, entry_under, price_key_of, prices_of, reading_key_of, readings_of, reallocated_at, reallocated_of, reallocations_of, reference_of, unit_day, unit_day_of, unit_of, volume_key_of}
 use Rattle.hh_sqlparts.proofs.NamedRows.{IsOf, entry_found, entry_is, find_named, same_tested, tested_are, tested_found}
 
 -- the unit decides, then the date
@@ -75,17 +75,17 @@ module _ {K V N : Type 0} (R : K → K → Ordering) (o : IsTotalOrder R) (whole
 
 module _ (rows : List Row) where
   pub references_named : (whole : Table (List ℕ) Counterparties) (names : List (List ℕ)) → All (IsAmong bytes_cmp reference_of names) rows → (found part : Table (List ℕ) Counterparties)
-      → found ≡ flat_map (entry_of bytes_cmp whole) names → part ≡ put_all bytes_cmp found []
+      → found ≡ flat_map (entry_under bytes_cmp whole) names → part ≡ put_all bytes_cmp found []
       → FindsNamed bytes_cmp reference_of rows whole part
   references_named whole =
-      finds_of_rows bytes_cmp bytes_total whole bytes_cmp (λ k. k) (entry_of bytes_cmp whole) (entry_is bytes_cmp bytes_total whole) (entry_found bytes_cmp bytes_total whole)
+      finds_of_rows bytes_cmp bytes_total whole bytes_cmp (λ k. k) (entry_under bytes_cmp whole) (entry_is bytes_cmp bytes_total whole) (entry_found bytes_cmp bytes_total whole)
       reference_of reference_of (λ r. own_name (reference_of r)) rows
 
   pub contracts_named : (whole : Table ContractKey ℤ) (names : List ContractKey) → All (IsAmong contract_key_cmp volume_key_of names) rows → (found part : Table ContractKey ℤ)
-      → found ≡ flat_map (entry_of contract_key_cmp whole) names → part ≡ put_all contract_key_cmp found []
+      → found ≡ flat_map (entry_under contract_key_cmp whole) names → part ≡ put_all contract_key_cmp found []
       → FindsNamed contract_key_cmp volume_key_of rows whole part
   contracts_named whole =
-      finds_of_rows contract_key_cmp contract_key_total whole contract_key_cmp (λ k. k) (entry_of contract_key_cmp whole)
+      finds_of_rows contract_key_cmp contract_key_total whole contract_key_cmp (λ k. k) (entry_under contract_key_cmp whole)
       (entry_is contract_key_cmp contract_key_total whole) (entry_found contract_key_cmp contract_key_total whole)
       volume_key_of volume_key_of (λ r. own_name (volume_key_of r)) rows
 

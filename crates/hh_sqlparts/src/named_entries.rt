@@ -8,7 +8,7 @@ ghost use Rattle.sqlite.specs.Held.{state};
 ghost use Rattle.hh_sqlrows.specs.Forms.{rows_under_keys};
 ghost use Rattle.hh_sqlrows.specs.OfficeTables.{contracts, meters, period_prices, reallocations, references};
 ghost use Rattle.hh_sqlparts.specs.Readings.{SelectsOnly, OfSettled};
-ghost use Rattle.hh_sqlparts.specs.steps.Named.{entry_of, prices_of, readings_of, reallocations_of};
+ghost use Rattle.hh_sqlparts.specs.steps.Named.{entry_under, prices_of, readings_of, reallocations_of};
 
 use crate::named_names::UnitDay;
 use hh_keyed_rows::RowFault;
@@ -31,7 +31,7 @@ pub(crate) fn references_under<S: Alter>(
     ensures value { let old = state S.Store conn.old in
         let new = state S.Store conn.new in
         OfSettled old new (IfOk result (λ found. found.items
-        ≡ flat_map (entry_of bytes_cmp (rows_under_keys references old.now.trees)) names.now)) }
+        ≡ flat_map (entry_under bytes_cmp (rows_under_keys references old.now.trees)) names.now)) }
     ensures reading { SelectsOnly (state S.Store conn.old) (state S.Store conn.new) }
     ensures mode { conn.old.in_transaction ≡ false → conn.new.in_transaction ≡ false }
 {
@@ -53,7 +53,7 @@ pub(crate) fn contracts_under<S: Alter>(
     ensures value { let old = state S.Store conn.old in
         let new = state S.Store conn.new in
         OfSettled old new (IfOk result (λ found. found.items
-        ≡ flat_map (entry_of contract_key_cmp (rows_under_keys contracts old.now.trees))
+        ≡ flat_map (entry_under contract_key_cmp (rows_under_keys contracts old.now.trees))
         names.now)) }
     ensures reading { SelectsOnly (state S.Store conn.old) (state S.Store conn.new) }
     ensures mode { conn.old.in_transaction ≡ false → conn.new.in_transaction ≡ false }

@@ -4,7 +4,7 @@ use Rattle.std.proofs.lemmas.Bool.{cases_lt}
 use Rattle.std.proofs.lemmas.List.{length-append, length-take, take-append-le, take_all, take_at}
 use Rattle.std.specs.Io.KnownBytes.{Consumes, prepend_known}
 use Rattle.hh_heads.specs.Found.{HasGiven}
-use Rattle.hh_wire.specs.steps.Stops.{Fills, IsShort}
+use Rattle.hh_wire.specs.steps.Stops.{Fills, FallsShort}
 
 -- a buffer that the bytes at hand and the rest fill, by whether those at hand are enough
 module _ (behind rest items after : List ℕ) (size : ℕ) (long : length items ≡ size) (same : take (min (length behind) size) behind ++ rest ≡ items ++ after) where
@@ -34,11 +34,3 @@ filled_whole (Some rest) behind items old final size len count b is least long f
 pub on_err : {X E : Type 0} (r : Result X E) (Fact : Type 0) → Fact → OnErr r Fact
 on_err (Ok x) Fact fact = tt
 on_err (Err e) Fact fact = fact
-
--- where a read for a body failed, all that came with its head was at hand
-pub short_behind : (behind : List ℕ) (size count : ℕ) (old new : Option (List ℕ)) → count ≡ min (length behind) size
-    → HasGiven (IsShort (length (take count behind)) size) (prepend_known (take count behind) old) new
-    → HasGiven (λ given. length given < size) (prepend_known behind old) new
-short_behind behind size count old new least (given, consumed, short) =
-    let all : take count behind ≡ behind = take_all count behind (omega (arith, length-take count behind, short.0, short.1)) in
-    (given, subst (λ (t : List ℕ). Consumes (prepend_known t old) new given) all consumed, short.1)

@@ -5,7 +5,7 @@ ghost use Rattle.std.specs.Io.KnownBytes.{prepend_known};
 ghost use Rattle.hh_devices.specs.Devices.{CountsErr};
 ghost use Rattle.hh_heads.specs.Found.{HasGiven};
 ghost use Rattle.hh_wire.specs.Stops.{CountsStop, StopsWith};
-ghost use Rattle.hh_wire.specs.steps.Stops.{Fills, IsShort, ReadsBody};
+ghost use Rattle.hh_wire.specs.steps.Stops.{Fills, FallsShort, ReadsBody};
 
 use crate::stop::Stop;
 use hh_devices::{DeviceFailed, Source};
@@ -51,7 +51,7 @@ fn fill_body<S: Source>(
     ensures kept { length body.new ≡ length body.old }
     ensures filled { IfSome (S.remaining source.old) (λ rest.
         IfOk result (Fills (at_hand.now ++ rest) body.new)) }
-    ensures awaited { OnErr result (HasGiven (IsShort (length at_hand.now) (length body.old))
+    ensures awaited { OnErr result (HasGiven (FallsShort (length at_hand.now) (length body.old))
         (prepend_known at_hand.now (S.remaining source.old)) (S.remaining source.new)) }
     ensures failed { CountsErr result (S.failures source.old) (S.failures source.new) }
 {

@@ -10,7 +10,7 @@ use Rattle.hh_rows.specs.declared.keys.ContractKey.{ContractKey}
 use Rattle.hh_rows.specs.declared.rows.UnitRegistration.{UnitRegistration}
 use Rattle.hh_rules.specs.History.{Registered}
 use Rattle.hh_sqlparts.specs.declared.named_names.UnitDay.{UnitDay}
-use Rattle.hh_sqlparts.specs.steps.Named.{entry_of, prices_of, readings_of, reallocations_of}
+use Rattle.hh_sqlparts.specs.steps.Named.{entry_under, prices_of, readings_of, reallocations_of}
 
 -- the ids of the units that are effective on a date
 abbrev pub ids_on : ℕ → Table (List ℕ) UnitRegistration → List (List ℕ)
@@ -34,7 +34,7 @@ contracts_on date whole = filter (λ e. is_eq (nat_cmp e.0.at.date date)) whole.
 abbrev pub with_day_contracts : ℕ → Registered → Registered → Registered
 with_day_contracts date whole part = record part {
   contracts = contracts_on date whole;
-  references = flat_map (entry_of bytes_cmp whole.references) (references_in (contracts_on date whole));
+  references = flat_map (entry_under bytes_cmp whole.references) (references_in (contracts_on date whole));
 }
 
 -- the part with all parties and units, and the prices of a date

@@ -73,8 +73,9 @@ abbrev pub found_entry : {K V : Type 0} → K → Option V → List (K × V)
 found_entry k None = []
 found_entry k (Some v) = (k, v) ∷ []
 
-abbrev pub entry_of : {K V : Type 0} → (K → K → Ordering) → Table K V → K → Table K V
-entry_of R es k = found_entry k (find R k es)
+-- what a table has under a key
+abbrev pub entry_under : {K V : Type 0} → (K → K → Ordering) → Table K V → K → Table K V
+entry_under R es k = found_entry k (find R k es)
 
 -- the readings of a unit on a date
 abbrev pub readings_of : Table UnitPeriod Reading → UnitDay → Table UnitPeriod Reading

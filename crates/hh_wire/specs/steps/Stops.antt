@@ -19,5 +19,5 @@ ReadsBody bytes len (Err (Refused refusal.BadRequest)) = length bytes < len
 ReadsBody bytes len (Err (Refused _)) = ⊥
 
 -- bytes of which so many were at hand, and which are fewer than a body has
-abbrev pub IsShort : ℕ → ℕ → List ℕ → Type 0
-IsShort at_hand size bytes = (at_hand ≤ length bytes) × (length bytes < size)
+abbrev pub FallsShort : ℕ → ℕ → List ℕ → Type 0
+FallsShort at_hand size bytes = (at_hand ≤ length bytes) × (length bytes < size)

@@ -4,7 +4,7 @@ use Rattle.hh_rows.specs.Keys.{contract_key_cmp}
 use Rattle.sqlite.specs.Held.{state}
 use Rattle.hh_sqlrows.specs.Forms.{rows_under_keys}
 use Rattle.hh_sqlrows.specs.OfficeTables.{contracts}
-use Rattle.hh_sqlparts.specs.steps.Named.{entry_of, found_entry}
+use Rattle.hh_sqlparts.specs.steps.Named.{entry_under, found_entry}
 use Rattle.hh_sqlparts.proofs.NamedSelects.{selects_more}
 use Rattle.hh_sqlparts.proofs.ReadingLaws.{reading_of_statement, reading_then}
 use Rattle.hh_sqlparts.proofs.named_entries.contracts_under.Goals as goal
@@ -22,7 +22,7 @@ names-preserved g c =
     record {
       reading = reading_then old mid new so_far.reading last;
       mode = λ h. one.mode (so_far.mode h);
-      selected = selects_more (λ db. entry_of contract_key_cmp (rows_under_keys contracts db.trees)) old mid new so_far.reading last
+      selected = selects_more (λ db. entry_under contract_key_cmp (rows_under_keys contracts db.trees)) old mid new so_far.reading last
           c.args.names.now c.names.name-index name (omega arith) c.name-item.is
           c.names.found.items (found_entry name c.in_ok-volume.field-0) c.match-branch-2.found.items so_far.selected (λ stands office. ap (found_entry name) (c.in_ok-volume.ensures.value stands office))
           (elim c.match-branch-2.branch [

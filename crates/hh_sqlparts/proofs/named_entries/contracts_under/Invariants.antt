@@ -5,7 +5,7 @@ use Rattle.sqlite.specs.Held.{state}
 use Rattle.hh_sqlrows.specs.Forms.{rows_under_keys}
 use Rattle.hh_sqlrows.specs.OfficeTables.{contracts}
 use Rattle.hh_sqlparts.specs.Readings.{SelectsOnly, OfSettled}
-use Rattle.hh_sqlparts.specs.steps.Named.{entry_of}
+use Rattle.hh_sqlparts.specs.steps.Named.{entry_under}
 use Rattle.hh_sqlparts.proofs.named_entries.contracts_under.Given as goal
 
 -- what the names so far select
@@ -16,5 +16,5 @@ invariant-names g l =
     record {
       reading : SelectsOnly old now;
       mode : l.fn.conn.in_transaction ≡ false → l.conn.in_transaction ≡ false;
-      selected : OfSettled old now (l.found.items ≡ flat_map (entry_of contract_key_cmp (rows_under_keys contracts old.now.trees)) (take l.name-index l.names));
+      selected : OfSettled old now (l.found.items ≡ flat_map (entry_under contract_key_cmp (rows_under_keys contracts old.now.trees)) (take l.name-index l.names));
     }
