@@ -65,7 +65,11 @@ fn load_file<R: Files + Clock + Print + Eprint + AllocGlobal>(
 }
 
 /// Judges each row and applies it, if it is accepted.
-fn apply_rows(register: &mut Register, zone: &TimeZone<'_>, rows: &[Row]) -> Result<Counts, MeasureStop> {
+fn apply_rows(
+    register: &mut Register,
+    zone: &TimeZone<'_>,
+    rows: &[Row],
+) -> Result<Counts, MeasureStop> {
     let mut counts = Counts::default();
     for row in rows {
         counts.add(register.apply_row(zone, MOMENT, *row))?;
@@ -79,5 +83,7 @@ fn print_counts<R: Print>(rt: &R, kind: &str, counts: Counts) -> Result<(), Meas
         late,
         refused,
     } = counts;
-    println!(rt; "{kind} applied {applied} late {late} refused {refused}").map_err(|_| MeasureStop::Output)
+    println!(rt; "{kind} applied {applied} late {late} refused {refused}").map_err(
+        |_| MeasureStop::Output,
+    )
 }

@@ -23,7 +23,10 @@ pub(crate) fn settle_again<R: Clock + Print + Eprint + AllocGlobal>(
 }
 
 /// Settles the period, if it may be settled, and prints the nanoseconds that it took.
-fn settle_once<R: Clock + Eprint + AllocGlobal>(rt: &R, period: &PeriodData) -> Result<u64, MeasureStop> {
+fn settle_once<R: Clock + Eprint + AllocGlobal>(
+    rt: &R,
+    period: &PeriodData,
+) -> Result<u64, MeasureStop> {
     if !period.is_ready() {
         return Err(MeasureStop::NotReady);
     }
