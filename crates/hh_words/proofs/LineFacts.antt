@@ -6,7 +6,9 @@ use Rattle.clap.specs.declared.error.kind.ErrorKind.{ErrorKind}
 use Rattle.clap.specs.declared.error.kind.ErrorKind.TheVariants.{OutOfMemory}
 use Rattle.clap.specs.declared.parser.matches.ArgMatches.{ArgMatches}
 use Rattle.hh_words.specs.Grammar.{settle_app}
-use Rattle.hh_words.specs.Lines.{Line, faultless, given_line, line_value}
+use Rattle.hh_words.specs.Lines.{Line, TellsUsage, faultless, given_line, line_value}
+use Rattle.hh_words.specs.declared.words.WordsFault.{WordsFault}
+use Rattle.hh_words.specs.declared.words.WordsFault.TheVariants.{Memory, Wrong}
 
 settle-simple : is_simple settle_app ≡ true
 settle-simple = refl
@@ -41,4 +43,21 @@ line_value-refused app words e is faults other =
     elim has [
       | inl h ↦ absurd (other h)
       | inr h ↦ faultless-among (kind_of e) (fault_of settle_app words) _ h
+    ]
+
+among-some : (kind : ErrorKind) (kinds : Kinds) → IsAmong kind kinds → kinds ≢ []
+among-some kind [] among = absurd among
+among-some kind (x ∷ xs) among = λ none. cc none
+
+-- where it finds a fault, the words that are told wrong have one
+pub tells_usage-refused : (app : App) (words : List Text) (e : Error) (fault : WordsFault) → app ≡ settle_app
+    → (is_simple_and_free app ≡ true → HasKind (fault_of app words) e) → (kind_of e ≡ OutOfMemory → fault ≡ Memory)
+    → TellsUsage words fault
+tells_usage-refused app words e Memory is faults memory = tt
+tells_usage-refused app words e (Wrong text) is faults memory = λ none.
+    let free : is_simple_and_free app ≡ true = ap is_simple_and_free is ∙ settle-free in
+    let has : HasKind (fault_of settle_app words) e = rw is at (faults free) in
+    elim has [
+      | inl h ↦ absurd (cc (memory h))
+      | inr h ↦ absurd (among-some (kind_of e) (fault_of settle_app words) h none)
     ]

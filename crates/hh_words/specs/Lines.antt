@@ -1,5 +1,5 @@
 -- What a line of words asks for.
-use Rattle.std.specs.Prelude.{ℕ, List, [], ◌∷◌, Option, Some, None, codes, if◌then◌else◌}
+use Rattle.std.specs.Prelude.{◌≡◌, ℕ, List, [], ◌∷◌, Option, Some, None, codes, string_bytes, if◌then◌else◌}
 use Rattle.std.specs.Str.{bytes_eq}
 use Rattle.clap.specs.Words.{Row, Text, first_of, fault_of, subcommand_of}
 use Rattle.clap.specs.Kinds.{Kinds}
@@ -9,6 +9,8 @@ use Rattle.hh_rows.specs.Minutes.{lead_minutes_value}
 use Rattle.hh_words.specs.Grammar.{settle_app}
 use Rattle.hh_words.specs.declared.words.Command.{Command}
 use Rattle.hh_words.specs.declared.words.Command.TheVariants.{Period, Script}
+use Rattle.hh_words.specs.declared.words.WordsFault.{WordsFault}
+use Rattle.hh_words.specs.declared.words.WordsFault.TheVariants.{Memory, Wrong}
 
 -- a command with its values
 pub data Line : Type 0 where
@@ -64,3 +66,12 @@ faultless (kind ∷ kinds) line = None
 -- the command that the words are by `clap`'s grammar, the program's own name in front
 unfoldable pub line_value : List Text → Option Line
 line_value words = faultless (fault_of settle_app words) (given_line (subcommand_of settle_app words))
+
+-- how the program is used, in short
+abbrev pub usage : Text
+usage = codes "usage: settle period METER CONTRACTS PRICE\n       settle script --operator-key KEY [--lead-minutes N] FILE\n"
+
+-- words in which `clap` finds no fault have a value off its grammar, and what tells them wrong is how the program is used
+abbrev pub TellsUsage : List Text → WordsFault → Type 0
+TellsUsage words (Wrong text) = fault_of settle_app words ≡ [] → string_bytes text ≡ usage
+TellsUsage words Memory = Unit {0}

@@ -5,7 +5,7 @@ ghost use Rattle.clap.specs.Words.{app_of, rule_of, found_of, rows_of, first_of,
 ghost use Rattle.clap.specs.declared.builder.command.Command.TheViews.{out-Command};
 ghost use Rattle.clap.specs.declared.error.kind.ErrorKind.TheVariants.{OutOfMemory};
 ghost use Rattle.hh_words.specs.Grammar.{option, period_app, positional, required_option, script_app, settle_app};
-ghost use Rattle.hh_words.specs.Lines.{line_of, line_value, given_line, given_period, given_script, minutes_given};
+ghost use Rattle.hh_words.specs.Lines.{line_of, line_value, given_line, given_period, given_script, minutes_given, TellsUsage};
 
 use clap::error::ErrorKind;
 use clap::{Arg, ArgAction, ArgMatches, Command as Grammar};
@@ -142,13 +142,14 @@ fn settle_grammar<'a>(alloc: Global) -> Result<Grammar<'a>, AllocError>
 ///
 /// # Errors
 ///
-/// `Wrong` where the words are no command by `clap`'s grammar, or call for help; `Memory` where
-/// memory was refused.
+/// `Wrong` where the words are no command by `clap`'s grammar, or call for help, with a text of
+/// `clap`'s; and where a value is off its grammar, with `USAGE`. `Memory` where memory was refused.
 pub fn read_words<'a>(alloc: Global, words: &'a [String]) -> Result<Command<'a>, WordsFault>
     ensures command { IfOk result (λ command.
         line_value (map string_bytes words.entry.now) ≡ Some (line_of command)) }
     ensures wrong { IfErr result (λ fault. fault ≢ WordsFault.Memory
         → line_value (map string_bytes words.entry.now) ≡ None) }
+    ensures usage { IfErr result (TellsUsage (map string_bytes words.entry.now)) }
 {
     let settle = settle_grammar(alloc)?;
     match settle.try_get_matches_from(words) {
