@@ -1,10 +1,13 @@
--- How a stop with status 2 is told.
-use Rattle.std.proofs.Common.{◌≡◌, inl, inr, refl, arith}
+-- How a stop with status 2 is told, and wrong words are.
+use Rattle.std.proofs.Common.{◌≡◌, ◌≢◌, ℕ, List, [], ◌∷◌, inl, inr, refl, ap, arith}
+use Rattle.clap.specs.Words.{Text, fault_of}
 use Rattle.hh_devices.specs.DeviceChanges.{DeviceChange}
+use Rattle.hh_words.specs.Grammar.{settle_app}
+use Rattle.hh_words.specs.Lines.{usage}
 use Rattle.hh_command.specs.declared.program.Stop.{Stop}
 use Rattle.hh_command.specs.declared.program.Stop.TheVariants as stop
-use Rattle.hh_command.specs.Stops.{IsTold, Tells, stop_line, stop_status}
-use Rattle.hh_command.specs.steps.Stops.{IsOffAndTold}
+use Rattle.hh_command.specs.Stops.{IsTold, Tells, TellsWrong, stop_status}
+use Rattle.hh_command.specs.steps.Stops.{IsOffAndTold, told_text}
 
 -- it is a line of a script off its form, whose number is told
 pub off_and_told : (device : DeviceChange) (s : Stop) → stop_status s ≡ 2 → Tells device s → IsOffAndTold device s
@@ -15,7 +18,11 @@ off_and_told device (stop.Off line) two (inl failed) = (line, refl, inl failed)
 off_and_told device (stop.Off line) two (inr (inl went)) = (line, refl, inr went)
 off_and_told device (stop.Off line) two (inr (inr (none, went))) = absurd none
 
--- so a text is told
-pub told_by_off : (device : DeviceChange) (s : Stop) → IsOffAndTold device s → IsTold device
-told_by_off device s (line, same, inl failed) = inl failed
-told_by_off device s (line, same, inr went) = inr (stop_line (stop.Off line), (λ e. cc e), went)
+told_some : (text : List ℕ) → told_text text ≢ []
+told_some [] = λ e. cc e
+told_some (byte ∷ bytes) = λ e. cc e
+
+-- words are told wrong by a text that is how the program is used where `clap` finds no fault in them
+pub wrong_told : (words : List Text) (device : DeviceChange) (text : List ℕ) → (fault_of settle_app words ≡ [] → text ≡ usage)
+    → IsTold device (told_text text) → TellsWrong words device
+wrong_told words device text used told = (told_text text, told_some text, (λ none. ap told_text (used none)), told)

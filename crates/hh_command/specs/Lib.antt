@@ -1,2 +1,3 @@
+pub mod NoWords
 pub mod Stops
 pub mod steps

@@ -1,7 +1,7 @@
 -- How a line of words ends: done, or stopped, and what is told of it.
 use Rattle.std.specs.Prelude.{◌≡◌, ◌≢◌, ◌⊎◌, ℕ, List, [], ◌++◌, Option, Some, None, Ok, Err, codes, decimal}
 use Rattle.std.specs.Io.KnownBytes.{Appends}
-use Rattle.clap.specs.Words.{Text}
+use Rattle.clap.specs.Words.{Text, fault_of}
 use Rattle.hh_devices.specs.DeviceChanges.{DeviceChange, HasFailed}
 use Rattle.hh_devices.specs.Devices.{AppendsFront}
 use Rattle.hh_names.specs.Faults.{ByRefusal}
@@ -17,7 +17,8 @@ use Rattle.hh_period.specs.declared.inputs.PeriodFault.TheVariants as period
 use Rattle.hh_period.specs.declared.rejection.Rejection.{Rejection}
 use Rattle.hh_period.specs.Outcome.{memory_rejection, period_outcome, Outcome}
 use Rattle.hh_period.specs.RejectionText.{rejection_text}
-use Rattle.hh_words.specs.Lines.{Line, PeriodCommand, ScriptCommand, line_value}
+use Rattle.hh_words.specs.Grammar.{settle_app}
+use Rattle.hh_words.specs.Lines.{Line, PeriodCommand, ScriptCommand, line_value, usage}
 use Rattle.hh_command.specs.declared.program.Stop.{Stop}
 use Rattle.hh_command.specs.declared.program.Stop.TheVariants as stop
 
@@ -56,9 +57,18 @@ stop_status stop.File = 1
 stop_status stop.Output = 1
 stop_status (stop.Off line) = 2
 
--- a text went out that is not empty, unless the device failed
-abbrev pub IsTold : DeviceChange → Type 0
-IsTold device = HasFailed device ⊎ ((text : List ℕ) × (text ≢ []) × Appends device.old device.new text)
+-- a text went out, unless the device failed
+abbrev pub IsTold : DeviceChange → List ℕ → Type 0
+IsTold device text = HasFailed device ⊎ Appends device.old device.new text
+
+-- the line that tells words which are not text
+abbrev pub not_text_line : List ℕ
+not_text_line = codes "words that are not text (UTF-8)\n"
+
+-- what tells that words are wrong, unless the device failed: a text of `clap`'s where that finds a fault in them, and else how the
+-- program is used
+abbrev pub TellsWrong : List Text → DeviceChange → Type 0
+TellsWrong words device = (text : List ℕ) × (text ≢ []) × (fault_of settle_app words ≡ [] → text ≡ usage) × IsTold device text
 
 -- a stop is a refusal
 abbrev pub IsRefused : Stop → Type 0
@@ -74,7 +84,7 @@ Tells device s = HasFailed device ⊎ Appends device.old device.new (stop_line s
 
 -- the number of a script's line that is off its form went out, unless the device failed
 abbrev pub TellsOff : DeviceChange → ℕ → Type 0
-TellsOff device line = HasFailed device ⊎ Appends device.old device.new (stop_line (stop.Off line))
+TellsOff device line = IsTold device (stop_line (stop.Off line))
 
 -- a stop has status 1
 abbrev pub HasStatusOne : Stop → Type 0
@@ -136,7 +146,7 @@ module _ (reads : List ℕ → Option (List ℕ) → Type 0) (ports : Ports) whe
 
 -- What a path may read as.
 module _ (reads : List ℕ → Option (List ℕ) → Type 0) where
-  -- words form no line, or that of a script of which a line is off its form, whose number is told
+  -- words form no line, which is told; or that of a script of which a line is off its form, whose number is told
   abbrev pub AreWrong : List Text → DeviceChange → Type 0
-  AreWrong words err = (line_value words ≡ None) ⊎ ((settings : Settings) × (file : Text) × (line : ℕ)
+  AreWrong words err = ((line_value words ≡ None) × TellsWrong words err) ⊎ ((settings : Settings) × (file : Text) × (line : ℕ)
       × (line_value words ≡ Some (ScriptCommand settings file)) × IsUnread reads file (script.Off line) × TellsOff err line)

@@ -1,6 +1,6 @@
 //! One line of words, from its reading to the exit status.
 
-ghost use Rattle.std.specs.Prelude.{◌≡◌, ◌≢◌, ◌≤◌, ◌<◌, IfErr, OnErr, OnOk, List, map, string_bytes};
+ghost use Rattle.std.specs.Prelude.{◌≡◌, ◌≢◌, ◌≤◌, ◌<◌, ◌⊎◌, IfErr, OnErr, OnOk, List, map, string_bytes};
 ghost use Rattle.std.specs.Io.KnownBytes.{Appends};
 ghost use Rattle.clap.specs.Words.{Text};
 ghost use Rattle.hh_devices.specs.DeviceChanges.{change};
@@ -8,9 +8,10 @@ ghost use Rattle.hh_devices.specs.Devices.{Failed};
 ghost use Rattle.hh_rows.specs.RowKinds.{most_bytes};
 ghost use Rattle.hh_period.specs.Outcome.{memory_rejection};
 ghost use Rattle.hh_words.specs.Lines.{line_of};
-ghost use Rattle.hh_command.specs.Stops.{AreWrong, Does, DoesPeriod, DoesWords, HasStatusOne, IsTold, Stops, StopsLine, StopsPeriod, Tells, stop_line, stop_status};
-ghost use Rattle.hh_command.specs.steps.Stops.{IsOffAndTold};
+ghost use Rattle.hh_command.specs.Stops.{AreWrong, Does, DoesPeriod, DoesWords, HasStatusOne, IsTold, Stops, StopsLine, StopsPeriod, Tells, not_text_line, stop_line, stop_status};
+ghost use Rattle.hh_command.specs.steps.Stops.{IsOffAndTold, told_text};
 
+use crate::no_words::NoWords;
 use hh_devices::{DeviceFailed, Sink, write_whole};
 use hh_inputs::{InputFault, Inputs};
 use hh_names::Refusal;
@@ -21,9 +22,8 @@ use hh_texts::MOST_BYTES;
 use hh_words::{Command, PeriodWords, USAGE, WordsFault, read_words};
 use itoa::Buffer;
 use std::alloc::{AllocError, Global};
-use std::io::ErrorKind;
+use std::env;
 use std::rt::Env;
-use std::{env, io};
 
 /// The exit status of a command that was done.
 const DONE: u8 = 0;
@@ -136,22 +136,21 @@ pub fn run<R: Env + AllocGlobal, I: Inputs, L: Loopback, O: Sink, E: Sink>(
         × Stops (I.reads_as inputs.now) (L.ports loopback.now) words
         (change O.taken O.failures out.old out.new) (change E.taken E.failures err.old err.new) }
 
-    // The words form no line, or are not text.
-    ensures told { result ≡ 2 → IsTold (change E.taken E.failures err.old err.new) }
+    // Some words form no line, or a line of their script is off its form; or words are not text.
+    ensures told { let told = change E.taken E.failures err.old err.new in
+        result ≡ 2 → ((words : List Text) × AreWrong (I.reads_as inputs.now) words told)
+        ⊎ IsTold told not_text_line }
     ensures untouched { result ≡ 2 → out.new ≡ out.old }
 {
     match arguments(rt) {
         Ok(words) => command(rt.alloc(), inputs, loopback, &words, out, err),
-        Err(error) if error.kind() == ErrorKind::OutOfMemory => stopped(
-            rt.alloc(),
-            err,
-            Stop::no_memory(),
-        ),
-        Err(_) => wrong(err, NOT_TEXT),
+        Err(NoWords::NotText) => wrong(err, NOT_TEXT),
+        Err(NoWords::Memory) => stopped(rt.alloc(), err, Stop::no_memory()),
     }
 }
 
-fn arguments<R: Env + AllocGlobal>(rt: &R) -> io::Result<Vec<String>> {
+/// The words that the program was called with, its own name in front.
+fn arguments<R: Env + AllocGlobal>(rt: &R) -> Result<Vec<String>, NoWords> {
     let words = env::args(rt)?.collect(rt.alloc())?;
     Ok(words)
 }
@@ -185,7 +184,6 @@ pub fn command<I: Inputs, L: Loopback, O: Sink, E: Sink>(
     // unless `err` failed.
     ensures wrong { result ≡ 2 → AreWrong (I.reads_as inputs.now) (map string_bytes words.now)
         (change E.taken E.failures err.old err.new) }
-    ensures told { result ≡ 2 → IsTold (change E.taken E.failures err.old err.new) }
     ensures untouched { result ≡ 2 → out.new ≡ out.old }
 {
     match read_words(alloc, words) {
@@ -251,7 +249,7 @@ fn settle_files<I: Inputs, O: Sink>(
 /// used, where nothing is said.
 fn wrong<E: Sink>(err: &mut E, text: &str) -> u8
     ensures status { result ≡ 2 }
-    ensures told { IsTold (change E.taken E.failures err.old err.new) }
+    ensures told { IsTold (change E.taken E.failures err.old err.new) (told_text text.now) }
 {
     let told = if text.is_empty() { USAGE } else { text };
     let _ = write_whole(err, told.as_bytes());
@@ -264,7 +262,6 @@ fn stopped<E: Sink>(alloc: Global, err: &mut E, stop: Stop) -> u8
     ensures one { result ≡ 1 → HasStatusOne stop
         × Tells (change E.taken E.failures err.old err.new) stop }
     ensures two { result ≡ 2 → IsOffAndTold (change E.taken E.failures err.old err.new) stop }
-    ensures told { result ≡ 2 → IsTold (change E.taken E.failures err.old err.new) }
 {
     let status = stop.status();
     tell(alloc, err, stop);
