@@ -268,6 +268,11 @@ pub one_more_step : (lines : List ScriptLine) (i : ℕ) (line : ScriptLine) → 
     → map step_of (take (i + 1) lines) ≡ map step_of (take i lines) ++ step_of (slice_index_or lines i line) ∷ []
 one_more_step lines i line inside = ap (map step_of) (take_more lines i line inside) ∙ map-append step_of (take i lines) (slice_index_or lines i line ∷ [])
 
+-- the same of a line that is known to be there
+pub next_step : (lines : List ScriptLine) (i : ℕ) (line : ScriptLine) → i < length lines → line ≡ slice_index_or lines i line
+    → map step_of (take (i + 1) lines) ≡ map step_of (take i lines) ++ step_of line ∷ []
+next_step lines i line inside is = subst (λ l. map step_of (take (i + 1) lines) ≡ map step_of (take i lines) ++ step_of l ∷ []) (sym is) (one_more_step lines i line inside)
+
 -- so many steps of a script are those of so many lines
 pub first_steps : (lines : List ScriptLine) (n : ℕ) → take n (map step_of lines) ≡ map step_of (take n lines)
 first_steps lines n = take-map step_of n lines

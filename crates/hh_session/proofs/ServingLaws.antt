@@ -49,10 +49,10 @@ module _ (source : Option (List ℕ)) (old new : OfficeView) (counted counts : �
   pub led_to : (device : DeviceChange) (served : Result Served ServeFault) → Serves source old new counted counts moment device served
       → (t : State) × LeadsTo (midnight_of old) moment source s t × Stands new t
   led_to device (Ok Closed) (read, same, kept) = stays same
-  led_to device (Ok Replied) (answer, is, went) = answered answer is
+  led_to device (Ok Replied) (answer, text, is, tells, went) = answered answer is
   led_to device (Err Read) (same, kept) = stays same
-  led_to device (Err Write) (answer, is, went) = answered answer is
-  led_to device (Err Memory) (answer, is, others, kept) = answered answer is
+  led_to device (Err Write) (answer, text, is, tells, went) = answered answer is
+  led_to device (Err Memory) (given, is, others, kept) = answered (Ok given) is
 
 -- a connection that was served once
 pub one_served : (old new : OfficeView) (counted counts : ℕ) (moment : ℤ) (e : Exchange) (served : Result Served ServeFault)

@@ -1,19 +1,11 @@
-use Rattle.std.proofs.Common.{◌≤◌, ◌+◌, [], length, map, take, sym, ap, ◌∙◌, subst, arith, pos}
-use Rattle.std.specs.Prelude.{slice_index_or}
+use Rattle.std.proofs.Common.{◌≤◌, ◌+◌, length, map, take, sym, ap, ◌∙◌, subst, arith}
 use Rattle.std.proofs.lemmas.List.{take_all}
 use Rattle.hh_devices.specs.DeviceChanges.{change}
-use Rattle.hh_rows.specs.declared.file_kind.FileKind.TheVariants.{Parties}
 use Rattle.hh_script.specs.Steps.{step_of}
-use Rattle.hh_script.specs.declared.script_line.ScriptLine.{ScriptLine}
-use Rattle.hh_script.specs.declared.script_line.ScriptLine.TheVariants.{Load}
 use Rattle.hh_session.specs.Course.{RunsScript}
 use Rattle.hh_session.specs.GivingUp.{CountsMore}
-use Rattle.hh_session.proofs.CourseLaws.{OnErr-map, first_conserve, first_steps, one_more_step, passed_failure, script_conserves, script_more, script_stops, up_more}
+use Rattle.hh_session.proofs.CourseLaws.{OnErr-map, first_conserve, first_steps, next_step, passed_failure, script_conserves, script_more, script_stops, up_more}
 use Rattle.hh_session.proofs.run.run_lines.Goals as goal
-
--- the line that a place has which no line has
-abbrev no_line : ScriptLine
-no_line = Load (record { moment = pos 0; key = record { ref_ptr = (0, 0); now = [] }; kind = Parties; path = record { ref_ptr = (0, 0); now = [] }; name = [] })
 
 pub returns-in_err-run_line-clause-cut : goal.returns-in_err-run_line-clause-cut
 returns-in_err-run_line-clause-cut g c sure =
@@ -26,8 +18,8 @@ returns-in_err-run_line-clause-cut g c sure =
     passed_failure _ c.from_residual.result
     (script_stops (g.I.Inputs.reads_as c.args.inputs.now) (g.L.Loopback.ports c.args.loopback.now) c.args.office.now.seen c.loop-line.office.seen c.run_line.new.office.seen
     (refusals c.args.office.now.tables) (refusals c.loop-line.office.tables) (refusals c.run_line.new.office.tables) taken failures c.args.out.now c.loop-line.out c.run_line.new.out
-    (map step_of (take i lines)) (step_of (slice_index_or lines i no_line)) (c.loop-line.invariant.run standing) (c.loop-line.invariant.refusals_up standing) (c.in_err-run_line.ensures.refusals_up sure)
-    (map step_of lines) (i + 1) (first_steps lines (i + 1) ∙ one_more_step lines i no_line (omega arith)) (c.in_err-run_line.ensures.cut sure))
+    (map step_of (take i lines)) (step_of c.line-item.result) (c.loop-line.invariant.run standing) (c.loop-line.invariant.refusals_up standing) (c.in_err-run_line.ensures.refusals_up sure)
+    (map step_of lines) (i + 1) (first_steps lines (i + 1) ∙ next_step lines i c.line-item.result (omega arith) c.line-item.is) (c.in_err-run_line.ensures.cut sure))
 
 pub returns-in_err-run_line-clause-sums_cut : goal.returns-in_err-run_line-clause-sums_cut
 returns-in_err-run_line-clause-sums_cut g c sure =
@@ -66,16 +58,15 @@ loop-line-preserved g c =
     let now = c.loop-line.office.seen in
     let new = c.run_line.new.office.seen in
     let steps = map step_of (take i lines) in
-    let step = step_of (slice_index_or lines i no_line) in
     record {
       run = λ sure.
           let standing = c.in_ok-run_line.ensures.sure sure in
-          subst (RunsScript reads ports (CountsMore first last) old new (change taken failures c.args.out.now c.run_line.new.out)) (sym (one_more_step lines i no_line (omega arith)))
-          (script_more reads ports old now new first mid last taken failures c.args.out.now c.loop-line.out c.run_line.new.out steps step
+          subst (RunsScript reads ports (CountsMore first last) old new (change taken failures c.args.out.now c.run_line.new.out)) (sym (next_step lines i c.line-item.result (omega arith) c.line-item.is))
+          (script_more reads ports old now new first mid last taken failures c.args.out.now c.loop-line.out c.run_line.new.out steps (step_of c.line-item.result)
           (c.loop-line.invariant.run standing) (c.loop-line.invariant.refusals_up standing) (c.in_ok-run_line.ensures.refusals_up sure) (c.in_ok-run_line.ensures.done sure));
       refusals_up = λ sure.
           let standing = c.in_ok-run_line.ensures.sure sure in
-          up_more reads ports old now new first mid last taken failures c.args.out.now c.loop-line.out c.run_line.new.out steps step
+          up_more reads ports old now new first mid last taken failures c.args.out.now c.loop-line.out c.run_line.new.out steps (step_of c.line-item.result)
           (c.loop-line.invariant.run standing) (c.loop-line.invariant.refusals_up standing) (c.in_ok-run_line.ensures.refusals_up sure);
       sure = λ sure. c.loop-line.invariant.sure (c.in_ok-run_line.ensures.sure sure);
       well = c.in_ok-run_line.ensures.well ∙ c.loop-line.invariant.well;
@@ -88,5 +79,5 @@ returns-in_err-run_line-clause-refusals_up g c sure =
     let i = c.loop-line.line-index in
     let standing = c.in_err-run_line.ensures.sure sure in
     up_more (g.I.Inputs.reads_as c.args.inputs.now) (g.L.Loopback.ports c.args.loopback.now) c.args.office.now.seen c.loop-line.office.seen c.run_line.new.office.seen
-    _ _ _ taken failures c.args.out.now c.loop-line.out c.run_line.new.out (map step_of (take i c.args.lines.now)) (step_of no_line)
+    _ _ _ taken failures c.args.out.now c.loop-line.out c.run_line.new.out (map step_of (take i c.args.lines.now)) (step_of c.line-item.result)
     (c.loop-line.invariant.run standing) (c.loop-line.invariant.refusals_up standing) (c.in_err-run_line.ensures.refusals_up sure)
