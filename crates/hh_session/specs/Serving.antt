@@ -51,8 +51,8 @@ module _ (fails : Type 0) (midnight : Midnights) (moment : ℤ) where
     pub written : CountsWriting e.sink served
     pub refused : CountsMore counted counts → fails
 
-  -- Each connection that came was served once, in their order, and nothing else was done: together they led from one state to the
-  -- other. Where none was had, nothing is done.
+  -- Each connection that came was served once, in their order, and nothing else led from the one state to the other. Where none was
+  -- had the state stays.
   abbrev pub AreServed : List Arrival → State → State → Type 0
   AreServed [] s t = t ≡ s
   AreServed (None ∷ arrivals) s t = AreServed arrivals s t
