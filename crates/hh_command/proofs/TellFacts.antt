@@ -1,5 +1,6 @@
 -- How a stop with status 2 is told, and wrong words are.
-use Rattle.std.proofs.Common.{◌≡◌, ◌≢◌, ℕ, List, [], ◌∷◌, inl, inr, refl, ap, arith}
+use Rattle.std.proofs.Common.{◌≡◌, ◌≢◌, ◌∙◌, ℕ, List, [], length, Bool, true, false, cond, inl, inr, refl, sym, ap, arith}
+use Rattle.std.specs.Prelude.{◌==◌}
 use Rattle.clap.specs.Words.{Text, fault_of}
 use Rattle.hh_devices.specs.DeviceChanges.{DeviceChange}
 use Rattle.hh_words.specs.Grammar.{settle_app}
@@ -19,8 +20,10 @@ off_and_told device (stop.Off line) two (inr (inl went)) = (line, refl, inr went
 off_and_told device (stop.Off line) two (inr (inr (none, went))) = absurd none
 
 told_some : (text : List ℕ) → told_text text ≢ []
-told_some [] = λ e. cc e
-told_some (byte ∷ bytes) = λ e. cc e
+told_some text = elim (length text == 0) as (λ b. (length text == 0) ≡ b → cond b usage text ≢ []) [
+  | true ↦ λ is e. let none : usage ≡ [] = e in cc none
+  | false ↦ λ is e. let both : true ≡ false = sym (ap (λ (t : List ℕ). length t == 0) e) ∙ is in cc both
+] refl
 
 -- words are told wrong by a text that is how the program is used where `clap` finds no fault in them
 pub wrong_told : (words : List Text) (device : DeviceChange) (text : List ℕ) → (fault_of settle_app words ≡ [] → text ≡ usage)

@@ -251,9 +251,15 @@ fn wrong<E: Sink>(err: &mut E, text: &str) -> u8
     ensures status { result ≡ 2 }
     ensures told { IsTold (change E.taken E.failures err.old err.new) (told_text text.now) }
 {
-    let told = if text.is_empty() { USAGE } else { text };
-    let _ = write_whole(err, told.as_bytes());
+    let _ = write_whole(err, told_text(text).as_bytes());
     WRONG_WORDS
+}
+
+/// What is told of wrong words: a text, or how the program is used in the place of an empty one.
+fn told_text(text: &str) -> &str
+    ensures { result.now ≡ told_text text.now }
+{
+    if text.is_empty() { USAGE } else { text }
 }
 
 /// Tells why a command stops, where the device for it does not fail, and answers the status of that.

@@ -1,5 +1,5 @@
 -- How wrong words and a line of a script off its form are told.
-use Rattle.std.specs.Prelude.{◌≡◌, ℕ, List, [], ◌∷◌}
+use Rattle.std.specs.Prelude.{◌≡◌, ◌==◌, ℕ, List, length, if◌then◌else◌}
 use Rattle.hh_devices.specs.DeviceChanges.{DeviceChange}
 use Rattle.hh_command.specs.declared.program.Stop.{Stop}
 use Rattle.hh_command.specs.declared.program.Stop.TheVariants as stop
@@ -12,5 +12,4 @@ IsOffAndTold device s = (line : ℕ) × (s ≡ stop.Off line) × TellsOff device
 
 -- what is told of wrong words: a text, or how the program is used in the place of an empty one
 abbrev pub told_text : List ℕ → List ℕ
-told_text [] = usage
-told_text (byte ∷ bytes) = byte ∷ bytes
+told_text text = if length text == 0 then usage else text
