@@ -1,3 +1,2 @@
-pub mod NoWords
 pub mod Stops
 pub mod steps

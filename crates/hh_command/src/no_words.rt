@@ -16,7 +16,7 @@ pub(crate) enum NoWords {
 impl From<io::Error> for NoWords {
     ghost use Rattle.std.specs.IoError.{error_kind};
     ghost use Rattle.std.specs.Prelude.{◌≡◌};
-    ghost use Rattle.hh_command.specs.NoWords.{no_words};
+    ghost use Rattle.hh_command.specs.steps.NoWords.{no_words};
 
     ghost from_gives = { λ error fault. fault ≡ no_words (error_kind error) };
 
