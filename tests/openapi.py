@@ -95,6 +95,18 @@ class Description:
             for method, operation in methods.items():
                 yield method.upper(), path, operation
 
+    def parameters(self, operation):
+        """The name of each part of an operation's path that varies, with its schema."""
+        parts = (self.resolved(part) for part in operation["parameters"])
+        return {part["name"]: self.resolved(part["schema"]) for part in parts if part["in"] == "path"}
+
+    def key_header(self):
+        """The header that shows a key."""
+        (name,) = (name for needed in self.whole["security"] for name in needed)
+        scheme = self.parts["securitySchemes"][name]
+        assert (scheme["type"], scheme["in"]) == ("apiKey", "header"), scheme
+        return scheme["name"]
+
     def path_of(self, target):
         """The path that a target is one of, if it is one of some; its parts need not read."""
         parts = target.split("/")

@@ -239,5 +239,113 @@ class ThePage(Desk):
         return subprocess.run(call, check=True, capture_output=True, text=True).stdout
 
 
+class EachRouteAndStatus(Desk):
+    """docs/openapi.yaml, read by a client: it asks for each path by its method, with values that the page lets stand in
+    the path, so that each status comes that the page has there. But for 503, which refused memory brings about: that is
+    in test_memory.py."""
+
+    # What stands in a path, and what is sent to it where that is a file.
+    VALUES = {"kind": "prices", "name": "new.csv", "date": DAY, "runKind": "SF", "account": "CITYSUP-C"}
+    OFF = {"kind": "price", "name": "new,csv", "date": "2024-7-1", "runKind": "RX", "account": "CITYSUP"}
+    FILE, OTHER_FILE = (f"{HEADERS['prices']}\n{DAY},1,{price}\n".encode() for price in (50, 51))
+    NO_SUCH_PERIOD = f"{HEADERS['prices']}\n{DAY},49,50\n".encode()
+    OPERATOR = "op-market001"
+
+    def setUp(self):
+        super().setUp()
+        need(SETTLE)
+        self.description = Description()
+
+    def start(self, count):
+        """Serves the market for so many connections."""
+        *files, line = (HOME / "examples" / "market" / "serve.script").read_text().splitlines()
+        script = "\n".join([*files, line.replace(" 8080 1000000", f" 0 {count}")])
+        loaded = [f"applied={len((HOME / file.split()[4]).read_text().splitlines()) - 1} late=0" for file in files]
+        return Served(self, self.file("served", script), self.OPERATOR, loaded)
+
+    def sent(self, method, path, body, *lines, key=True, length=True, **values):
+        """A request by a method to a path, with values in the place of the usual ones and further lines in its head; and its
+        target."""
+        target = path.format(**{**self.VALUES, **values})
+        head = [f"{method} {target} HTTP/1.1", "Host: localhost", *lines]
+        head += [f"{self.description.key_header()}: {self.OPERATOR}"] if key else []
+        head += [f"Content-Length: {len(body)}"] if body and length else []
+        return target, "".join(f"{line}\r\n" for line in [*head, ""]).encode() + body
+
+    def requests(self, method, path, operation):
+        """A request for each status of an operation."""
+        is_file = "requestBody" in operation
+        body = self.FILE if is_file else b""
+        last = list(self.description.parameters(operation))[-1]
+
+        def sent(*lines, body=body, **how):
+            return self.sent(method, path, body, *lines, **how)
+
+        return {
+            "200": lambda: sent(),
+            "400": lambda: sent("Host: again"),
+            "403": lambda: sent(key=False),
+            "404": lambda: sent(**{last: self.OFF[last]}),
+            "405": lambda: self.sent("PATCH", path, body),
+            "409": lambda: sent(body=self.OTHER_FILE) if is_file else sent(date="2024-07-05"),
+            "411": lambda: sent(length=False),
+            "413": lambda: sent("Content-Length: 1048577", length=False),
+            "422": lambda: sent(body=self.NO_SUCH_PERIOD, name="no-such-period.csv"),
+        }
+
+    def test_each_status_of_each_operation(self):
+        """Each comes where the page has it, with a reply as the page says. What would bring another status about elsewhere
+        brings none that the page lacks there."""
+        asked = []
+        for method, path, operation in self.description.operations():
+            requests = self.requests(method, path, operation)
+            self.assertEqual(operation["responses"].keys() - requests.keys(), {"503"})
+            asked += [(path, status if status in operation["responses"] else None, *sent()) for status, sent in requests.items()]
+        office = self.start(len(asked))
+        for path, wanted, target, sent in asked:
+            with self.subTest(f"{path} {wanted} {sent}"):
+                status, headers, body = parts_of(office.ask(sent))
+                self.assertIn(wanted, (None, str(status)))
+                method = sent.split(b" ")[0].decode()
+                self.assertEqual(self.description.faults(method, target, status, headers, body), [])
+                self.assertEqual(int(headers["Content-Length"]), len(body))
+        office.end()
+
+    def test_what_may_stand_in_a_path(self):
+        """The schema of each part takes what the office reads there, and what it doesn't take is no path of the office."""
+        asked = []
+        for method, path, operation in self.description.operations():
+            for name, schema in self.description.parameters(operation).items():
+                self.assertEqual(self.description.differences(schema, self.VALUES[name], name), [])
+                self.assertNotEqual(self.description.differences(schema, self.OFF[name], name), [])
+                asked += [(self.sent(method, path, b"", key=False, **{name: self.OFF[name]}), 404)]
+                for value in schema.get("enum", [self.VALUES[name]]):
+                    asked += [(self.sent(method, path, b"", "Content-Length: 0", key=False, **{name: value}), 403)]
+        office = self.start(len(asked))
+        for (target, sent), wanted in asked:
+            with self.subTest(target):
+                self.assertEqual(parts_of(office.ask(sent))[0], wanted)
+        office.end()
+
+    def test_each_status_of_the_page_of_http(self):
+        """docs/http.md has the same statuses with the same refusals."""
+        table = re.findall(r"(?m)^\| ([0-9]{3}) \| [^|]+ \| ([^|]+) \|$", PAGE.read_text(encoding="utf-8"))
+        told = {}
+        for status, refusals in table:
+            pairs = re.findall(r"([0-9]+)(?: to ([0-9]+))?", refusals)
+            told[status] = {number for first, last in pairs for number in range(int(first), int(last or first) + 1)}
+        found = {}
+        for _, _, operation in self.description.operations():
+            for status, response in operation["responses"].items():
+                (content,) = self.description.resolved(response)["content"].values()
+                schema = self.description.resolved(content["schema"])
+                numbers = schema["properties"].get("refused", {}).get("enum", [])
+                found.setdefault(status, set()).update(numbers)
+        self.assertEqual(found.pop("200"), set())
+        self.assertEqual(found.keys(), told.keys())
+        for status, numbers in found.items():
+            self.assertLessEqual(numbers, told[status], status)
+
+
 if __name__ == "__main__":
     unittest.main()

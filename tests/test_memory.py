@@ -3,19 +3,24 @@
 A run in which memory is refused ends with status 1, says `refused 90 Memory` and writes nothing, or
 it can do without that memory and ends as it does with it. `hh_bench load` may have written of the
 files before, and the nanoseconds that `hh_bench` tells are not compared. A script goes on after a line
-that was refused memory. The first run in which nothing was refused any more ends the turn. A C
-compiler builds what refuses, `failing_malloc.c`.
+that was refused memory, and after a request that was: a client whose request is refused gets its reply
+or that memory was refused, and never nothing. The first run in which nothing was refused any more ends
+the turn. A C compiler builds what refuses, `failing_malloc.c`.
 """
 import itertools
 import os
 import pathlib
 import shutil
+import socket
 import subprocess
 import sys
 import tempfile
 import unittest
 
+from openapi import Description
 from programs import BENCH, CONTRACTS, HOME, METER, SETTLE, need
+from test_http import LISTENING, PATIENCE, parts_of
+from test_serving import refusal, reply, request
 
 SMALL_DAY = "--periods 1 --parties 3 --units 4 --contracts 2 --reallocations 1".split()
 MOST_RUNS = 100_000
@@ -202,6 +207,42 @@ REPORTS = [
 ]
 
 
+def head_of(answer):
+    """A reply without its body."""
+    return answer.partition(b"\r\n\r\n")[0] + b"\r\n\r\n"
+
+
+# The reply that tells of refused memory.
+NO_MEMORY = reply(503, refusal(90, "Memory"))
+# A file of a unit that no line of a script loads, under the name of one that a line does.
+OTHER_UNITS = SCRIPT[1][1].replace("\nU,", "\nV,").encode()
+UNITS_PATH = "/files/units/2.csv"
+BAD_METHOD = reply(405, refusal(62, "BadMethod"), "Allow: POST\r\n")
+# Requests that are refused before the office is asked, each with its reply and with what is told in the place of that where
+# memory is refused. Of the first five each is refused by another number, and each would load that file otherwise.
+REFUSED_REQUESTS = [
+    (request("POST", f"{UNITS_PATH}?", OPERATOR, OTHER_UNITS), reply(404, refusal(61, "NoRoute")), NO_MEMORY),
+    (request("PUT", UNITS_PATH, OPERATOR, OTHER_UNITS), BAD_METHOD, NO_MEMORY),
+    (request("POST", UNITS_PATH, OPERATOR) + OTHER_UNITS, reply(411, refusal(64, "LengthRequired")), NO_MEMORY),
+    (request("POST", UNITS_PATH, OPERATOR, OTHER_UNITS, ["Host: b"]), reply(400, refusal(65, "BadRequest")), NO_MEMORY),
+    (
+        request("POST", UNITS_PATH, OPERATOR, headers=["Content-Length: 1048577"]) + OTHER_UNITS,
+        reply(413, refusal(66, "BodyTooLarge")),
+        NO_MEMORY,
+    ),
+    (request("HEAD", f"/runs/{DAY}/SF", OPERATOR), head_of(BAD_METHOD), head_of(NO_MEMORY)),
+]
+# What is asked for at each path of docs/openapi.yaml, so that no reply hangs on what another request has done.
+ASKED = [
+    ("POST", "/files/prices/p.csv", b"date,period,price\n", reply(200, '{"applied":0,"late":0}')),
+    ("POST", f"/runs/{DAY}/SF", None, reply(409, refusal(52, "DayNotOver"))),
+    ("GET", f"/accounts/A-P/{DAY}", None, reply(404, refusal(63, "NoRun"))),
+    ("GET", "/balances/A-P", None, reply(200, '{"account":"A-P","moved_pence":0}')),
+    ("GET", f"/contracts/A-P/{DAY}", None, reply(200, f'{{"account":"A-P","contracts":[],"date":"{DAY}"}}')),
+    ("GET", f"/runs/{DAY}", None, reply(200, f'{{"date":"{DAY}","runs":[]}}')),
+]
+
+
 @unittest.skipUnless(shutil.which("cc"), "no C compiler `cc` is on the path, so memory was not refused")
 class Refused(unittest.TestCase):
     @classmethod
@@ -215,10 +256,42 @@ class Refused(unittest.TestCase):
 
     def run_once(self, call, fail_at):
         """The status of a call, what it wrote, and the lines that it told, without nanoseconds."""
-        environment = dict(os.environ, FAIL_AT=str(fail_at), FAIL_NOTE=str(self.note), LD_PRELOAD=self.preloaded)
-        made = subprocess.run(call, stdin=subprocess.DEVNULL, capture_output=True, env=environment)
+        made = subprocess.run(call, stdin=subprocess.DEVNULL, capture_output=True, env=self.environment(fail_at))
         told = [line for line in made.stderr.splitlines() if not line.isdigit()]
         return made.returncode, made.stdout, told
+
+    def environment(self, fail_at):
+        """In which a program is refused that allocation."""
+        return dict(os.environ, FAIL_AT=str(fail_at), FAIL_NOTE=str(self.note), LD_PRELOAD=self.preloaded)
+
+    def serve_once(self, call, requests, fail_at):
+        """What a run comes to of which a line serves these requests, one after the other, and the reply to each. The port
+        is left out of what it wrote."""
+        how = {"stdin": subprocess.DEVNULL, "stdout": subprocess.PIPE, "stderr": subprocess.PIPE}
+        with subprocess.Popen(call, env=self.environment(fail_at), **how) as made:
+            try:
+                written, replies = self.written_and_replied(made.stdout, requests)
+                told = made.stderr.read().splitlines()
+            except BaseException:
+                made.kill()
+                raise
+        return (made.returncode, written, told), replies
+
+    def written_and_replied(self, lines, requests):
+        """The lines of a run's output, in which it tells where it listens for these requests, and the replies to them."""
+        written, replies = b"", []
+        for line in lines:
+            if port := LISTENING.match(line):
+                replies = [self.ask(int(port[1]), sent) for sent in requests]
+                line = b"listening\n"
+            written += line
+        return written, replies
+
+    def ask(self, port, sent):
+        """The reply to these bytes."""
+        with socket.create_connection(("127.0.0.1", port), timeout=PATIENCE) as client:
+            client.sendall(sent)
+            return b"".join(iter(lambda: client.recv(65_536), b""))
 
     def is_refusal(self, got, most):
         """Whether a run ended with refusal 90, and wrote no more than a beginning of `most`."""
@@ -251,25 +324,34 @@ class Refused(unittest.TestCase):
 
     def refuse_each(self, call, status, writes_by_file=False, replies=None):
         """Refuses each allocation of a call in turn. With ample memory it has this status, and a script
-        these replies. At least one refusal has to show, since a program that takes no memory by
-        `malloc` would pass else."""
+        these replies."""
         need(call[0])
         wanted = self.run_once(call, 0)
         self.assertEqual(wanted[0], status, call)
         if replies is not None:
             self.assertEqual(wanted[1:], (b"".join(reply + b"\n" for reply, _, _ in replies), []))
-        most, shown = wanted[1] if writes_by_file else b"", 0
+        most = wanted[1] if writes_by_file else b""
+
+        def is_right(got):
+            return self.is_refusal(got, most) if replies is None else self.is_script_answered(got, replies)
+
+        self.refuse_in_turn(lambda fail_at: self.run_once(call, fail_at), wanted, is_right)
+
+    def refuse_in_turn(self, run, wanted, is_right):
+        """Runs with each allocation refused in turn. What a run comes to is what is wanted, or right where memory was
+        refused. At least one refusal has to show, since a program that takes no memory by `malloc` would pass else. What
+        the runs came to that were refused."""
+        shown = []
         for fail_at in range(1, MOST_RUNS):
-            got = self.run_once(call, fail_at)
-            right = self.is_refusal(got, most) if replies is None else self.is_script_answered(got, replies)
-            self.assertTrue(got == wanted or right, f"{call}: allocation {fail_at} refused: {got}")
+            got = run(fail_at)
+            self.assertTrue(got == wanted or is_right(got), f"allocation {fail_at} refused: {got}")
             if not self.note.exists():
                 self.assertEqual(got, wanted, "refused, though no allocation was")
-                self.assertGreater(shown, 0, f"{call}: no refusal was ever told")
-                return
+                self.assertTrue(shown, "no refusal was ever told")
+                return shown
             self.note.unlink()
-            shown += got != wanted
-        self.fail(f"{call}: no run was without a refusal")
+            shown += [got] if got != wanted else []
+        self.fail("no run was without a refusal")
 
     def test_a_settled_period(self):
         self.refuse_each([SETTLE, "period", METER, CONTRACTS, "50.00000"], 0)
@@ -335,6 +417,55 @@ class Refused(unittest.TestCase):
         lines += [f"run 1719874800 {OPERATOR} {DAY} SF\n", *(f"report {OPERATOR} {form}\n" for form, *_ in REPORTS)]
         replies += [RUNS[0][1:], *(answers for _, *answers in REPORTS)]
         self.refuse_each_of_script(lines, replies)
+
+    def serving(self, count):
+        """The call of a script that loads parties, serves so many connections and then loads units, and how it answers."""
+        lines, replies = self.loads(SCRIPT[:2])
+        script = self.room / "script"
+        script.write_text("".join([lines[0], f"serve 0 0 {count}\n", lines[1]]))
+        call = [SETTLE, "script", "--operator-key", OPERATOR, str(script)]
+        need(call[0])
+        return call, [replies[0], [b"listening", {}, None], replies[1]]
+
+    def refuse_each_served(self, requests, answers, is_told):
+        """Refuses each allocation of a script in turn that serves these requests. With ample memory they have these
+        answers. `is_told` says of a request, by its place, and what came for it whether that is right where memory was
+        refused, which is the case for one of the lines and requests at most. What came in each run that was refused."""
+        call, lines = self.serving(len(requests))
+        wanted = self.serve_once(call, requests, 0)
+        self.assertEqual(wanted, ((0, b"".join(line + b"\n" for line, _, _ in lines), []), answers))
+
+        def is_right(got):
+            ran, replies = got
+            other = [place for place, pair in enumerate(zip(replies, answers)) if pair[0] != pair[1]]
+            if not other:
+                return self.is_script_answered(ran, lines)
+            return len(other) == 1 and is_told(other[0], replies[other[0]]) and ran == wanted[0]
+
+        return [replies for _, replies in self.refuse_in_turn(lambda at: self.serve_once(call, requests, at), wanted, is_right)]
+
+    def test_requests_that_are_refused(self):
+        """Each gets its own reply, or the one that tells of refused memory, and leaves the office: the file that they
+        would have loaded otherwise is loaded as new afterwards."""
+        requests, answers, told = (list(column) for column in zip(*REFUSED_REQUESTS))
+        shown = self.refuse_each_served(requests, answers, lambda place, got: got == told[place])
+        for place, sent in enumerate(requests):
+            with self.subTest(sent):
+                self.assertIn(told[place], [replies[place] for replies in shown if replies])
+
+    def test_requests_that_are_handled(self):
+        """Each path of docs/openapi.yaml may tell of refused memory as that page says. A request that was handled may get
+        no reply, since memory was refused for it."""
+        description = Description()
+        paths = [(method, path) for method, path, _ in description.operations()]
+        self.assertEqual([(method, description.path_of(target)) for method, target, *_ in ASKED], paths)
+        requests = [request(method, target, OPERATOR, body) for method, target, body, _ in ASKED]
+        answers = [answer for *_, answer in ASKED]
+        shown = self.refuse_each_served(requests, answers, lambda _, got: got in (NO_MEMORY, b""))
+        for place, (method, target, *_) in enumerate(ASKED):
+            with self.subTest(target):
+                self.assertIn(NO_MEMORY, [replies[place] for replies in shown if replies])
+                self.assertEqual(description.faults(method, target, *parts_of(NO_MEMORY)), [])
 
     def test_a_script_that_is_not_run(self):
         script = self.room / "wrong"

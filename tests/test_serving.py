@@ -22,6 +22,7 @@ PHRASES = {
     411: "Length Required",
     413: "Content Too Large",
     422: "Unprocessable Content",
+    503: "Service Unavailable",
 }
 MOVED = '{"account":"SUPCO-C","moved_pence":-45}'
 RUNS = f'{{"date":"{DAY}","runs":["SF","R1"]}}'
@@ -479,8 +480,25 @@ class Bytes(Served):
     def test_in_pieces(self):
         self.serve(4)
         for size in (1, 7, 40, 75):
-            pieces = [self.ASKED[start : start + size] for start in range(0, len(self.ASKED), size)]
-            self.assertEqual(self.ask(*pieces), reply(200, MOVED), size)
+            self.assertEqual(self.ask_in(size, self.ASKED), reply(200, MOVED), size)
+
+    def ask_in(self, size, asked):
+        """The reply to a request that is sent in pieces of so many bytes."""
+        return self.ask(*(asked[start : start + size] for start in range(0, len(asked), size)))
+
+    def test_refused_in_pieces(self):
+        cases = (
+            (b"GET /nowhere HTTP/1.0\r\n\r\n", NO_ROUTE),
+            (b"DELETE /balances/SUPCO-C HTTP/1.0\r\n\r\n", reply(405, refusal(62, "BadMethod"), "Allow: GET\r\n")),
+            (b"POST /files/meters/a.csv HTTP/1.0\r\n\r\n", reply(411, refusal(64, "LengthRequired"))),
+            (b"GET /nowhere HTTP/1.0\r\nTransfer-Encoding: chunked\r\n\r\n", BAD),
+            (b"GET /nowhere HTTP/1.0\r\nContent-Length: 1048577\r\n\r\n", TOO_LARGE),
+        )
+        self.serve(2 * len(cases))
+        for asked, wanted in cases:
+            for size in (1, 7):
+                self.assertEqual(self.ask_in(size, asked), wanted, (asked, size))
+        self.assertEqual(self.rest(), [])
 
     def test_a_body_that_is_cut(self):
         rows = text_of("prices", [f"{DAY},1,5"])
