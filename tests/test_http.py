@@ -168,10 +168,9 @@ class ThePage(Desk):
                 printed = exchange.as_printed(answer)
                 self.assertFalse(exchange.differs(printed), printed)
 
+    @unittest.skipUnless(shutil.which("curl"), "no `curl` is on the path, so the page's commands were sent as bytes alone")
     def test_by_curl(self):
-        """Each command as it stands, but for the port. Without `curl` its bytes are sent by test_as_bytes alone."""
-        if shutil.which("curl") is None:
-            return
+        """Each command as it stands, but for the port."""
         office = self.start()
         for exchange in self.exchanges:
             with self.subTest(exchange.command):
