@@ -1,45 +1,42 @@
 //! One process that serves a connection of the loopback, and is its client.
 
-use crate::clients::*;
-use hh_office::Office;
-use hh_plain_tables::PlainTables;
-use hh_serve::{ServeFault, Served, serve_one};
-use hh_sockets::{Listener, Loopback, RuntimeLoopback, SocketFailed};
+use crate::exchanges::*;
+use hh_serve::{Served, serve_one};
+use hh_sockets::{Listener, Loopback, RuntimeLoopback};
 use std::alloc::Global;
 use std::io;
 use std::io::Write;
 use std::net::{Ipv4Addr, TcpStream};
 use std::test::Fail;
 
-/// What comes of the next connection of a listener.
-fn serve_next<L: Listener>(
-    alloc: Global,
-    office: &mut Office<'_, PlainTables>,
-    listener: &mut L,
-) -> Result<Result<Served, ServeFault>, SocketFailed> {
-    let mut connection = listener.accept()?;
+/// Whether a new office replies over the next connection of a listener.
+fn is_replied<L: Listener>(alloc: Global, listener: &mut L) -> bool {
+    let Some(mut office) = new_office(alloc) else {
+        return false;
+    };
+    let Ok(mut connection) = listener.accept() else {
+        return false;
+    };
     let served = serve_one(
         alloc,
-        office,
+        &mut office,
         MOMENT,
         &mut connection.source,
         &mut connection.sink,
     );
     listener.close(connection);
-    Ok(served)
+    served == Ok(Served::Replied)
 }
 
 #[test]
 fn a_client_of_the_loopback_gets_its_reply(rt: HostRuntime) -> Result<(), Fail> {
-    let mut office = new_office(rt.alloc()).ok_or("office")?;
     let Ok(mut listener) = RuntimeLoopback(&rt).listen(0) else {
         assert_eq!(&rt; "a free port", "none");
         return Ok(());
     };
     let mut client = TcpStream::connect(&rt, (Ipv4Addr::LOCALHOST, listener.port()))?;
     client.write_all(LOAD)?;
-    let served = serve_next(rt.alloc(), &mut office, &mut listener);
-    assert_eq!(&rt; served, Ok(Ok(Served::Replied)));
+    assert!(&rt; is_replied(rt.alloc(), &mut listener));
     let reply = io::read_to_string(rt.alloc(), client)?;
     assert_eq!(&rt; reply.as_bytes(), LOADED);
     Ok(())
