@@ -1,0 +1,43 @@
+//! What a command touches beside its outputs.
+
+ghost use Rattle.std.specs.Prelude.{◌≡◌, ℕ, List, [], take, IfOk, IsErrOf, OnErr, Some, None};
+ghost use Rattle.hh_inputs.specs.declared.inputs.InputFault.{InputFault};
+ghost use Rattle.hh_sockets.specs.Ports.{IsBroughtBy, IsPortFor};
+ghost use Rattle.hh_host.specs.Views.{HostView};
+
+use crate::clock::ClockFailed;
+use hh_inputs::InputFault;
+use hh_sockets::{Listener, SocketFailed};
+use std::alloc::Global;
+
+/// What a command touches beside its outputs: files, ports of this machine's loopback, and the clock.
+pub trait Host {
+    type Listener: Listener + Drop;
+
+    /// What contracts see of it.
+    ghost view: { Self → HostView };
+
+    /// The first bytes of the file of a path, so many or all of them where it has no more. Each read opens
+    /// the file again, and files may change between two reads.
+    ///
+    /// # Errors
+    ///
+    /// `Unreadable` where the file cannot be opened or read, `Memory` where memory was refused.
+    fn read(&self, alloc: Global, path: &str, most: usize) -> Result<Vec<u8>, InputFault>
+        ensures bytes { IfOk result (λ bytes. (all : List ℕ)
+            × (view self.now).reads path.now (Some all) × (bytes.items ≡ take most all)) }
+        ensures unreadable { IsErrOf result InputFault.Unreadable
+            → (view self.now).reads path.now None };
+
+    /// Listens on a port of the loopback, 127.0.0.1; for 0 the machine chooses a free one. Nothing has
+    /// come yet, and what will come is what the port may bring.
+    fn listen(&self, port: u16) -> Result<Self::Listener, SocketFailed>
+        ensures port { IfOk result (λ listener. IsPortFor port (Self.Listener.port_of listener)) }
+        ensures begins { IfOk result (λ listener. Self.Listener.leads listener [] listener) }
+        ensures brings { IfOk result (λ listener. IsBroughtBy Self.Listener.leads
+            ((view self.now).ports.brings port) listener) }
+        ensures refused { OnErr result ((view self.now).ports.refuses port) };
+
+    /// The moment now, in whole seconds since 1970-01-01T00:00:00Z. Nothing is known of it but its range.
+    fn now(&self) -> Result<i64, ClockFailed>;
+}

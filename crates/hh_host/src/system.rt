@@ -1,0 +1,53 @@
+//! The host of the system.
+
+ghost use Rattle.std.specs.Prelude.{⊤};
+
+use crate::clock::{Clock, ClockFailed};
+use crate::host::Host;
+use hh_inputs::{FileInputs, InputFault, Inputs, RuntimeFiles};
+use hh_sockets::{Loopback, RuntimeListener, RuntimeLoopback, SocketFailed};
+use std::alloc::Global;
+use std::net::Net;
+use std::rt::Files;
+use std::time::{SystemTime, UNIX_EPOCH};
+
+/// The host of the system. No clause of std ties a path to what is read of it, a port to what comes on
+/// it, or the clock to a moment, so none does here beside a port's number.
+#[derive(Clone, Copy)]
+pub struct RuntimeHost<'a, R>(pub &'a R);
+
+impl<R: Files + Net + std::rt::Clock> Host for RuntimeHost<'_, R> {
+    ghost use Rattle.hh_host.specs.Views.{any_view};
+
+    type Listener = RuntimeListener<R::Listener>;
+
+    ghost view = { λ _. any_view };
+
+    fn read(&self, alloc: Global, path: &str, most: usize) -> Result<Vec<u8>, InputFault> {
+        FileInputs(RuntimeFiles(self.0)).read(alloc, path, most)
+    }
+
+    fn listen(&self, port: u16) -> Result<RuntimeListener<R::Listener>, SocketFailed> {
+        RuntimeLoopback(self.0).listen(port)
+    }
+
+    /// A clock that is set before 1970 tells no moment.
+    fn now(&self) -> Result<i64, ClockFailed> {
+        let Ok(since) = SystemTime::now(self.0)?.duration_since(UNIX_EPOCH) else {
+            return Err(ClockFailed);
+        };
+        i64::try_from(since.as_secs()).map_err(|_| ClockFailed)
+    }
+}
+
+/// The clock of a host, which is read anew each time.
+#[derive(Clone, Copy)]
+pub struct HostClock<'a, H>(pub &'a H);
+
+impl<H: Host> Clock for HostClock<'_, H> {
+    ghost leads = { λ _ _ _. ⊤ };
+
+    fn now(&mut self) -> Result<i64, ClockFailed> {
+        self.0.now()
+    }
+}
