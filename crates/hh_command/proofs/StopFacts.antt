@@ -13,7 +13,7 @@ use Rattle.hh_period.specs.Outcome.{period_outcome, rejections, Outcome, Writes,
 use Rattle.hh_command.specs.declared.program.Stop.{Stop}
 use Rattle.clap.specs.Words.{Text}
 use Rattle.hh_rows.specs.declared.settings.Settings.{Settings}
-use Rattle.hh_sockets.specs.Ports.{Ports}
+use Rattle.hh_host.specs.Views.{HostView}
 use Rattle.hh_session.specs.declared.script.ScriptStop.{ScriptStop}
 use Rattle.hh_session.specs.declared.script.ScriptStop.TheVariants as script
 use Rattle.hh_session.specs.Script.{StopsAt}
@@ -32,10 +32,10 @@ abbrev pub IsFrontOf : (List ℕ → Option (List ℕ) → Type 0) → ℕ → L
 IsFrontOf reads most path front = (all : List ℕ) × reads path (Some all) × (front ≡ take most all)
 
 -- The files of a line were read so far that a file that is too large is known.
-module _ (reads : List ℕ → Option (List ℕ) → Type 0) (most : ℕ) (enough : most_bytes < most) (meter contracts price : List ℕ)
-    (m c : List ℕ) (meter_read : IsFrontOf reads most meter m) (contracts_read : IsFrontOf reads most contracts c) where
+module _ (host : HostView) (most : ℕ) (enough : most_bytes < most) (meter contracts price : List ℕ)
+    (m c : List ℕ) (meter_read : IsFrontOf host.reads most meter m) (contracts_read : IsFrontOf host.reads most contracts c) where
   -- what the bytes that were read come to, the line does
-  comes_to : (outcome : Outcome (List ℕ)) → period_outcome m c price ≡ outcome → ComesTo reads meter contracts price outcome
+  comes_to : (outcome : Outcome (List ℕ)) → period_outcome m c price ≡ outcome → ComesTo host meter contracts price outcome
   comes_to outcome is = (
     meter_read.0,
     contracts_read.0,
@@ -44,7 +44,7 @@ module _ (reads : List ℕ → Option (List ℕ) → Type 0) (most : ℕ) (enoug
     sym (period_outcome-front most enough meter_read.0 contracts_read.0 price) ∙ sym (λ i. period_outcome (meter_read.2 i) (contracts_read.2 i) price) ∙ is,
   )
 
-  pub done_by_period : (device : DeviceChange) → Writes (period_outcome m c price) device → DoesPeriod reads meter contracts price device
+  pub done_by_period : (device : DeviceChange) → Writes (period_outcome m c price) device → DoesPeriod host meter contracts price device
   done_by_period device (text, is, went) = (text, comes_to (Ok text) is, went)
 
   -- What changes in an output.
@@ -57,20 +57,20 @@ module _ (reads : List ℕ → Option (List ℕ) → Type 0) (most : ℕ) (enoug
       pub failed_then : fault ≡ Write → HasFailed device
 
     -- the line stops as the fault says
-    line_stops : (fault : PeriodFault) → IsPeriodFault fault → StopsPeriod reads device meter contracts price (period_stop fault)
+    line_stops : (fault : PeriodFault) → IsPeriodFault fault → StopsPeriod host device meter contracts price (period_stop fault)
     line_stops (Refused e) h = (h.untouched e refl, ByRefusal-map e.fault.refusal _ _ _ (comes_to (Err e)) (h.refused e refl))
     line_stops Write h = let (text, is, went) = h.cut refl in (h.failed_then refl, (text, comes_to (Ok text) is, went))
 
     pub stopped_by_period : {T : Type 0} (fault : PeriodFault) → IsPeriodFault fault
         → (result : Result T Stop) → IsErrAnd result (λ s. s ≡ period_stop fault)
-        → IfErr result (λ s. StopsPeriod reads device meter contracts price s)
+        → IfErr result (λ s. StopsPeriod host device meter contracts price s)
     stopped_by_period fault h (Ok x) passed = tt
-    stopped_by_period fault h (Err s) passed = subst (StopsPeriod reads device meter contracts price) (sym passed) (line_stops fault h)
+    stopped_by_period fault h (Err s) passed = subst (StopsPeriod host device meter contracts price) (sym passed) (line_stops fault h)
 
 -- A line stops as one of a script that is off its form, and that is told: the words are wrong.
-module _ (reads : List ℕ → Option (List ℕ) → Type 0) (ports : Ports) (words : List Text) (out err : DeviceChange) where
+module _ (host : HostView) (words : List Text) (out err : DeviceChange) where
   off_at : (settings : Settings) (file : Text) → line_value words ≡ Some (ScriptCommand settings file) → (line : ℕ) → TellsOff err line
-      → (why : ScriptStop) → script_stop why ≡ stop.Off line → StopsAt reads file ports settings out why → AreWrong reads words err
+      → (why : ScriptStop) → script_stop why ≡ stop.Off line → StopsAt host file settings out why → AreWrong host words err
   off_at settings file is line told script.File same at = cc same
   off_at settings file is line told (script.Off n) same at =
       let number : n ≡ line = cc same in
@@ -78,7 +78,7 @@ module _ (reads : List ℕ → Option (List ℕ) → Type 0) (ports : Ports) (wo
   off_at settings file is line told (script.Refused fault) same at = cc same
   off_at settings file is line told script.Output same at = cc same
 
-  pub wrong_by_off : (l : Line) → line_value words ≡ Some l → (s : Stop) → StopsLine reads ports out l s → IsOffAndTold err s → AreWrong reads words err
+  pub wrong_by_off : (l : Line) → line_value words ≡ Some l → (s : Stop) → StopsLine host out l s → IsOffAndTold err s → AreWrong host words err
   wrong_by_off (PeriodCommand meter contracts price) is s stops (line, same, told) =
-      absurd (subst (StopsBy out (ComesTo reads meter contracts price) (HasUnreadable reads meter contracts)) same stops)
+      absurd (subst (StopsBy out (ComesTo host meter contracts price) (HasUnreadable host meter contracts)) same stops)
   wrong_by_off (ScriptCommand settings file) is s (why, from, at) (line, same, told) = off_at settings file is line told why (sym from ∙ same) at

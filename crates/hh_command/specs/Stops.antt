@@ -1,5 +1,5 @@
 -- How a line of words ends: done, or stopped, and what is told of it.
-use Rattle.std.specs.Prelude.{◌≡◌, ◌≢◌, ◌⊎◌, ℕ, List, [], ◌++◌, Option, Some, None, Ok, Err, codes, decimal}
+use Rattle.std.specs.Prelude.{◌≡◌, ◌≢◌, ◌⊎◌, ℕ, List, [], ◌++◌, Some, None, Ok, Err, codes, decimal}
 use Rattle.std.specs.Io.KnownBytes.{Appends}
 use Rattle.clap.specs.Words.{Text, fault_of}
 use Rattle.hh_devices.specs.DeviceChanges.{DeviceChange, HasFailed}
@@ -8,7 +8,7 @@ use Rattle.hh_names.specs.Faults.{ByRefusal}
 use Rattle.hh_rows.specs.declared.settings.Settings.{Settings}
 use Rattle.hh_inputs.specs.declared.inputs.InputFault.{InputFault}
 use Rattle.hh_inputs.specs.declared.inputs.InputFault.TheVariants.{Unreadable, Memory}
-use Rattle.hh_sockets.specs.Ports.{Ports}
+use Rattle.hh_host.specs.Views.{HostView}
 use Rattle.hh_session.specs.declared.script.ScriptStop.{ScriptStop}
 use Rattle.hh_session.specs.declared.script.ScriptStop.TheVariants as script
 use Rattle.hh_session.specs.Script.{IsUnread, StopsAt, WritesScript}
@@ -100,16 +100,16 @@ module _ (device : DeviceChange) where
   StopsBy Comes unread stop.Output = HasFailed device × ((text : List ℕ) × Comes (Ok text) × AppendsFront device.old device.new text)
   StopsBy Comes unread (stop.Off line) = ⊥
 
--- What a path may read as: the bytes of its file, or nothing where it cannot be read.
-module _ (reads : List ℕ → Option (List ℕ) → Type 0) where
+-- A host may show this of files and ports.
+module _ (host : HostView) where
   -- what a period may come to: a text, or a rejection, by what its files may read as
   abbrev pub ComesTo : Text → Text → Text → Outcome (List ℕ) → Type 0
   ComesTo meter contracts price outcome =
-      (m c : List ℕ) × reads meter (Some m) × reads contracts (Some c) × (period_outcome m c price ≡ outcome)
+      (m c : List ℕ) × host.reads meter (Some m) × host.reads contracts (Some c) × (period_outcome m c price ≡ outcome)
 
   -- a file of a period cannot be read: METER, or CONTRACTS where METER can
   abbrev pub HasUnreadable : Text → Text → Type 0
-  HasUnreadable meter contracts = reads meter None ⊎ ((m : List ℕ) × reads meter (Some m) × reads contracts None)
+  HasUnreadable meter contracts = host.reads meter None ⊎ ((m : List ℕ) × host.reads meter (Some m) × host.reads contracts None)
 
   -- a period is settled, and known bytes grow by its text
   abbrev pub DoesPeriod : Text → Text → Text → DeviceChange → Type 0
@@ -119,17 +119,15 @@ module _ (reads : List ℕ → Option (List ℕ) → Type 0) where
   abbrev pub StopsPeriod : DeviceChange → Text → Text → Text → Stop → Type 0
   StopsPeriod device meter contracts price = StopsBy device (ComesTo meter contracts price) (HasUnreadable meter contracts)
 
--- What a path may read as, and what is known of ports.
-module _ (reads : List ℕ → Option (List ℕ) → Type 0) (ports : Ports) where
   -- the line is done, and known bytes grow by its text
   abbrev pub Does : Line → DeviceChange → Type 0
-  Does (PeriodCommand meter contracts price) device = DoesPeriod reads meter contracts price device
-  Does (ScriptCommand settings file) device = WritesScript reads file ports settings device
+  Does (PeriodCommand meter contracts price) device = DoesPeriod meter contracts price device
+  Does (ScriptCommand settings file) device = WritesScript host file settings device
 
   -- a line stops so, where this changes in the output
   abbrev pub StopsLine : DeviceChange → Line → Stop → Type 0
-  StopsLine device (PeriodCommand meter contracts price) = StopsPeriod reads device meter contracts price
-  StopsLine device (ScriptCommand settings file) = λ s. (why : ScriptStop) × (s ≡ script_stop why) × StopsAt reads file ports settings device why
+  StopsLine device (PeriodCommand meter contracts price) = StopsPeriod device meter contracts price
+  StopsLine device (ScriptCommand settings file) = λ s. (why : ScriptStop) × (s ≡ script_stop why) × StopsAt host file settings device why
 
   -- words form a line, and it is done
   abbrev pub DoesWords : List Text → DeviceChange → Type 0
@@ -144,9 +142,7 @@ module _ (reads : List ℕ → Option (List ℕ) → Type 0) (ports : Ports) whe
   abbrev pub Stops : List Text → DeviceChange → DeviceChange → Type 0
   Stops words out err = (s : Stop) × HasStatusOne s × StopsWords words out s × Tells err s
 
--- What a path may read as.
-module _ (reads : List ℕ → Option (List ℕ) → Type 0) where
   -- words form no line, which is told; or that of a script of which a line is off its form, whose number is told
   abbrev pub AreWrong : List Text → DeviceChange → Type 0
   AreWrong words err = ((line_value words ≡ None) × TellsWrong words err) ⊎ ((settings : Settings) × (file : Text) × (line : ℕ)
-      × (line_value words ≡ Some (ScriptCommand settings file)) × IsUnread reads file (script.Off line) × TellsOff err line)
+      × (line_value words ≡ Some (ScriptCommand settings file)) × IsUnread host file (script.Off line) × TellsOff err line)

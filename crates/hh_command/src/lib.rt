@@ -4,4 +4,4 @@
 mod no_words;
 mod program;
 
-pub use program::{Stop, command, run};
+pub use program::{Stop, command, command_on, run};

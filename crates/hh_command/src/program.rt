@@ -7,23 +7,25 @@ ghost use Rattle.hh_devices.specs.DeviceChanges.{change};
 ghost use Rattle.hh_devices.specs.Devices.{Failed};
 ghost use Rattle.hh_rows.specs.RowKinds.{most_bytes};
 ghost use Rattle.hh_period.specs.Outcome.{memory_rejection};
+ghost use Rattle.hh_host.specs.Views.{any_view};
 ghost use Rattle.hh_words.specs.Lines.{line_of};
 ghost use Rattle.hh_command.specs.Stops.{AreWrong, Does, DoesPeriod, DoesWords, HasStatusOne, IsTold, Stops, StopsLine, StopsPeriod, Tells, not_text_line, stop_line, stop_status};
 ghost use Rattle.hh_command.specs.steps.Stops.{IsOffAndTold, told_text};
 
 use crate::no_words::NoWords;
 use hh_devices::{DeviceFailed, Sink, write_whole};
-use hh_inputs::{InputFault, Inputs};
+use hh_host::{Host, RuntimeHost};
+use hh_inputs::InputFault;
 use hh_names::Refusal;
 use hh_period::{PeriodFault, Rejection, period};
 use hh_session::{ScriptStop, run_script};
-use hh_sockets::Loopback;
 use hh_texts::MOST_BYTES;
 use hh_words::{Command, PeriodWords, USAGE, WordsFault, read_words};
 use itoa::Buffer;
 use std::alloc::{AllocError, Global};
 use std::env;
-use std::rt::Env;
+use std::net::Net;
+use std::rt::{Clock, Env, Files};
 
 /// The exit status of a command that was done.
 const DONE: u8 = 0;
@@ -115,10 +117,8 @@ impl From<ScriptStop> for Stop {
 
 /// Runs the line of words that the program was called with, as `command` does (profile). No contract
 /// knows which words these are. Words that are not text are told as such, with status 2.
-pub fn run<R: Env + AllocGlobal, I: Inputs, L: Loopback, O: Sink, E: Sink>(
+pub fn run<R: Env + Files + Net + Clock + AllocGlobal, O: Sink, E: Sink>(
     rt: &R,
-    inputs: &I,
-    loopback: &L,
     out: &mut O,
     err: &mut E,
 ) -> u8
@@ -126,24 +126,23 @@ pub fn run<R: Env + AllocGlobal, I: Inputs, L: Loopback, O: Sink, E: Sink>(
 
     // Some words form a line, and it was done.
     ensures done { result ≡ 0 → (words : List Text)
-        × DoesWords (I.reads_as inputs.now) (L.ports loopback.now) words
-        (change O.taken O.failures out.old out.new) }
+        × DoesWords any_view words (change O.taken O.failures out.old out.new) }
     ensures well { result ≡ 0 → O.failures out.new ≡ O.failures out.old }
     ensures silent { result ≡ 0 → err.new ≡ err.old }
 
     // Some words form a line that stops so, or memory ran out before they were read.
     ensures stopped { result ≡ 1 → (words : List Text)
-        × Stops (I.reads_as inputs.now) (L.ports loopback.now) words
-        (change O.taken O.failures out.old out.new) (change E.taken E.failures err.old err.new) }
+        × Stops any_view words (change O.taken O.failures out.old out.new)
+        (change E.taken E.failures err.old err.new) }
 
     // Some words form no line, or a line of their script is off its form; or words are not text.
     ensures told { let told = change E.taken E.failures err.old err.new in
-        result ≡ 2 → ((words : List Text) × AreWrong (I.reads_as inputs.now) words told)
+        result ≡ 2 → ((words : List Text) × AreWrong any_view words told)
         ⊎ IsTold told not_text_line }
     ensures untouched { result ≡ 2 → out.new ≡ out.old }
 {
     match arguments(rt) {
-        Ok(words) => command(rt.alloc(), inputs, loopback, &words, out, err),
+        Ok(words) => command(rt, &words, out, err),
         Err(NoWords::NotText) => wrong(err, NOT_TEXT),
         Err(NoWords::Memory) => stopped(rt.alloc(), err, Stop::no_memory()),
     }
@@ -155,14 +154,35 @@ fn arguments<R: Env + AllocGlobal>(rt: &R) -> Result<Vec<String>, NoWords> {
     Ok(words)
 }
 
-/// Runs one line of words, the program's own name in front, over files, the loopback and two sinks, and answers
-/// the exit status (profile): 0 done, 1 refused or a fault of a file or of the output, 2 wrong words, a
-/// line of a script off its form, or a call for help. What ends it is told on `err`; where `err` fails,
-/// the status alone tells it.
-pub fn command<I: Inputs, L: Loopback, O: Sink, E: Sink>(
+/// Runs one line of words on this machine, as `command_on` does. Of files, ports and the clock of a
+/// machine no contract knows anything.
+pub fn command<R: Files + Net + Clock + AllocGlobal, O: Sink, E: Sink>(
+    rt: &R,
+    words: &[String],
+    out: &mut O,
+    err: &mut E,
+) -> u8
+    ensures status { result ≤ 2 }
+    ensures done { result ≡ 0 → DoesWords any_view (map string_bytes words.now)
+        (change O.taken O.failures out.old out.new) }
+    ensures well { result ≡ 0 → O.failures out.new ≡ O.failures out.old }
+    ensures silent { result ≡ 0 → err.new ≡ err.old }
+    ensures stopped { result ≡ 1 → Stops any_view (map string_bytes words.now)
+        (change O.taken O.failures out.old out.new) (change E.taken E.failures err.old err.new) }
+    ensures wrong { result ≡ 2 → AreWrong any_view (map string_bytes words.now)
+        (change E.taken E.failures err.old err.new) }
+    ensures untouched { result ≡ 2 → out.new ≡ out.old }
+{
+    command_on(rt.alloc(), &RuntimeHost(rt), words, out, err)
+}
+
+/// Runs one line of words, the program's own name in front, over a host and two sinks, and answers the
+/// exit status (profile): 0 done, 1 refused or a fault of a file or of the output, 2 wrong words, a line
+/// of a script off its form, or a call for help. What ends it is told on `err`; where `err` fails, the
+/// status alone tells it.
+pub fn command_on<H: Host, O: Sink, E: Sink>(
     alloc: Global,
-    inputs: &I,
-    loopback: &L,
+    host: &H,
     words: &[String],
     out: &mut O,
     err: &mut E,
@@ -170,24 +190,23 @@ pub fn command<I: Inputs, L: Loopback, O: Sink, E: Sink>(
     ensures status { result ≤ 2 }
 
     // Done is what the words ask for, and nothing is said on `err` then.
-    ensures done { result ≡ 0 → DoesWords (I.reads_as inputs.now) (L.ports loopback.now)
-        (map string_bytes words.now) (change O.taken O.failures out.old out.new) }
+    ensures done { result ≡ 0 → DoesWords (H.view host.now) (map string_bytes words.now)
+        (change O.taken O.failures out.old out.new) }
     ensures well { result ≡ 0 → O.failures out.new ≡ O.failures out.old }
     ensures silent { result ≡ 0 → err.new ≡ err.old }
 
     // A stop is one that the words, the files and `out` have, and it is told, unless `err` failed.
-    ensures stopped { result ≡ 1 → Stops (I.reads_as inputs.now) (L.ports loopback.now)
-        (map string_bytes words.now) (change O.taken O.failures out.old out.new)
-        (change E.taken E.failures err.old err.new) }
+    ensures stopped { result ≡ 1 → Stops (H.view host.now) (map string_bytes words.now)
+        (change O.taken O.failures out.old out.new) (change E.taken E.failures err.old err.new) }
 
     // Words that form no line are told, and so is the number of a script's line that is off its form,
     // unless `err` failed.
-    ensures wrong { result ≡ 2 → AreWrong (I.reads_as inputs.now) (map string_bytes words.now)
+    ensures wrong { result ≡ 2 → AreWrong (H.view host.now) (map string_bytes words.now)
         (change E.taken E.failures err.old err.new) }
     ensures untouched { result ≡ 2 → out.new ≡ out.old }
 {
     match read_words(alloc, words) {
-        Ok(command) => match perform(alloc, inputs, loopback, &command, out) {
+        Ok(command) => match perform(alloc, host, &command, out) {
             Ok(()) => DONE,
             Err(stop) => stopped(alloc, err, stop),
         },
@@ -197,50 +216,48 @@ pub fn command<I: Inputs, L: Loopback, O: Sink, E: Sink>(
 }
 
 /// Does what a line of words asks for.
-fn perform<I: Inputs, L: Loopback, O: Sink>(
+fn perform<H: Host, O: Sink>(
     alloc: Global,
-    inputs: &I,
-    loopback: &L,
+    host: &H,
     command: &Command<'_>,
     out: &mut O,
 ) -> Result<(), Stop>
-    ensures done { OnOk result (Does (I.reads_as inputs.now) (L.ports loopback.now)
-        (line_of command.now) (change O.taken O.failures out.old out.new)) }
+    ensures done { OnOk result (Does (H.view host.now) (line_of command.now)
+        (change O.taken O.failures out.old out.new)) }
     ensures well { OnOk result (O.failures out.new ≡ O.failures out.old) }
-    ensures stopped { IfErr result (λ stop. StopsLine (I.reads_as inputs.now)
-        (L.ports loopback.now) (change O.taken O.failures out.old out.new)
-        (line_of command.now) stop) }
+    ensures stopped { IfErr result (StopsLine (H.view host.now)
+        (change O.taken O.failures out.old out.new) (line_of command.now)) }
     ensures untouched { IfErr result (λ stop. stop ≢ Stop.Output → out.new ≡ out.old) }
 {
     match command {
-        Command::Period(words) => settle_files(alloc, inputs, MOST_READ, *words, out),
+        Command::Period(words) => settle_files(alloc, host, MOST_READ, *words, out),
         Command::Script(words) => {
-            run_script(alloc, words.settings, inputs, loopback, words.file, out)?;
+            run_script(alloc, words.settings, host, words.file, out)?;
             Ok(())
         }
     }
 }
 
 /// Does what `period` is given, by so many bytes of each file.
-fn settle_files<I: Inputs, O: Sink>(
+fn settle_files<H: Host, O: Sink>(
     alloc: Global,
-    inputs: &I,
+    host: &H,
     most: usize,
     words: PeriodWords<'_>,
     out: &mut O,
 ) -> Result<(), Stop>
     requires { most_bytes < most }
-    ensures done { OnOk result (DoesPeriod (I.reads_as inputs.now) words.entry.meter.now
+    ensures done { OnOk result (DoesPeriod (H.view host.now) words.entry.meter.now
         words.entry.contracts.now words.entry.price.now
         (change O.taken O.failures out.old out.new)) }
     ensures well { OnOk result (O.failures out.new ≡ O.failures out.old) }
-    ensures stopped { IfErr result (λ stop. StopsPeriod (I.reads_as inputs.now)
+    ensures stopped { IfErr result (λ stop. StopsPeriod (H.view host.now)
         (change O.taken O.failures out.old out.new)
         words.entry.meter.now words.entry.contracts.now words.entry.price.now stop) }
     ensures untouched { IfErr result (λ stop. stop ≢ Stop.Output → out.new ≡ out.old) }
 {
-    let meter = inputs.read(alloc, words.meter, most)?;
-    let contracts = inputs.read(alloc, words.contracts, most)?;
+    let meter = host.read(alloc, words.meter, most)?;
+    let contracts = host.read(alloc, words.contracts, most)?;
     period(alloc, &meter, &contracts, words.price.as_bytes(), out)?;
     Ok(())
 }

@@ -1,5 +1,5 @@
 -- Lines that are run over an office, by the content of its tables before and after them.
-use Rattle.std.proofs.Common.{◌≡◌, ℕ, List, Option, subst, sym}
+use Rattle.std.proofs.Common.{◌≡◌, List, subst, sym}
 use Rattle.jiff.specs.declared.tz.timezone.TimeZone.{TimeZone}
 use Rattle.jiff.specs.Words.{plain_zone}
 use Rattle.hh_devices.specs.DeviceChanges.{DeviceChange}
@@ -8,13 +8,14 @@ use Rattle.hh_states.specs.Changes.{StandsFor}
 use Rattle.hh_states.specs.Content.{Content}
 use Rattle.hh_states.specs.States.{State}
 use Rattle.hh_office.specs.Views.{OfficeView, midnight_of}
-use Rattle.hh_sockets.specs.Ports.{Ports}
+use Rattle.hh_host.specs.Views.{HostView}
 use Rattle.hh_script.specs.Steps.{Step}
-use Rattle.hh_session.specs.Course.{RunsScript, StandsNow, StopsScript}
+use Rattle.hh_desk.specs.Doing.{StandsNow}
+use Rattle.hh_session.specs.Course.{RunsScript, StopsScript}
 use Rattle.hh_session.specs.Script.{IsMarketZone}
 use Rattle.hh_database.specs.steps.Running.{RunsOver, StopsOver}
 
-module _ (reads : List ℕ → Option (List ℕ) → Type 0) (ports : Ports) (fails : Type 0) (zone : TimeZone) (market : IsMarketZone zone)
+module _ (host : HostView) (fails : Type 0) (zone : TimeZone) (market : IsMarketZone zone)
     (old new : Content) (last : OfficeView) (same : new ≡ last.content) (device : DeviceChange) (steps : List Step) where
   abbrev first : OfficeView
   first = record { zone = zone; content = old }
@@ -24,9 +25,9 @@ module _ (reads : List ℕ → Option (List ℕ) → Type 0) (ports : Ports) (fa
   stands_now t (now, zoned) =
       subst (λ z. StandsFor (midnight_in (plain_zone z)) new t) zoned (subst (λ c. StandsFor (midnight_of last) c t) (sym same) now)
 
-  pub runs_over : RunsScript reads ports fails first last device steps → RunsOver reads ports fails device old new steps
+  pub runs_over : RunsScript host fails first last device steps → RunsOver host fails device old new steps
   runs_over runs = (zone, market, λ s stands. let (text, t, does, went, now) = runs s stands in (text, t, does, went, stands_now t now))
 
-  pub stops_over : StopsScript reads ports fails first last device steps → StopsOver reads ports fails device old new steps
+  pub stops_over : StopsScript host fails first last device steps → StopsOver host fails device old new steps
   stops_over stops =
       (zone, market, λ s stands. let (count, text, t, does, went, now) = stops s stands in (count, text, t, does, went, stands_now t now))

@@ -1,5 +1,5 @@
 -- What lines come to over an office whose tables stand in a database, by what the database holds after them.
-use Rattle.std.proofs.Common.{◌≡◌, ℕ, ◌<◌, List, Option, Result, Ok, Err, subst, sym, arith}
+use Rattle.std.proofs.Common.{◌≡◌, ℕ, ◌<◌, List, Result, Ok, Err, subst, sym, arith}
 use Rattle.std.specs.Prelude.{IfErr, IfOk, MatchResult, OnErr, OnOk}
 use Rattle.jiff.specs.Words.{plain_zone}
 use Rattle.sqlite.specs.Effect.{Database}
@@ -15,10 +15,10 @@ use Rattle.hh_states.specs.Steps.{at_first}
 use Rattle.hh_day.specs.Headline.{ReachedConserve}
 use Rattle.hh_keyed_rows.specs.Values.{version}
 use Rattle.hh_sqlstore.specs.Holds.{Holds}
-use Rattle.hh_sockets.specs.Ports.{Ports}
+use Rattle.hh_host.specs.Views.{HostView}
 use Rattle.hh_script.specs.Steps.{Step}
 use Rattle.hh_session.specs.Course.{cut_after}
-use Rattle.hh_session.specs.GivingUp.{CountsMore}
+use Rattle.hh_desk.specs.GivingUp.{CountsMore}
 use Rattle.hh_session.proofs.GivingUpLaws.{script_then}
 use Rattle.hh_database.specs.Running.{CutsFrom, CutsNew, CutsOver, HoldsState, WritesFrom, WritesNew, WritesOver}
 use Rattle.hh_database.specs.steps.Running.{RunsOver, StopsOver}
@@ -46,7 +46,7 @@ module _ {A E : Type 0} where
 risen : (count : ℕ) → CountsMore 0 count → 0 < count
 risen count more = more (omega arith)
 
-module _ (reads : List ℕ → Option (List ℕ) → Type 0) (ports : Ports) (device : DeviceChange) (db : Database) (steps : List Step) where
+module _ (host : HostView) (device : DeviceChange) (db : Database) (steps : List Step) where
   -- Lines were run over tables of one content, and left tables of another, which the database holds.
   module _ (fails : Type 0) (conserve : ReachedConserve) (old new : Content) (holds : Holds version new db) where
     holds_state : (midnight : Midnights) (t : State) → StandsFor midnight new t → HoldsState midnight t db
@@ -55,7 +55,7 @@ module _ (reads : List ℕ → Option (List ℕ) → Type 0) (ports : Ports) (de
       sums = conserve midnight t reached;
     }
 
-    pub writes_over : RunsOver reads ports fails device old new steps → WritesOver reads ports fails device db steps old
+    pub writes_over : RunsOver host fails device old new steps → WritesOver host fails device db steps old
     writes_over (zone, market, runs) = (
       zone,
       market,
@@ -64,7 +64,7 @@ module _ (reads : List ℕ → Option (List ℕ) → Type 0) (ports : Ports) (de
           (text, t, does, went, holds_state _ t now),
     )
 
-    pub cuts_over : StopsOver reads ports fails device old new steps → CutsOver reads ports fails device db steps old
+    pub cuts_over : StopsOver host fails device old new steps → CutsOver host fails device db steps old
     cuts_over (zone, market, stops) = (
       zone,
       market,
@@ -75,43 +75,43 @@ module _ (reads : List ℕ → Option (List ℕ) → Type 0) (ports : Ports) (de
 
   -- The office had refused nothing before, and has refused so many calls then.
   module _ (count : ℕ) where
-    writes_where : (midnight : Midnights) (s : State) → WritesFrom reads ports (CountsMore 0 count) device db steps s midnight
-        → WritesFrom reads ports (0 < count) device db steps s midnight
+    writes_where : (midnight : Midnights) (s : State) → WritesFrom host (CountsMore 0 count) device db steps s midnight
+        → WritesFrom host (0 < count) device db steps s midnight
     writes_where midnight s (text, t, does, went, held) =
-        (text, t, script_then (CountsMore 0 count) (0 < count) (risen count) reads ports midnight s steps text t does, went, held)
+        (text, t, script_then (CountsMore 0 count) (0 < count) (risen count) host midnight s steps text t does, went, held)
 
-    cuts_where : (midnight : Midnights) (s : State) → CutsFrom reads ports (CountsMore 0 count) device db steps s midnight
-        → CutsFrom reads ports (0 < count) device db steps s midnight
+    cuts_where : (midnight : Midnights) (s : State) → CutsFrom host (CountsMore 0 count) device db steps s midnight
+        → CutsFrom host (0 < count) device db steps s midnight
     cuts_where midnight s (first, text, t, does, went, held) = (
       first,
       text,
       t,
-      script_then (CountsMore 0 count) (0 < count) (risen count) reads ports midnight s (cut_after first steps) text t does,
+      script_then (CountsMore 0 count) (0 < count) (risen count) host midnight s (cut_after first steps) text t does,
       went,
       held,
     )
 
     -- the content that the office was taken over with is that which the database held
-    pub writes_held : (old content : Content) → old ≡ content → WritesOver reads ports (CountsMore 0 count) device db steps old
-        → WritesOver reads ports (0 < count) device db steps content
+    pub writes_held : (old content : Content) → old ≡ content → WritesOver host (CountsMore 0 count) device db steps old
+        → WritesOver host (0 < count) device db steps content
     writes_held old content same (zone, market, writes) =
         let midnight = midnight_in (plain_zone zone) in
         (zone, market, λ s stands. writes_where midnight s (writes s (subst (λ c. StandsFor midnight c s) (sym same) stands)))
 
-    pub cuts_held : (old content : Content) → old ≡ content → CutsOver reads ports (CountsMore 0 count) device db steps old
-        → CutsOver reads ports (0 < count) device db steps content
+    pub cuts_held : (old content : Content) → old ≡ content → CutsOver host (CountsMore 0 count) device db steps old
+        → CutsOver host (0 < count) device db steps content
     cuts_held old content same (zone, market, cuts) =
         let midnight = midnight_in (plain_zone zone) in
         (zone, market, λ s stands. cuts_where midnight s (cuts s (subst (λ c. StandsFor midnight c s) (sym same) stands)))
 
     -- a new office stands for the empty state
     module _ (settings : Settings) (fine : AreSettings settings) (old : Content) (stands : (midnight : Midnights) → old ≡ tables_of midnight (empty_state settings)) where
-      pub writes_new : WritesOver reads ports (CountsMore 0 count) device db steps old → WritesNew reads ports (0 < count) device db steps settings
+      pub writes_new : WritesOver host (CountsMore 0 count) device db steps old → WritesNew host (0 < count) device db steps settings
       writes_new (zone, market, writes) =
           let midnight = midnight_in (plain_zone zone) in
           (zone, market, writes_where midnight (empty_state settings) (writes (empty_state settings) (at_first settings fine, stands midnight)))
 
-      pub cuts_new : CutsOver reads ports (CountsMore 0 count) device db steps old → CutsNew reads ports (0 < count) device db steps settings
+      pub cuts_new : CutsOver host (CountsMore 0 count) device db steps old → CutsNew host (0 < count) device db steps settings
       cuts_new (zone, market, cuts) =
           let midnight = midnight_in (plain_zone zone) in
           (zone, market, cuts_where midnight (empty_state settings) (cuts (empty_state settings) (at_first settings fine, stands midnight)))

@@ -1,5 +1,5 @@
 -- What the lines of a script come to over an office whose tables stand in a database.
-use Rattle.std.specs.Prelude.{ℕ, List, Option}
+use Rattle.std.specs.Prelude.{ℕ, List}
 use Rattle.std.specs.Io.KnownBytes.{Appends}
 use Rattle.sqlite.specs.Effect.{Database}
 use Rattle.jiff.specs.declared.tz.timezone.TimeZone.{TimeZone}
@@ -15,7 +15,7 @@ use Rattle.hh_states.specs.States.{State, empty_state}
 use Rattle.hh_day.specs.Headline.{Conserves}
 use Rattle.hh_keyed_rows.specs.Values.{version}
 use Rattle.hh_sqlstore.specs.Holds.{Holds}
-use Rattle.hh_sockets.specs.Ports.{Ports}
+use Rattle.hh_host.specs.Views.{HostView}
 use Rattle.hh_script.specs.Steps.{Step}
 use Rattle.hh_session.specs.Course.{ScriptDoes, cut_after}
 use Rattle.hh_session.specs.Script.{IsMarketZone}
@@ -30,22 +30,22 @@ pub record HoldsState (midnight : Midnights) (t : State) (db : Database) : Type 
   pub holds : Holds version (tables_of midnight t) db
   pub sums : Conserves midnight t (tables_of midnight t)
 
--- What a path may read as, and what is known of ports. The database may have failed only where this holds. This changes in an output,
+-- A host may show this of files and ports. The database may have failed only where this holds. This changes in an output,
 -- and this is what the database holds after the steps.
-module _ (reads : List ℕ → Option (List ℕ) → Type 0) (ports : Ports) (fails : Type 0) (device : DeviceChange) (db : Database)
+module _ (host : HostView) (fails : Type 0) (device : DeviceChange) (db : Database)
     (steps : List Step) where
   -- the steps were run from a state, what they write went out, and the database holds the state after them
   abbrev pub WritesFrom : State → Midnights → Type 0
   WritesFrom s midnight =
       (text : List ℕ) × (t : State)
-      × ScriptDoes reads ports fails midnight s steps text t × Appends device.old device.new text × HoldsState midnight t db
+      × ScriptDoes host fails midnight s steps text t × Appends device.old device.new text × HoldsState midnight t db
 
   -- the first of the steps were run from a state, the last of them was cut short, a beginning of what they write went out, and the
   -- database holds the state after them
   abbrev pub CutsFrom : State → Midnights → Type 0
   CutsFrom s midnight =
       (count : ℕ) × (text : List ℕ) × (t : State)
-      × ScriptDoes reads ports fails midnight s (cut_after count steps) text t × AppendsFront device.old device.new text × HoldsState midnight t db
+      × ScriptDoes host fails midnight s (cut_after count steps) text t × AppendsFront device.old device.new text × HoldsState midnight t db
 
   -- so it is from a new office with these settings
   module _ (settings : Settings) where

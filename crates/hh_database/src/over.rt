@@ -4,36 +4,34 @@ ghost use Rattle.std.specs.Prelude.{◌≡◌, map, IsTrue, OnErr, OnOk};
 ghost use Rattle.hh_devices.specs.DeviceChanges.{change};
 ghost use Rattle.hh_devices.specs.Devices.{Failed};
 ghost use Rattle.hh_script.specs.Steps.{step_of};
-ghost use Rattle.hh_session.specs.GivingUp.{CountsMore};
+ghost use Rattle.hh_desk.specs.GivingUp.{CountsMore};
 ghost use Rattle.hh_database.specs.steps.Running.{RunsOver, StopsOver};
 
 use hh_devices::{DeviceFailed, Sink};
-use hh_inputs::Inputs;
+use hh_host::Host;
 use hh_office::Office;
 use hh_script::ScriptLine;
 use hh_session::run_lines;
-use hh_sockets::Loopback;
 use hh_store::Tables;
 use hh_time::london;
 use std::alloc::Global;
 
 /// Runs lines over an office in the zone of the market that has these tables, and hands the tables back.
-pub(crate) fn run_over<T: Tables, I: Inputs, L: Loopback, O: Sink>(
+pub(crate) fn run_over<T: Tables, H: Host, O: Sink>(
     alloc: Global,
     tables: T,
-    inputs: &I,
-    loopback: &L,
+    host: &H,
     lines: &[ScriptLine<'_>],
     out: &mut O,
 ) -> (Result<(), DeviceFailed>, T)
     ensures done { IsTrue (T.is_open result.1)
-        → OnOk result.0 (RunsOver (I.reads_as inputs.now) (L.ports loopback.now)
+        → OnOk result.0 (RunsOver (H.view host.now)
         (CountsMore (T.refusals tables) (T.refusals result.1))
         (change O.taken O.failures out.old out.new) (T.content tables) (T.content result.1)
         (map step_of lines.now)) }
     ensures well { OnOk result.0 (O.failures out.new ≡ O.failures out.old) }
     ensures cut { IsTrue (T.is_open result.1)
-        → OnErr result.0 (StopsOver (I.reads_as inputs.now) (L.ports loopback.now)
+        → OnErr result.0 (StopsOver (H.view host.now)
         (CountsMore (T.refusals tables) (T.refusals result.1))
         (change O.taken O.failures out.old out.new) (T.content tables) (T.content result.1)
         (map step_of lines.now)) }
@@ -41,6 +39,6 @@ pub(crate) fn run_over<T: Tables, I: Inputs, L: Loopback, O: Sink>(
     ensures sure { IsTrue (T.is_open result.1) → IsTrue (T.is_open tables) }
 {
     let mut office = Office::new(alloc, tables, london());
-    let ran = run_lines(alloc, &mut office, inputs, loopback, lines, out);
+    let ran = run_lines(alloc, &mut office, host, lines, out);
     (ran, office.into_tables())
 }

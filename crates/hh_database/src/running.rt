@@ -13,17 +13,16 @@ ghost use Rattle.hh_sqlstore.specs.Holds.{Holds};
 ghost use Rattle.hh_sqlstore.specs.Leaving.{LeavesDatabase};
 ghost use Rattle.hh_sqlstore.specs.Stores.{content_in};
 ghost use Rattle.hh_script.specs.Steps.{step_of};
-ghost use Rattle.hh_session.specs.GivingUp.{CountsMore};
+ghost use Rattle.hh_desk.specs.GivingUp.{CountsMore};
 ghost use Rattle.hh_database.specs.Running.{CutsNew, CutsOver, WritesNew, WritesOver};
 
 use crate::over::run_over;
 use crate::stop::{AfterLines, DatabaseStop};
 use hh_day::reached_conserve;
 use hh_devices::{DeviceFailed, Sink};
-use hh_inputs::Inputs;
+use hh_host::Host;
 use hh_rows::Settings;
 use hh_script::ScriptLine;
-use hh_sockets::Loopback;
 use hh_sqlstore::{Rising, SqlTables};
 use hh_store::StoreFault;
 use sqlite::{Alter, Connection};
@@ -38,23 +37,22 @@ use std::alloc::Global;
 /// `Refused` where the tables are not made: nothing is written, and the database has what it had.
 /// `Output` where the output failed or took nothing in this call: the first of the lines were run, and a
 /// beginning of what they write went out. The connection comes back.
-pub fn run_in_new_database<S: Alter, I: Inputs, L: Loopback, O: Sink>(
+pub fn run_in_new_database<S: Alter, H: Host, O: Sink>(
     alloc: Global,
     connection: Connection<S>,
     settings: Settings,
-    inputs: &I,
-    loopback: &L,
+    host: &H,
     lines: &[ScriptLine<'_>],
     out: &mut O,
 ) -> Result<AfterLines<S>, (DatabaseStop, AfterLines<S>)>
     ensures done { IfOk result (λ after. IsTrue (state S.Store after.connection).is_open
-        → WritesNew (I.reads_as inputs.now) (L.ports loopback.now) (0 < after.refusals)
+        → WritesNew (H.view host.now) (0 < after.refusals)
         (change O.taken O.failures out.old out.new) (state S.Store after.connection).committed
         (map step_of lines.now) settings) }
     ensures well { OnOk result (O.failures out.new ≡ O.failures out.old) }
     ensures cut { IfErr result (λ e. e.0 ≡ DatabaseStop.Output
         → IsTrue (state S.Store e.1.connection).is_open
-        → CutsNew (I.reads_as inputs.now) (L.ports loopback.now) (0 < e.1.refusals)
+        → CutsNew (H.view host.now) (0 < e.1.refusals)
         (change O.taken O.failures out.old out.new) (state S.Store e.1.connection).committed
         (map step_of lines.now) settings) }
     ensures failed { IfErr result (λ e. e.0 ≡ DatabaseStop.Output
@@ -68,7 +66,7 @@ pub fn run_in_new_database<S: Alter, I: Inputs, L: Loopback, O: Sink>(
     // Does nothing, but carries a law for the proof: the settings are within their ranges.
     settings.are_settings();
     match SqlTables::create(alloc, connection, settings) {
-        Ok(tables) => run_over_database(alloc, tables, inputs, loopback, lines, out),
+        Ok(tables) => run_over_database(alloc, tables, host, lines, out),
         Err(refused) => Err(not_run(refused)),
     }
 }
@@ -80,24 +78,23 @@ pub fn run_in_new_database<S: Alter, I: Inputs, L: Loopback, O: Sink>(
 /// # Errors
 ///
 /// As of `run_in_new_database`. `Refused` where the tables are not taken over.
-pub fn run_in_database<S: Rising, I: Inputs, L: Loopback, O: Sink>(
+pub fn run_in_database<S: Rising, H: Host, O: Sink>(
     alloc: Global,
     connection: Connection<S>,
-    inputs: &I,
-    loopback: &L,
+    host: &H,
     lines: &[ScriptLine<'_>],
     out: &mut O,
 ) -> Result<AfterLines<S>, (DatabaseStop, AfterLines<S>)>
     ensures done { (content : Content) → Holds version content (state S.Store connection).committed
         → IfOk result (λ after. IsTrue (state S.Store after.connection).is_open
-        → WritesOver (I.reads_as inputs.now) (L.ports loopback.now) (0 < after.refusals)
+        → WritesOver (H.view host.now) (0 < after.refusals)
         (change O.taken O.failures out.old out.new) (state S.Store after.connection).committed
         (map step_of lines.now) content) }
     ensures well { OnOk result (O.failures out.new ≡ O.failures out.old) }
     ensures cut { (content : Content) → Holds version content (state S.Store connection).committed
         → IfErr result (λ e. e.0 ≡ DatabaseStop.Output
         → IsTrue (state S.Store e.1.connection).is_open
-        → CutsOver (I.reads_as inputs.now) (L.ports loopback.now) (0 < e.1.refusals)
+        → CutsOver (H.view host.now) (0 < e.1.refusals)
         (change O.taken O.failures out.old out.new) (state S.Store e.1.connection).committed
         (map step_of lines.now) content) }
     ensures failed { IfErr result (λ e. e.0 ≡ DatabaseStop.Output
@@ -109,7 +106,7 @@ pub fn run_in_database<S: Rising, I: Inputs, L: Loopback, O: Sink>(
         → MatchResult result (λ _. ⊥) (λ e. e.0 ≡ DatabaseStop.Refused Store) }
 {
     match SqlTables::adopt(alloc, connection) {
-        Ok(tables) => run_over_database(alloc, tables, inputs, loopback, lines, out),
+        Ok(tables) => run_over_database(alloc, tables, host, lines, out),
         Err(refused) => Err(not_run(refused)),
     }
 }
@@ -128,22 +125,21 @@ fn not_run<S: Alter>(refused: (StoreFault, Connection<S>)) -> (DatabaseStop, Aft
 }
 
 /// Runs lines over an office with these tables, and hands their connection back.
-fn run_over_database<S: Alter, I: Inputs, L: Loopback, O: Sink>(
+fn run_over_database<S: Alter, H: Host, O: Sink>(
     alloc: Global,
     tables: SqlTables<S>,
-    inputs: &I,
-    loopback: &L,
+    host: &H,
     lines: &[ScriptLine<'_>],
     out: &mut O,
 ) -> Result<AfterLines<S>, (DatabaseStop, AfterLines<S>)>
     ensures done { IfOk result (λ after. IsTrue (state S.Store after.connection).is_open
-        → WritesOver (I.reads_as inputs.now) (L.ports loopback.now)
+        → WritesOver (H.view host.now)
         (CountsMore tables.refusals after.refusals)
         (change O.taken O.failures out.old out.new) (state S.Store after.connection).committed
         (map step_of lines.now) (content_in S.Store tables)) }
     ensures well { OnOk result (O.failures out.new ≡ O.failures out.old) }
     ensures cut { IfErr result (λ e. IsTrue (state S.Store e.1.connection).is_open
-        → CutsOver (I.reads_as inputs.now) (L.ports loopback.now)
+        → CutsOver (H.view host.now)
         (CountsMore tables.refusals e.1.refusals)
         (change O.taken O.failures out.old out.new) (state S.Store e.1.connection).committed
         (map step_of lines.now) (content_in S.Store tables)) }
@@ -157,7 +153,7 @@ fn run_over_database<S: Alter, I: Inputs, L: Loopback, O: Sink>(
 {
     // Does nothing, but carries a law for the proof: the tables of the machine's states add up.
     reached_conserve();
-    let (ran, tables) = run_over(alloc, tables, inputs, loopback, lines, out);
+    let (ran, tables) = run_over(alloc, tables, host, lines, out);
     let after = after_lines(tables);
     match ran {
         Ok(()) => Ok(after),

@@ -4,23 +4,23 @@ use Rattle.hh_host.specs.declared.clock.ClockFailed.{ClockFailed}
 use Rattle.hh_host.specs.declared.clock.FixedClock.{FixedClock}
 
 -- what comes of reading a clock: a moment, or nothing where it tells none
-abbrev pub Reading : Type 0
-Reading = Option ℤ
+abbrev pub ClockReading : Type 0
+ClockReading = Option ℤ
 
 -- what came of one reading
-abbrev pub reading : Result ℤ ClockFailed → Reading
+abbrev pub reading : Result ℤ ClockFailed → ClockReading
 reading (Ok moment) = Some moment
 reading (Err failed) = None
 
 -- What came of reading a clock leads from one state of it to another, and a call that makes the one of the other has read it once more.
-abbrev pub IsReadOnce : {C : Type 0} → (C → List Reading → C → Type 0) → C → C → Result ℤ ClockFailed → Type 0
-IsReadOnce {C} leads old new result = (first : C) (readings : List Reading) → leads first readings old → leads first (readings ++ reading result ∷ []) new
+abbrev pub IsReadOnce : {C : Type 0} → (C → List ClockReading → C → Type 0) → C → C → Result ℤ ClockFailed → Type 0
+IsReadOnce {C} leads old new result = (first : C) (readings : List ClockReading) → leads first readings old → leads first (readings ++ reading result ∷ []) new
 
 -- each reading told this moment
-abbrev pub AllTell : ℤ → List Reading → Type 0
+abbrev pub AllTell : ℤ → List ClockReading → Type 0
 AllTell moment [] = Unit {0}
 AllTell moment (r ∷ readings) = (r ≡ Some moment) × AllTell moment readings
 
 -- a clock that tells one moment stays as it is
-abbrev pub fixed_leads : FixedClock → List Reading → FixedClock → Type 0
+abbrev pub fixed_leads : FixedClock → List ClockReading → FixedClock → Type 0
 fixed_leads first readings last = AllTell first.moment readings × (last ≡ first)

@@ -1,7 +1,7 @@
 //! What tells the moments at which requests come.
 
 ghost use Rattle.std.specs.Prelude.{ℕ, List};
-ghost use Rattle.hh_host.specs.Clocks.{IsReadOnce, Reading};
+ghost use Rattle.hh_host.specs.Clocks.{IsReadOnce, ClockReading};
 
 use std::io;
 
@@ -18,7 +18,7 @@ impl From<io::Error> for ClockFailed {
 /// What tells the moments at which requests come.
 pub trait Clock {
     /// What came of reading the clock, time after time, and so led from one state of it to another.
-    ghost leads: { Self → List Reading → Self → Type 0 };
+    ghost leads: { Self → List ClockReading → Self → Type 0 };
 
     /// The moment now, in seconds since 1970-01-01T00:00:00Z.
     fn now(&mut self) -> Result<i64, ClockFailed>

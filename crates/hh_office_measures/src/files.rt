@@ -2,12 +2,11 @@
 
 use hh_database::{AfterLines, DatabaseStop, run_in_database, run_in_new_database};
 use hh_devices::Sink;
-use hh_inputs::Inputs;
+use hh_host::Host;
 use hh_measures::{MeasureStop, Watch};
 use hh_names::Refusal;
 use hh_rows::Settings;
 use hh_script::ScriptLine;
-use hh_sockets::Loopback;
 use hh_sqlstore::Rising;
 use hh_store::StoreFault;
 use sqlite::{Connection, Error, ErrorCode, FileStore, Options};
@@ -17,35 +16,20 @@ use std::io::Eprint;
 use std::rt::Clock;
 
 /// Opens the files, which the watch measures, runs the lines over the office there, and closes them.
-pub(crate) fn run_in_files<
-    R: Clock + Eprint + AllocGlobal,
-    D: Disk + Drop,
-    I: Inputs,
-    L: Loopback,
-    O: Sink,
->(
+pub(crate) fn run_in_files<R: Clock + Eprint + AllocGlobal, D: Disk + Drop, H: Host, O: Sink>(
     rt: &R,
     watch: Watch,
     files: Files<D>,
     options: Options,
     settings: Option<Settings>,
-    inputs: &I,
-    loopback: &L,
+    host: &H,
     lines: &[ScriptLine<'_>],
     out: &mut O,
 ) -> Result<(), MeasureStop> {
     let connection = open(rt.alloc(), files, options)?;
     let opened = watch.stop(rt);
     let watch = Watch::start(rt);
-    let (ran, connection) = run_over(
-        rt.alloc(),
-        connection,
-        settings,
-        inputs,
-        loopback,
-        lines,
-        out,
-    );
+    let (ran, connection) = run_over(rt.alloc(), connection, settings, host, lines, out);
     let closed = close(connection);
     opened?;
     watch?.stop(rt)?;
@@ -69,20 +53,17 @@ fn open<D: Disk + Drop>(
 }
 
 /// Runs the lines over the office in a database, which is made where settings are given.
-fn run_over<S: Rising, I: Inputs, L: Loopback, O: Sink>(
+fn run_over<S: Rising, H: Host, O: Sink>(
     alloc: Global,
     connection: Connection<S>,
     settings: Option<Settings>,
-    inputs: &I,
-    loopback: &L,
+    host: &H,
     lines: &[ScriptLine<'_>],
     out: &mut O,
 ) -> (Result<(), MeasureStop>, Connection<S>) {
     let ran = match settings {
-        Some(settings) => run_in_new_database(
-            alloc, connection, settings, inputs, loopback, lines, out,
-        ),
-        None => run_in_database(alloc, connection, inputs, loopback, lines, out),
+        Some(settings) => run_in_new_database(alloc, connection, settings, host, lines, out),
+        None => run_in_database(alloc, connection, host, lines, out),
     };
     match ran {
         Ok(

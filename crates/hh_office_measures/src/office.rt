@@ -3,13 +3,13 @@
 use crate::files::run_in_files;
 use crate::words::Paths;
 use hh_devices::StreamSink;
-use hh_inputs::{FileInputs, InputFault, Inputs, RuntimeFiles};
+use hh_host::{Host, RuntimeHost};
+use hh_inputs::InputFault;
 use hh_measures::{MeasureStop, Watch};
 use hh_names::Refusal;
 use hh_rows::Settings;
 use hh_script::{ScriptFault, read_script};
 use hh_session::MOST_SCRIPT_BYTES;
-use hh_sockets::RuntimeLoopback;
 use sqlite::Options;
 use sqlite_disk::Files;
 use sqlite_std_file::{File, OpenError, Unknown};
@@ -25,8 +25,8 @@ pub(crate) fn run_office(
     paths: Paths<'_>,
     settings: Option<Settings>,
 ) -> Result<(), MeasureStop> {
-    let inputs = FileInputs(RuntimeFiles(rt));
-    let script = script_of(rt, &inputs, paths.script)?;
+    let host = RuntimeHost(rt);
+    let script = script_of(rt, &host, paths.script)?;
     let lines = match read_script(rt.alloc(), &script) {
         Ok(lines) => lines,
         Err(ScriptFault::Off { .. }) => return Err(MeasureStop::Words),
@@ -36,22 +36,12 @@ pub(crate) fn run_office(
     let watch = Watch::start(rt)?;
     let files = files_at(rt, paths.database)?;
     let mut out = StreamSink::new(rt.stdout());
-    run_in_files(
-        rt,
-        watch,
-        files,
-        options,
-        settings,
-        &inputs,
-        &RuntimeLoopback(rt),
-        &lines,
-        &mut out,
-    )
+    run_in_files(rt, watch, files, options, settings, &host, &lines, &mut out)
 }
 
 /// The bytes of a script, of which too many are none.
-fn script_of<I: Inputs>(rt: &HostRuntime, inputs: &I, path: &str) -> Result<Vec<u8>, MeasureStop> {
-    match inputs.read(rt.alloc(), path, MOST_SCRIPT_BYTES) {
+fn script_of<H: Host>(rt: &HostRuntime, host: &H, path: &str) -> Result<Vec<u8>, MeasureStop> {
+    match host.read(rt.alloc(), path, MOST_SCRIPT_BYTES) {
         Ok(bytes) => Ok(bytes),
         Err(InputFault::Unreadable) => Err(MeasureStop::Input),
         Err(InputFault::Memory) => Err(MeasureStop::Refused(Refusal::Memory)),

@@ -1,6 +1,6 @@
 //! Clients in memory that send whole requests, pieces of them or a beginning, or of which a read or a write fails.
 
-use crate::exchanges::*;
+use crate::conversations::*;
 use hh_serve::{ServeFault, Served};
 use std::alloc::Global;
 use std::test::Fail;
@@ -18,24 +18,24 @@ const BODY_TOO_LARGE: &[u8] =
 const BROKEN: &[u8] = b"GET / HTTP/1.1\n:";
 
 /// A client that sends pieces of so many bytes, and waits for its reply then: a further read would fail.
-fn waiting<'a>(piece: usize, sends: &'a [u8], gets: &'a [u8]) -> Exchange<'a> {
-    Exchange {
+fn waiting<'a>(piece: usize, sends: &'a [u8], gets: &'a [u8]) -> Conversation<'a> {
+    Conversation {
         piece,
         read_fails: sends.len(),
-        ..Exchange::of(sends, gets)
+        ..Conversation::of(sends, gets)
     }
 }
 
 /// Whether each of these gets its reply in time.
 fn are_replied(alloc: Global, piece: usize) -> bool {
-    let exchanges = [
+    let conversations = [
         waiting(piece, BALANCE, FORBIDDEN),
         waiting(piece, LOAD, LOADED),
         waiting(piece, BALANCE, BALANCED),
         waiting(piece, TOO_LARGE, BODY_TOO_LARGE),
         waiting(piece, BROKEN, BAD_REQUEST),
     ];
-    all_come(alloc, &exchanges)
+    all_come(alloc, &conversations)
 }
 
 #[test]
@@ -49,23 +49,26 @@ fn requests_in_pieces_get_their_replies_in_time(rt: HostRuntime) -> Result<(), F
 /// Whether a file that is cut behind so many bytes is refused, one whose read fails there is told, and nothing is done for
 /// either. Nothing goes out where nothing came.
 fn is_left(alloc: Global, piece: usize, read_fails: usize) -> bool {
-    let cut = Exchange {
+    let cut = Conversation {
         piece,
-        ..Exchange::of(LOAD.get(..read_fails).unwrap_or_default(), BAD_REQUEST)
+        ..Conversation::of(LOAD.get(..read_fails).unwrap_or_default(), BAD_REQUEST)
     };
-    let closed = Exchange {
+    let closed = Conversation {
         served: Ok(Served::Closed),
-        ..Exchange::of(b"", b"")
+        ..Conversation::of(b"", b"")
     };
-    let failing = Exchange {
+    let failing = Conversation {
         piece,
         read_fails,
         served: Err(ServeFault::Read),
         failed_reads: 1,
-        ..Exchange::of(LOAD, b"")
+        ..Conversation::of(LOAD, b"")
     };
     let first = if read_fails == 0 { closed } else { cut };
-    all_come(alloc, &[first, failing, Exchange::of(BALANCE, FORBIDDEN)])
+    all_come(
+        alloc,
+        &[first, failing, Conversation::of(BALANCE, FORBIDDEN)],
+    )
 }
 
 #[test]
@@ -83,19 +86,22 @@ fn nothing_is_done_for_a_request_that_is_cut_or_whose_read_fails(
 /// Whether a file is loaded by a client with so much room, a write to which fails behind so many bytes: that is told, a
 /// beginning of the reply went out, and the file gets the same reply when it comes again.
 fn is_loaded(alloc: Global, room: usize, write_fails: usize) -> bool {
-    let failing = Exchange {
+    let failing = Conversation {
         piece: 7,
         write_fails,
         room,
         served: Err(ServeFault::Write),
         failed_writes: 1,
-        ..Exchange::of(
+        ..Conversation::of(
             LOAD,
             LOADED.get(..room.min(write_fails)).unwrap_or_default(),
         )
     };
-    let again = Exchange::of(LOAD, LOADED);
-    all_come(alloc, &[failing, again, Exchange::of(BALANCE, BALANCED)])
+    let again = Conversation::of(LOAD, LOADED);
+    all_come(
+        alloc,
+        &[failing, again, Conversation::of(BALANCE, BALANCED)],
+    )
 }
 
 #[test]

@@ -6,8 +6,8 @@
 #![tactic(auto)]
 
 #[cfg(test)]
-mod device_tests;
+mod conversations;
 #[cfg(test)]
-mod exchanges;
+mod device_tests;
 #[cfg(test)]
 mod loopback_tests;

@@ -1,6 +1,6 @@
 //! One process that serves a connection of the loopback, and is its client.
 
-use crate::exchanges::*;
+use crate::conversations::*;
 use hh_serve::{Served, serve_one};
 use hh_sockets::{Listener, Loopback, RuntimeLoopback};
 use std::alloc::Global;

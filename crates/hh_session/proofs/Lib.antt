@@ -1,6 +1,5 @@
 pub mod CourseLaws
 pub mod GivingUpLaws
-pub mod ReportingLaws
-pub mod ScriptLaws
-pub mod ServedLaws
-pub mod ServingLaws
+mod ReportingLaws
+mod ScriptLaws
+mod ServingLaws

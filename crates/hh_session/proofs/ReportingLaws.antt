@@ -16,18 +16,18 @@ use Rattle.hh_office.specs.Promises.{Stands, gives_up}
 use Rattle.hh_office.specs.Refusals.{CountsStoreFault, StandsForSome}
 use Rattle.hh_office.specs.Reports.{ReportsAs}
 use Rattle.hh_office.specs.Views.{OfficeView, midnight_of}
-use Rattle.hh_sockets.specs.Ports.{Ports}
+use Rattle.hh_host.specs.Views.{HostView}
 use Rattle.hh_script.specs.Reports.{ReportStep}
 use Rattle.hh_script.specs.Steps.{WriteReport}
-use Rattle.hh_session.specs.declared.told.Told.TheVariants.{Replied}
-use Rattle.hh_session.specs.Course.{StandsNow}
+use Rattle.hh_desk.specs.declared.told.Told.TheVariants.{Replied}
+use Rattle.hh_desk.specs.Doing.{StandsNow}
 use Rattle.hh_session.specs.steps.Course.{BeginsLine, RunsStep, StopsStep, TellsLine}
-use Rattle.hh_session.specs.GivingUp.{CountsMore}
+use Rattle.hh_desk.specs.GivingUp.{CountsMore}
 use Rattle.hh_session.specs.Lines.{refusal_line}
 use Rattle.hh_session.specs.Reporting.{IsGivenUp, report_written}
 use Rattle.hh_session.specs.steps.Reporting.{BeginsReport, RunsReport}
 use Rattle.hh_session.proofs.CourseLaws.{appends_more}
-use Rattle.hh_session.proofs.GivingUpLaws.{fault_where}
+use Rattle.hh_desk.proofs.GivingUpLaws.{fault_where}
 
 -- an office that stands for a state has the tables of one
 pub reached_by : (office : OfficeView) → StandsForSome office → AreReached office.content
@@ -81,12 +81,12 @@ module _ {S : Type 0} (taken : S → Option (List ℕ)) (failures : S → ℕ) (
         (refusal_line memory_fault, inr ([], [], memory_fault, refl, inl refl, refl), subst (λ b. AppendsFront b (taken after) (refusal_line memory_fault)) none told)
 
 -- A line that asks for a report is a step of a script, which leaves the office.
-module _ (reads : List ℕ → Option (List ℕ) → Type 0) (ports : Ports) (fails : Type 0) (old new : OfficeView) (same : new ≡ old) (device : DeviceChange) (step : ReportStep) where
+module _ (host : HostView) (fails : Type 0) (old new : OfficeView) (same : new ≡ old) (device : DeviceChange) (step : ReportStep) where
   stays : (s : State) → Stands old s → StandsNow old new s
   stays s stands = (subst (λ o. Stands o s) (sym same) stands, ap (λ (o : OfficeView). o.zone) same)
 
-  pub report_step : RunsReport fails old device step → RunsStep reads ports fails old new device (WriteReport step)
+  pub report_step : RunsReport fails old device step → RunsStep host fails old new device (WriteReport step)
   report_step runs s stands = let (text, does, went) = runs s stands in (text, s, (does, refl), went, stays s stands)
 
-  pub report_stop : BeginsReport fails old device step → StopsStep reads ports fails old new device (WriteReport step)
+  pub report_stop : BeginsReport fails old device step → StopsStep host fails old new device (WriteReport step)
   report_stop begins s stands = let (text, does, went) = begins s stands in (text, s, (does, refl), went, stays s stands)

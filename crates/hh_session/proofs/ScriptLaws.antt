@@ -1,5 +1,5 @@
 -- What a script's file reads as, and what its lines do over a new office.
-use Rattle.std.proofs.Common.{◌≡◌, ℕ, ◌+◌, ◌<◌, ◌≤◌, List, length, take, refl, ap, subst, ◌∙◌, Bool, true, false, Option, arith, ltb}
+use Rattle.std.proofs.Common.{◌≡◌, ℕ, ◌+◌, ◌<◌, ◌≤◌, List, length, take, refl, ap, subst, ◌∙◌, Bool, true, false, arith, ltb}
 use Rattle.std.proofs.lemmas.Bool.{ltb-false, ltb-true}
 use Rattle.std.proofs.lemmas.List.{length-take-le, take_all}
 use Rattle.jiff.specs.declared.tz.timezone.TimeZone.{TimeZone}
@@ -14,10 +14,11 @@ use Rattle.hh_states.specs.States.{State, empty_state}
 use Rattle.hh_states.specs.Steps.{IsReached, at_first}
 use Rattle.hh_day.specs.Headline.{Conserves, ReachedConserve}
 use Rattle.hh_office.specs.Views.{OfficeView, midnight_of}
-use Rattle.hh_sockets.specs.Ports.{Ports}
+use Rattle.hh_host.specs.Views.{HostView}
 use Rattle.hh_script.specs.Steps.{Step}
-use Rattle.hh_session.specs.Course.{RunsScript, ScriptDoes, StandsNow, StopsScript, cut_after}
-use Rattle.hh_session.specs.GivingUp.{CountsMore}
+use Rattle.hh_desk.specs.Doing.{StandsNow}
+use Rattle.hh_desk.specs.GivingUp.{CountsMore}
+use Rattle.hh_session.specs.Course.{RunsScript, ScriptDoes, StopsScript, cut_after}
 use Rattle.hh_session.specs.Script.{IsMarketZone, NewOfficeCuts, NewOfficeWrites}
 use Rattle.hh_session.proofs.GivingUpLaws.{script_then}
 
@@ -46,7 +47,7 @@ module _ (most : ℕ) (all bytes : List ℕ) (front : bytes ≡ take (most + 1) 
           absurd (omega arith)
 
 -- A new office is run.
-module _ (reads : List ℕ → Option (List ℕ) → Type 0) (ports : Ports) (settings : Settings) (fine : AreSettings settings) (conserve : ReachedConserve) (zone : TimeZone) (market : IsMarketZone zone)
+module _ (host : HostView) (settings : Settings) (fine : AreSettings settings) (conserve : ReachedConserve) (zone : TimeZone) (market : IsMarketZone zone)
     (content : Content) (stands : (midnight : Midnights) → content ≡ tables_of midnight (empty_state settings)) (new : OfficeView) (device : DeviceChange) (steps : List Step) where
   abbrev first : OfficeView
   first = record { zone = zone; content = content }
@@ -57,17 +58,17 @@ module _ (reads : List ℕ → Option (List ℕ) → Type 0) (ports : Ports) (se
       conserve (midnight_of first) t (subst (λ z. IsReached (midnight_in (plain_zone z)) t) same reached)
 
   -- what the steps do where a store that counts no refusal may have failed, they do where it never fails
-  never_fails : (ran : List Step) (text : List ℕ) (t : State) → ScriptDoes reads ports (CountsMore 0 0) (midnight_of first) (empty_state settings) ran text t
-      → ScriptDoes reads ports ⊥ (midnight_of first) (empty_state settings) ran text t
+  never_fails : (ran : List Step) (text : List ℕ) (t : State) → ScriptDoes host (CountsMore 0 0) (midnight_of first) (empty_state settings) ran text t
+      → ScriptDoes host ⊥ (midnight_of first) (empty_state settings) ran text t
   never_fails ran text t does =
-      script_then (CountsMore 0 0) ⊥ (λ more. absurd (omega (arith, more (omega arith)))) reads ports (midnight_of first) (empty_state settings) ran text t does
+      script_then (CountsMore 0 0) ⊥ (λ more. absurd (omega (arith, more (omega arith)))) host (midnight_of first) (empty_state settings) ran text t does
 
-  pub new_office_writes : RunsScript reads ports (CountsMore 0 0) first new device steps → NewOfficeWrites reads ports settings device steps
+  pub new_office_writes : RunsScript host (CountsMore 0 0) first new device steps → NewOfficeWrites host settings device steps
   new_office_writes runs =
       let (text, t, does, went, now) = runs (empty_state settings) (at_first settings fine, stands (midnight_of first)) in
       (text, (zone, market, (t, never_fails steps text t does, sums_now t now)), went)
 
-  pub new_office_cuts : StopsScript reads ports (CountsMore 0 0) first new device steps → NewOfficeCuts reads ports settings device steps
+  pub new_office_cuts : StopsScript host (CountsMore 0 0) first new device steps → NewOfficeCuts host settings device steps
   new_office_cuts stops =
       let (count, text, t, does, went, now) = stops (empty_state settings) (at_first settings fine, stands (midnight_of first)) in
       (count, text, (zone, market, (t, never_fails (cut_after count steps) text t does, sums_now t now)), went)

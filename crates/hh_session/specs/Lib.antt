@@ -1,5 +1,4 @@
 pub mod Course
-pub mod GivingUp
 pub mod Lines
 pub mod Reporting
 pub mod Script

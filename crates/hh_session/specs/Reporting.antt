@@ -7,7 +7,7 @@ use Rattle.hh_names.specs.Faults.{plain_fault}
 use Rattle.hh_states.specs.States.{State}
 use Rattle.hh_office.specs.Reports.{report_for}
 use Rattle.hh_script.specs.Reports.{ReportStep}
-use Rattle.hh_session.specs.GivingUp.{GivesUpWhere}
+use Rattle.hh_desk.specs.GivingUp.{GivesUpWhere}
 use Rattle.hh_session.specs.Lines.{refusal_line}
 
 -- what is written of a report: its text, or the line of its refusal

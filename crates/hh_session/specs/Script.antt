@@ -1,5 +1,5 @@
 -- How the script in a file is run over a new office.
-use Rattle.std.specs.Prelude.{◌≡◌, ℕ, ◌<◌, ◌≤◌, List, length, Option, Some, None, codes}
+use Rattle.std.specs.Prelude.{◌≡◌, ℕ, ◌<◌, ◌≤◌, List, length, Some, None, codes}
 use Rattle.std.specs.Io.KnownBytes.{Appends}
 use Rattle.jiff.specs.Placed.{IsPosixZone}
 use Rattle.jiff.specs.declared.tz.timezone.TimeZone.{TimeZone}
@@ -14,7 +14,7 @@ use Rattle.hh_rows.specs.declared.settings.Settings.{Settings}
 use Rattle.hh_states.specs.Content.{tables_of}
 use Rattle.hh_states.specs.States.{State, empty_state}
 use Rattle.hh_day.specs.Headline.{Conserves}
-use Rattle.hh_sockets.specs.Ports.{Ports}
+use Rattle.hh_host.specs.Views.{HostView}
 use Rattle.hh_script.specs.Script.{first_off, script_value}
 use Rattle.hh_script.specs.Steps.{Step}
 use Rattle.hh_session.specs.declared.script.ScriptStop.{ScriptStop}
@@ -29,9 +29,8 @@ most_script_bytes = 16_777_216
 abbrev pub IsMarketZone : TimeZone → Type 0
 IsMarketZone zone = IsPosixZone (codes "GMT0BST,M3.5.0/1,M10.5.0") (plain_zone zone)
 
--- What a path may read as: the bytes of its file, or nothing where it cannot be read; and what is known of ports. An office has these
--- settings.
-module _ (reads : List ℕ → Option (List ℕ) → Type 0) (ports : Ports) (settings : Settings) where
+-- A host may show this of files and ports, and an office has these settings.
+module _ (host : HostView) (settings : Settings) where
   -- What steps write over a new office of the market's zone, whose tables in the state after them add up: each run's rows,
   -- contracts, charges with shares, the credits of units, and postings. The tables are in memory, so no line tells that a store
   -- refused.
@@ -39,7 +38,7 @@ module _ (reads : List ℕ → Option (List ℕ) → Type 0) (ports : Ports) (se
   NewOfficeDoes steps text =
       (zone : TimeZone) × IsMarketZone zone
       × (let midnight : Midnights = midnight_in (plain_zone zone) in
-      (t : State) × ScriptDoes reads ports ⊥ midnight (empty_state settings) steps text t × Conserves midnight t (tables_of midnight t))
+      (t : State) × ScriptDoes host ⊥ midnight (empty_state settings) steps text t × Conserves midnight t (tables_of midnight t))
 
   -- What changes in an output.
   module _ (device : DeviceChange) (steps : List Step) where
@@ -51,27 +50,27 @@ module _ (reads : List ℕ → Option (List ℕ) → Type 0) (ports : Ports) (se
     abbrev pub NewOfficeCuts : Type 0
     NewOfficeCuts = (count : ℕ) × (text : List ℕ) × NewOfficeDoes (cut_after count steps) text × AppendsFront device.old device.new text
 
--- A script lies at a path.
-module _ (reads : List ℕ → Option (List ℕ) → Type 0) (path : List ℕ) where
+-- A script lies at a path of a host.
+module _ (host : HostView) (path : List ℕ) where
   -- the file may read as a script of these steps
   abbrev pub IsScript : List Step → Type 0
-  IsScript steps = (all : List ℕ) × reads path (Some all) × (length all ≤ most_script_bytes) × (script_value all ≡ Some steps)
+  IsScript steps = (all : List ℕ) × host.reads path (Some all) × (length all ≤ most_script_bytes) × (script_value all ≡ Some steps)
 
   -- why the steps are not known: the file cannot be read, is too large, or has a line off its form; or memory was refused
   abbrev pub IsUnread : ScriptStop → Type 0
-  IsUnread stop.File = reads path None
-  IsUnread (stop.Off line) = (all : List ℕ) × reads path (Some all) × (script_value all ≡ None) × (first_off all ≡ Some line)
+  IsUnread stop.File = host.reads path None
+  IsUnread (stop.Off line) = (all : List ℕ) × host.reads path (Some all) × (script_value all ≡ None) × (first_off all ≡ Some line)
   IsUnread (stop.Refused fault) = ByRefusal fault.refusal (fault ≡ memory_fault)
-      ((fault ≡ plain_fault FileTooLarge) × ((all : List ℕ) × reads path (Some all) × (most_script_bytes < length all)))
+      ((fault ≡ plain_fault FileTooLarge) × ((all : List ℕ) × host.reads path (Some all) × (most_script_bytes < length all)))
   IsUnread stop.Output = ⊥
 
-  -- This is known of ports, an office has these settings, and this changes in an output.
-  module _ (ports : Ports) (settings : Settings) (device : DeviceChange) where
+  -- An office has these settings, and this changes in an output.
+  module _ (settings : Settings) (device : DeviceChange) where
     -- the script was run, and what it writes went out
     abbrev pub WritesScript : Type 0
-    WritesScript = (steps : List Step) × IsScript steps × NewOfficeWrites reads ports settings device steps
+    WritesScript = (steps : List Step) × IsScript steps × NewOfficeWrites host settings device steps
 
     -- why the script is not run: it is not read, and nothing went out; or the output failed while it was run
     abbrev pub StopsAt : ScriptStop → Type 0
-    StopsAt stop.Output = HasFailed device × ((steps : List Step) × IsScript steps × NewOfficeCuts reads ports settings device steps)
+    StopsAt stop.Output = HasFailed device × ((steps : List Step) × IsScript steps × NewOfficeCuts host settings device steps)
     StopsAt why = (device.new ≡ device.old) × IsUnread why

@@ -1,14 +1,11 @@
 //! Scripts that are run over an office, and what they write.
 #![tactic(auto)]
 
-mod lines;
 mod reporting;
 mod run;
 mod script;
 mod serving;
 mod tell;
-mod told;
 
 pub use run::run_lines;
 pub use script::{MOST_SCRIPT_BYTES, ScriptStop, run_script};
-pub use told::Told;

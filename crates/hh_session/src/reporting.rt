@@ -6,7 +6,7 @@ ghost use Rattle.hh_devices.specs.Devices.{Failed};
 ghost use Rattle.hh_office.specs.Views.{IsSure};
 ghost use Rattle.hh_serve.specs.Serves.{CountsUp};
 ghost use Rattle.hh_script.specs.Reports.{report_of};
-ghost use Rattle.hh_session.specs.GivingUp.{HasRefused};
+ghost use Rattle.hh_desk.specs.GivingUp.{HasRefused};
 ghost use Rattle.hh_session.specs.steps.Reporting.{BeginsReport, RunsReport};
 
 use crate::tell::tell_refused;

@@ -9,13 +9,13 @@ ghost use Rattle.hh_session.specs.Script.{IsUnread, NewOfficeCuts, NewOfficeWrit
 use crate::run::run_lines;
 use hh_day::reached_conserve;
 use hh_devices::{DeviceFailed, Sink};
-use hh_inputs::{InputFault, Inputs};
+use hh_host::Host;
+use hh_inputs::InputFault;
 use hh_names::{Fault, Refusal};
 use hh_office::Office;
 use hh_plain_tables::PlainTables;
 use hh_rows::Settings;
 use hh_script::{ScriptFault, ScriptLine, read_script};
-use hh_sockets::Loopback;
 use hh_time::london;
 use std::alloc::Global;
 
@@ -70,37 +70,36 @@ impl From<ScriptFault> for ScriptStop {
 ///
 /// `File`, `Off` and `Refused`, with nothing written; `Output` where the output failed or took nothing
 /// in this call.
-pub fn run_script<I: Inputs, L: Loopback, O: Sink>(
+pub fn run_script<H: Host, O: Sink>(
     alloc: Global,
     settings: Settings,
-    inputs: &I,
-    loopback: &L,
+    host: &H,
     path: &str,
     out: &mut O,
 ) -> Result<(), ScriptStop>
-    ensures done { OnOk result (WritesScript (I.reads_as inputs.now) path.now
-        (L.ports loopback.now) settings (change O.taken O.failures out.old out.new)) }
+    ensures done { OnOk result (WritesScript (H.view host.now) path.now settings
+        (change O.taken O.failures out.old out.new)) }
     ensures well { OnOk result (O.failures out.new ≡ O.failures out.old) }
-    ensures stopped { IfErr result (StopsAt (I.reads_as inputs.now) path.now
-        (L.ports loopback.now) settings (change O.taken O.failures out.old out.new)) }
+    ensures stopped { IfErr result (StopsAt (H.view host.now) path.now settings
+        (change O.taken O.failures out.old out.new)) }
     ensures untouched { IfErr result (λ stop. stop ≢ ScriptStop.Output → out.new ≡ out.old) }
 {
-    let bytes = read_whole(alloc, inputs, path)?;
+    let bytes = read_whole(alloc, host, path)?;
     let lines = read_script(alloc, &bytes)?;
-    match run_new_office(alloc, settings, inputs, loopback, &lines, out) {
+    match run_new_office(alloc, settings, host, &lines, out) {
         Ok(()) => Ok(()),
         Err(DeviceFailed) => Err(ScriptStop::Output),
     }
 }
 
 /// The bytes of a script's file, where it has not too many.
-fn read_whole<I: Inputs>(alloc: Global, inputs: &I, path: &str) -> Result<Vec<u8>, ScriptStop>
-    ensures whole { IfOk result (λ bytes. I.reads_as inputs.now path.now (Some bytes.items)) }
+fn read_whole<H: Host>(alloc: Global, host: &H, path: &str) -> Result<Vec<u8>, ScriptStop>
+    ensures whole { IfOk result (λ bytes. (H.view host.now).reads path.now (Some bytes.items)) }
     ensures small { IfOk result (λ bytes. length bytes.items ≤ most_script_bytes) }
-    ensures unread { IfErr result (IsUnread (I.reads_as inputs.now) path.now) }
+    ensures unread { IfErr result (IsUnread (H.view host.now) path.now) }
     ensures known { IfErr result (λ stop. stop ≢ ScriptStop.Output) }
 {
-    let bytes = inputs.read(alloc, path, MOST_SCRIPT_BYTES + 1)?;
+    let bytes = host.read(alloc, path, MOST_SCRIPT_BYTES + 1)?;
     if bytes.len() > MOST_SCRIPT_BYTES {
         return Err(ScriptStop::Refused(Fault::of(Refusal::FileTooLarge)));
     }
@@ -108,20 +107,19 @@ fn read_whole<I: Inputs>(alloc: Global, inputs: &I, path: &str) -> Result<Vec<u8
 }
 
 /// Runs lines over a new office, whose tables are in memory.
-fn run_new_office<I: Inputs, L: Loopback, O: Sink>(
+fn run_new_office<H: Host, O: Sink>(
     alloc: Global,
     settings: Settings,
-    inputs: &I,
-    loopback: &L,
+    host: &H,
     lines: &[ScriptLine<'_>],
     out: &mut O,
 ) -> Result<(), DeviceFailed>
-    ensures done { OnOk result (NewOfficeWrites (I.reads_as inputs.now)
-        (L.ports loopback.now) settings (change O.taken O.failures out.old out.new)
+    ensures done { OnOk result (NewOfficeWrites (H.view host.now) settings
+        (change O.taken O.failures out.old out.new)
         (map step_of lines.now)) }
     ensures well { OnOk result (O.failures out.new ≡ O.failures out.old) }
-    ensures cut { OnErr result (NewOfficeCuts (I.reads_as inputs.now)
-        (L.ports loopback.now) settings (change O.taken O.failures out.old out.new)
+    ensures cut { OnErr result (NewOfficeCuts (H.view host.now) settings
+        (change O.taken O.failures out.old out.new)
         (map step_of lines.now)) }
     ensures failed { OnErr result (Failed (O.failures out.old) (O.failures out.new)) }
 {
@@ -130,5 +128,5 @@ fn run_new_office<I: Inputs, L: Loopback, O: Sink>(
     settings.are_settings();
     reached_conserve();
     let mut office = Office::new(alloc, PlainTables::new(alloc, settings), london());
-    run_lines(alloc, &mut office, inputs, loopback, lines, out)
+    run_lines(alloc, &mut office, host, lines, out)
 }

@@ -1,27 +1,27 @@
 -- What the lines of a script come to over an office, by the content of its tables before and after them.
-use Rattle.std.specs.Prelude.{ℕ, List, Option}
+use Rattle.std.specs.Prelude.{ℕ, List}
 use Rattle.std.specs.Io.KnownBytes.{Appends}
 use Rattle.hh_devices.specs.DeviceChanges.{DeviceChange}
 use Rattle.hh_devices.specs.Devices.{AppendsFront}
 use Rattle.hh_states.specs.Changes.{StandsFor}
 use Rattle.hh_states.specs.Content.{Content}
 use Rattle.hh_states.specs.States.{State}
-use Rattle.hh_sockets.specs.Ports.{Ports}
+use Rattle.hh_host.specs.Views.{HostView}
 use Rattle.hh_script.specs.Steps.{Step}
 use Rattle.hh_session.specs.Course.{ScriptDoes, cut_after}
 use Rattle.hh_database.specs.Running.{InMarket}
 
--- What a path may read as, and what is known of ports. The store may have failed only where this holds. This changes in an output.
-module _ (reads : List ℕ → Option (List ℕ) → Type 0) (ports : Ports) (fails : Type 0) (device : DeviceChange) (old new : Content)
+-- A host may show this of files and ports. The store may have failed only where this holds. This changes in an output.
+module _ (host : HostView) (fails : Type 0) (device : DeviceChange) (old new : Content)
     (steps : List Step) where
   -- the steps were run, and what they write went out
   abbrev pub RunsOver : Type 0
   RunsOver = InMarket (λ midnight. (s : State) → StandsFor midnight old s
       → (text : List ℕ) × (t : State)
-      × ScriptDoes reads ports fails midnight s steps text t × Appends device.old device.new text × StandsFor midnight new t)
+      × ScriptDoes host fails midnight s steps text t × Appends device.old device.new text × StandsFor midnight new t)
 
   -- the first of the steps were run, the last of them was cut short, and a beginning of what they write went out
   abbrev pub StopsOver : Type 0
   StopsOver = InMarket (λ midnight. (s : State) → StandsFor midnight old s
       → (count : ℕ) × (text : List ℕ) × (t : State)
-      × ScriptDoes reads ports fails midnight s (cut_after count steps) text t × AppendsFront device.old device.new text × StandsFor midnight new t)
+      × ScriptDoes host fails midnight s (cut_after count steps) text t × AppendsFront device.old device.new text × StandsFor midnight new t)

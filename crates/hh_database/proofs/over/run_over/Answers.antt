@@ -1,7 +1,7 @@
 use Rattle.std.proofs.Common.{map, IsTrue, subst, sym}
 use Rattle.hh_devices.specs.DeviceChanges.{change}
 use Rattle.hh_script.specs.Steps.{step_of}
-use Rattle.hh_session.specs.GivingUp.{CountsMore}
+use Rattle.hh_desk.specs.GivingUp.{CountsMore}
 use Rattle.hh_session.proofs.CourseLaws.{OnErr-map, OnOk-map}
 use Rattle.hh_database.proofs.OverLaws.{runs_over, stops_over}
 use Rattle.hh_database.proofs.over.run_over.Goals as goal
@@ -10,7 +10,7 @@ pub returns-clause-done : goal.returns-clause-done
 returns-clause-done g c up =
     let stood = subst (λ t. IsTrue (g.T.Tables.is_open t)) c.into_tables.ensures.same up in
     OnOk-map c.run_lines-ran.result _ _
-    (runs_over (g.I.Inputs.reads_as c.args.inputs.now) (g.L.Loopback.ports c.args.loopback.now)
+    (runs_over (g.H.Host.view c.args.host.now)
     (CountsMore (g.T.Tables.refusals c.args.tables) (g.T.Tables.refusals c.into_tables.result)) c.london.result c.london.ensures
     (g.T.Tables.content c.args.tables) (g.T.Tables.content c.into_tables.result) c.run_lines-ran.new.office.seen c.into_tables.ensures.content
     (change g.O.Sink.taken g.O.Sink.failures c.args.out.now c.run_lines-ran.new.out) (map step_of c.args.lines.now))
@@ -20,7 +20,7 @@ pub returns-clause-cut : goal.returns-clause-cut
 returns-clause-cut g c up =
     let stood = subst (λ t. IsTrue (g.T.Tables.is_open t)) c.into_tables.ensures.same up in
     OnErr-map c.run_lines-ran.result _ _
-    (stops_over (g.I.Inputs.reads_as c.args.inputs.now) (g.L.Loopback.ports c.args.loopback.now)
+    (stops_over (g.H.Host.view c.args.host.now)
     (CountsMore (g.T.Tables.refusals c.args.tables) (g.T.Tables.refusals c.into_tables.result)) c.london.result c.london.ensures
     (g.T.Tables.content c.args.tables) (g.T.Tables.content c.into_tables.result) c.run_lines-ran.new.office.seen c.into_tables.ensures.content
     (change g.O.Sink.taken g.O.Sink.failures c.args.out.now c.run_lines-ran.new.out) (map step_of c.args.lines.now))

@@ -3,35 +3,33 @@ use Rattle.sqlite.specs.Held.{state}
 use Rattle.hh_devices.specs.DeviceChanges.{change}
 use Rattle.hh_sqlstore.specs.Stores.{content_in}
 use Rattle.hh_script.specs.Steps.{step_of}
-use Rattle.hh_session.specs.GivingUp.{CountsMore}
+use Rattle.hh_desk.specs.GivingUp.{CountsMore}
 use Rattle.hh_database.specs.Running.{CutsOver, WritesOver}
 use Rattle.hh_database.proofs.RunningLaws.{cuts_new, err_by, ok_by, writes_new}
 use Rattle.hh_database.proofs.running.run_in_new_database.Goals as goal
 
 pub returns-in-Ok-clause-done : goal.returns-in-Ok-clause-done
 returns-in-Ok-clause-done g c =
-    let reads = g.I.Inputs.reads_as c.args.inputs.now in
-    let ports = g.L.Loopback.ports c.args.loopback.now in
+    let host = g.H.Host.view c.args.host.now in
     let device = change g.O.Sink.taken g.O.Sink.failures c.args.out.now c.run_over_database.new.out in
     let steps = map step_of c.args.lines.now in
     let old = content_in g.S.Store c.in-Ok.tables in
     ok_by _ c.run_over_database.result (λ after writes sure up.
     let db = (state g.S.Store after.connection).committed in
-    writes_new reads ports device db steps after.refusals c.args.settings c.are_settings.ensures old (c.in-Ok.ensures.stands (sure up))
-    (subst (λ n. WritesOver reads ports (CountsMore n after.refusals) device db steps old) c.in-Ok.ensures.unrefused (writes up)))
+    writes_new host device db steps after.refusals c.args.settings c.are_settings.ensures old (c.in-Ok.ensures.stands (sure up))
+    (subst (λ n. WritesOver host (CountsMore n after.refusals) device db steps old) c.in-Ok.ensures.unrefused (writes up)))
     c.run_over_database.ensures.done c.run_over_database.ensures.sure
 
 pub returns-in-Ok-clause-cut : goal.returns-in-Ok-clause-cut
 returns-in-Ok-clause-cut g c =
-    let reads = g.I.Inputs.reads_as c.args.inputs.now in
-    let ports = g.L.Loopback.ports c.args.loopback.now in
+    let host = g.H.Host.view c.args.host.now in
     let device = change g.O.Sink.taken g.O.Sink.failures c.args.out.now c.run_over_database.new.out in
     let steps = map step_of c.args.lines.now in
     let old = content_in g.S.Store c.in-Ok.tables in
     err_by _ c.run_over_database.result (λ e cuts sure output up.
     let db = (state g.S.Store e.1.connection).committed in
-    cuts_new reads ports device db steps e.1.refusals c.args.settings c.are_settings.ensures old (c.in-Ok.ensures.stands (sure up))
-    (subst (λ n. CutsOver reads ports (CountsMore n e.1.refusals) device db steps old) c.in-Ok.ensures.unrefused (cuts up)))
+    cuts_new host device db steps e.1.refusals c.args.settings c.are_settings.ensures old (c.in-Ok.ensures.stands (sure up))
+    (subst (λ n. CutsOver host (CountsMore n e.1.refusals) device db steps old) c.in-Ok.ensures.unrefused (cuts up)))
     c.run_over_database.ensures.cut c.run_over_database.ensures.sure
 
 pub returns-in-Ok-clause-untouched : goal.returns-in-Ok-clause-untouched

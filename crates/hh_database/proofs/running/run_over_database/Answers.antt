@@ -3,35 +3,33 @@ use Rattle.sqlite.specs.Held.{state}
 use Rattle.hh_devices.specs.DeviceChanges.{change}
 use Rattle.hh_sqlstore.specs.Stores.{content_in}
 use Rattle.hh_script.specs.Steps.{step_of}
-use Rattle.hh_session.specs.GivingUp.{CountsMore}
+use Rattle.hh_desk.specs.GivingUp.{CountsMore}
 use Rattle.hh_database.specs.Running.{CutsOver, WritesOver}
 use Rattle.hh_database.proofs.RunningLaws.{cuts_over, err_then, ok_then, writes_over}
 use Rattle.hh_database.proofs.running.run_over_database.Goals as goal
 
 pub returns-in-Ok-clause-done : goal.returns-in-Ok-clause-done
 returns-in-Ok-clause-done g c up =
-    let reads = g.I.Inputs.reads_as c.args.inputs.now in
-    let ports = g.L.Loopback.ports c.args.loopback.now in
+    let host = g.H.Host.view c.args.host.now in
     let device = change g.O.Sink.taken g.O.Sink.failures c.args.out.now c.run_over-ran.new.out in
     let steps = map step_of c.args.lines.now in
     let tables = c.run_over-ran.result.1 in
     let db = (state g.S.Store c.after_lines-after.result.connection).committed in
     let stood : IsTrue (state g.S.Store tables.connection).is_open = subst (λ k. IsTrue (state g.S.Store k).is_open) c.after_lines-after.ensures.connection up in
-    subst (λ n. WritesOver reads ports (CountsMore c.args.tables.refusals n) device db steps (content_in g.S.Store c.args.tables)) (sym c.after_lines-after.ensures.refusals)
-    (writes_over reads ports device db steps (CountsMore c.args.tables.refusals tables.refusals) c.reached_conserve.ensures (content_in g.S.Store c.args.tables)
+    subst (λ n. WritesOver host (CountsMore c.args.tables.refusals n) device db steps (content_in g.S.Store c.args.tables)) (sym c.after_lines-after.ensures.refusals)
+    (writes_over host device db steps (CountsMore c.args.tables.refusals tables.refusals) c.reached_conserve.ensures (content_in g.S.Store c.args.tables)
     (content_in g.S.Store tables) (c.after_lines-after.ensures.holds up)
     (ok_then c.run_over-ran.result.0 c.in-Ok.field-0 c.in-Ok.is (c.run_over-ran.ensures.done stood)))
 
 pub returns-in-Err-clause-cut : goal.returns-in-Err-clause-cut
 returns-in-Err-clause-cut g c up =
-    let reads = g.I.Inputs.reads_as c.args.inputs.now in
-    let ports = g.L.Loopback.ports c.args.loopback.now in
+    let host = g.H.Host.view c.args.host.now in
     let device = change g.O.Sink.taken g.O.Sink.failures c.args.out.now c.run_over-ran.new.out in
     let steps = map step_of c.args.lines.now in
     let tables = c.run_over-ran.result.1 in
     let db = (state g.S.Store c.after_lines-after.result.connection).committed in
     let stood : IsTrue (state g.S.Store tables.connection).is_open = subst (λ k. IsTrue (state g.S.Store k).is_open) c.after_lines-after.ensures.connection up in
-    subst (λ n. CutsOver reads ports (CountsMore c.args.tables.refusals n) device db steps (content_in g.S.Store c.args.tables)) (sym c.after_lines-after.ensures.refusals)
-    (cuts_over reads ports device db steps (CountsMore c.args.tables.refusals tables.refusals) c.reached_conserve.ensures (content_in g.S.Store c.args.tables)
+    subst (λ n. CutsOver host (CountsMore c.args.tables.refusals n) device db steps (content_in g.S.Store c.args.tables)) (sym c.after_lines-after.ensures.refusals)
+    (cuts_over host device db steps (CountsMore c.args.tables.refusals tables.refusals) c.reached_conserve.ensures (content_in g.S.Store c.args.tables)
     (content_in g.S.Store tables) (c.after_lines-after.ensures.holds up)
     (err_then c.run_over-ran.result.0 c.in-Err.field-0 c.in-Err.is (c.run_over-ran.ensures.cut stood)))

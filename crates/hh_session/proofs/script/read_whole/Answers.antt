@@ -12,4 +12,4 @@ pub returns-clause-whole : goal.returns-clause-whole
 returns-clause-whole g c =
     let (all, read, front) = c.in_ok-bytes.ensures.bytes in
     let few : length c.in_ok-bytes.bytes.items ≤ 16777216 = search rules in
-    subst (λ bytes. g.I.Inputs.reads_as c.args.inputs.now c.args.path.now (Some bytes)) (sym (read_whole 16777216 all c.in_ok-bytes.bytes.items front few)) read
+    subst (λ bytes. (g.H.Host.view c.args.host.now).reads c.args.path.now (Some bytes)) (sym (read_whole 16777216 all c.in_ok-bytes.bytes.items front few)) read

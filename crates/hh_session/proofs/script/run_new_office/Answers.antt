@@ -8,11 +8,11 @@ use Rattle.hh_session.proofs.script.run_new_office.Goals as goal
 pub returns-clause-done : goal.returns-clause-done
 returns-clause-done g c =
     OnOk-map c.run_lines.result _ _
-    (new_office_writes (g.I.Inputs.reads_as c.args.inputs.now) (g.L.Loopback.ports c.args.loopback.now) c.args.settings c.are_settings.ensures c.reached_conserve.ensures c.london.result c.london.ensures c.new.result c.new.ensures.stands c.run_lines.new.office.seen
+    (new_office_writes (g.H.Host.view c.args.host.now) c.args.settings c.are_settings.ensures c.reached_conserve.ensures c.london.result c.london.ensures c.new.result c.new.ensures.stands c.run_lines.new.office.seen
     (change g.O.Sink.taken g.O.Sink.failures c.args.out.now c.run_lines.new.out) (map step_of c.args.lines.now)) (rw c.new-office.ensures.seen at (c.run_lines.ensures.done refl))
 
 pub returns-clause-cut : goal.returns-clause-cut
 returns-clause-cut g c =
     OnErr-map c.run_lines.result _ _
-    (new_office_cuts (g.I.Inputs.reads_as c.args.inputs.now) (g.L.Loopback.ports c.args.loopback.now) c.args.settings c.are_settings.ensures c.reached_conserve.ensures c.london.result c.london.ensures c.new.result c.new.ensures.stands c.run_lines.new.office.seen
+    (new_office_cuts (g.H.Host.view c.args.host.now) c.args.settings c.are_settings.ensures c.reached_conserve.ensures c.london.result c.london.ensures c.new.result c.new.ensures.stands c.run_lines.new.office.seen
     (change g.O.Sink.taken g.O.Sink.failures c.args.out.now c.run_lines.new.out) (map step_of c.args.lines.now)) (rw c.new-office.ensures.seen at (c.run_lines.ensures.cut refl))

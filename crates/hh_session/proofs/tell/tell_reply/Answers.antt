@@ -1,10 +1,10 @@
-use Rattle.std.proofs.Common.{◌≡◌, ◌++◌, inl, ◌∙◌, ap, sym, subst}
+use Rattle.std.proofs.Common.{◌≡◌, ◌∙◌, inl, sym, subst}
 use Rattle.std.specs.Prelude.{OnErr}
 use Rattle.hh_devices.specs.DeviceChanges.{change}
 use Rattle.hh_devices.specs.Devices.{AppendsFront}
+use Rattle.hh_desk.specs.declared.told.Told.TheVariants.{Replied}
+use Rattle.hh_desk.specs.Lines.{run_line}
 use Rattle.hh_session.specs.steps.Course.{BeginsLine}
-use Rattle.hh_session.specs.Lines.{run_line}
-use Rattle.hh_session.specs.declared.told.Told.TheVariants.{Replied}
 use Rattle.hh_session.proofs.CourseLaws.{OnErr-map}
 use Rattle.hh_session.proofs.tell.tell_reply.Goals as goal
 
@@ -16,9 +16,7 @@ returns-in-Refused-clause-cut g c =
 pub returns-in-Ran-clause-cut : goal.returns-in-Ran-clause-cut
 returns-in-Ran-clause-cut g c =
     let device = change g.O.Sink.taken g.O.Sink.failures c.args.out.now c.write_whole-in-Ran.new.sink in
-    let line = run_line c.in-Ran.run' c.in-Ran.summary in
-    let written : c.push_run.new.line.items ≡ line = c.push_run.ensures ∙ ap (λ bytes. bytes ++ line) c.requires.empty in
-    let text : c.deref-in-Ran.result.now ≡ line = c.deref-in-Ran.ensures.value ∙ written in
+    let text : c.deref-in-Ran.result.now ≡ run_line c.in-Ran.run' c.in-Ran.summary = c.deref-in-Ran.ensures.0 ∙ c.run_line.ensures in
     subst (λ reply. OnErr c.write_whole-in-Ran.result (BeginsLine device (Replied reply))) (sym c.in-Ran.is)
     (OnErr-map c.write_whole-in-Ran.result _ _ inl
     (subst (λ bytes. OnErr c.write_whole-in-Ran.result (AppendsFront device.old device.new bytes)) text c.write_whole-in-Ran.ensures.front))

@@ -1,0 +1,4 @@
+mod DoingLaws
+pub mod GivingUpLaws
+pub mod ServedLaws
+mod ServingLaws

@@ -1,0 +1,20 @@
+use Rattle.std.proofs.Common.{rules, subst, w64, SFits}
+use Rattle.std.proofs.lemmas.Int.{to_z-of_z}
+use Rattle.hh_office.specs.Promises.{HandleStep, StandsAfter}
+use Rattle.hh_script.specs.Steps.{run_of}
+use Rattle.hh_desk.proofs.DoingLaws.{run_answered}
+use Rattle.hh_desk.proofs.GivingUpLaws.{reply_up}
+use Rattle.hh_desk.proofs.doing.make_run.Goals as goal
+
+pub returns-in-Ok-clause-runs : goal.returns-in-Ok-clause-runs
+returns-in-Ok-clause-runs g c sure =
+    let old = c.args.office.now.seen in
+    let new = c.handle.new.self.seen in
+    let run = run_of c.args.line.now in
+    let fits : SFits w64 run.moment = search rules in
+    run_answered old new _ _ run c.in-Ok.request c.in-Ok.ensures c.handle.result (c.handle.ensures.refusals_counted sure)
+    (subst (λ m. HandleStep old new m c.in-Ok.request c.handle.result) (to_z-of_z w64 run.moment fits) (c.handle.ensures.step sure))
+    (subst (λ m. StandsAfter old new m c.in-Ok.request c.handle.result) (to_z-of_z w64 run.moment fits) (c.handle.ensures.stands sure))
+
+pub returns-in-Ok-clause-refusals_up : goal.returns-in-Ok-clause-refusals_up
+returns-in-Ok-clause-refusals_up g c sure some = reply_up _ _ c.handle.result (c.handle.ensures.refusals_counted sure some)

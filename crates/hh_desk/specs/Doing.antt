@@ -1,0 +1,76 @@
+-- What comes of the loads and runs that are asked at the desk of an office.
+use Rattle.std.specs.Prelude.{◌≡◌, ◌⊎◌, ℕ, List, Some, None, IsTrue}
+use Rattle.hh_time.specs.Days.{Midnights}
+use Rattle.hh_names.specs.Faults.{memory_fault}
+use Rattle.hh_requests.specs.declared.request.Action.TheVariants as ask
+use Rattle.hh_requests.specs.declared.request.Request.{Request}
+use Rattle.hh_requests.specs.declared.reply.Reply.TheVariants as reply
+use Rattle.hh_states.specs.States.{State}
+use Rattle.hh_office.specs.Machine.{step}
+use Rattle.hh_office.specs.Transitions.{Transition}
+use Rattle.hh_office.specs.Promises.{Stands, is_refused}
+use Rattle.hh_office.specs.Views.{OfficeView, midnight_of}
+use Rattle.hh_host.specs.Views.{HostView}
+use Rattle.hh_script.specs.Steps.{LoadStep, RunStep}
+use Rattle.hh_desk.specs.declared.told.Told.{Told}
+use Rattle.hh_desk.specs.declared.told.Told.TheVariants.{Replied, Unreadable}
+use Rattle.hh_desk.specs.GivingUp.{IsGivenUpWhere}
+
+-- memory was refused
+abbrev pub no_memory : Told
+no_memory = Replied (reply.Refused memory_fault)
+
+-- what a load asks of the office once its file is read
+abbrev pub request_of : LoadStep → List ℕ → Request
+request_of load body = record {
+  key = load.key;
+  action = ask.Load (record { kind = load.kind; name = load.name; body = body });
+}
+
+-- what a run asks of the office
+abbrev pub request_for : RunStep → Request
+request_for run = record { key = run.key; action = ask.Run run.run }
+
+-- the file of a load was read, and the machine answered
+abbrev pub IsAnswered : HostView → Midnights → State → LoadStep → Told → State → Type 0
+IsAnswered host midnight s load told t =
+    (body : List ℕ) × host.reads load.path (Some body)
+    × (let transition : Transition = step midnight s load.moment (request_of load body) in (told ≡ Replied transition.reply) × (t ≡ transition.state))
+
+-- What a load comes to in a state, and the state after it: its file cannot be read, it is answered, or it is given up. The store may
+-- have failed only where this holds.
+abbrev pub LoadDoes : HostView → Type 0 → Midnights → State → LoadStep → Told → State → Type 0
+LoadDoes host fails midnight s load Unreadable t = host.reads load.path None × (t ≡ s)
+LoadDoes host fails midnight s load (Replied given) t =
+    IsAnswered host midnight s load (Replied given) t ⊎ (IsGivenUpWhere fails given × (t ≡ s))
+
+-- What a run comes to in a state, and the state after it: it is answered, or it is given up. The store may have failed only where this
+-- holds.
+abbrev pub RunDoes : Type 0 → Midnights → State → RunStep → Told → State → Type 0
+RunDoes fails midnight s run Unreadable t = ⊥
+RunDoes fails midnight s run (Replied given) t =
+    (let transition : Transition = step midnight s run.moment (request_for run) in (given ≡ transition.reply) × (t ≡ transition.state))
+    ⊎ (IsGivenUpWhere fails given × (t ≡ s))
+
+-- the office stands for a state now, in the same zone as before
+abbrev pub StandsNow : OfficeView → OfficeView → State → Type 0
+StandsNow old new t = Stands new t × (new.zone ≡ old.zone)
+
+-- a request was refused
+abbrev pub IsRefusal : Told → Type 0
+IsRefusal Unreadable = ⊥
+IsRefusal (Replied given) = IsTrue (is_refused given)
+
+-- an office was the one before and is the other after, and the store may have failed only where this holds
+module _ (fails : Type 0) (old new : OfficeView) where
+  -- what a load comes to in each state that the office stood for
+  abbrev pub RunsLoad : HostView → LoadStep → Told → Type 0
+  RunsLoad host load told = (s : State) → Stands old s → (t : State) × LoadDoes host fails (midnight_of old) s load told t × StandsNow old new t
+
+  -- what a run comes to in each state that the office stood for
+  abbrev pub MakesRun : RunStep → Told → Type 0
+  MakesRun run told = (s : State) → Stands old s → (t : State) × RunDoes fails (midnight_of old) s run told t × StandsNow old new t
+
+-- what is refused leaves the office as it is
+abbrev pub LeavesRefused : OfficeView → OfficeView → Told → Type 0
+LeavesRefused old new told = IsRefusal told → new ≡ old

@@ -1,0 +1,28 @@
+-- What is given up at the desk, and for what: memory, or the store where it refused.
+use Rattle.std.specs.Prelude.{◌≡◌, ◌⊎◌, ◌<◌, ℕ}
+use Rattle.hh_devices.specs.Devices.{most_failures}
+use Rattle.hh_names.specs.declared.fault.Fault.{Fault}
+use Rattle.hh_names.specs.declared.fault.Refusal.TheVariants.{Store}
+use Rattle.hh_names.specs.Faults.{memory_fault, plain_fault}
+use Rattle.hh_requests.specs.declared.reply.Reply.{Reply}
+use Rattle.hh_requests.specs.declared.reply.Reply.TheVariants as reply
+use Rattle.hh_office.specs.Views.{Kept}
+
+-- a count rose, but of the greatest count nothing is said
+abbrev pub CountsMore : ℕ → ℕ → Type 0
+CountsMore old new = old < most_failures → old < new
+
+-- the store of an office counts more refusals than before
+abbrev pub HasRefused : {T : Type 0} → (T → ℕ) → Kept T → Kept T → Type 0
+HasRefused refusals old new = CountsMore (refusals old.tables) (refusals new.tables)
+
+-- The store may have failed only where this holds.
+module _ (fails : Type 0) where
+  -- a refusal gives up: memory was refused (90), or the store refused (91)
+  abbrev pub GivesUpWhere : Fault → Type 0
+  GivesUpWhere fault = (fault ≡ memory_fault) ⊎ ((fault ≡ plain_fault Store) × fails)
+
+  -- a request was given up
+  abbrev pub IsGivenUpWhere : Reply → Type 0
+  IsGivenUpWhere (reply.Refused fault) = GivesUpWhere fault
+  IsGivenUpWhere _ = ⊥

@@ -1,0 +1,5 @@
+pub mod Doing
+pub mod GivingUp
+pub mod Lines
+pub mod Serving
+pub mod steps

@@ -1,0 +1,99 @@
+//! Files that are loaded, and runs that are made.
+
+ghost use Rattle.std.specs.Prelude.{◌≡◌, ℕ, List, Some, None, take, IfOk, IsErrOf};
+ghost use Rattle.hh_office.specs.Views.{IsSure};
+ghost use Rattle.hh_serve.specs.Serves.{CountsUp};
+ghost use Rattle.hh_script.specs.Steps.{load_of, run_of};
+ghost use Rattle.hh_desk.specs.Doing.{LeavesRefused, MakesRun, RunsLoad, request_for, request_of};
+ghost use Rattle.hh_desk.specs.GivingUp.{HasRefused};
+
+use crate::told::Told;
+use hh_host::Host;
+use hh_inputs::InputFault;
+use hh_office::Office;
+use hh_requests::{Action, Bytes, Request, Upload};
+use hh_script::{LoadLine, RunLine};
+use hh_store::Tables;
+use hh_texts::MOST_BYTES;
+use std::alloc::{AllocError, Global};
+
+/// The most bytes that are read of a file: one more than a file may have, so that a larger one is
+/// told, and an endless one ends.
+const MOST_READ: usize = MOST_BYTES + 1;
+
+/// Makes a run at its moment (profile), and gives what came of it: the machine's reply, or one that gives
+/// up with 90, where memory was refused, or 91, where the store refused. A refusal leaves the office as
+/// it is.
+pub fn make_run<T: Tables>(alloc: Global, office: &mut Office<'_, T>, line: &RunLine<'_>) -> Told
+    ensures runs { IsSure T.is_open office.new
+        → MakesRun (HasRefused T.refusals office.old office.new)
+        office.old.seen office.new.seen (run_of line.now) result }
+    ensures untouched { IsSure T.is_open office.new
+        → LeavesRefused office.old.seen office.new.seen result }
+    ensures refusals_up { IsSure T.is_open office.new → CountsUp T.refusals office.old office.new }
+    ensures sure { IsSure T.is_open office.new → IsSure T.is_open office.old }
+{
+    match run_request(alloc, line) {
+        Ok(request) => Told::Replied(office.handle(line.moment, &request)),
+        Err(AllocError) => Told::no_memory(),
+    }
+}
+
+/// What a run asks of the office.
+fn run_request(alloc: Global, line: &RunLine<'_>) -> Result<Request, AllocError>
+    ensures { IfOk result (λ request. request ≡ request_for (run_of line.now)) }
+{
+    let key = Vec::from_slice(alloc, line.key)?;
+    Ok(Request {
+        key: Bytes::new(key),
+        action: Action::Run(line.run),
+    })
+}
+
+/// Loads a file at a moment under the name that its path ends in (profile), and gives what came of it:
+/// that the file cannot be read, the machine's reply, or one that gives up with 90, where memory was
+/// refused, or 91, where the store refused. A refusal leaves the office as it is.
+pub fn load_file<T: Tables, H: Host>(
+    alloc: Global,
+    office: &mut Office<'_, T>,
+    host: &H,
+    load: &LoadLine<'_>,
+) -> Told
+    ensures runs { IsSure T.is_open office.new
+        → RunsLoad (HasRefused T.refusals office.old office.new)
+        office.old.seen office.new.seen (H.view host.now) (load_of load.now) result }
+    ensures untouched { IsSure T.is_open office.new
+        → LeavesRefused office.old.seen office.new.seen result }
+    ensures refusals_up { IsSure T.is_open office.new → CountsUp T.refusals office.old office.new }
+    ensures sure { IsSure T.is_open office.new → IsSure T.is_open office.old }
+{
+    match read_request(alloc, host, load) {
+        Ok(request) => Told::Replied(office.handle(load.moment, &request)),
+        Err(InputFault::Unreadable) => Told::Unreadable,
+        Err(InputFault::Memory) => Told::no_memory(),
+    }
+}
+
+/// What a load asks of the office, by so many bytes of its file that a larger one is told.
+fn read_request<H: Host>(
+    alloc: Global,
+    host: &H,
+    load: &LoadLine<'_>,
+) -> Result<Request, InputFault>
+    ensures request { IfOk result (λ request. (all : List ℕ)
+        × (H.view host.now).reads load.now.path.now (Some all)
+        × (request ≡ request_of (load_of load.now) (take MOST_READ all))) }
+    ensures unreadable { IsErrOf result InputFault.Unreadable
+        → (H.view host.now).reads load.now.path.now None }
+{
+    let body = host.read(alloc, load.path, MOST_READ)?;
+    let key = Vec::from_slice(alloc, load.key)?;
+    Ok(Request {
+        key: Bytes::new(key),
+        action: Action::Load(Upload {
+            kind: load.kind,
+            name: load.name,
+            body: Bytes::new(body),
+        }),
+    })
+}
