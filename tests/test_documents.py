@@ -1,9 +1,14 @@
-"""Runs the commands of the README, of `examples/` and of the guide, and compares what they print, word for word;
-a line of three points stands for lines that a document leaves out."""
+"""Runs the commands of the README, of `examples/` and of the guide, those of each page one after the other in a folder
+with the examples, and compares what they print, word for word; a line of three points stands for lines that a document
+leaves out."""
+import contextlib
 import csv
 import pathlib
 import re
 import shlex
+import shutil
+import socket
+import sqlite3
 import subprocess
 import tempfile
 import unittest
@@ -27,18 +32,28 @@ def commands_of(text):
 
 
 class Documents(unittest.TestCase):
-    def test_the_commands_print_what_stands_behind_them(self):
+    def setUp(self):
+        """A folder with the examples, in which commands leave their files."""
         need(SETTLE)
+        folder = tempfile.TemporaryDirectory()
+        self.addCleanup(folder.cleanup)
+        self.room = pathlib.Path(folder.name)
+        (self.room / "settle").symlink_to(SETTLE)
+        (self.room / "examples").symlink_to(HOME / "examples")
+
+    def test_the_commands_print_what_stands_behind_them(self):
         for name in DOCUMENTS:
             found = list(commands_of((HOME / name).read_text(encoding="utf-8")))
             self.assertTrue(found, f"{name} has no command of settle")
             for words, printed in found:
                 with self.subTest(f"{name}: settle {words}"):
                     self.compare(words, printed)
+            for left in self.room.glob("*.db*"):
+                left.unlink()
 
     def compare(self, words, printed):
-        """Runs a command at the top of the repository. Standard error comes behind standard output."""
-        made = subprocess.run([SETTLE, *shlex.split(words)], cwd=HOME, capture_output=True, text=True)
+        """Runs a command. Standard error comes behind standard output."""
+        made = subprocess.run([SETTLE, *shlex.split(words)], cwd=self.room, capture_output=True, text=True)
         told = made.stdout + made.stderr
         if "\n...\n" not in f"\n{printed}":
             self.assertEqual(told, printed)
@@ -46,25 +61,56 @@ class Documents(unittest.TestCase):
         parts = [re.escape(part) for part in re.split(r"^\.\.\.\n", printed, flags=re.MULTILINE)]
         self.assertRegex(told, r"\A" + r"(?:.*\n)+?".join(parts) + r"\Z")
 
+    def test_the_office_that_the_readme_serves(self):
+        """The lines for a shell that serve the office and ask it, behind the commands before them."""
+        if shutil.which("curl") is None:
+            self.skipTest("there is no curl")
+        text = (HOME / "README.md").read_text(encoding="utf-8")
+        blocks = BLOCK.findall(text)
+        at = next(place for place, block in enumerate(blocks) if "settle serve" in block)
+        for words, _ in commands_of(text[: text.index(blocks[at])]):
+            subprocess.run([SETTLE, *shlex.split(words)], cwd=self.room, capture_output=True, check=True)
+        with socket.create_server(("127.0.0.1", 0)) as free:
+            port = str(free.getsockname()[1])
+        made = subprocess.run(["sh", "-c", blocks[at].replace("8080", port) + "wait\n"], cwd=self.room, capture_output=True, text=True, timeout=60)
+        self.assertEqual((made.stdout.rstrip("\n"), made.stderr), (blocks[at + 1].replace("8080", port).rstrip("\n"), ""))
+
+    def test_the_tables_that_the_readme_shows(self):
+        """Its questions to the file, behind the commands before them. Each party's postings come to the balances that it
+        shows, and `results` has a row for each account."""
+        text = (HOME / "README.md").read_text(encoding="utf-8")
+        blocks = BLOCK.findall(text)
+        at = next(place for place, block in enumerate(blocks) if block.startswith("sqlite3 "))
+        for words, _ in commands_of(text[: text.index(blocks[at])]):
+            subprocess.run([SETTLE, *shlex.split(words)], cwd=self.room, capture_output=True, check=True)
+        accounts = [line.split(",") for line in next(block for block in blocks if "account,moved_pence" in block).splitlines()[1:]]
+        sums = {}
+        for account, pence in accounts:
+            party = account.partition("-")[0]
+            sums[party] = sums.get(party, 0) + int(pence)
+        self.assertEqual(blocks[at + 1], "".join(f"{party}|{pence}\n" for party, pence in sorted(sums.items())))
+        with contextlib.closing(sqlite3.connect(self.room / "office.db")) as office:
+            posted = office.execute(shlex.split(blocks[at])[-1]).fetchall()
+            results = office.execute(re.search(r'read_sql\("([^"]*)"', text)[1]).fetchall()
+        self.assertEqual(posted, sorted(sums.items()))
+        self.assertEqual(len(results), len(accounts))
+
     def test_results_in_a_spreadsheet(self):
         """The guide's lines for a shell leave a file that begins as the guide says, and columns I and J sum to zero in
         each period."""
-        need(SETTLE)
         blocks = BLOCK.findall((HOME / "docs/guide.md").read_text(encoding="utf-8"))
         lines, begins = next((one, two) for one, two in zip(blocks, blocks[1:]) if "> results.csv" in one)
-        with tempfile.TemporaryDirectory() as folder:
-            room = pathlib.Path(folder)
-            (room / "settle").symlink_to(SETTLE)
-            (room / "examples").symlink_to(HOME / "examples")
-            made = subprocess.run(["sh", "-e", "-c", lines], cwd=room, capture_output=True)
-            self.assertEqual((made.returncode, made.stdout, made.stderr), (0, b"", b""))
-            text = (room / "results.csv").read_text(encoding="utf-8")
+        made = subprocess.run(["sh", "-e", "-c", lines], cwd=self.room, capture_output=True)
+        self.assertEqual((made.returncode, made.stdout, made.stderr), (0, b"", b""))
+        text = (self.room / "results.csv").read_text(encoding="utf-8")
         self.assertTrue(text.startswith(begins), text[:400])
         sums = {}
         for _, _, _, period, _, _, _, _, *cash in list(csv.reader(text.splitlines()))[1:]:
             sums[period] = sums.get(period, 0) + sum(map(int, cash))
         self.assertEqual(sums, {str(period): 0 for period in range(1, 49)})
 
+
+class Found(unittest.TestCase):
     def test_how_commands_are_found(self):
         text = "a\n```\nsettle period a 'b c' 1\n```\nb\n```sh\nx\ny\n```\n```\n./settle period METER\n```\n```\nrt ci\n```\n"
         self.assertEqual(list(commands_of(text)), [("period a 'b c' 1", "x\ny\n")])

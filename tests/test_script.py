@@ -28,6 +28,12 @@ USAGE = (
     "period METER CONTRACTS PRICE",
     "period METER CONTRACTS -- -PRICE",
     "script --operator-key KEY [--lead-minutes N] FILE",
+    "script --db PATH FILE",
+    "init --db PATH --operator-key KEY [--lead-minutes N]",
+    "load --db PATH --key KEY [--at SECONDS] KIND FILE",
+    "run --db PATH --key KEY [--at SECONDS] DATE KIND",
+    "report --db PATH --key KEY FORM [DATE KIND]",
+    "serve --db PATH --port N [--count N] [--at SECONDS]",
 )
 PATIENCE = 30
 INTERRUPTS = signal.SIGINT, signal.SIGTERM, signal.SIGHUP

@@ -17,18 +17,10 @@ from programs import HOME
 
 FOLDER = HOME / "wrong-bodies"
 FUNCTION = re.compile(r"(?m)^( *)(?:pub(?:\([a-z]+\))? )?(?:const )?fn (\w+)")
-# Calls that `settle` doesn't make: of a row by itself, of a list of requests, of a date, of devices in memory, and of an office's
-# database, its rows, and scripts over it.
+# Calls that `settle` doesn't make: of a row by itself, of a list of requests, of a date, of devices in memory, of a reading in a
+# database, and of a script over a new office in a database.
 OFFERED = {
-    "check_row", "apply_row", "run_all", "day_of", "day_number", "date_at", "in_pieces",
-    "to_columns", "from_columns", "read_entry", "read_entries", "ends", "replace_unit",
-    "make_tables", "replace_meter", "replace_price", "insert_result", "select_first", "select_meter", "select_meters_on",
-    "select_contracts_on", "select_reference", "select_postings_to", "write_load", "write_file_rows", "write_file_row", "write_run",
-    "make_office", "write_new_office", "keep_load", "keep_run", "refuse", "reported_run", "contracts_of_account",
-    "settings_of_office", "has_office", "is_office", "is_column", "is_meters",
-    "select_named", "names_in", "meters_under", "prices_under", "reallocations_under",
-    "select_contracts", "references_in", "select_registered", "select_of_units", "ids_on",
-    "run_over", "run_in_new_database", "run_over_database", "after_lines", "not_run",
+    "check_row", "apply_row", "run_all", "day_of", "day_number", "date_at", "in_pieces", "select_meter", "run_in_new_database",
 }
 # What the language calls without naming it.
 UNNAMED = {"main", "fmt", "cmp", "partial_cmp", "eq", "from", "next", "clone", "drop", "default"}
@@ -43,9 +35,15 @@ def script():
 
 
 def crates_of_settle():
-    """The crate of `settle`, and those that it depends on."""
-    depends = re.search(r"(?m)^hh_settle: (.*)$", (HOME / "crates.txt").read_text(encoding="utf-8"))
-    return {"hh_settle", *depends[1].split()}
+    """The crate of `settle`, and those that it depends on, near or far."""
+    lines = re.findall(r"(?m)^(\w+):(.*)$", (HOME / "crates.txt").read_text(encoding="utf-8"))
+    depends, found, left = {name: words.split() for name, words in lines}, set(), ["hh_settle"]
+    while left:
+        crate = left.pop()
+        if crate not in found:
+            found.add(crate)
+            left += depends.get(crate, [])
+    return found
 
 
 def names_in_bodies():

@@ -1,3 +1,4 @@
+pub mod AnyPlaces
 pub mod FrontFacts
 pub mod ResultFacts
 pub mod StopFacts

@@ -1,5 +1,5 @@
 -- How a line stops, or is done, by what was read of its files.
-use Rattle.std.proofs.Common.{◌≡◌, ◌<◌, ℕ, List, Option, Some, inr, Result, Ok, Err, IfErr, take, refl, sym, subst, ◌∙◌}
+use Rattle.std.proofs.Common.{◌≡◌, ◌<◌, ℕ, List, Option, Some, Bool, true, false, inl, inr, Result, Ok, Err, IfErr, take, refl, sym, ap, subst, ◌∙◌}
 use Rattle.std.specs.Result.{IsErrAnd}
 use Rattle.hh_devices.specs.DeviceChanges.{DeviceChange, HasFailed}
 use Rattle.hh_names.specs.declared.fault.Refusal.{Refusal}
@@ -10,16 +10,26 @@ use Rattle.hh_period.specs.declared.inputs.PeriodFault.{PeriodFault}
 use Rattle.hh_period.specs.declared.inputs.PeriodFault.TheVariants.{Refused, Write}
 use Rattle.hh_period.specs.declared.rejection.Rejection.{Rejection}
 use Rattle.hh_period.specs.Outcome.{period_outcome, rejections, Outcome, Writes, WritesFront}
-use Rattle.hh_command.specs.declared.program.Stop.{Stop}
+use Rattle.hh_command.specs.declared.stop.Stop.{Stop}
 use Rattle.clap.specs.Words.{Text}
 use Rattle.hh_rows.specs.declared.settings.Settings.{Settings}
 use Rattle.hh_host.specs.Views.{HostView}
 use Rattle.hh_session.specs.declared.script.ScriptStop.{ScriptStop}
 use Rattle.hh_session.specs.declared.script.ScriptStop.TheVariants as script
-use Rattle.hh_session.specs.Script.{StopsAt}
-use Rattle.hh_words.specs.Lines.{Line, PeriodCommand, ScriptCommand, line_value}
-use Rattle.hh_command.specs.declared.program.Stop.TheVariants as stop
-use Rattle.hh_command.specs.Stops.{period_stop, script_stop, AreWrong, ComesTo, DoesPeriod, HasUnreadable, StopsBy, StopsLine, StopsPeriod, TellsOff}
+use Rattle.hh_session.specs.Script.{IsUnread, StopsAt}
+use Rattle.hh_errands.specs.declared.errand.ErrandStop.TheVariants as errand
+use Rattle.hh_kept_office.specs.declared.path.PathStop.{PathStop}
+use Rattle.hh_kept_office.specs.declared.path.PathStop.TheVariants as path
+use Rattle.hh_kept_office.specs.declared.scripts.ScriptPathStop.{ScriptPathStop}
+use Rattle.hh_kept_office.specs.declared.scripts.ScriptPathStop.TheVariants as at
+use Rattle.hh_kept_office.specs.Places.{Connected, Places}
+use Rattle.hh_kept_office.specs.Scripts.{EndsScript, RunsFile, script_at}
+use Rattle.hh_words.specs.Tasks.{Task, ToInit, ToLoad, ToReport, ToRun, ToRunScript, ToServe}
+use Rattle.hh_command.specs.Stopping.{period_stop, script_stop}
+use Rattle.hh_command.specs.Tasks.{StopsAsked, StopsTask, path_stop, script_path_stop}
+use Rattle.hh_words.specs.Lines.{DatabaseCommand, Line, PeriodCommand, ScriptCommand, line_value}
+use Rattle.hh_command.specs.declared.stop.Stop.TheVariants as stop
+use Rattle.hh_command.specs.Stops.{AreWrong, IsOfScript, ComesTo, DoesPeriod, HasUnreadable, StopsBy, StopsLine, StopsPeriod, TellsOff}
 use Rattle.hh_command.specs.steps.Stops.{IsOffAndTold}
 use Rattle.hh_command.proofs.FrontFacts.{period_outcome-front}
 
@@ -67,18 +77,84 @@ module _ (host : HostView) (most : ℕ) (enough : most_bytes < most) (meter cont
     stopped_by_period fault h (Ok x) passed = tt
     stopped_by_period fault h (Err s) passed = subst (StopsPeriod host device meter contracts price) (sym passed) (line_stops fault h)
 
+-- ---- a line of a script that is off its form
+
+-- why a script is not run at a path
+abbrev stop_in : Result Unit ScriptPathStop → ScriptStop
+stop_in (Err (at.Script why)) = why
+stop_in _ = script.File
+
+-- it was its own doing
+abbrev is_own : Result Unit ScriptPathStop → Bool
+is_own (Err (at.Script why)) = true
+is_own _ = false
+
+-- a script of which a line is off its form was not read
+unread_off : (host : HostView) (file : Text) (device : DeviceChange) (found left : Connected) (ended : Result Unit ScriptStop) (n : ℕ)
+    → Err (at.Script (script.Off n)) ≡ script_at ended → RunsFile host device file found left ended → IsUnread host file (script.Off n)
+unread_off host file device found left (Ok x) n is runs = let bad : script.Off n ≡ script.File = ap stop_in is in cc bad
+unread_off host file device found left (Err script.File) n is runs = let bad : script.Off n ≡ script.File = ap stop_in is in cc bad
+unread_off host file device found left (Err script.Output) n is runs = let bad : script.Off n ≡ script.Output = ap stop_in is in cc bad
+unread_off host file device found left (Err (script.Refused fault)) n is runs = let bad : script.Off n ≡ script.Refused fault = ap stop_in is in cc bad
+unread_off host file device found left (Err (script.Off m)) n is (inr (held, unread), leaves, kept) =
+    let same : script.Off n ≡ script.Off m = ap stop_in is in
+    let number : m ≡ n = cc same in
+    subst (λ k. IsUnread host file (script.Off k)) number unread
+unread_off host file device found left (Err (script.Off m)) n is (inl (fault, none), leaves, kept) = cc none
+
+ends_off : (host : HostView) (file : Text) (device : DeviceChange) (places : Places) (path : Text) (n : ℕ)
+    → EndsScript host device file places path (Err (at.Script (script.Off n))) → IsUnread host file (script.Off n)
+ends_off host file device places path n (inl (fault, refused, is, kept)) = let bad : true ≡ false = ap is_own is in cc bad
+ends_off host file device places path n (inr (inl (is, absent, kept))) = let bad : true ≡ false = ap is_own is in cc bad
+ends_off host file device places path n (inr (inr (present, (found, left, ended, opens, closes, is, runs)))) = unread_off host file device found left ended n is runs
+
 -- A line stops as one of a script that is off its form, and that is told: the words are wrong.
-module _ (host : HostView) (words : List Text) (out err : DeviceChange) where
+module _ (host : HostView) (places : Places) (words : List Text) (out err : DeviceChange) where
+  wrong_at : (file : Text) → IsOfScript words file → (n line : ℕ) → n ≡ line → TellsOff err line → IsUnread host file (script.Off n) → AreWrong host words err
+  wrong_at file is n line number told unread = inr (file, n, is, unread, subst (TellsOff err) (sym number) told)
+
   off_at : (settings : Settings) (file : Text) → line_value words ≡ Some (ScriptCommand settings file) → (line : ℕ) → TellsOff err line
       → (why : ScriptStop) → script_stop why ≡ stop.Off line → StopsAt host file settings out why → AreWrong host words err
   off_at settings file is line told script.File same at = cc same
-  off_at settings file is line told (script.Off n) same at =
-      let number : n ≡ line = cc same in
-      inr (settings, file, n, is, at.1, subst (TellsOff err) (sym number) told)
+  off_at settings file is line told (script.Off n) same at = let number : n ≡ line = cc same in wrong_at file (inl (settings, is)) n line number told at.1
   off_at settings file is line told (script.Refused fault) same at = cc same
   off_at settings file is line told script.Output same at = cc same
 
-  pub wrong_by_off : (l : Line) → line_value words ≡ Some l → (s : Stop) → StopsLine host out l s → IsOffAndTold err s → AreWrong host words err
+  off_kept : (path file : Text) → line_value words ≡ Some (DatabaseCommand path (ToRunScript file)) → (line : ℕ) → TellsOff err line
+      → (why : ScriptPathStop) → script_path_stop why ≡ stop.Off line → EndsScript host out file places path (Err why) → AreWrong host words err
+  off_kept path file is line told at.NoFile same ends = cc same
+  off_kept path file is line told (at.Unopened fault) same ends = cc same
+  off_kept path file is line told (at.Script script.File) same ends = cc same
+  off_kept path file is line told (at.Script (script.Refused fault)) same ends = cc same
+  off_kept path file is line told (at.Script script.Output) same ends = cc same
+  off_kept path file is line told (at.Script (script.Off n)) same ends =
+      let number : n ≡ line = cc same in
+      wrong_at file (inr (path, is)) n line number told (ends_off host file out places path n ends)
+
+  -- no other command on a database has lines
+  not_off : {A : Type 0} (why : PathStop) (line : ℕ) → path_stop why ≡ stop.Off line → A
+  not_off path.Exists line same = cc same
+  not_off path.NoFile line same = cc same
+  not_off (path.Errand (errand.Refused fault)) line same = cc same
+  not_off (path.Errand errand.Unreadable) line same = cc same
+  not_off (path.Errand errand.NoSocket) line same = cc same
+  not_off (path.Errand errand.Output) line same = cc same
+
+  asked_off : {A : Type 0} (path : Text) (task : Task) (s : Stop) (line : ℕ) → StopsAsked host places path out task s → s ≡ stop.Off line → A
+  asked_off path task s line (inl (why, from, ends)) same = not_off why line (sym from ∙ same)
+  asked_off path task s line (inr (clock, asks, kept)) same = let bad : stop.NoClock ≡ stop.Off line = sym clock ∙ same in cc bad
+
+  task_off : (path : Text) (task : Task) → line_value words ≡ Some (DatabaseCommand path task) → (s : Stop) (line : ℕ) → StopsTask host places path out task s
+      → s ≡ stop.Off line → TellsOff err line → AreWrong host words err
+  task_off path (ToInit settings) is s line (why, from, makes) same told = not_off why line (sym from ∙ same)
+  task_off path (ToLoad load) is s line stops same told = asked_off path (ToLoad load) s line stops same
+  task_off path (ToRun run) is s line stops same told = asked_off path (ToRun run) s line stops same
+  task_off path (ToReport asked) is s line stops same told = asked_off path (ToReport asked) s line stops same
+  task_off path (ToServe serve) is s line stops same told = asked_off path (ToServe serve) s line stops same
+  task_off path (ToRunScript file) is s line (why, from, ends) same told = off_kept path file is line told why (sym from ∙ same) ends
+
+  pub wrong_by_off : (l : Line) → line_value words ≡ Some l → (s : Stop) → StopsLine host places out l s → IsOffAndTold err s → AreWrong host words err
   wrong_by_off (PeriodCommand meter contracts price) is s stops (line, same, told) =
       absurd (subst (StopsBy out (ComesTo host meter contracts price) (HasUnreadable host meter contracts)) same stops)
   wrong_by_off (ScriptCommand settings file) is s (why, from, at) (line, same, told) = off_at settings file is line told why (sym from ∙ same) at
+  wrong_by_off (DatabaseCommand path task) is s stops (line, same, told) = task_off path task is s line stops same told

@@ -1,2 +1,4 @@
+pub mod Stopping
 pub mod Stops
+pub mod Tasks
 pub mod steps

@@ -18,26 +18,13 @@ use Rattle.hh_period.specs.declared.rejection.Rejection.{Rejection}
 use Rattle.hh_period.specs.Outcome.{memory_rejection, period_outcome, Outcome}
 use Rattle.hh_period.specs.RejectionText.{rejection_text}
 use Rattle.hh_words.specs.Grammar.{settle_app}
-use Rattle.hh_words.specs.Lines.{Line, PeriodCommand, ScriptCommand, line_value, usage}
-use Rattle.hh_command.specs.declared.program.Stop.{Stop}
-use Rattle.hh_command.specs.declared.program.Stop.TheVariants as stop
-
--- why a command stops whose file gives no bytes
-abbrev pub input_stop : InputFault → Stop
-input_stop Unreadable = stop.File
-input_stop Memory = stop.Refused memory_rejection
-
--- why a command stops whose period has a fault
-abbrev pub period_stop : PeriodFault → Stop
-period_stop (period.Refused e) = stop.Refused e
-period_stop period.Write = stop.Output
-
--- why a command stops whose script is not run, or not to its end
-abbrev pub script_stop : ScriptStop → Stop
-script_stop script.File = stop.File
-script_stop (script.Off line) = stop.Off line
-script_stop (script.Refused fault) = stop.Refused (record { fault = fault; input = None })
-script_stop script.Output = stop.Output
+use Rattle.hh_kept_office.specs.Places.{Places}
+use Rattle.hh_words.specs.Lines.{DatabaseCommand, Line, PeriodCommand, ScriptCommand, line_value, usage}
+use Rattle.hh_words.specs.Tasks.{ToRunScript}
+use Rattle.hh_command.specs.Stopping.{script_stop}
+use Rattle.hh_command.specs.Tasks.{DoesTask, StopsTask}
+use Rattle.hh_command.specs.declared.stop.Stop.{Stop}
+use Rattle.hh_command.specs.declared.stop.Stop.TheVariants as stop
 
 -- the line that tells a rejection
 abbrev pub rejection_line : Rejection → List ℕ
@@ -48,6 +35,10 @@ abbrev pub stop_line : Stop → List ℕ
 stop_line (stop.Refused e) = rejection_line e
 stop_line stop.File = codes "fault file\n"
 stop_line stop.Output = codes "fault output\n"
+stop_line stop.Exists = codes "fault exists\n"
+stop_line stop.NoFile = codes "fault nofile\n"
+stop_line stop.NoSocket = codes "fault socket\n"
+stop_line stop.NoClock = codes "fault clock\n"
 stop_line (stop.Off line) = codes "line " ++ decimal line ++ codes " is off its form\n"
 
 -- the exit status of a command that stops so: 1, or 2 for a line of a script that is off its form
@@ -55,6 +46,10 @@ abbrev pub stop_status : Stop → ℕ
 stop_status (stop.Refused e) = 1
 stop_status stop.File = 1
 stop_status stop.Output = 1
+stop_status stop.Exists = 1
+stop_status stop.NoFile = 1
+stop_status stop.NoSocket = 1
+stop_status stop.NoClock = 1
 stop_status (stop.Off line) = 2
 
 -- a text went out, unless the device failed
@@ -73,9 +68,7 @@ TellsWrong words device = (text : List ℕ) × (text ≢ []) × (fault_of settle
 -- a stop is a refusal
 abbrev pub IsRefused : Stop → Type 0
 IsRefused (stop.Refused e) = Unit {0}
-IsRefused stop.File = ⊥
-IsRefused stop.Output = ⊥
-IsRefused (stop.Off line) = ⊥
+IsRefused _ = ⊥
 
 -- the line of the stop went out, or that of refused memory in the place of a refusal, unless the device failed
 abbrev pub Tells : DeviceChange → Stop → Type 0
@@ -98,7 +91,13 @@ module _ (device : DeviceChange) where
   StopsBy Comes unread (stop.Refused e) = (device.new ≡ device.old) × ByRefusal e.fault.refusal (e ≡ memory_rejection) (Comes (Err e))
   StopsBy Comes unread stop.File = (device.new ≡ device.old) × unread
   StopsBy Comes unread stop.Output = HasFailed device × ((text : List ℕ) × Comes (Ok text) × AppendsFront device.old device.new text)
-  StopsBy Comes unread (stop.Off line) = ⊥
+  StopsBy Comes unread _ = ⊥
+
+-- words form the line of a script: over a new office, or over that of a database
+abbrev pub IsOfScript : List Text → Text → Type 0
+IsOfScript words file =
+    ((settings : Settings) × (line_value words ≡ Some (ScriptCommand settings file)))
+    ⊎ ((path : Text) × (line_value words ≡ Some (DatabaseCommand path (ToRunScript file))))
 
 -- A host may show this of files and ports.
 module _ (host : HostView) where
@@ -119,30 +118,34 @@ module _ (host : HostView) where
   abbrev pub StopsPeriod : DeviceChange → Text → Text → Text → Stop → Type 0
   StopsPeriod device meter contracts price = StopsBy device (ComesTo meter contracts price) (HasUnreadable meter contracts)
 
-  -- the line is done, and known bytes grow by its text
-  abbrev pub Does : Line → DeviceChange → Type 0
-  Does (PeriodCommand meter contracts price) device = DoesPeriod meter contracts price device
-  Does (ScriptCommand settings file) device = WritesScript host file settings device
+  -- The databases at the paths of the machine are these.
+  module _ (places : Places) where
+    -- the line is done, and known bytes grow by its text
+    abbrev pub Does : Line → DeviceChange → Type 0
+    Does (PeriodCommand meter contracts price) device = DoesPeriod meter contracts price device
+    Does (ScriptCommand settings file) device = WritesScript host file settings device
+    Does (DatabaseCommand path task) device = DoesTask host places path device task
 
-  -- a line stops so, where this changes in the output
-  abbrev pub StopsLine : DeviceChange → Line → Stop → Type 0
-  StopsLine device (PeriodCommand meter contracts price) = StopsPeriod device meter contracts price
-  StopsLine device (ScriptCommand settings file) = λ s. (why : ScriptStop) × (s ≡ script_stop why) × StopsAt host file settings device why
+    -- a line stops so, where this changes in the output
+    abbrev pub StopsLine : DeviceChange → Line → Stop → Type 0
+    StopsLine device (PeriodCommand meter contracts price) s = StopsPeriod device meter contracts price s
+    StopsLine device (ScriptCommand settings file) s = (why : ScriptStop) × (s ≡ script_stop why) × StopsAt host file settings device why
+    StopsLine device (DatabaseCommand path task) s = StopsTask host places path device task s
 
-  -- words form a line, and it is done
-  abbrev pub DoesWords : List Text → DeviceChange → Type 0
-  DoesWords words device = (line : Line) × (line_value words ≡ Some line) × Does line device
+    -- words form a line, and it is done
+    abbrev pub DoesWords : List Text → DeviceChange → Type 0
+    DoesWords words device = (line : Line) × (line_value words ≡ Some line) × Does line device
 
-  -- words stop as the line that they form, or because memory ran out before they were read
-  abbrev pub StopsWords : List Text → DeviceChange → Stop → Type 0
-  StopsWords words out s = ((s ≡ stop.Refused memory_rejection) × (out.new ≡ out.old))
-      ⊎ ((line : Line) × (line_value words ≡ Some line) × StopsLine out line s)
+    -- words stop as the line that they form, or because memory ran out before they were read
+    abbrev pub StopsWords : List Text → DeviceChange → Stop → Type 0
+    StopsWords words out s = ((s ≡ stop.Refused memory_rejection) × (out.new ≡ out.old))
+        ⊎ ((line : Line) × (line_value words ≡ Some line) × StopsLine out line s)
 
-  -- words stop with status 1, and why is told
-  abbrev pub Stops : List Text → DeviceChange → DeviceChange → Type 0
-  Stops words out err = (s : Stop) × HasStatusOne s × StopsWords words out s × Tells err s
+    -- words stop with status 1, and why is told
+    abbrev pub Stops : List Text → DeviceChange → DeviceChange → Type 0
+    Stops words out err = (s : Stop) × HasStatusOne s × StopsWords words out s × Tells err s
 
   -- words form no line, which is told; or that of a script of which a line is off its form, whose number is told
   abbrev pub AreWrong : List Text → DeviceChange → Type 0
-  AreWrong words err = ((line_value words ≡ None) × TellsWrong words err) ⊎ ((settings : Settings) × (file : Text) × (line : ℕ)
-      × (line_value words ≡ Some (ScriptCommand settings file)) × IsUnread host file (script.Off line) × TellsOff err line)
+  AreWrong words err = ((line_value words ≡ None) × TellsWrong words err) ⊎ ((file : Text) × (line : ℕ)
+      × IsOfScript words file × IsUnread host file (script.Off line) × TellsOff err line)

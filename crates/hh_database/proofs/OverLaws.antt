@@ -1,5 +1,5 @@
 -- Lines that are run over an office, by the content of its tables before and after them.
-use Rattle.std.proofs.Common.{◌≡◌, List, subst, sym}
+use Rattle.std.proofs.Common.{◌≡◌, ℕ, List, Option, subst, sym}
 use Rattle.jiff.specs.declared.tz.timezone.TimeZone.{TimeZone}
 use Rattle.jiff.specs.Words.{plain_zone}
 use Rattle.hh_devices.specs.DeviceChanges.{DeviceChange}

@@ -1,5 +1,5 @@
 -- What lines come to over an office whose tables stand in a database, by what the database holds after them.
-use Rattle.std.proofs.Common.{◌≡◌, ℕ, ◌<◌, List, Result, Ok, Err, subst, sym, arith}
+use Rattle.std.proofs.Common.{◌≡◌, ℕ, ◌<◌, List, Option, Result, Ok, Err, subst, sym, arith}
 use Rattle.std.specs.Prelude.{IfErr, IfOk, MatchResult, OnErr, OnOk}
 use Rattle.jiff.specs.Words.{plain_zone}
 use Rattle.sqlite.specs.Effect.{Database}

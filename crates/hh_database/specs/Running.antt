@@ -1,5 +1,5 @@
 -- What the lines of a script come to over an office whose tables stand in a database.
-use Rattle.std.specs.Prelude.{ℕ, List}
+use Rattle.std.specs.Prelude.{ℕ, List, Option}
 use Rattle.std.specs.Io.KnownBytes.{Appends}
 use Rattle.sqlite.specs.Effect.{Database}
 use Rattle.jiff.specs.declared.tz.timezone.TimeZone.{TimeZone}

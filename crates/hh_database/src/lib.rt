@@ -5,5 +5,5 @@ mod over;
 mod running;
 mod stop;
 
-pub use running::{run_in_database, run_in_new_database};
-pub use stop::{AfterLines, DatabaseStop};
+pub use running::{run_in_database, run_in_new_database, run_over_database};
+pub use stop::{AfterUse, DatabaseStop};

@@ -17,7 +17,7 @@ ghost use Rattle.hh_desk.specs.GivingUp.{CountsMore};
 ghost use Rattle.hh_database.specs.Running.{CutsNew, CutsOver, WritesNew, WritesOver};
 
 use crate::over::run_over;
-use crate::stop::{AfterLines, DatabaseStop};
+use crate::stop::{AfterUse, DatabaseStop};
 use hh_day::reached_conserve;
 use hh_devices::{DeviceFailed, Sink};
 use hh_host::Host;
@@ -44,7 +44,7 @@ pub fn run_in_new_database<S: Alter, H: Host, O: Sink>(
     host: &H,
     lines: &[ScriptLine<'_>],
     out: &mut O,
-) -> Result<AfterLines<S>, (DatabaseStop, AfterLines<S>)>
+) -> Result<AfterUse<S>, (DatabaseStop, AfterUse<S>)>
     ensures done { IfOk result (λ after. IsTrue (state S.Store after.connection).is_open
         → WritesNew (H.view host.now) (0 < after.refusals)
         (change O.taken O.failures out.old out.new) (state S.Store after.connection).committed
@@ -84,7 +84,7 @@ pub fn run_in_database<S: Rising, H: Host, O: Sink>(
     host: &H,
     lines: &[ScriptLine<'_>],
     out: &mut O,
-) -> Result<AfterLines<S>, (DatabaseStop, AfterLines<S>)>
+) -> Result<AfterUse<S>, (DatabaseStop, AfterUse<S>)>
     ensures done { (content : Content) → Holds version content (state S.Store connection).committed
         → IfOk result (λ after. IsTrue (state S.Store after.connection).is_open
         → WritesOver (H.view host.now) (0 < after.refusals)
@@ -112,26 +112,33 @@ pub fn run_in_database<S: Rising, H: Host, O: Sink>(
 }
 
 /// What comes of lines that are not run, since the tables are refused.
-fn not_run<S: Alter>(refused: (StoreFault, Connection<S>)) -> (DatabaseStop, AfterLines<S>)
+fn not_run<S: Alter>(refused: (StoreFault, Connection<S>)) -> (DatabaseStop, AfterUse<S>)
     ensures stop { result.0 ≡ DatabaseStop.Refused refused.0 }
     ensures connection { result.1.connection ≡ refused.1 }
 {
     let (fault, connection) = refused;
-    let after = AfterLines {
+    let after = AfterUse {
         connection,
         refusals: 0,
     };
     (DatabaseStop::Refused(fault), after)
 }
 
-/// Runs lines over an office with these tables, and hands their connection back.
-fn run_over_database<S: Alter, H: Host, O: Sink>(
+/// Runs the lines of a script over an office with these tables, one after the other, and writes what comes
+/// of each, as `run_lines` does. A line is told 91 only where the database has refused a call of the office.
+/// The tables' connection comes back.
+///
+/// # Errors
+///
+/// `Output` where the output failed or took nothing in this call: the first of the lines were run, and a
+/// beginning of what they write went out.
+pub fn run_over_database<S: Alter, H: Host, O: Sink>(
     alloc: Global,
     tables: SqlTables<S>,
     host: &H,
     lines: &[ScriptLine<'_>],
     out: &mut O,
-) -> Result<AfterLines<S>, (DatabaseStop, AfterLines<S>)>
+) -> Result<AfterUse<S>, (DatabaseStop, AfterUse<S>)>
     ensures done { IfOk result (λ after. IsTrue (state S.Store after.connection).is_open
         → WritesOver (H.view host.now)
         (CountsMore tables.refusals after.refusals)
@@ -154,23 +161,9 @@ fn run_over_database<S: Alter, H: Host, O: Sink>(
     // Does nothing, but carries a law for the proof: the tables of the machine's states add up.
     reached_conserve();
     let (ran, tables) = run_over(alloc, tables, host, lines, out);
-    let after = after_lines(tables);
+    let after = AfterUse::of(tables);
     match ran {
         Ok(()) => Ok(after),
         Err(DeviceFailed) => Err((DatabaseStop::Output, after)),
-    }
-}
-
-/// What tables leave that the office no longer stands over.
-fn after_lines<S: Alter>(tables: SqlTables<S>) -> AfterLines<S>
-    ensures connection { result.connection ≡ tables.connection }
-    ensures refusals { result.refusals ≡ tables.refusals }
-    ensures holds { IsTrue (state S.Store result.connection).is_open
-        → Holds version (content_in S.Store tables) (state S.Store result.connection).committed }
-{
-    let refusals = tables.refusals();
-    AfterLines {
-        connection: tables.into_connection(),
-        refusals,
     }
 }

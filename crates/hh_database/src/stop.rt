@@ -1,13 +1,47 @@
-//! What the lines of a script leave of a database, and why they are not run, or not to their end.
+//! What an office leaves of a database, and why the lines of a script are not run, or not to their end.
 
+ghost use Rattle.std.specs.Prelude.{◌≡◌, IsTrue};
+ghost use Rattle.sqlite.specs.Held.{state};
+ghost use Rattle.hh_keyed_rows.specs.Values.{version};
+ghost use Rattle.hh_sqlstore.specs.Holds.{Holds};
+ghost use Rattle.hh_sqlstore.specs.Stores.{content_in};
+
+use hh_sqlstore::SqlTables;
 use hh_store::StoreFault;
 use sqlite::{Alter, Connection};
 
-/// What the lines of a script leave: the connection to the database, and how often the database has
+/// What an office leaves that was used over a database: the connection, and how often the database has
 /// refused the office for another cause than memory.
-pub struct AfterLines<S: Alter> {
+pub struct AfterUse<S: Alter> {
     pub connection: Connection<S>,
     pub refusals: u64,
+}
+
+impl<S: Alter> AfterUse<S> {
+    /// What tables leave that the office no longer stands over.
+    pub fn of(tables: SqlTables<S>) -> AfterUse<S>
+        ensures connection { result.connection ≡ tables.connection }
+        ensures refusals { result.refusals ≡ tables.refusals }
+        ensures holds { IsTrue (state S.Store result.connection).is_open
+            → Holds version (content_in S.Store tables) (state S.Store result.connection).committed }
+    {
+        let refusals = tables.refusals();
+        AfterUse {
+            connection: tables.into_connection(),
+            refusals,
+        }
+    }
+
+    /// The connection.
+    pub fn into_connection(self) -> Connection<S>
+        ensures { result ≡ self.connection }
+    {
+        let AfterUse {
+            connection,
+            refusals: _,
+        } = self;
+        connection
+    }
 }
 
 /// Why the lines of a script are not run over a database, or not to their end.

@@ -1,5 +1,6 @@
 -- What comes of the connections that are served at the desk of an office.
 use Rattle.std.specs.Prelude.{◌≡◌, ◌⊎◌, ℕ, ℤ, List, [], ◌∷◌, length, Option, Some, None, Result, Ok}
+use Rattle.hh_devices.specs.DeviceChanges.{DeviceChange, IsWell}
 use Rattle.hh_time.specs.Days.{Midnights}
 use Rattle.hh_requests.specs.declared.request.Request.{Request}
 use Rattle.hh_states.specs.States.{State}
@@ -21,9 +22,13 @@ abbrev pub LeadsTo : Midnights → ℤ → Option (List ℕ) → State → State
 LeadsTo midnight moment bytes s t =
     (t ≡ s) ⊎ ((request : Request) × IsReadOf bytes (Ok (Asked request)) × (t ≡ next midnight s moment request))
 
--- nothing was read of a connection, and nothing went out over it
+-- a device has what it had, and did not fail
+abbrev pub IsLeft : DeviceChange → Type 0
+IsLeft device = (device.new ≡ device.old) × IsWell device
+
+-- nothing was read of a connection, nothing went out over it, and neither end failed
 abbrev pub IsUnserved : Exchange → Type 0
-IsUnserved e = (e.source.new ≡ e.source.old) × (e.sink.new ≡ e.sink.old)
+IsUnserved e = IsLeft e.source × IsLeft e.sink
 
 -- The store may have failed only where this holds.
 module _ (fails : Type 0) (midnight : Midnights) where

@@ -1,6 +1,6 @@
 //! The files of a database: opened, used and closed.
 
-use hh_database::{AfterLines, DatabaseStop, run_in_database, run_in_new_database};
+use hh_database::{AfterUse, DatabaseStop, run_in_database, run_in_new_database};
 use hh_devices::Sink;
 use hh_host::Host;
 use hh_measures::{MeasureStop, Watch};
@@ -67,7 +67,7 @@ fn run_over<S: Rising, H: Host, O: Sink>(
     };
     match ran {
         Ok(
-            AfterLines {
+            AfterUse {
                 connection,
                 refusals: _,
             },
@@ -75,7 +75,7 @@ fn run_over<S: Rising, H: Host, O: Sink>(
         Err(
             (
                 stop,
-                AfterLines {
+                AfterUse {
                     connection,
                     refusals: _,
                 },

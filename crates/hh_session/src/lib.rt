@@ -8,4 +8,4 @@ mod serving;
 mod tell;
 
 pub use run::run_lines;
-pub use script::{MOST_SCRIPT_BYTES, ScriptStop, run_script};
+pub use script::{MOST_SCRIPT_BYTES, ScriptStop, read_script_file, run_script};

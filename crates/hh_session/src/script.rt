@@ -84,7 +84,7 @@ pub fn run_script<H: Host, O: Sink>(
         (change O.taken O.failures out.old out.new)) }
     ensures untouched { IfErr result (λ stop. stop ≢ ScriptStop.Output → out.new ≡ out.old) }
 {
-    let bytes = read_whole(alloc, host, path)?;
+    let bytes = read_script_file(alloc, host, path)?;
     let lines = read_script(alloc, &bytes)?;
     match run_new_office(alloc, settings, host, &lines, out) {
         Ok(()) => Ok(()),
@@ -93,7 +93,11 @@ pub fn run_script<H: Host, O: Sink>(
 }
 
 /// The bytes of a script's file, where it has not too many.
-fn read_whole<H: Host>(alloc: Global, host: &H, path: &str) -> Result<Vec<u8>, ScriptStop>
+///
+/// # Errors
+///
+/// `File` where it cannot be read, `Refused` where it has too many bytes (10) or memory was refused (90).
+pub fn read_script_file<H: Host>(alloc: Global, host: &H, path: &str) -> Result<Vec<u8>, ScriptStop>
     ensures whole { IfOk result (λ bytes. (H.view host.now).reads path.now (Some bytes.items)) }
     ensures small { IfOk result (λ bytes. length bytes.items ≤ most_script_bytes) }
     ensures unread { IfErr result (IsUnread (H.view host.now) path.now) }

@@ -1,1 +1,2 @@
+pub mod GrammarFacts
 pub mod LineFacts

@@ -11,9 +11,11 @@ use Rattle.hh_words.specs.declared.words.WordsFault.{WordsFault}
 use Rattle.hh_words.specs.declared.words.WordsFault.TheVariants.{Memory, Wrong}
 
 settle-simple : is_simple settle_app ≡ true
+unfolding settle_app
 settle-simple = refl
 
 settle-free : is_simple_and_free settle_app ≡ true
+unfolding settle_app
 settle-free = refl
 
 -- where it parses the words, the command is what the subcommand was given

@@ -1,7 +1,11 @@
 -- The command line, as `clap` reads it.
-use Rattle.std.specs.Prelude.{codes, true, Some, []}
+use Rattle.std.specs.Prelude.{List, [], ◌∷◌, Some, codes, fold, true}
 use Rattle.clap.specs.Words.{App, Rule, Text, new_app, new_rule, with_rule, with_subcommand}
 use Rattle.clap.specs.declared.builder.ArgAction.TheVariants.{Set}
+
+-- a word that stands in its place, or is left out
+abbrev pub optional_positional : Text → Rule
+optional_positional id = record (new_rule id) { action = Some Set }
 
 -- a required word that stands in its place
 abbrev pub positional : Text → Rule
@@ -15,21 +19,56 @@ option id = record (new_rule id) { long = Some id; action = Some Set }
 abbrev pub required_option : Text → Rule
 required_option id = record (option id) { required = true }
 
+-- a command and its words
+abbrev pub command : Text → List Rule → App
+command name rules = fold with_rule (new_app name) rules
+
 -- `period METER CONTRACTS PRICE`
 abbrev pub period_app : App
-period_app = with_rule (with_rule (with_rule (new_app (codes "period"))
-    (positional (codes "METER"))) (positional (codes "CONTRACTS"))) (positional (codes "PRICE"))
+period_app = command (codes "period") (positional (codes "METER") ∷ positional (codes "CONTRACTS") ∷ positional (codes "PRICE") ∷ [])
 
--- `script --operator-key KEY [--lead-minutes N] FILE`
+-- `script [--db PATH] [--operator-key KEY] [--lead-minutes N] FILE`
 abbrev pub script_app : App
-script_app = with_rule (with_rule (with_rule (new_app (codes "script"))
-    (required_option (codes "operator-key"))) (option (codes "lead-minutes"))) (positional (codes "FILE"))
+script_app = command (codes "script")
+    (option (codes "db") ∷ option (codes "operator-key") ∷ option (codes "lead-minutes") ∷ positional (codes "FILE") ∷ [])
+
+-- `init --db PATH --operator-key KEY [--lead-minutes N]`
+abbrev pub init_app : App
+init_app = command (codes "init") (required_option (codes "db") ∷ required_option (codes "operator-key") ∷ option (codes "lead-minutes") ∷ [])
+
+-- `load --db PATH --key KEY [--at SECONDS] KIND FILE`
+abbrev pub load_app : App
+load_app = command (codes "load") (required_option (codes "db") ∷ required_option (codes "key") ∷ option (codes "at")
+    ∷ positional (codes "KIND") ∷ positional (codes "FILE") ∷ [])
+
+-- `run --db PATH --key KEY [--at SECONDS] DATE KIND`
+abbrev pub run_app : App
+run_app = command (codes "run") (required_option (codes "db") ∷ required_option (codes "key") ∷ option (codes "at")
+    ∷ positional (codes "DATE") ∷ positional (codes "KIND") ∷ [])
+
+-- `report --db PATH --key KEY FORM [DATE [KIND]]`
+abbrev pub report_app : App
+report_app = command (codes "report") (required_option (codes "db") ∷ required_option (codes "key")
+    ∷ positional (codes "FORM") ∷ optional_positional (codes "DATE") ∷ optional_positional (codes "KIND") ∷ [])
+
+-- `serve --db PATH --port N [--count N] [--at SECONDS]`
+abbrev pub serve_app : App
+serve_app = command (codes "serve")
+    (required_option (codes "db") ∷ required_option (codes "port") ∷ option (codes "count") ∷ option (codes "at") ∷ [])
 
 -- the program, which asks for a subcommand
 abbrev pub settle_start : App
 settle_start = let a : App = new_app (codes "settle") in
     record { top = record a.top { subcommand_required = true }; subs = [] }
 
--- the program with its subcommands
-abbrev pub settle_app : App
-settle_app = with_subcommand (with_subcommand settle_start period_app.top) script_app.top
+-- a program with one more subcommand
+abbrev pub with_command : App → App → App
+with_command program subcommand = with_subcommand program subcommand.top
+
+-- the program and its subcommands
+abbrev pub program : List App → App
+program subcommands = fold with_command settle_start subcommands
+
+-- the program, as it is
+unfoldable pub settle_app : App
+settle_app = program (period_app ∷ script_app ∷ init_app ∷ load_app ∷ run_app ∷ report_app ∷ serve_app ∷ [])

@@ -1,26 +1,29 @@
 -- What a line of words asks for.
-use Rattle.std.specs.Prelude.{◌≡◌, ℕ, List, [], ◌∷◌, Option, Some, None, codes, string_bytes, if◌then◌else◌}
+use Rattle.std.specs.Prelude.{◌≡◌, List, [], ◌∷◌, Option, Some, None, codes, string_bytes, if◌then◌else◌}
 use Rattle.std.specs.Str.{bytes_eq}
 use Rattle.clap.specs.Words.{Row, Text, first_of, fault_of, subcommand_of}
 use Rattle.clap.specs.Kinds.{Kinds}
-use Rattle.hh_names.specs.Words.{operator_key_value}
 use Rattle.hh_rows.specs.declared.settings.Settings.{Settings}
-use Rattle.hh_rows.specs.Minutes.{lead_minutes_value}
+use Rattle.hh_words.specs.Database.{given_task}
+use Rattle.hh_words.specs.Given.{settings_given}
 use Rattle.hh_words.specs.Grammar.{settle_app}
+use Rattle.hh_words.specs.Tasks.{ToRunScript, Task, task_of}
 use Rattle.hh_words.specs.declared.words.Command.{Command}
-use Rattle.hh_words.specs.declared.words.Command.TheVariants.{Period, Script}
+use Rattle.hh_words.specs.declared.words.Command.TheVariants.{Period, Script, OnDatabase}
 use Rattle.hh_words.specs.declared.words.WordsFault.{WordsFault}
 use Rattle.hh_words.specs.declared.words.WordsFault.TheVariants.{Memory, Wrong}
 
--- a command with its values
+-- a command with its values; that on a database file has the file's path first
 pub data Line : Type 0 where
   PeriodCommand : Text → Text → Text → Line
   ScriptCommand : Settings → Text → Line
+  DatabaseCommand : Text → Task → Line
 
 -- a command's values
 abbrev pub line_of : Command → Line
 line_of (Period words) = PeriodCommand words.meter.now words.contracts.now words.price.now
 line_of (Script words) = ScriptCommand words.settings words.file.now
+line_of (OnDatabase words) = DatabaseCommand words.path.now (task_of words.task)
 
 -- `period` needs its three values
 abbrev pub period_line : Option Text → Option Text → Option Text → Option Line
@@ -28,35 +31,48 @@ period_line (Some meter) (Some contracts) (Some price) = Some (PeriodCommand met
 period_line _ _ _ = None
 
 -- what `period` was given
-abbrev pub given_period : List Row → Option Line
+unfoldable pub given_period : List Row → Option Line
 given_period rows = period_line (first_of (codes "METER") rows) (first_of (codes "CONTRACTS") rows) (first_of (codes "PRICE") rows)
 
--- the minutes that notifications close before their period: those that are given, or 60
-abbrev pub minutes_given : Option Text → Option ℕ
-minutes_given None = Some 60
-minutes_given (Some text) = lead_minutes_value text
+-- a command on a database file needs the file's path
+abbrev pub database_line : Option Text → Option Task → Option Line
+database_line (Some path) (Some task) = Some (DatabaseCommand path task)
+database_line _ _ = None
 
--- the operator's key, if it is given and has its form
-abbrev pub key_given : Option Text → Option (List ℕ)
-key_given None = None
-key_given (Some text) = operator_key_value text
+-- what another subcommand was given
+abbrev pub given_database : Text → List Row → Option Line
+given_database name rows = database_line (first_of (codes "db") rows) (given_task name rows)
 
--- `script` needs the operator's key and its file
-abbrev pub script_line : Option (List ℕ) → Option ℕ → Option Text → Option Line
-script_line (Some key) (Some minutes) (Some file) = Some (ScriptCommand (record { lead_minutes = minutes; operator_key = key }) file)
-script_line _ _ _ = None
+-- a script over a new office needs the office's settings and its file
+abbrev pub new_script_line : Option Settings → Option Text → Option Line
+new_script_line (Some settings) (Some file) = Some (ScriptCommand settings file)
+new_script_line _ _ = None
+
+-- a script over the office of a database file: no key of the operator and no minutes, since that office has its own
+abbrev pub database_script_line : Text → Option Text → Option Text → Option Text → Option Line
+database_script_line path None None (Some file) = Some (DatabaseCommand path (ToRunScript file))
+database_script_line path _ _ _ = None
+
+-- a script, with the path of a database file or without
+abbrev pub script_line : Option Text → Option Text → Option Text → Option Text → Option Line
+script_line None key minutes file = new_script_line (settings_given key minutes) file
+script_line (Some path) key minutes file = database_script_line path key minutes file
 
 -- what `script` was given
-abbrev pub given_script : List Row → Option Line
-given_script rows = script_line (key_given (first_of (codes "operator-key") rows)) (minutes_given (first_of (codes "lead-minutes") rows)) (first_of (codes "FILE") rows)
+unfoldable pub given_script : List Row → Option Line
+given_script rows = script_line (first_of (codes "db") rows) (first_of (codes "operator-key") rows) (first_of (codes "lead-minutes") rows) (first_of (codes "FILE") rows)
 
 -- a subcommand by its name, and what it was given
+abbrev pub given_command : Text → List Row → Option Line
+given_command name rows =
+    if bytes_eq name (codes "period") then given_period rows
+    else if bytes_eq name (codes "script") then given_script rows
+    else given_database name rows
+
+-- the same, if there is a subcommand
 abbrev pub given_line : Option (Text × List Row) → Option Line
 given_line None = None
-given_line (Some given) =
-    if bytes_eq given.0 (codes "period") then given_period given.1
-    else if bytes_eq given.0 (codes "script") then given_script given.1
-    else None
+given_line (Some given) = given_command given.0 given.1
 
 -- nothing, where `clap` finds a fault
 abbrev pub faultless : Kinds → Option Line → Option Line
@@ -69,7 +85,7 @@ line_value words = faultless (fault_of settle_app words) (given_line (subcommand
 
 -- how the program is used, in short
 abbrev pub usage : Text
-usage = codes "usage: settle period METER CONTRACTS PRICE\n       settle script --operator-key KEY [--lead-minutes N] FILE\n"
+usage = codes "usage: settle period METER CONTRACTS PRICE\n       settle script --operator-key KEY [--lead-minutes N] FILE\n       settle script --db PATH FILE\n       settle init --db PATH --operator-key KEY [--lead-minutes N]\n       settle load --db PATH --key KEY [--at SECONDS] KIND FILE\n       settle run --db PATH --key KEY [--at SECONDS] DATE KIND\n       settle report --db PATH --key KEY FORM [DATE KIND]\n       settle serve --db PATH --port N [--count N] [--at SECONDS]\n"
 
 -- words in which `clap` finds no fault have a value off its grammar, and what tells them wrong is how the program is used
 abbrev pub TellsUsage : List Text → WordsFault → Type 0

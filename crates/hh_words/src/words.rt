@@ -1,21 +1,27 @@
 //! The words of the command line.
 
-ghost use Rattle.std.specs.Prelude.{◌≡◌, ◌≢◌, IfOk, IfErr, map, string_bytes, option_map, codes, false, Some, None};
-ghost use Rattle.clap.specs.Words.{app_of, rule_of, found_of, rows_of, first_of, kind_of, subcommand_rows_of};
-ghost use Rattle.clap.specs.declared.builder.command.Command.TheViews.{out-Command};
+ghost use Rattle.std.specs.Prelude.{◌≡◌, ◌≢◌, IfOk, IfErr, map, string_bytes, option_map, None, Some};
+ghost use Rattle.clap.specs.Words.{found_of, kind_of, rows_of, subcommand_rows_of};
 ghost use Rattle.clap.specs.declared.error.kind.ErrorKind.TheVariants.{OutOfMemory};
-ghost use Rattle.hh_words.specs.Grammar.{option, period_app, positional, required_option, script_app, settle_app};
-ghost use Rattle.hh_words.specs.Lines.{line_of, line_value, given_line, given_period, given_script, minutes_given, TellsUsage};
+ghost use Rattle.hh_words.specs.Lines.{TellsUsage, given_command, given_database, given_line, given_period, given_script, line_of, line_value};
 
+use crate::database::{DatabaseTask, DatabaseWords, database_task};
+use crate::given::{settings_of, value_of};
+use crate::grammar::settle_grammar;
+use clap::ArgMatches;
 use clap::error::ErrorKind;
-use clap::{Arg, ArgAction, ArgMatches, Command as Grammar};
-use hh_names::OperatorKey;
-use hh_rows::{LeadMinutes, Settings};
+use hh_rows::Settings;
 use std::alloc::{AllocError, Global};
 
 /// How the program is used, in short.
 pub const USAGE: &str = "usage: settle period METER CONTRACTS PRICE
-       settle script --operator-key KEY [--lead-minutes N] FILE\n";
+       settle script --operator-key KEY [--lead-minutes N] FILE
+       settle script --db PATH FILE
+       settle init --db PATH --operator-key KEY [--lead-minutes N]
+       settle load --db PATH --key KEY [--at SECONDS] KIND FILE
+       settle run --db PATH --key KEY [--at SECONDS] DATE KIND
+       settle report --db PATH --key KEY FORM [DATE KIND]
+       settle serve --db PATH --port N [--count N] [--at SECONDS]\n";
 
 /// What the program is to do.
 #[derive(Clone, Copy, Debug, PartialEq, Eq)]
@@ -24,6 +30,8 @@ pub enum Command<'a> {
     Period(PeriodWords<'a>),
     /// Runs the lines of a script over a new office in memory.
     Script(ScriptWords<'a>),
+    /// Works on the office in a database file.
+    OnDatabase(DatabaseWords<'a>),
 }
 
 /// The words of `period`, as they were given.
@@ -34,7 +42,7 @@ pub struct PeriodWords<'a> {
     pub price: &'a str,
 }
 
-/// The values of `script`.
+/// The values of `script` over a new office.
 #[derive(Clone, Copy, Debug, PartialEq, Eq)]
 pub struct ScriptWords<'a> {
     pub settings: Settings,
@@ -58,84 +66,6 @@ impl From<AllocError> for WordsFault {
     fn from(_error: AllocError) -> WordsFault {
         WordsFault::Memory
     }
-}
-
-/// A required word that stands in its place.
-fn positional_of<'a>(alloc: Global, id: &'a str, help: &'a str) -> Arg<'a>
-    ensures rule { rule_of result ≡ positional id.entry.now }
-    ensures own { result.global ≡ false }
-{
-    Arg::new(alloc, id)
-        .required(true)
-        .action(ArgAction::Set)
-        .help(help)
-}
-
-/// A value that stands behind its name.
-fn option_of<'a>(alloc: Global, id: &'a str, help: &'a str) -> Arg<'a>
-    ensures rule { rule_of result ≡ option id.entry.now }
-    ensures own { result.global ≡ false }
-{
-    Arg::new(alloc, id)
-        .long(id)
-        .action(ArgAction::Set)
-        .help(help)
-}
-
-/// A required value that stands behind its name.
-fn required_option_of<'a>(alloc: Global, id: &'a str, help: &'a str) -> Arg<'a>
-    ensures rule { rule_of result ≡ required_option id.entry.now }
-    ensures own { result.global ≡ false }
-{
-    option_of(alloc, id, help).required(true)
-}
-
-/// The grammar of `period METER CONTRACTS PRICE`.
-fn period_grammar<'a>(alloc: Global) -> Result<Grammar<'a>, AllocError>
-    ensures app { IfOk result (λ c. app_of c ≡ period_app) }
-    ensures own { IfOk result (λ c. (out-Command c).has_globals ≡ false) }
-{
-    Grammar::new(alloc, "period")
-        .about("Settles one period from two files and a price")
-        .arg(positional_of(alloc, "METER", "File of the units' meter rows"))?
-        .arg(positional_of(alloc, "CONTRACTS", "File of the contract rows"))?
-        .arg(positional_of(
-            alloc,
-            "PRICE",
-            "Price in pounds per MWh; a negative one follows the word --",
-        ))
-}
-
-/// The grammar of `script --operator-key KEY [--lead-minutes N] FILE`.
-fn script_grammar<'a>(alloc: Global) -> Result<Grammar<'a>, AllocError>
-    ensures app { IfOk result (λ c. app_of c ≡ script_app) }
-    ensures own { IfOk result (λ c. (out-Command c).has_globals ≡ false) }
-{
-    Grammar::new(alloc, "script")
-        .about("Runs the lines of a script over a new office in memory")
-        .arg(required_option_of(
-            alloc,
-            "operator-key",
-            "Key of the operator: op- and 8 to 61 letters or digits",
-        ))?
-        .arg(option_of(
-            alloc,
-            "lead-minutes",
-            "Minutes by which notifications close before their period, 0 to 1440; 60 where none are given",
-        ))?
-        .arg(positional_of(alloc, "FILE", "File of the script, one command a line"))
-}
-
-/// The grammar of the program, which asks for a subcommand.
-fn settle_grammar<'a>(alloc: Global) -> Result<Grammar<'a>, AllocError>
-    ensures app { IfOk result (λ c. app_of c ≡ settle_app) }
-    ensures own { IfOk result (λ c. (out-Command c).has_globals ≡ false) }
-{
-    Grammar::new(alloc, "settle")
-        .about("Settles the imbalances of half-hourly energy accounts")
-        .subcommand_required(true)
-        .subcommand(period_grammar(alloc)?)?
-        .subcommand(script_grammar(alloc)?)
 }
 
 /// Reads a line of words, the program's own name in front.
@@ -178,15 +108,24 @@ fn fault_of(alloc: Global, error: &clap::Error) -> WordsFault
 fn command_of<'a>(matches: &ArgMatches<'a>) -> Option<Command<'a>>
     ensures { option_map line_of result ≡ given_line (subcommand_rows_of matches.now) }
 {
-    if let Some(given) = matches.subcommand_matches("period") {
-        return period_of(given);
-    }
-    if let Some(given) = matches.subcommand_matches("script") {
-        return script_of(given);
-    }
-    None
+    let (name, given) = matches.subcommand()?;
+    named_command(name, given)
 }
 
+/// The command of a subcommand's name and the values that it was given.
+fn named_command<'a>(name: &str, given: &ArgMatches<'a>) -> Option<Command<'a>>
+    ensures { option_map line_of result ≡ given_command name.now (rows_of (found_of given.now)) }
+{
+    if name == "period" {
+        period_of(given)
+    } else if name == "script" {
+        script_of(given)
+    } else {
+        database_of(name, given)
+    }
+}
+
+#[tactic(auto, unfolding(crate::specs::Lines::given_period))]
 fn period_of<'a>(given: &ArgMatches<'a>) -> Option<Command<'a>>
     ensures { option_map line_of result ≡ given_period (rows_of (found_of given.now)) }
 {
@@ -197,35 +136,34 @@ fn period_of<'a>(given: &ArgMatches<'a>) -> Option<Command<'a>>
     }))
 }
 
-fn script_of<'a>(given: &ArgMatches<'a>) -> Option<Command<'a>>
-    ensures { option_map line_of result ≡ given_script (rows_of (found_of given.now)) }
+/// A command on a database file, which needs the file's path.
+fn database_of<'a>(name: &str, given: &ArgMatches<'a>) -> Option<Command<'a>>
+    ensures { option_map line_of result ≡ given_database name.now (rows_of (found_of given.now)) }
 {
-    let operator_key = OperatorKey::read(value_of(given, "operator-key")?.as_bytes())?;
-    let lead_minutes = minutes_of(value_of(given, "lead-minutes"))?;
-    let file = value_of(given, "FILE")?;
-    Some(Command::Script(ScriptWords {
-        settings: Settings {
-            lead_minutes,
-            operator_key,
-        },
-        file,
-    }))
-}
-
-/// The minutes that were given, or as many as where none are.
-fn minutes_of(text: Option<&str>) -> Option<LeadMinutes>
-    ensures { result ≡ minutes_given (option_map (λ text. text.now) text.entry) }
-{
-    match text {
-        Some(text) => LeadMinutes::read(text.as_bytes()),
-        None => Some(LeadMinutes::default()),
+    let path = value_of(given, "db")?;
+    match database_task(name, given) {
+        Some(task) => Some(Command::OnDatabase(DatabaseWords { path, task })),
+        None => None,
     }
 }
 
-/// The text that a subcommand was given under a name.
-fn value_of<'a>(given: &ArgMatches<'a>, name: &str) -> Option<&'a str>
-    ensures { option_map (λ text. text.now) result
-        ≡ first_of name.now (rows_of (found_of given.now)) }
+/// A script over a new office, or over that of a database file, which has its own key and minutes.
+#[tactic(auto, unfolding(crate::specs::Lines::given_script))]
+fn script_of<'a>(given: &ArgMatches<'a>) -> Option<Command<'a>>
+    ensures { option_map line_of result ≡ given_script (rows_of (found_of given.now)) }
 {
-    given.get_str(name)
+    let file = value_of(given, "FILE")?;
+    let Some(path) = value_of(given, "db") else {
+        return Some(Command::Script(ScriptWords {
+            settings: settings_of(given)?,
+            file,
+        }));
+    };
+    if value_of(given, "operator-key").is_some() || value_of(given, "lead-minutes").is_some() {
+        return None;
+    }
+    Some(Command::OnDatabase(DatabaseWords {
+        path,
+        task: DatabaseTask::Script(file),
+    }))
 }

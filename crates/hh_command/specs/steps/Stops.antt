@@ -1,8 +1,8 @@
 -- How wrong words and a line of a script off its form are told.
 use Rattle.std.specs.Prelude.{◌≡◌, ◌==◌, ℕ, List, length, if◌then◌else◌}
 use Rattle.hh_devices.specs.DeviceChanges.{DeviceChange}
-use Rattle.hh_command.specs.declared.program.Stop.{Stop}
-use Rattle.hh_command.specs.declared.program.Stop.TheVariants as stop
+use Rattle.hh_command.specs.declared.stop.Stop.{Stop}
+use Rattle.hh_command.specs.declared.stop.Stop.TheVariants as stop
 use Rattle.hh_words.specs.Lines.{usage}
 use Rattle.hh_command.specs.Stops.{TellsOff}
 

@@ -14,11 +14,11 @@ returns-in-Ok-clause-done g c up =
     let device = change g.O.Sink.taken g.O.Sink.failures c.args.out.now c.run_over-ran.new.out in
     let steps = map step_of c.args.lines.now in
     let tables = c.run_over-ran.result.1 in
-    let db = (state g.S.Store c.after_lines-after.result.connection).committed in
-    let stood : IsTrue (state g.S.Store tables.connection).is_open = subst (λ k. IsTrue (state g.S.Store k).is_open) c.after_lines-after.ensures.connection up in
-    subst (λ n. WritesOver host (CountsMore c.args.tables.refusals n) device db steps (content_in g.S.Store c.args.tables)) (sym c.after_lines-after.ensures.refusals)
+    let db = (state g.S.Store c.of-after.result.connection).committed in
+    let stood : IsTrue (state g.S.Store tables.connection).is_open = subst (λ k. IsTrue (state g.S.Store k).is_open) c.of-after.ensures.connection up in
+    subst (λ n. WritesOver host (CountsMore c.args.tables.refusals n) device db steps (content_in g.S.Store c.args.tables)) (sym c.of-after.ensures.refusals)
     (writes_over host device db steps (CountsMore c.args.tables.refusals tables.refusals) c.reached_conserve.ensures (content_in g.S.Store c.args.tables)
-    (content_in g.S.Store tables) (c.after_lines-after.ensures.holds up)
+    (content_in g.S.Store tables) (c.of-after.ensures.holds up)
     (ok_then c.run_over-ran.result.0 c.in-Ok.field-0 c.in-Ok.is (c.run_over-ran.ensures.done stood)))
 
 pub returns-in-Err-clause-cut : goal.returns-in-Err-clause-cut
@@ -27,9 +27,9 @@ returns-in-Err-clause-cut g c up =
     let device = change g.O.Sink.taken g.O.Sink.failures c.args.out.now c.run_over-ran.new.out in
     let steps = map step_of c.args.lines.now in
     let tables = c.run_over-ran.result.1 in
-    let db = (state g.S.Store c.after_lines-after.result.connection).committed in
-    let stood : IsTrue (state g.S.Store tables.connection).is_open = subst (λ k. IsTrue (state g.S.Store k).is_open) c.after_lines-after.ensures.connection up in
-    subst (λ n. CutsOver host (CountsMore c.args.tables.refusals n) device db steps (content_in g.S.Store c.args.tables)) (sym c.after_lines-after.ensures.refusals)
+    let db = (state g.S.Store c.of-after.result.connection).committed in
+    let stood : IsTrue (state g.S.Store tables.connection).is_open = subst (λ k. IsTrue (state g.S.Store k).is_open) c.of-after.ensures.connection up in
+    subst (λ n. CutsOver host (CountsMore c.args.tables.refusals n) device db steps (content_in g.S.Store c.args.tables)) (sym c.of-after.ensures.refusals)
     (cuts_over host device db steps (CountsMore c.args.tables.refusals tables.refusals) c.reached_conserve.ensures (content_in g.S.Store c.args.tables)
-    (content_in g.S.Store tables) (c.after_lines-after.ensures.holds up)
+    (content_in g.S.Store tables) (c.of-after.ensures.holds up)
     (err_then c.run_over-ran.result.0 c.in-Err.field-0 c.in-Err.is (c.run_over-ran.ensures.cut stood)))

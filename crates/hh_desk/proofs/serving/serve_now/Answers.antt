@@ -10,7 +10,7 @@ pub returns-in_default-clause-serves : goal.returns-in_default-clause-serves
 returns-in_default-clause-serves g c sure = record {
   reading = None;
   told = c.in_default.ensures;
-  served = λ s stands. (s, ((refl, refl), refl), (stands, refl));
+  served = λ s stands. (s, (((refl, refl), (refl, refl)), refl), (stands, refl));
 }
 
 pub returns-clause-serves : goal.returns-clause-serves

@@ -1,0 +1,79 @@
+-- How a command on a database ends.
+use Rattle.std.specs.Prelude.{◌≡◌, ◌⊎◌, ℤ, Option, Some, None, Result, Ok, Err, true}
+use Rattle.clap.specs.Words.{Text}
+use Rattle.hh_devices.specs.DeviceChanges.{DeviceChange}
+use Rattle.hh_store.specs.StoreFaults.{store_fault}
+use Rattle.hh_host.specs.Views.{HostView}
+use Rattle.hh_session.specs.declared.script.ScriptStop.{ScriptStop}
+use Rattle.hh_session.specs.declared.script.ScriptStop.TheVariants as script
+use Rattle.hh_errands.specs.declared.errand.ErrandStop.TheVariants as errand
+use Rattle.hh_errands.specs.Errands.{ErrandStep, Load, Report, Run, Serve}
+use Rattle.hh_kept_office.specs.declared.path.PathStop.{PathStop}
+use Rattle.hh_kept_office.specs.declared.path.PathStop.TheVariants as path
+use Rattle.hh_kept_office.specs.declared.scripts.ScriptPathStop.{ScriptPathStop}
+use Rattle.hh_kept_office.specs.declared.scripts.ScriptPathStop.TheVariants as at
+use Rattle.hh_kept_office.specs.Paths.{EndsAt, MakesAt}
+use Rattle.hh_kept_office.specs.Places.{Places}
+use Rattle.hh_kept_office.specs.Scripts.{EndsScript}
+use Rattle.hh_words.specs.Tasks.{Task, ToInit, ToLoad, ToReport, ToRun, ToRunScript, ToServe}
+use Rattle.hh_command.specs.Stopping.{script_stop}
+use Rattle.hh_command.specs.declared.stop.Stop.{Stop}
+use Rattle.hh_command.specs.declared.stop.Stop.TheVariants as stop
+
+-- a moment is the one that was given, or any that the clock may tell
+abbrev pub IsMoment : Option ℤ → ℤ → Type 0
+IsMoment None moment = Unit {0}
+IsMoment (Some given) moment = moment ≡ given
+
+-- a task asks this of an office
+abbrev pub AsksOfOffice : Task → ErrandStep → Type 0
+AsksOfOffice (ToLoad l) step =
+    (moment : ℤ) × IsMoment l.at moment × (step ≡ Load (record { moment = moment; key = l.key; kind = l.kind; path = l.path; name = l.name }))
+AsksOfOffice (ToRun r) step = (moment : ℤ) × IsMoment r.at moment × (step ≡ Run (record { moment = moment; key = r.key; run = r.run }))
+AsksOfOffice (ToReport r) step = step ≡ Report (record { key = r.key; report = r.report })
+AsksOfOffice (ToServe s) step = step ≡ Serve (record { at = s.at; port = s.port; count = s.count })
+AsksOfOffice (ToInit settings) step = ⊥
+AsksOfOffice (ToRunScript file) step = ⊥
+
+-- the moment of a task is asked of the clock
+abbrev pub AsksClock : Task → Type 0
+AsksClock (ToLoad l) = l.at ≡ None
+AsksClock (ToRun r) = r.at ≡ None
+AsksClock _ = ⊥
+
+-- why a command stops that was asked at a path
+abbrev pub path_stop : PathStop → Stop
+path_stop path.Exists = stop.Exists
+path_stop path.NoFile = stop.NoFile
+path_stop (path.Errand (errand.Refused fault)) = stop.Refused (record { fault = fault; input = None })
+path_stop (path.Errand errand.Unreadable) = stop.File
+path_stop (path.Errand errand.NoSocket) = stop.NoSocket
+path_stop (path.Errand errand.Output) = stop.Output
+
+-- why a command stops whose script was to be run at a path
+abbrev pub script_path_stop : ScriptPathStop → Stop
+script_path_stop at.NoFile = stop.NoFile
+script_path_stop (at.Unopened fault) = stop.Refused (record { fault = store_fault fault; input = None })
+script_path_stop (at.Script why) = script_stop why
+
+-- A host may show this of files and ports, these are the databases at its paths, and this changes in an output.
+module _ (host : HostView) (places : Places) (path : Text) (device : DeviceChange) where
+  -- a task of an errand ends so at a path
+  abbrev pub EndsAsked : Task → Result Unit PathStop → Type 0
+  EndsAsked task result = (step : ErrandStep) × AsksOfOffice task step × EndsAt places path device host step result
+
+  -- a task is done
+  abbrev pub DoesTask : Task → Type 0
+  DoesTask (ToInit settings) = MakesAt places path device settings (Ok tt)
+  DoesTask (ToRunScript file) = EndsScript host device file places path (Ok tt)
+  DoesTask task = EndsAsked task (Ok tt)
+
+  -- a task of an errand stops so, or because the clock told no moment, and then nothing was written
+  abbrev pub StopsAsked : Task → Stop → Type 0
+  StopsAsked task s = ((why : PathStop) × (s ≡ path_stop why) × EndsAsked task (Err why)) ⊎ ((s ≡ stop.NoClock) × AsksClock task × (device.new ≡ device.old))
+
+  -- a task stops so
+  abbrev pub StopsTask : Task → Stop → Type 0
+  StopsTask (ToInit settings) s = (why : PathStop) × (s ≡ path_stop why) × MakesAt places path device settings (Err why)
+  StopsTask (ToRunScript file) s = (why : ScriptPathStop) × (s ≡ script_path_stop why) × EndsScript host device file places path (Err why)
+  StopsTask task s = StopsAsked task s

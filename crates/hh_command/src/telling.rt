@@ -1,0 +1,96 @@
+//! How it is told that words are wrong, and why a command stops.
+
+ghost use Rattle.std.specs.Prelude.{◌≡◌, ◌≤◌, OnErr, OnOk};
+ghost use Rattle.std.specs.Io.KnownBytes.{Appends};
+ghost use Rattle.hh_devices.specs.DeviceChanges.{change};
+ghost use Rattle.hh_devices.specs.Devices.{Failed};
+ghost use Rattle.hh_command.specs.Stops.{HasStatusOne, IsTold, Tells, stop_line};
+ghost use Rattle.hh_command.specs.steps.Stops.{IsOffAndTold, told_text};
+
+use crate::stop::{Stop, WRONG_WORDS};
+use hh_devices::{DeviceFailed, Sink, write_whole};
+use hh_period::Rejection;
+use hh_words::USAGE;
+use itoa::Buffer;
+use std::alloc::{AllocError, Global};
+
+/// Tells what is wrong with words, where the device for it does not fail, and how the program is
+/// used, where nothing is said.
+pub(crate) fn wrong<E: Sink>(err: &mut E, text: &str) -> u8
+    ensures status { result ≡ 2 }
+    ensures told { IsTold (change E.taken E.failures err.old err.new) (told_text text.now) }
+{
+    let _ = write_whole(err, told_text(text).as_bytes());
+    WRONG_WORDS
+}
+
+/// What is told of wrong words: a text, or how the program is used in the place of an empty one.
+fn told_text(text: &str) -> &str
+    ensures { result.now ≡ told_text text.now }
+{
+    if text.is_empty() { USAGE } else { text }
+}
+
+/// Tells why a command stops, where the device for it does not fail, and answers the status of that.
+pub(crate) fn stopped<E: Sink>(alloc: Global, err: &mut E, stop: Stop) -> u8
+    ensures status { (1 ≤ result) × (result ≤ 2) }
+    ensures one { result ≡ 1 → HasStatusOne stop
+        × Tells (change E.taken E.failures err.old err.new) stop }
+    ensures two { result ≡ 2 → IsOffAndTold (change E.taken E.failures err.old err.new) stop }
+{
+    let status = stop.status();
+    tell(alloc, err, stop);
+    status
+}
+
+/// Tells why a command stops, where the device for it does not fail.
+fn tell<E: Sink>(alloc: Global, err: &mut E, stop: Stop)
+    ensures { Tells (change E.taken E.failures err.old err.new) stop }
+{
+    let _ = write_stop(alloc, err, stop);
+}
+
+/// Writes why a command stops.
+fn write_stop<E: Sink>(alloc: Global, err: &mut E, stop: Stop) -> Result<(), DeviceFailed>
+    ensures failed { OnErr result (Failed (E.failures err.old) (E.failures err.new)) }
+    ensures told { OnOk result (Tells (change E.taken E.failures err.old err.new) stop) }
+{
+    match stop {
+        Stop::Refused(rejection) => write_rejection(alloc, err, rejection),
+        Stop::File => write_whole(err, b"fault file\n"),
+        Stop::Output => write_whole(err, b"fault output\n"),
+        Stop::Exists => write_whole(err, b"fault exists\n"),
+        Stop::NoFile => write_whole(err, b"fault nofile\n"),
+        Stop::NoSocket => write_whole(err, b"fault socket\n"),
+        Stop::NoClock => write_whole(err, b"fault clock\n"),
+        Stop::Off { line } => write_off(err, line),
+    }
+}
+
+/// Writes which line of a script is off its form. Takes no memory.
+fn write_off<S: Sink>(sink: &mut S, line: usize) -> Result<(), DeviceFailed>
+    ensures failed { OnErr result (Failed (S.failures sink.old) (S.failures sink.new)) }
+    ensures told { OnOk result (Appends (S.taken sink.old) (S.taken sink.new)
+        (stop_line (Stop.Off line))) }
+{
+    let mut digits = Buffer::new();
+    write_whole(sink, b"line ")?;
+    write_whole(sink, digits.format(line).as_bytes())?;
+    write_whole(sink, b" is off its form\n")
+}
+
+/// Writes a rejection's line, or that of memory where memory runs out for the line itself.
+fn write_rejection<S: Sink>(
+    alloc: Global,
+    sink: &mut S,
+    rejection: Rejection,
+) -> Result<(), DeviceFailed>
+    ensures failed { OnErr result (Failed (S.failures sink.old) (S.failures sink.new)) }
+    ensures told { OnOk result (Tells (change S.taken S.failures sink.old sink.new)
+        (Stop.Refused rejection)) }
+{
+    match format!(in alloc; "{rejection}\n") {
+        Ok(line) => write_whole(sink, line.as_bytes()),
+        Err(AllocError) => write_whole(sink, b"refused 90 Memory\n"),
+    }
+}

@@ -1,0 +1,3 @@
+mod ErrandLaws
+pub mod MoreLaws
+mod ReportLaws

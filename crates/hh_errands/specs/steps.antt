@@ -1,0 +1,4 @@
+-- What contracts of private functions alone cite: the steps of proofs. No public contract names any of it, through whatever definition.
+pub mod Reporting
+pub mod Serving
+pub mod Telling

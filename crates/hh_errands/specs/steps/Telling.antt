@@ -1,0 +1,15 @@
+-- How it is told what a load or a run came to.
+use Rattle.std.specs.Prelude.{◌≡◌, ℕ, List, Result, Ok, Err}
+use Rattle.std.specs.Io.KnownBytes.{Appends}
+use Rattle.hh_devices.specs.DeviceChanges.{DeviceChange}
+use Rattle.hh_devices.specs.Devices.{AppendsFront}
+use Rattle.hh_desk.specs.declared.told.Told.{Told}
+use Rattle.hh_errands.specs.declared.errand.ErrandStop.{ErrandStop}
+use Rattle.hh_errands.specs.declared.errand.ErrandStop.TheVariants as stop
+use Rattle.hh_errands.specs.Errands.{told_outcome}
+
+-- what was done went out, or a beginning of it; or the reason why it was not is given, and nothing went out
+abbrev pub TellsOutcome : DeviceChange → Told → Result Unit ErrandStop → Type 0
+TellsOutcome device told (Ok _) = (text : List ℕ) × (told_outcome told ≡ Ok text) × Appends device.old device.new text
+TellsOutcome device told (Err stop.Output) = (text : List ℕ) × (told_outcome told ≡ Ok text) × AppendsFront device.old device.new text
+TellsOutcome device told (Err why) = (told_outcome told ≡ Err why) × (device.new ≡ device.old)

@@ -1,0 +1,9 @@
+//! What a command asks at the desk of an office that is kept, and how it ends.
+#![tactic(auto)]
+
+mod errand;
+mod reporting;
+mod serving;
+mod telling;
+
+pub use errand::{Errand, ErrandStop, Serving, run_errand};

@@ -1,0 +1,4 @@
+pub mod AnyLaws
+mod KeptLaws
+mod PathLaws
+mod ScriptLaws

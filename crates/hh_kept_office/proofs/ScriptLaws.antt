@@ -1,0 +1,82 @@
+-- What a script comes to over a database.
+use Rattle.std.proofs.Common.{◌≡◌, ◌≢◌, ◌∙◌, ℕ, List, refl, ap, inr, subst, sym, Result, Ok, Err}
+use Rattle.std.specs.Prelude.{⊤, IsTrue}
+use Rattle.sqlite.specs.Effect.{Database}
+use Rattle.jiff.specs.Words.{plain_zone}
+use Rattle.hh_devices.specs.DeviceChanges.{DeviceChange}
+use Rattle.hh_time.specs.Zone.{midnight_in}
+use Rattle.hh_states.specs.Content.{Content}
+use Rattle.hh_keyed_rows.specs.Values.{version}
+use Rattle.hh_sqlstore.specs.Holds.{Holds}
+use Rattle.hh_host.specs.Views.{HostView}
+use Rattle.hh_script.specs.Steps.{Step}
+use Rattle.hh_session.specs.Course.{cut_after}
+use Rattle.hh_session.specs.declared.script.ScriptStop.{ScriptStop}
+use Rattle.hh_session.specs.declared.script.ScriptStop.TheVariants as script
+use Rattle.hh_session.specs.Script.{IsScript, IsUnread}
+use Rattle.hh_session.proofs.GivingUpLaws.{script_then}
+use Rattle.hh_database.specs.declared.stop.DatabaseStop.{DatabaseStop}
+use Rattle.hh_database.specs.declared.stop.DatabaseStop.TheVariants as database
+use Rattle.hh_database.specs.Running.{CutsOver, WritesOver}
+use Rattle.hh_kept_office.specs.Places.{Connected, LeavesConnected}
+use Rattle.hh_kept_office.specs.Scripts.{RunsFile}
+use Rattle.hh_kept_office.specs.steps.Scripts.{RunsFileOver, stop_of}
+
+-- where the store may have failed, it may in more cases
+module _ (fails others : Type 0) (implies : fails → others) (host : HostView) (device : DeviceChange) (db : Database) (steps : List Step) (content : Content) where
+  pub writes_then : WritesOver host fails device db steps content → WritesOver host others device db steps content
+  writes_then (zone, market, writes) = (
+    zone,
+    market,
+    λ s stands.
+        let (text, t, does, went, held) = writes s stands in
+        (text, t, script_then fails others implies host (midnight_in (plain_zone zone)) s steps text t does, went, held),
+  )
+
+  pub cuts_then : CutsOver host fails device db steps content → CutsOver host others device db steps content
+  cuts_then (zone, market, cuts) = (
+    zone,
+    market,
+    λ s stands.
+        let (count, text, t, does, went, held) = cuts s stands in
+        (count, text, t, script_then fails others implies host (midnight_in (plain_zone zone)) s (cut_after count steps) text t does, went, held),
+  )
+
+-- a script over tables that were taken over from a database that held their content, and left so
+module _ (host : HostView) (device : DeviceChange) (file : List ℕ) (found taken left : Connected) (content : Content) where
+  module _ (holds : IsTrue taken.is_open → Holds version content found.committed)
+      (same : (held : Content) → Holds version held found.committed → IsTrue taken.is_open → content ≡ held)
+      (leaves : LeavesConnected found taken) (sure : IsTrue left.is_open → IsTrue taken.is_open) where
+    leaves_both : LeavesConnected taken left → LeavesConnected found left
+    leaves_both more up =
+        let (taken_up, now, committed) = more up in
+        let (found_up, before_now, before_committed) = leaves taken_up in
+        (found_up, now ∙ before_now, committed ∙ before_committed)
+
+    pub runs_file : (result : Result Unit ScriptStop) → RunsFileOver host device file content taken left result → RunsFile host device file found left result
+    runs_file (Ok x) (steps, is, writes) =
+        (steps, is, λ held holding up. subst (WritesOver host ⊤ device left.committed steps) (same held holding (sure up)) (writes up))
+    runs_file (Err script.Output) (steps, is, cuts) =
+        (steps, is, λ held holding up. subst (CutsOver host ⊤ device left.committed steps) (same held holding (sure up)) (cuts up))
+    runs_file (Err script.File) (unread, more, silent) = (inr (λ up. (content, holds (sure up)), unread), leaves_both more, silent)
+    runs_file (Err (script.Off line)) (unread, more, silent) = (inr (λ up. (content, holds (sure up)), unread), leaves_both more, silent)
+    runs_file (Err (script.Refused fault)) (unread, more, silent) = (inr (λ up. (content, holds (sure up)), unread), leaves_both more, silent)
+
+-- the output failed while a script was run over tables
+pub cut_over : (host : HostView) (device : DeviceChange) (file : List ℕ) (content : Content) (taken left : Connected) (why : ScriptStop) (stop : DatabaseStop)
+    → why ≡ stop_of stop → stop ≡ database.Output → (steps : List Step) → IsScript host file steps
+    → (IsTrue left.is_open → CutsOver host ⊤ device left.committed steps content) → RunsFileOver host device file content taken left (Err why)
+cut_over host device file content taken left why stop is output steps script cuts =
+    subst (λ w. RunsFileOver host device file content taken left (Err w)) (sym (is ∙ ap stop_of output)) (steps, script, cuts)
+
+-- a script that cannot be had was not run
+pub unread_over : (host : HostView) (device : DeviceChange) (file : List ℕ) (content : Content) (taken left : Connected) (why : ScriptStop) → why ≢ script.Output
+    → IsUnread host file why → LeavesConnected taken left → device.new ≡ device.old → RunsFileOver host device file content taken left (Err why)
+unread_over host device file content taken left script.Output other unread leaves silent = absurd (other refl)
+unread_over host device file content taken left script.File other unread leaves silent = (unread, leaves, silent)
+unread_over host device file content taken left (script.Off line) other unread leaves silent = (unread, leaves, silent)
+unread_over host device file content taken left (script.Refused fault) other unread leaves silent = (unread, leaves, silent)
+
+-- a connection that comes back is as it was
+pub left_same : (taken : Connected) → LeavesConnected taken taken
+left_same taken up = (up, refl, refl)

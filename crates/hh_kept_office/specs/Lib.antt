@@ -1,0 +1,5 @@
+pub mod Kept
+pub mod Paths
+pub mod Places
+pub mod Scripts
+pub mod steps

@@ -1,0 +1,59 @@
+-- What is known of the databases at the paths of a host.
+use Rattle.std.specs.Prelude.{◌≡◌, ⊤, Bool, ℕ, List, IsTrue}
+use Rattle.sqlite.specs.Effect.{Database}
+use Rattle.sqlite_trees.specs.declared.store.Store.{Ghosts}
+use Rattle.sqlite.specs.Held.{Held, state}
+use Rattle.sqlite.specs.State.{State}
+use Rattle.hh_store.specs.declared.store_fault.StoreFault.{StoreFault}
+
+-- a database as a connection has it: whether that is open, as its transaction sees it, and as the last commit left it; the latter two say
+-- nothing where it is shut
+pub record Connected : Type 0 where
+  pub is_open : Bool
+  pub now : Database
+  pub committed : Database
+
+-- the same of the state of a connection
+abbrev pub connected : State → Connected
+connected s = record { is_open = s.is_open; now = s.now; committed = s.committed }
+
+-- the same of a connection
+abbrev pub shown_by : {S : Type 0} → Ghosts S → Held S → Connected
+shown_by ghosts connection = connected (state ghosts connection)
+
+-- a connection that is open afterwards was so before, and has what it had
+abbrev pub LeavesConnected : Connected → Connected → Type 0
+LeavesConnected old new = IsTrue new.is_open → IsTrue old.is_open × (new.now ≡ old.now) × (new.committed ≡ old.committed)
+
+-- the paths of a host, and the databases there
+pub record Places : Type 1 where
+  -- who looks at a path may find something there, or nothing
+  pub finds : List ℕ → Bool → Type 0
+  -- who looks at a path, or opens a database there, may be refused so
+  pub refuses : List ℕ → StoreFault → Type 0
+  -- a database that is made or opened at a path may be this
+  pub opens : List ℕ → Connected → Type 0
+  -- a database that is closed at a path may be this
+  pub closes : List ℕ → Connected → Type 0
+  -- a database that is closed and taken away at a path may be this
+  pub discards : List ℕ → Connected → Type 0
+
+-- connections at the paths of a host, as databases are connected
+abbrev pub seen_at : {C : Type 0} → (C → Connected) → (List ℕ → C → Type 0) → List ℕ → Connected → Type 0
+seen_at {C} seen known path db = (connection : C) × known path connection × (db ≡ seen connection)
+
+-- What is known of the paths of a host, by what its calls tell: of connections that were opened, closed and taken away, as databases are
+-- connected.
+abbrev pub places_of : {H C : Type 0} → (H → List ℕ → Bool → Type 0) → (H → List ℕ → StoreFault → Type 0) → (H → List ℕ → C → Type 0)
+    → (H → List ℕ → C → Type 0) → (H → List ℕ → C → Type 0) → (C → Connected) → H → Places
+places_of finds refuses opens closes discards seen host = record {
+  finds = finds host;
+  refuses = refuses host;
+  opens = seen_at seen (opens host);
+  closes = seen_at seen (closes host);
+  discards = seen_at seen (discards host);
+}
+
+-- nothing is known
+abbrev pub any_places : Places
+any_places = record { finds = λ _ _. ⊤; refuses = λ _ _. ⊤; opens = λ _ _. ⊤; closes = λ _ _. ⊤; discards = λ _ _. ⊤ }

@@ -1,0 +1,54 @@
+-- What comes of a script that is run over an office at a path.
+use Rattle.std.specs.Prelude.{◌≡◌, ◌⊎◌, ⊤, true, false, ℕ, List, Result, Ok, Err, IsTrue}
+use Rattle.sqlite.specs.Effect.{Database}
+use Rattle.hh_devices.specs.DeviceChanges.{DeviceChange}
+use Rattle.hh_states.specs.Content.{Content}
+use Rattle.hh_store.specs.declared.store_fault.StoreFault.{StoreFault}
+use Rattle.hh_store.specs.StoreFaults.{store_fault}
+use Rattle.hh_keyed_rows.specs.Values.{version}
+use Rattle.hh_sqlstore.specs.Holds.{Holds}
+use Rattle.hh_host.specs.Views.{HostView}
+use Rattle.hh_script.specs.Steps.{Step}
+use Rattle.hh_session.specs.declared.script.ScriptStop.{ScriptStop}
+use Rattle.hh_session.specs.declared.script.ScriptStop.TheVariants as script
+use Rattle.hh_session.specs.Script.{IsScript, IsUnread}
+use Rattle.hh_database.specs.Running.{CutsOver, WritesOver}
+use Rattle.hh_kept_office.specs.declared.scripts.ScriptPathStop.{ScriptPathStop}
+use Rattle.hh_kept_office.specs.declared.scripts.ScriptPathStop.TheVariants.{NoFile, Script, Unopened}
+use Rattle.hh_kept_office.specs.Places.{Connected, LeavesConnected, Places}
+
+-- how a script ends at a path
+abbrev pub script_at : Result Unit ScriptStop → Result Unit ScriptPathStop
+script_at (Ok x) = Ok x
+script_at (Err why) = Err (Script why)
+
+-- the database holds the tables of an office
+abbrev pub HoldsOffice : Database → Type 0
+HoldsOffice db = (content : Content) × Holds version content db
+
+-- A host may show this of files and ports, this changes in an output, and a script lies in a file.
+module _ (host : HostView) (device : DeviceChange) (file : List ℕ) where
+  -- the tables of an office are not taken over
+  abbrev pub IsOfNoOffice : ScriptStop → Type 0
+  IsOfNoOffice why = (fault : StoreFault) × (why ≡ script.Refused (store_fault fault))
+
+  -- The script was run over the office in a database that was opened so and left so: from each state whose tables the database held, if the
+  -- connection is open in the end. Or the output failed. Or nothing was run, nothing was written, and the database has what it had: its
+  -- tables were not taken over, or they were, and the script cannot be had.
+  abbrev pub RunsFile : Connected → Connected → Result Unit ScriptStop → Type 0
+  RunsFile found left (Ok x) = (steps : List Step) × IsScript host file steps
+      × ((content : Content) → Holds version content found.committed → IsTrue left.is_open → WritesOver host ⊤ device left.committed steps content)
+  RunsFile found left (Err script.Output) = (steps : List Step) × IsScript host file steps
+      × ((content : Content) → Holds version content found.committed → IsTrue left.is_open → CutsOver host ⊤ device left.committed steps content)
+  RunsFile found left (Err why) =
+      (IsOfNoOffice why ⊎ ((IsTrue left.is_open → HoldsOffice found.committed) × IsUnread host file why))
+      × LeavesConnected found left × (device.new ≡ device.old)
+
+  -- A script was to be run at a path: nothing was opened; or nothing was found there; or something was, it was opened, and the script was run.
+  abbrev pub EndsScript : Places → List ℕ → Result Unit ScriptPathStop → Type 0
+  EndsScript places path result =
+      ((fault : StoreFault) × places.refuses path fault × (result ≡ Err (Unopened fault)) × (device.new ≡ device.old))
+      ⊎ (((result ≡ Err NoFile) × places.finds path false × (device.new ≡ device.old))
+      ⊎ (places.finds path true
+      × ((found left : Connected) × (ended : Result Unit ScriptStop)
+      × places.opens path found × places.closes path left × (result ≡ script_at ended) × RunsFile found left ended)))

@@ -1,0 +1,41 @@
+//! A command at an office with given tables.
+
+ghost use Rattle.std.specs.Prelude.{◌≡◌, ◌≢◌, ◌⊎◌, IfErr, IsErrOf, IsTrue, OnOk};
+ghost use Rattle.hh_devices.specs.DeviceChanges.{change};
+ghost use Rattle.hh_devices.specs.Devices.{Failed};
+ghost use Rattle.hh_desk.specs.GivingUp.{CountsMore};
+ghost use Rattle.hh_errands.specs.Errands.{IsReport, errand_of};
+ghost use Rattle.hh_kept_office.specs.Kept.{EndsOver};
+
+use hh_devices::Sink;
+use hh_errands::{Errand, ErrandStop, run_errand};
+use hh_host::Host;
+use hh_office::Office;
+use hh_store::Tables;
+use hh_time::london;
+use std::alloc::Global;
+
+/// Does what a command asks of an office in the zone of the market that has these tables, and hands the
+/// tables back.
+pub(crate) fn run_over<T: Tables, H: Host, O: Sink>(
+    alloc: Global,
+    tables: T,
+    host: &H,
+    errand: &Errand<'_>,
+    out: &mut O,
+) -> (Result<(), ErrandStop>, T)
+    ensures ends { IsTrue (T.is_open result.1) → EndsOver (H.view host.now)
+        (CountsMore (T.refusals tables) (T.refusals result.1))
+        (change O.taken O.failures out.old out.new) (T.content tables) (T.content result.1)
+        (errand_of errand.now) result.0 }
+    ensures well { OnOk result.0 (O.failures out.new ≡ O.failures out.old) }
+    ensures failed { IsErrOf result.0 ErrandStop.Output
+        → Failed (O.failures out.old) (O.failures out.new) }
+    ensures untouched { IfErr result.0 (λ stop. stop ≢ ErrandStop.Output
+        → IsReport (errand_of errand.now) ⊎ (out.new ≡ out.old)) }
+    ensures sure { IsTrue (T.is_open result.1) → IsTrue (T.is_open tables) }
+{
+    let mut office = Office::new(alloc, tables, london());
+    let ended = run_errand(alloc, &mut office, host, errand, out);
+    (ended, office.into_tables())
+}

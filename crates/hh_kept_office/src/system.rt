@@ -1,0 +1,114 @@
+//! The databases of the system.
+
+ghost use Rattle.std.specs.Prelude.{⊤, IfErr, IfOk};
+
+use crate::files::{connect, fault_of, has_log, is_no_database, make_file, remove};
+use crate::place::DatabaseHost;
+use hh_host::{ClockFailed, Host, RuntimeHost};
+use hh_inputs::InputFault;
+use hh_sockets::{RuntimeListener, SocketFailed};
+use hh_store::StoreFault;
+use sqlite::{Connection, FileStore};
+use sqlite_std_file::File;
+use std::alloc::Global;
+use std::fs;
+use std::io::ErrorKind;
+use std::net::Net;
+use std::rt::{Clock, Files};
+
+/// This machine: its files, its ports and its clock, and the databases in its files.
+#[derive(Clone, Copy)]
+pub struct Machine<'a, R> {
+    pub runtime: &'a R,
+    pub databases: &'a HostRuntime,
+}
+
+impl<R: Files + Net + Clock> Host for Machine<'_, R> {
+    ghost use Rattle.hh_host.specs.Views.{any_view};
+
+    type Listener = RuntimeListener<R::Listener>;
+
+    ghost view = { λ _. any_view };
+
+    fn read(&self, alloc: Global, path: &str, most: usize) -> Result<Vec<u8>, InputFault> {
+        RuntimeHost(self.runtime).read(alloc, path, most)
+    }
+
+    fn listen(&self, port: u16) -> Result<RuntimeListener<R::Listener>, SocketFailed> {
+        RuntimeHost(self.runtime).listen(port)
+    }
+
+    fn now(&self) -> Result<i64, ClockFailed> {
+        RuntimeHost(self.runtime).now()
+    }
+}
+
+/// No clause of std ties a path to what is opened there, so none does here.
+impl<R: Files + Net + Clock> DatabaseHost for Machine<'_, R> {
+    type Connection = Connection<FileStore<File>>;
+
+    ghost finds = { λ _ _ _. ⊤ };
+
+    ghost refuses = { λ _ _ _. ⊤ };
+
+    ghost opens = { λ _ _ _. ⊤ };
+
+    ghost closes = { λ _ _ _. ⊤ };
+
+    ghost discards = { λ _ _ _. ⊤ };
+
+    /// Nothing is there where the path leads through what is no folder.
+    fn exists(&self, path: &str) -> Result<bool, StoreFault>
+        ensures found { IfOk result (λ _. ⊤) }
+        ensures refused { IfErr result (λ _. ⊤) }
+    {
+        match fs::exists(self.databases, path) {
+            Ok(found) => Ok(found),
+            Err(error) if error.kind() == ErrorKind::NotADirectory => Ok(false),
+            Err(error) => Err(fault_of(error)),
+        }
+    }
+
+    /// `Store` also where a log lies beside the path, which belongs to another database.
+    fn make(&self, path: &str) -> Result<Connection<FileStore<File>>, StoreFault>
+        ensures opened { IfOk result (λ _. ⊤) }
+        ensures refused { IfErr result (λ _. ⊤) }
+    {
+        if has_log(self.databases, path)? {
+            return Err(StoreFault::Store);
+        }
+        make_file(self.databases, path)?;
+        match connect(self.databases, path) {
+            Ok(connection) => Ok(connection),
+            Err(fault) => {
+                remove(self.databases, path);
+                Err(fault)
+            }
+        }
+    }
+
+    /// `Store` also for what is no database, which stays as it is.
+    fn open(&self, path: &str) -> Result<Connection<FileStore<File>>, StoreFault>
+        ensures opened { IfOk result (λ _. ⊤) }
+        ensures refused { IfErr result (λ _. ⊤) }
+    {
+        if is_no_database(self.databases, path)? {
+            return Err(StoreFault::Store);
+        }
+        connect(self.databases, path)
+    }
+
+    fn close(&self, _path: &str, connection: Connection<FileStore<File>>)
+        ensures { ⊤ }
+    {
+        let _ = connection.close();
+    }
+
+    fn discard(&self, path: &str, connection: Connection<FileStore<File>>)
+        ensures { ⊤ }
+    {
+        // While the connection is open, no other process has opened these files.
+        remove(self.databases, path);
+        let _ = connection.close();
+    }
+}

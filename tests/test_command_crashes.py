@@ -1,0 +1,335 @@
+"""Commands on an office in a database file that come at once, that are killed, or whose disk is full or memory refused:
+the file is whole."""
+import itertools
+import os
+import resource
+import shutil
+import signal
+import socket
+import sqlite3
+import subprocess
+import time
+import unittest
+
+from programs import HOME
+from test_command_faults import EXISTS, NO_FILE, PATIENCE, STORE, Faults
+from test_commands import answer
+from test_database import TODAY, content_of, rows_of
+from test_desk import APPLIED, DAY, EARLY, END, LOADED, MARKET, OPERATOR, SETTLED, text_of
+from test_reports import BALANCES, DAY_REPORT, balances
+
+NO_MEMORY = answer("refused 90 Memory")
+MOST_CALLS, MOST_ALLOCATIONS = 5000, 1_000_000
+
+
+class Shared(Faults):
+    """Another process has the file: a command is refused, or waits, and the file is unharmed."""
+
+    def test_a_file_in_use(self):
+        with sqlite3.connect(self.database) as connection:
+            connection.execute("BEGIN EXCLUSIVE")
+            self.each(STORE)
+            connection.execute("ROLLBACK")
+        connection.close()
+        self.assertEqual(self.command("load", *self.commands["load"]), answer(APPLIED))
+
+    def test_beside_one_that_serves(self):
+        serving = self.start("serve", "--port=0", "--count=1", f"--at={EARLY}")
+        port = int(serving.stdout.readline().decode().rpartition(":")[2])
+        before = self.database.read_bytes()
+        self.each(STORE)
+        self.assertEqual(self.database.read_bytes(), before)
+        with socket.create_connection(("127.0.0.1", port), timeout=PATIENCE) as client:
+            client.sendall(f"GET /balances/SUPCO-C HTTP/1.1\r\nHost: a\r\nx-office-key: {OPERATOR}\r\n\r\n".encode())
+            got = b"".join(iter(lambda: client.recv(65_536), b""))
+        self.assertTrue(got.endswith(b'{"account":"SUPCO-C","moved_pence":0}'), got)
+        self.assertEqual(serving.communicate(timeout=PATIENCE), (b"", b""))
+        self.is_sound()
+        self.assertEqual(self.command("load", *self.commands["load"]), answer(APPLIED))
+
+    def test_loads_at_once(self):
+        """Those that are done are in the file, and no others."""
+        done = {"f5.csv"}
+        for number in range(12):
+            names = [f"{number}-{side}.csv" for side in "abc"]
+            paths = [self.path(name, text_of("prices", [f"{DAY},1,{number}"])) for name in names]
+            begun = [self.start("load", "--key", OPERATOR, "prices", path) for path in paths]
+            for name, load in zip(names, begun):
+                written, told = load.communicate(timeout=PATIENCE)
+                self.assertIn((load.returncode, written, told), (answer(APPLIED), STORE))
+                done |= {name} if load.returncode == 0 else set()
+            self.is_sound()
+            self.assertEqual({name for kind, name, *_ in rows_of(self.database, "files") if kind == "prices"}, done)
+
+    def test_two_that_make_an_office(self):
+        """One makes it, with its key."""
+        keys = "op-first00001", "op-second0001"
+        for number in range(12):
+            self.database = self.room / f"new{number}.db"
+            begun = [self.start("init", "--operator-key", key) for key in keys]
+            made = [(*init.communicate(timeout=PATIENCE), init.returncode) for init in begun]
+            ends = {key: (status, written, told) for key, (written, told, status) in zip(keys, made)}
+            ready = [key for key, end in ends.items() if end == answer("ready")]
+            self.assertEqual(len(ready), 1, ends)
+            self.assertIn(next(end for key, end in ends.items() if key not in ready), (EXISTS, STORE))
+            self.is_sound()
+            self.assertEqual(rows_of(self.database, "settings"), [(1, 1, 60, ready[0])])
+
+
+class Ended(Faults):
+    """A test whose commands end before their time, over copies of an office."""
+
+    def setUp(self):
+        super().setUp()
+        self.base = self.room / "base.db"
+        shutil.copy(self.database, self.base)
+
+    def fresh(self, name):
+        """A copy of the office, in a folder of its own, from which all else is taken away."""
+        folder = self.room / name
+        shutil.rmtree(folder, ignore_errors=True)
+        folder.mkdir()
+        self.database = folder / "office.db"
+        shutil.copy(self.base, self.database)
+
+    def compiled(self, name):
+        """What is preloaded into a program, from its source."""
+        library = str(self.room / f"{name}.so")
+        source = str(HOME / "tests" / name)
+        subprocess.run(["cc", "-shared", "-fPIC", "-O1", "-o", library, source, "-ldl"], check=True)
+        return library
+
+    def read_copy(self, name):
+        """What sqlite3 finds in what was left, which stays as it is."""
+        copy = self.room / f"{name}-copy"
+        shutil.copytree(self.database.parent, copy)
+        self.database, left = copy / "office.db", self.database
+        self.is_sound()
+        content = content_of(self.database)
+        self.database = left
+        return content
+
+
+class Killed(Ended):
+    """A command that is killed leaves the office as before it or as after it, and so does one whose disk is full."""
+
+    def setUp(self):
+        super().setUp()
+        days = [f"2024-{month:02}-{day:02}" for month in (8, 9) for day in range(1, 31)]
+        rows = [f"{unit},{day},{period},1.000,1,0" for unit in ("G1", "S1") for day in days for period in range(1, 49)]
+        self.assertEqual(len(rows), 5760)
+        self.big = self.path("big.csv", text_of("meters", rows))
+
+    def load_words(self):
+        return "load", "--key", OPERATOR, f"--at={EARLY}", "meters", self.big
+
+    def test_a_load(self):
+        self.fresh("whole")
+        before = content_of(self.database)
+        began = time.monotonic()
+        self.assertEqual(self.command(*self.load_words()), answer("applied=5760 late=0"))
+        lasted = time.monotonic() - began
+        after = content_of(self.database)
+        self.assertEqual(len(after["meters"]), 96 + 5760)
+        for number in range(25):
+            name = f"killed{number}"
+            self.fresh(name)
+            begun = self.start(*self.load_words())
+            time.sleep(lasted * number / 20)
+            begun.kill()
+            written, told = begun.communicate(timeout=PATIENCE)
+            self.assertEqual(told, b"")
+            with self.subTest(f"killed after {number} of 20 parts"):
+                content = self.read_copy(name)
+                self.assertIn(content, [after] if written else [before, after])
+                self.answers(balances(), "account,moved_pence\nGENCO-P,0\nGENCO-C,0\nSUPCO-P,0\nSUPCO-C,0")
+                self.assertEqual(content_of(self.database), content)
+                self.assertEqual(self.command(*self.load_words()), answer("applied=5760 late=0"))
+                self.is_sound()
+                self.assertEqual(content_of(self.database), after)
+
+    def test_a_full_disk(self):
+        """No file grows past some bytes more than the office has: it is refused, and comes again when there is room."""
+        for more in (0, 4096, 40_960):
+            self.fresh(f"full{more}")
+            before = content_of(self.database)
+            size = self.database.stat().st_size + more
+
+            def limit():
+                signal.signal(signal.SIGXFSZ, signal.SIG_IGN)
+                resource.setrlimit(resource.RLIMIT_FSIZE, (size, size))
+
+            self.assertEqual(self.command(*self.load_words(), preexec_fn=limit), STORE)
+            self.assertEqual(self.read_copy(f"full{more}"), before)
+            self.assertEqual(self.command(*self.load_words()), answer("applied=5760 late=0"))
+            self.is_sound()
+
+    def test_a_refused_office_leaves_nothing(self):
+        """An office for which there is no room is refused, and made once there is room."""
+        self.database = self.room / "new.db"
+        for size in (0, 1, 4096, 8192, 20_480, 40_960):
+
+            def limit():
+                signal.signal(signal.SIGXFSZ, signal.SIG_IGN)
+                resource.setrlimit(resource.RLIMIT_FSIZE, (size, size))
+
+            with self.subTest(size):
+                self.assertEqual(self.command("init", "--operator-key", OPERATOR, preexec_fn=limit), STORE)
+                self.assertEqual(list(self.room.glob("new.db*")), [])
+        self.init()
+
+    def test_one_that_serves(self):
+        """A service is ended by a signal. What it has answered stays."""
+        serving = self.start("serve", "--port=0", f"--at={END}")
+        port = int(serving.stdout.readline().decode().rpartition(":")[2])
+        with socket.create_connection(("127.0.0.1", port), timeout=PATIENCE) as client:
+            client.sendall(f"POST /runs/{DAY}/SF HTTP/1.1\r\nHost: a\r\nx-office-key: {OPERATOR}\r\n\r\n".encode())
+            got = b"".join(iter(lambda: client.recv(65_536), b""))
+        self.assertTrue(got.startswith(b"HTTP/1.1 200 OK\r\n"), got)
+        serving.kill()
+        serving.communicate(timeout=PATIENCE)
+        self.answers(balances(), "account,moved_pence\nGENCO-P,38\nGENCO-C,0\nSUPCO-P,0\nSUPCO-C,-38")
+        self.assertEqual(rows_of(self.database, "runs"), [(TODAY, 0, 48, 4, 5050, 2)])
+
+
+@unittest.skipUnless(shutil.which("cc"), "no C compiler `cc` is on the path, so no call was cut off")
+class KilledAtEachCall(Ended):
+    """A command is killed at each of its calls that change a file, in the midst of what it writes."""
+
+    def setUp(self):
+        super().setUp()
+        self.preloaded = self.compiled("killing_calls.c")
+
+    def killed(self, number, name, *words):
+        """What a command comes to that is killed at the call of this number, where it makes so many."""
+        environment = dict(os.environ, KILL_AT=str(number), LD_PRELOAD=self.preloaded)
+        return self.command(name, *words, env=environment, timeout=PATIENCE)
+
+    def kill_each(self, wanted, name, *words):
+        """Kills a command at each call in turn: the office is as before it or as after it, and it is asked once more."""
+        self.fresh(f"{name}0")
+        contents = [content_of(self.database)]
+        self.assertEqual(self.command(name, *words), answer(wanted))
+        contents.append(content_of(self.database))
+        self.assertNotEqual(*contents)
+        found = set()
+        for number in range(1, MOST_CALLS):
+            self.fresh(f"{name}{number}")
+            made = self.killed(number, name, *words)
+            if made == answer(wanted):
+                self.assertEqual(found, {0, 1}, "both were found")
+                return
+            with self.subTest(f"{name} killed at call {number}"):
+                self.assertEqual((made[0], made[2]), (-signal.SIGKILL, b""))
+                self.assertIn(made[1], (b"", answer(wanted)[1]))
+                left = contents.index(self.read_copy(f"{name}{number}"))
+                self.assertLessEqual(bool(made[1]), left)
+                found.add(left)
+                self.assertEqual(self.command("report", "--key", OPERATOR, "balances")[::2], (0, b""))
+                self.is_sound()
+                self.assertIn(content_of(self.database), contents[bool(made[1]) :])
+                self.assertEqual(self.command(name, *words), answer(wanted))
+                self.is_sound()
+                self.assertEqual(content_of(self.database), contents[1])
+        self.fail("it was always killed")
+
+    def test_a_load(self):
+        self.kill_each(APPLIED, "load", *self.commands["load"])
+
+    def test_a_run(self):
+        self.kill_each(SETTLED, "run", *self.commands["run"])
+
+    def test_a_new_office(self):
+        """Where it is not whole a command is refused, and nothing but the new office is ever taken over."""
+        refused = 0
+        for number in range(1, MOST_CALLS):
+            self.database = self.room / f"new{number}.db"
+            made = self.killed(number, "init", "--operator-key", OPERATOR)
+            if made == answer("ready"):
+                self.assertGreater(refused, 0)
+                return
+            with self.subTest(f"killed at call {number}"):
+                self.assertEqual((made[0], made[2]), (-signal.SIGKILL, b""))
+                status, written, told = self.command("report", "--key", OPERATOR, "balances")
+                if (status, written, told) == STORE:
+                    self.assertEqual(made[1], b"")
+                    refused += 1
+                    continue
+                self.assertEqual((status, written, told), answer("account,moved_pence"))
+                self.is_sound()
+                self.assertEqual(rows_of(self.database, "settings"), [(1, 1, 60, OPERATOR)])
+                self.answers(self.load(*MARKET[0]), LOADED[0])
+        self.fail("it was always killed")
+
+
+@unittest.skipUnless(shutil.which("cc"), "no C compiler `cc` is on the path, so memory was not refused")
+class RefusedMemory(Ended):
+    """Each allocation of a command is refused in turn, beyond 300 every 61st. It is told by 90, with the office as it was,
+    or does without that memory."""
+
+    def setUp(self):
+        super().setUp()
+        self.preloaded, self.note = self.compiled("failing_malloc.c"), self.room / "refused"
+
+    def refused(self, number, name, *words):
+        """What a command comes to that is refused the allocation of this number, and whether it makes so many."""
+        environment = dict(os.environ, FAIL_AT=str(number), FAIL_NOTE=str(self.note), LD_PRELOAD=self.preloaded)
+        made = self.command(name, *words, env=environment, timeout=PATIENCE)
+        was_refused = self.note.exists()
+        self.note.unlink(missing_ok=True)
+        return made, was_refused
+
+    def refuse_each(self, wanted, name, *words):
+        self.fresh("memory")
+        before = content_of(self.database)
+        self.assertEqual(self.command(name, *words), wanted)
+        after, shown = content_of(self.database), 0
+        for number in itertools.chain(range(1, 301), range(361, MOST_ALLOCATIONS, 61)):
+            self.fresh("memory")
+            made, was_refused = self.refused(number, name, *words)
+            if not was_refused:
+                self.assertEqual(made, wanted)
+                self.assertGreater(shown, 0)
+                return
+            with self.subTest(f"{name}: allocation {number} refused"):
+                is_told = (made[0], made[2]) == (1, NO_MEMORY[2]) and wanted[1].startswith(made[1])
+                self.assertTrue(is_told or made == wanted, made)
+                self.is_sound()
+                self.assertEqual(content_of(self.database), before if is_told else after)
+                shown += is_told
+        self.fail("it was always refused")
+
+    def test_loads(self):
+        self.refuse_each(answer(APPLIED), "load", *self.commands["load"])
+        changed = self.path("f5.csv", text_of("prices", [f"{DAY},1,60.00000"]))
+        self.refuse_each(answer("refused 20 FileChanged"), "load", "--key", OPERATOR, "--at=5", "prices", changed)
+
+    def test_a_run(self):
+        self.refuse_each(answer(SETTLED), "run", *self.commands["run"])
+
+    def test_reports(self):
+        self.answers(self.order("SF", END), SETTLED)
+        shutil.copy(self.database, self.base)
+        self.refuse_each((0, DAY_REPORT.encode(), b""), "report", "--key", OPERATOR, "day", DAY, "SF")
+        self.refuse_each((0, BALANCES.encode(), b""), "report", "--key", OPERATOR, "balances")
+
+    def test_a_new_office(self):
+        """Where it is refused there is none."""
+        shown = 0
+        for number in itertools.chain(range(1, 301), range(361, MOST_ALLOCATIONS, 61)):
+            self.database = self.room / f"memory{number}.db"
+            made, was_refused = self.refused(number, "init", "--operator-key", OPERATOR)
+            if not was_refused:
+                self.assertEqual(made, answer("ready"))
+                self.assertGreater(shown, 0)
+                return
+            with self.subTest(f"allocation {number} refused"):
+                self.assertIn(made, (answer("ready"), NO_MEMORY))
+                there = answer("account,moved_pence") if made[0] == 0 else NO_FILE
+                self.assertEqual(self.command("report", "--key", OPERATOR, "balances"), there)
+                shown += made == NO_MEMORY
+        self.fail("it was always refused")
+
+
+if __name__ == "__main__":
+    unittest.main()

@@ -1,0 +1,594 @@
+"""What people do with commands on an office in a database file: they give them at a terminal, press Ctrl-C, read the
+first line of a report alone, and send files by standard input. The terminal is a pseudo-terminal, and the script `settle`
+stands in a small repository. Its program is a stand-in that does what its words say, or the built one."""
+import errno
+import fcntl
+import os
+import pty
+import re
+import runpy
+import select
+import signal
+import subprocess
+import sys
+import termios
+import time
+import unittest
+
+from programs import SETTLE
+from test_command_crashes import Ended
+from test_commands import AtAFile, answer
+from test_database import TODAY, content_of, rows_of
+from test_desk import APPLIED, DAY, EARLY, END, LOADED, MARKET, OPERATOR, SETTLED, text_of
+from test_reports import BALANCES, balances
+from test_script import INTERRUPTS, OfTheScript, heed_signals
+
+PATIENCE = 120
+CTRL_C = b"\x03"
+KEPT = "settle: interrupted; what was answered before is kept, and what wasn't may be asked again"
+ANEW = "settle: interrupted; where other commands refuse the file by 91, take it away and begin anew"
+ECHOED = "^C"
+# Does what its words say, one after the other. In what is written `|` stands for the end of a line.
+STAND_IN = """\
+import os, signal, sys, time
+for number in (signal.SIGINT, signal.SIGPIPE, signal.SIGXFSZ):
+    signal.signal(number, signal.SIG_DFL)
+for word in sys.argv[1:]:
+    what, _, value = word.partition("=")
+    if what in ("write", "tell"):
+        os.write(1 + (what == "tell"), value.replace("|", os.linesep).encode())
+    elif what == "process":
+        os.write(1, f"{os.getpid()}.".encode())
+    elif what == "wait":
+        time.sleep(float(value))
+    elif what == "read":
+        with open(sys.argv[3], "rb") as file:
+            file.read(int(value))
+    elif what == "keep":
+        with open(os.devnull, "wb") as file:
+            file.write(bytes(int(value)))
+    elif what == "ignore":
+        signal.signal(int(value), signal.SIG_IGN)
+    elif what == "kill":
+        os.kill(os.getpid(), int(value))
+    elif what == "end":
+        sys.exit(int(value))
+"""
+
+
+def screen_of(shown):
+    """The lines that stand on a terminal once it has shown this. A letter takes the place of the one that was there."""
+    lines, place = [[]], 0
+    for letter in shown.decode():
+        if letter == "\r":
+            place = 0
+        elif letter == "\n":
+            lines.append([])
+        else:
+            lines[-1][place : place + 1] = letter
+            place += 1
+    return ["".join(line).rstrip() for line in lines]
+
+
+class AtATerminal(OfTheScript):
+    """A test that calls the script at a terminal."""
+
+    def setUp(self):
+        super().setUp()
+        self.out.mkdir()
+        self.office = self.room / "office"
+        stand_in = self.room / "stand-in"
+        stand_in.write_text(STAND_IN)
+        self.use(f'exec "{sys.executable}" -ISB "{stand_in}" "$@"')
+
+    def use(self, line):
+        """Makes a line of the shell the program, as if it had been built from the sources that are there."""
+        program = self.out / "hh_settle"
+        program.write_text(f"#!/bin/sh\n{line}\n")
+        program.chmod(0o755)
+        script = runpy.run_path(str(self.home / "settle"))
+        script["mark_built"](script["sum_of_sources"]())
+
+    def begin(self, *words, before=(), turned_off=(), **streams):
+        """Begins a call at a new terminal, which its streams are where nothing else is given."""
+        terminal, end = pty.openpty()
+        self.terminal, self.shown = open(terminal, "r+b", buffering=0), b""
+
+        def take():
+            heed_signals()
+            for number in turned_off:
+                signal.signal(number, signal.SIG_IGN)
+            fcntl.ioctl(end, termios.TIOCSCTTY, 0)
+
+        how = {"stdin": end, "stdout": end, "stderr": end, **streams}
+        call = [*before, self.home / "settle", *map(str, words)]
+        self.begun = subprocess.Popen(call, env=self.environment(), start_new_session=True, preexec_fn=take, **how)
+        os.close(end)
+        for clean in (self.terminal.close, self.begun.wait, self.begun.kill):
+            self.addCleanup(clean)
+
+    def on_office(self, command, *acts, **how):
+        """Begins a command on a database file, by the stand-in."""
+        self.begin(command, "--db", self.office, *acts, **how)
+
+    def read_until(self, wanted=None):
+        """Reads what is shown until it has this, or until all that have the terminal have ended."""
+        until = time.monotonic() + PATIENCE
+        while wanted is None or wanted not in self.shown:
+            left = until - time.monotonic()
+            self.assertGreater(left, 0, self.shown)
+            if select.select([self.terminal], [], [], left)[0]:
+                try:
+                    self.shown += self.terminal.read(65_536)
+                except OSError:  # they have ended
+                    self.assertIsNone(wanted, self.shown)
+                    return
+
+    def ends(self, status, *lines):
+        """The call ends with this status, and then these lines stand on the terminal."""
+        self.read_until()
+        self.assertEqual(self.begun.wait(timeout=PATIENCE), status, self.shown)
+        self.assertEqual(screen_of(self.shown), [*lines, ""])
+
+    def told(self):
+        """The lines that told how far the call was."""
+        return re.findall(rb"settle: [^\r]*", self.shown)
+
+
+class Shown(AtATerminal):
+    """How far a command is stands in one line of the terminal while it lasts, and is gone in the end."""
+
+    def test_a_short_command(self):
+        for status in (0, 1, 2):
+            self.on_office("report", "write=hello|", "tell=there|", f"end={status}")
+            self.ends(status, "hello", "there")
+            self.assertEqual(self.shown, b"hello\r\nthere\r\n")
+
+    def test_a_long_command(self):
+        self.on_office("load", "wait=3.4", "write=hello|", "end=1")
+        self.ends(1, "hello")
+        self.assertGreater(len(self.told()), 1)
+        for line in self.told():
+            self.assertRegex(line, rb"\Asettle: at work, [1-9] s\Z")
+
+    def test_a_command_that_stops(self):
+        self.on_office("run", "wait=2.4", "tell=refused 91 Store|", "end=1")
+        self.ends(1, "refused 91 Store")
+        self.assertTrue(self.told())
+
+    def test_an_output_that_is_another(self):
+        with open(self.room / "output", "wb") as output:
+            self.on_office("report", "wait=2.4", "write=hello|", "end=0", stdout=output)
+        self.ends(0)
+        self.assertTrue(self.told())
+        self.assertEqual((self.room / "output").read_bytes(), b"hello\n")
+
+    def test_what_is_read_and_written(self):
+        """First a part of the file is read, and then all."""
+        with open(self.office, "wb") as file:
+            file.truncate(80_000_000)
+        self.on_office("load", "read=40000000", "wait=2.4", "read=60000000", "wait=1", "keep=7000000", "wait=1", "write=hello|")
+        self.ends(0, "hello")
+        told = b"|".join(self.told())
+        reading = rb"settle: reading the file, [1-9] s, 4[0-9]\.[0-9] MB of 80\.0 MB"
+        working, writing = rb"settle: at work, [1-9] s", rb"settle: at work, [1-9] s, 7\.0 MB written"
+        self.assertRegex(told, rb"\A%b(\|%b)*(\|%b)+(\|%b)+\Z" % (reading, reading, working, writing))
+
+    def test_lines_of_a_script(self):
+        acts = "write=one|", "wait=1", "write=two|three|", "wait=1.4", "write=four|", "wait=1", "tell=five|"
+        self.on_office("script", *acts)
+        self.ends(0, "one", "two", "three", "four", "five")
+        self.assertRegex(self.shown, rb"\Aone\r\ntwo\r\nthree\r\nsettle: at work, [1-9] s")
+
+    def test_a_line_that_is_not_ended(self):
+        """Nothing is shown in its midst."""
+        self.on_office("report", "write=half a", "wait=3", "write= line|")
+        self.ends(0, "half a line")
+        self.assertEqual(self.told(), [])
+
+    def test_a_service(self):
+        """Nothing is shown once it listens, nor where that can't be seen."""
+        self.on_office("serve", "wait=2.4", "write=listening 127.0.0.1:8080|", "wait=3", "tell=x|")
+        self.ends(0, "listening 127.0.0.1:8080", "x")
+        self.assertRegex(self.shown, rb"\A(settle: at work, [1-9] s\r *\r)+listening 127\.0\.0\.1:8080\r\nx\r\n\Z")
+        self.on_office("serve", "wait=2.4", "write=listening 127.0.0.1:8080|", stdout=subprocess.DEVNULL)
+        self.ends(0)
+        self.assertEqual(self.shown, b"")
+
+    def test_what_may_be_typed(self):
+        """Nothing is shown between the letters of a file that is typed."""
+        self.on_office("script", "/dev/stdin", "wait=2.4", "write=hello|")
+        self.ends(0, "hello")
+        self.assertEqual(self.told(), [])
+
+    def test_a_command_in_the_background(self):
+        """Nothing is shown there, where its user types."""
+        self.on_office("load", "wait=2.4", "write=hello|", before=["bash", "-c", 'set -m; "$0" "$@" & wait'])
+        self.read_until()
+        self.assertTrue(self.shown.startswith(b"hello\r\n"), self.shown)  # (bash tells behind it that it was done)
+
+    def test_a_narrow_terminal(self):
+        """The line takes no second one."""
+        self.on_office("load", "wait=2.8", "write=hello|")
+        fcntl.ioctl(self.terminal, termios.TIOCSWINSZ, b"\x18\0\x0c\0\0\0\0\0")  # 24 lines of 12 letters
+        self.ends(0, "hello")
+        self.assertEqual(set(self.told()), {b"settle: at "})
+
+
+class NotShown(AtATerminal):
+    """Elsewhere the program takes the process over, and nothing is added."""
+
+    def test_no_terminal(self):
+        self.assertEqual(self.call("load", "--db", str(self.office), "wait=2.4", "write=hello|", "end=1"), (1, b"hello\n", ""))
+
+    def is_the_program(self, *words, **streams):
+        self.begin(*words, "process", "write=ended|", **streams)
+        self.read_until()
+        self.assertEqual(self.begun.wait(timeout=PATIENCE), 0)
+        return f"{self.begun.pid}.ended".encode()
+
+    def test_the_process_is_the_programs(self):
+        """Where standard error is no terminal, where no database is named, and where two terminals are written to."""
+        on_office = "report", "--db", str(self.office)
+        self.assertNotIn(self.is_the_program(*on_office), self.shown)
+        self.assertNotIn(self.is_the_program("report", f"--db={self.office}"), self.shown)
+        self.assertIn(self.is_the_program(*on_office, stderr=subprocess.DEVNULL), self.shown)
+        self.assertIn(self.is_the_program("period", "--dbx", "x"), self.shown)
+        other, end = pty.openpty()
+        process = self.is_the_program(*on_office, stdout=end)
+        os.close(end)
+        self.assertIn(process, os.read(other, 4096))
+        os.close(other)
+
+    def test_no_terminal_is_interrupted(self):
+        begun = self.start("load", "--db", self.office, "write=one|", "wait=60")
+        self.assertEqual(begun.stdout.readline(), "one\n")
+        begun.send_signal(signal.SIGINT)
+        self.assertEqual(begun.communicate(timeout=PATIENCE), ("", ""))
+        self.assertEqual(begun.returncode, -signal.SIGINT)
+
+
+class Interrupted(AtATerminal):
+    """At a terminal a command that is interrupted says so, once, when the program has ended."""
+
+    def ends_interrupted(self, number, *lines):
+        self.ends(-number, *lines)
+        self.assertEqual(self.shown.count(b"interrupted"), 1)
+
+    def test_ctrl_c(self):
+        self.on_office("load", "process", "write=|", "wait=60")
+        self.read_until(b"\n")
+        process = int(self.shown.partition(b".")[0])
+        self.terminal.write(CTRL_C)
+        self.ends_interrupted(signal.SIGINT, f"{process}.", KEPT)
+        self.assertRaises(ProcessLookupError, os.kill, process, 0)
+
+    def test_while_it_is_shown_how_far_it_is(self):
+        self.on_office("load", "wait=60")
+        self.read_until(b"settle: at work, ")
+        self.terminal.write(CTRL_C)
+        self.ends_interrupted(signal.SIGINT, KEPT)
+
+    def test_in_the_midst_of_a_line(self):
+        self.on_office("report", "write=one|half a line", "wait=60")
+        self.read_until(b"half a line")
+        self.terminal.write(CTRL_C)
+        self.ends_interrupted(signal.SIGINT, "one", f"half a line{ECHOED}", KEPT)
+
+    def test_each_signal(self):
+        """It comes to the script alone, which passes it on."""
+        for number in INTERRUPTS:
+            self.on_office("serve", "write=listening 127.0.0.1:1|", "wait=60")
+            self.read_until(b":1\r\n")
+            self.begun.send_signal(number)
+            self.ends_interrupted(number, "listening 127.0.0.1:1", KEPT)
+
+    def test_a_new_office(self):
+        self.on_office("init", "write=|", "wait=60")
+        self.read_until(b"\n")
+        self.terminal.write(CTRL_C)
+        self.ends_interrupted(signal.SIGINT, "", ANEW)
+
+    def test_a_command_that_was_done(self):
+        """It has answered, so its status is told and no interrupt."""
+        for status in (0, 1):
+            self.on_office("load", f"ignore={signal.SIGINT:d}", "write=one|", "wait=1", "write=two|", f"end={status}")
+            self.read_until(b"one")
+            self.terminal.write(CTRL_C)
+            self.read_until()
+            self.assertEqual(self.begun.wait(timeout=PATIENCE), status)
+            self.assertIn(b"two\r\n", self.shown)
+            self.assertNotIn(b"interrupted", self.shown)
+
+    def test_signals_that_are_turned_off(self):
+        """As by nohup."""
+        self.on_office("load", "write=one|", "wait=1", "write=two|", turned_off=INTERRUPTS)
+        self.read_until(b"one")
+        for number in INTERRUPTS:
+            self.begun.send_signal(number)
+        self.ends(0, "one", "two")
+
+    def test_other_signals(self):
+        for number in (signal.SIGPIPE, signal.SIGXFSZ, signal.SIGUSR1, signal.SIGKILL):
+            self.on_office("load", "write=one|", f"kill={number:d}")
+            self.ends(-number, "one")
+
+    def test_signals_are_as_a_shell_leaves_them(self):
+        """Python turns off some, for itself alone."""
+        for name in ("PIPE", "XFSZ"):
+            self.use(f"kill -{name} $$\necho on")
+            self.on_office("load")
+            self.ends(-getattr(signal, f"SIG{name}"))
+
+    def test_a_terminal_that_goes_away(self):
+        """The program ends, and so does the script."""
+        self.on_office("load", "process", "write=|", "wait=60")
+        self.read_until(b"\n")
+        process = int(self.shown.partition(b".")[0])
+        self.terminal.close()
+        self.assertEqual(self.begun.wait(timeout=PATIENCE), -signal.SIGHUP)
+        self.assertRaises(ProcessLookupError, os.kill, process, 0)
+
+
+class Awaited(AtAFile):
+    """A test whose commands wait for bytes of a file, which is a named pipe."""
+
+    def setUp(self):
+        super().setUp()
+        self.init_market()
+        self.before = content_of(self.database)
+        self.rows = text_of("prices", [f"{DAY},1,60.00000"])
+        self.awaited = self.room / "p2.csv"
+        os.mkfifo(self.awaited)
+        self.words = ["load", "--db", str(self.database), "--key", OPERATOR, f"--at={EARLY}", "prices", str(self.awaited)]
+
+    def give_a_part(self, begun):
+        """Waits until the command reads the file, and gives it a part."""
+        while True:
+            try:
+                self.giving = os.open(self.awaited, os.O_WRONLY | os.O_NONBLOCK)
+                break
+            except OSError as error:
+                self.assertEqual(error.errno, errno.ENXIO)
+                self.assertIsNone(begun.poll())
+                time.sleep(0.01)
+        self.addCleanup(os.close, self.giving)
+        os.write(self.giving, self.rows[:20])
+        while self.is_unread():
+            self.assertIsNone(begun.poll())
+            time.sleep(0.01)
+
+    def is_unread(self):
+        """Whether bytes are left in the pipe."""
+        held = bytearray(4)
+        fcntl.ioctl(self.giving, termios.FIONREAD, held)
+        return any(held)
+
+    def has(self, content):
+        """The file is sound, and has these rows."""
+        self.is_sound()
+        self.assertEqual(content_of(self.database), content)
+
+    def is_done_again(self):
+        """The same command is done, now that the whole file is there."""
+        self.awaited.unlink()
+        self.awaited.write_bytes(self.rows)
+        for _ in range(2):
+            self.assertEqual(self.command(self.words[0], *self.words[3:]), answer(APPLIED))
+            self.is_sound()
+        self.assertIn((TODAY, 1, 6_000_000), rows_of(self.database, "prices"))
+
+
+class InterruptedOffice(AtATerminal, Awaited):
+    """The built program is interrupted, at a terminal under the script."""
+
+    def setUp(self):
+        Awaited.setUp(self)
+        AtATerminal.setUp(self)
+        self.use(f'exec "{SETTLE}" "$@"')
+
+    def test_a_load(self):
+        self.begin(*self.words)
+        self.give_a_part(self.begun)
+        self.read_until(b"settle: at work, ")
+        self.terminal.write(CTRL_C)
+        self.ends(-signal.SIGINT, KEPT)
+        self.assertEqual(self.shown.count(b"interrupted"), 1)
+        self.has(self.before)
+        self.is_done_again()
+
+    def test_a_script(self):
+        """The lines that were answered are kept, and answered as before."""
+        kind, rows = "prices", [f"{DAY},2,1.00000"]
+        lines = [self.load(kind, rows, "answered.csv"), f"load {EARLY} {OPERATOR} prices {self.awaited}", balances()]
+        script = self.file("script", "".join(f"{line}\n" for line in lines))
+        self.begin("script", "--db", self.database, script)
+        self.give_a_part(self.begun)
+        self.read_until(b"\n")
+        self.terminal.write(CTRL_C)
+        self.ends(-signal.SIGINT, APPLIED, KEPT)
+        self.is_sound()
+        self.assertIn((TODAY, 2, 100_000), rows_of(self.database, "prices"))
+        self.assertIn((TODAY, 1, 5_000_000), rows_of(self.database, "prices"))
+        self.is_done_again()
+        written = f"{APPLIED}\n{APPLIED}\naccount,moved_pence\nGENCO-P,0\nGENCO-C,0\nSUPCO-P,0\nSUPCO-C,0\n"
+        self.assertEqual(self.command("script", script), (0, written.encode(), b""))
+
+    def test_a_service(self):
+        self.begin("serve", "--db", self.database, "--port=0")
+        self.read_until(b"\n")
+        self.terminal.write(CTRL_C)
+        self.read_until()
+        self.assertEqual(self.begun.wait(timeout=PATIENCE), -signal.SIGINT)
+        listening, *rest = screen_of(self.shown)
+        self.assertRegex(listening, r"\Alistening 127\.0\.0\.1:[1-9][0-9]*\Z")
+        self.assertEqual(rest, [KEPT, ""])
+        self.has(self.before)
+
+    def test_answers_and_statuses(self):
+        """The program's own, as elsewhere."""
+        on_office = "--db", self.database, "--key", OPERATOR
+        for status, text, *words in (
+            (1, "refused 51 NoInitialRun", "run", *on_office, f"--at={END}", DAY, "R1"),
+            (0, SETTLED, "run", *on_office, f"--at={END}", DAY, "SF"),
+            (0, BALANCES.removesuffix("\n"), "report", *on_office, "balances"),
+            (1, "fault nofile", "report", "--db", self.room / "missing", "--key", OPERATOR, "balances"),
+        ):
+            self.begin(*words)
+            self.ends(status, *text.splitlines())
+        self.is_sound()
+        self.begin("report", "--db", self.database, "balances")
+        self.read_until()
+        self.assertEqual(self.begun.wait(timeout=PATIENCE), 2)
+
+
+class InterruptedProgram(Awaited):
+    """The built program alone is ended by a signal. It says nothing, and loses nothing."""
+
+    def test_while_it_reads(self):
+        for number in INTERRUPTS:
+            how = {"stdin": subprocess.DEVNULL, "stdout": subprocess.PIPE, "stderr": subprocess.PIPE}
+            begun = subprocess.Popen([SETTLE, *self.words], preexec_fn=heed_signals, **how)
+            self.addCleanup(begun.wait)
+            self.addCleanup(begun.kill)
+            self.give_a_part(begun)
+            begun.send_signal(number)
+            self.assertEqual(begun.communicate(timeout=PATIENCE), (b"", b""))
+            self.assertEqual(begun.returncode, -number)
+            self.has(self.before)
+        self.is_done_again()
+
+
+class InterruptedLoads(Ended):
+    """A load is interrupted early and late: it was done or not, and the file is whole."""
+
+    def test_at_any_time(self):
+        days = [f"2024-08-{day:02}" for day in range(1, 21)]
+        rows = [f"{unit},{day},{period},1.000,1,0" for unit in ("G1", "S1") for day in days for period in range(1, 49)]
+        self.assertEqual(len(rows), 1920)
+        words = "load", "--key", OPERATOR, f"--at={EARLY}", "meters", self.path("big.csv", text_of("meters", rows))
+        self.fresh("whole")
+        contents, began = [content_of(self.database)], time.monotonic()
+        self.assertEqual(self.command(*words), answer("applied=1920 late=0"))
+        lasted = time.monotonic() - began
+        contents.append(content_of(self.database))
+        self.assertEqual(len(contents[1]["meters"]), 96 + 1920)
+        for number in range(8):
+            self.fresh(f"interrupted{number}")
+            begun = self.start(*words, preexec_fn=heed_signals)
+            time.sleep(lasted * (number + 1) / 8)
+            begun.send_signal(signal.SIGINT)
+            written, told = begun.communicate(timeout=PATIENCE)
+            with self.subTest(f"interrupted after {number + 1} of 8 parts"):
+                self.assertIn((begun.returncode, told), [(-signal.SIGINT, b""), (0, b"")])
+                self.assertIn(self.read_copy(f"interrupted{number}"), contents[bool(written) :])
+                self.assertEqual(self.command(*words), answer("applied=1920 late=0"))
+                self.is_sound()
+                self.assertEqual(content_of(self.database), contents[1])
+
+
+class FirstLines(AtATerminal, AtAFile):
+    """The reader of a report goes away, as `head` does: `fault output` and status 1, and nothing more."""
+
+    def setUp(self):
+        AtAFile.setUp(self)
+        AtATerminal.setUp(self)
+        self.use(f'exec "{SETTLE}" "$@"')
+        self.init_market()
+        self.answers(self.order("SF", END), SETTLED)
+        self.words = ["report", "--db", str(self.database), "--key", OPERATOR, "csv", DAY, "SF"]
+
+    def small_pipe(self):
+        """A pipe that holds less than the report, and the file that reads it."""
+        reading, writing = os.pipe()
+        fcntl.fcntl(writing, fcntl.F_SETPIPE_SZ, 4096)
+        return os.fdopen(reading, "rb", buffering=0), writing
+
+    def read_first(self, reader):
+        """Reads the first bytes, as one that wants a line does, and goes away."""
+        with reader:
+            self.assertTrue(reader.read(100).startswith(b"date,kind,account,period,credited,"))
+
+    def test_under_the_script(self):
+        reader, writing = self.small_pipe()
+        self.begin(*self.words, stdout=writing)
+        os.close(writing)
+        self.read_first(reader)
+        self.ends(1, "fault output")
+
+    def test_the_program_alone(self):
+        reader, writing = self.small_pipe()
+        how = {"stdin": subprocess.DEVNULL, "stdout": writing, "stderr": subprocess.PIPE}
+        with subprocess.Popen([SETTLE, *self.words], **how) as begun:
+            os.close(writing)
+            self.read_first(reader)
+            self.assertEqual((begun.stderr.read(), begun.wait(timeout=PATIENCE)), (b"fault output\n", 1))
+
+    def test_a_report_that_is_read_whole(self):
+        """A short one is in the pipe before anyone goes away: nothing is told."""
+        line = f'"{SETTLE}" report --db "{self.database}" --key {OPERATOR} balances | head -n 1'
+        made = subprocess.run(["sh", "-c", line], stdin=subprocess.DEVNULL, capture_output=True, timeout=PATIENCE)
+        self.assertEqual((made.returncode, made.stdout, made.stderr), (0, b"account,moved_pence\n", b""))
+
+
+class StandardInput(AtAFile):
+    """/dev/stdin is a path like any other, and so is `-`."""
+
+    def setUp(self):
+        super().setUp()
+        self.init()
+
+    def given(self, data, name, *words, **how):
+        """A command to which this is given by a pipe."""
+        call = [SETTLE, name, "--db", str(self.database), *words]
+        made = subprocess.run(call, input=data, capture_output=True, timeout=PATIENCE, **how)
+        self.is_sound()
+        return made.returncode, made.stdout, made.stderr
+
+    def load_given(self, data, kind, path, **how):
+        return self.given(data, "load", "--key", OPERATOR, kind, path, **how)
+
+    def files(self):
+        return [(kind, name) for kind, name, *_ in rows_of(self.database, "files")]
+
+    def test_files(self):
+        """By a pipe and from a file. The name is what follows the last `/`, so a second file of a kind is another's."""
+        (parties, party_rows), (units, unit_rows) = MARKET[:2]
+        self.assertEqual(self.load_given(text_of(parties, party_rows), parties, "/dev/stdin"), answer(LOADED[0]))
+        with open(self.file("units", text_of(units, unit_rows)), "rb") as file:
+            call = [SETTLE, "load", "--db", str(self.database), "--key", OPERATOR, units, "/dev/stdin"]
+            made = subprocess.run(call, stdin=file, capture_output=True, timeout=PATIENCE)
+        self.assertEqual((made.returncode, made.stdout, made.stderr), answer(LOADED[1]))
+        self.assertEqual(self.files(), [("parties", "stdin"), ("units", "stdin")])
+        self.assertEqual(self.load_given(text_of(parties, party_rows), parties, "/dev/stdin"), answer(LOADED[0]))
+        others = text_of(parties, ["NEWCO,2024-01-01,,newco0001"])
+        self.assertEqual(self.load_given(others, parties, "/dev/stdin"), answer("refused 20 FileChanged"))
+
+    def test_no_input(self):
+        made = self.command("load", "--key", OPERATOR, "parties", "/dev/stdin")
+        self.assertEqual(made, answer("refused 12 BadHeader"))
+        call = ["sh", "-c", 'exec "$@" <&-', "sh", SETTLE, "script", "--db", str(self.database), "/dev/stdin/"]
+        made = subprocess.run(call, capture_output=True, timeout=PATIENCE)
+        self.assertEqual((made.returncode, made.stdout, made.stderr), answer("fault file"))
+
+    def test_a_script(self):
+        lines = [self.load(*MARKET[0]), balances()]
+        text = "".join(f"{line}\n" for line in lines).encode()
+        written = f"{LOADED[0]}\naccount,moved_pence\nGENCO-P,0\nGENCO-C,0\nSUPCO-P,0\nSUPCO-C,0\n".encode()
+        self.assertEqual(self.given(text, "script", "/dev/stdin"), (0, written, b""))
+
+    def test_a_dash(self):
+        """It names the file `-` of the folder, and no input is read."""
+        data, folder = text_of(*MARKET[0]), self.room / "folder"
+        folder.mkdir()
+        self.assertEqual(self.load_given(data, "parties", "-", cwd=folder), answer("fault file"))
+        self.assertEqual(self.given(b"", "script", "-", cwd=folder), answer("fault file"))
+        (folder / "-").write_bytes(data)
+        self.assertEqual(self.load_given(b"", "parties", "-", cwd=folder), answer(LOADED[0]))
+        self.assertEqual(self.files(), [("parties", "-")])
+        (folder / "-").write_bytes(f"{balances()}\n".encode())
+        self.assertEqual(self.given(b"", "script", "-", cwd=folder)[::2], (0, b""))
+
+
+if __name__ == "__main__":
+    unittest.main()

@@ -1,0 +1,113 @@
+"""Connections that `settle serve --db` serves: clients of an office in a database file are answered as those of one in
+memory, and what they bring stays in the file."""
+import json
+import subprocess
+import time
+import unittest
+
+import test_serving
+from programs import SETTLE
+from test_commands import FIRST, AtAFile, date_in, results_of
+from test_database import content_of, rows_of
+from test_desk import DAY, END, NEXT_END, OPERATOR, text_of
+from test_reports import RESULTS, report
+from test_serving import reply, request
+
+
+class Serving(AtAFile):
+    """Connections are served by `serve --db`, over an office to which a script has been run."""
+
+    def serve(self, count, *lines, moment=NEXT_END, before=None, operator=OPERATOR):
+        """Serves so many connections over an office that lines came before. `rest` asks what these lines ask, when it
+        has ended."""
+        self.init(operator=operator)
+        before = [*self.market(), self.order("SF", END), self.dearer(), self.order("R1")] if before is None else before
+        self.assertEqual(self.run_script_at("".join(f"{line}\n" for line in before))[::2], (0, b""))
+        self.lines = lines
+        self.begin(f"--count={count}", f"--at={moment}")
+
+    def begin(self, *options):
+        """Begins to serve, and reads where."""
+        words = [SETTLE, "serve", "--db", str(self.database), "--port", "0", *options]
+        self.program = subprocess.Popen(words, bufsize=0, stdout=subprocess.PIPE, stderr=subprocess.PIPE)
+        told = self.program.stdout.readline().decode()
+        self.assertRegex(told, r"\Alistening 127\.0\.0\.1:[1-9][0-9]*\n\Z")
+        self.port = int(told.strip().rpartition(":")[2])
+
+    def rest(self):
+        """What is told by the lines behind, once all are served."""
+        written, told = self.program.communicate(timeout=60)
+        self.assertEqual((self.program.returncode, written, told), (0, b"", b""))
+        self.is_sound()
+        made = [self.asks(line) for line in self.lines]
+        return b"".join(written + told for _, written, told in made).decode().splitlines()
+
+    def tearDown(self):
+        self.stop()
+        self.is_sound()
+
+
+# What clients of an office in memory are answered, byte by byte, clients of one in a file are.
+class Replies(Serving, test_serving.Replies):
+    pass
+
+
+class Bytes(Serving, test_serving.Bytes):
+    pass
+
+
+class Kept(Serving, test_serving.Served):
+    """What is served stays."""
+
+    def test_the_rows(self):
+        self.serve(3, report("csv"), moment=END, before=self.market())
+        rows = text_of("contracts", [f"C2,GENCO-P,SUPCO-C,{DAY},2,0.000"])
+        loaded = reply(200, '{"applied":0,"late":1}')
+        self.assertEqual(self.ask(request("POST", "/files/contracts/c2.csv", OPERATOR, rows)), loaded)
+        body = f'{{"accounts":4,"date":"{DAY}","kind":"SF","periods":48,"postings":2,"residual_pence":5050}}'
+        self.assertEqual(self.ask(request("POST", f"/runs/{DAY}/SF", OPERATOR)), reply(200, body))
+        self.assertEqual(self.ask(request("GET", "/balances/SUPCO-C", "supco0001")), reply(200, '{"account":"SUPCO-C","moved_pence":-38}'))
+        self.assertEqual(self.rest(), RESULTS.splitlines())
+        self.assertEqual(rows_of(self.database, "results"), results_of(0, FIRST, 5_000_000))
+        self.assertIn(("contracts", "c2.csv", rows, 0, 1), rows_of(self.database, "files"))
+
+    def test_none_is_served(self):
+        self.init_market()
+        before = content_of(self.database)
+        status, written, told = self.command("serve", "--port", "0", "--count", "0", timeout=60)
+        self.assertEqual((status, told), (0, b""))
+        self.assertRegex(written, rb"\Alistening 127\.0\.0\.1:[1-9][0-9]*\n\Z")
+        self.assertEqual(content_of(self.database), before)
+
+    def test_without_a_count(self):
+        """It goes on to serve."""
+        self.init_market()
+        self.begin("--at=5")
+        for _ in range(20):
+            self.assertEqual(self.ask(request("GET", f"/runs/{DAY}", OPERATOR)), reply(200, f'{{"date":"{DAY}","runs":[]}}'))
+        self.assertIsNone(self.program.poll())
+
+    def test_a_port_that_is_asked_for(self):
+        self.init_market()
+        self.begin("--count=0")
+        self.program.communicate(timeout=60)
+        for _ in range(20):
+            made = self.command("serve", f"--port={self.port}", "--count=0", timeout=60)
+            if made[0] == 0:
+                break
+            time.sleep(0.1)
+        self.assertEqual(made, (0, f"listening 127.0.0.1:{self.port}\n".encode(), b""))
+
+    def test_the_clock(self):
+        """A request comes when it comes: what is for two days before is late, and what is for two days ahead is not."""
+        self.init_market()
+        self.begin("--count=3")
+        for days, body in ((-2, '{"applied":0,"late":1}'), (2, '{"applied":1,"late":0}')):
+            rows = text_of("contracts", [f"C1,GENCO-P,SUPCO-C,{date_in(days)},1,1.000"])
+            self.assertEqual(self.ask(request("POST", f"/files/contracts/{days}.csv", OPERATOR, rows)), reply(200, body))
+        got = self.ask(request("POST", f"/runs/{date_in(2)}/SF", OPERATOR)).partition(b"\r\n\r\n")[2]
+        self.assertEqual(json.loads(got), {"name": "DayNotOver", "refused": 52})
+
+
+if __name__ == "__main__":
+    unittest.main()
