@@ -330,7 +330,7 @@ class Help(OfTheScript):
                 self.assertEqual((status, written), (2, b""))
                 for form in USAGE:
                     self.assertIn(f" settle {form}\n", told)
-                self.assertIn("some minutes", told.replace("\n", " "))
+                self.assertIn("half an hour or more", told.replace("\n", " "))
         self.assertEqual(self.calls(), [])
 
     def test_it_says_its_own_statuses(self):
