@@ -71,6 +71,25 @@ class Kept(Serving, test_serving.Served):
         self.assertEqual(rows_of(self.database, "results"), results_of(0, FIRST, 5_000_000))
         self.assertIn(("contracts", "c2.csv", rows, 0, 1), rows_of(self.database, "files"))
 
+    def test_balances_before_and_after_each_run(self):
+        """What was posted is read once, and again when a run or a file has come."""
+        balances = []
+
+        def ask_balances():
+            balances.append([self.ask(request("GET", f"/balances/{account}", OPERATOR)) for account in ("SUPCO-C", "GENCO-P")])
+
+        self.serve(11, before=self.market())
+        ask_balances()
+        self.ask(request("POST", f"/runs/{DAY}/SF", OPERATOR))
+        ask_balances()
+        self.ask(request("POST", "/files/prices/p2.csv", OPERATOR, text_of("prices", [f"{DAY},1,60.00000"])))
+        ask_balances()
+        self.ask(request("POST", f"/runs/{DAY}/R1", OPERATOR))
+        ask_balances()
+        moved = [[reply(200, f'{{"account":"{account}","moved_pence":{sign * pence}}}') for account, sign in (("SUPCO-C", -1), ("GENCO-P", 1))] for pence in (0, 38, 38, 45)]
+        self.assertEqual(balances, moved)
+        self.assertEqual(self.rest(), [])
+
     def test_none_is_served(self):
         self.init_market()
         before = content_of(self.database)

@@ -590,6 +590,14 @@ class Clients(Served):
                     break
         self.assertEqual(self.rest(), [])
 
+    def test_one_that_sends_more_than_its_request(self):
+        """It gets its reply, though most of what it sends is never asked for."""
+        self.serve(20)
+        for size in (1, 8_192, 100_000, 1_000_000):
+            for _ in range(5):
+                self.assertEqual(self.ask(request("GET", "/balances/SUPCO-C", SUPCO) + b"x" * size), reply(200, MOVED), size)
+        self.assertEqual(self.rest(), [])
+
     def test_one_that_stalls(self):
         """It sends half a head and then nothing. After ten seconds it is given up without a reply, and the next is
         answered."""

@@ -14,7 +14,7 @@ use Rattle.hh_wire.specs.declared.incoming.Incoming.TheVariants.{Asked}
 use Rattle.hh_serve.specs.declared.serve.ServeFault.{ServeFault}
 use Rattle.hh_serve.specs.declared.serve.ServeFault.TheVariants.{Memory, Read, Write}
 use Rattle.hh_serve.specs.declared.serve.Served.{Served}
-use Rattle.hh_serve.specs.declared.serve.Served.TheVariants.{Closed, Replied}
+use Rattle.hh_serve.specs.declared.serve.Served.TheVariants as outcome
 use Rattle.hh_serve.specs.Serves.{Answer, CountsReading, CountsWriting, IsAnswer, IsReadOf, Serves, StandsAfterOne}
 use Rattle.hh_sockets.specs.Arrivals.{Arrival, Exchange}
 use Rattle.hh_host.specs.Clocks.{ClockReading}
@@ -43,8 +43,9 @@ module _ (source : Option (List ℕ)) (old new : OfficeView) (counted counts : �
   -- the state that it leads to
   pub led_to : (device : DeviceChange) (served : Result Served ServeFault) → Serves source old new counted counts moment device served
       → (t : State) × LeadsTo (midnight_of old) moment source s t × Stands new t
-  led_to device (Ok Closed) (read, same, kept) = stays same
-  led_to device (Ok Replied) (answer, text, is, tells, went) = answered answer is
+  led_to device (Ok outcome.Closed) (read, same, kept) = stays same
+  led_to device (Ok outcome.Replied) (given, is, went) = answered (Ok given) is
+  led_to device (Ok outcome.Refused) (refused, text, is, tells, went) = answered (Err refused) is
   led_to device (Err Read) (same, kept) = stays same
   led_to device (Err Write) (answer, text, is, tells, went) = answered answer is
   led_to device (Err Memory) (given, is, others, kept) = answered (Ok given) is

@@ -10,9 +10,10 @@ ghost use Rattle.hh_desk.specs.steps.Serving.{ServesNext, ServesNow};
 use hh_devices::{Sink, Source};
 use hh_host::Clock;
 use hh_office::Office;
-use hh_serve::serve_one;
-use hh_sockets::{Connection, Listener};
+use hh_serve::{ServeFault, Served, serve_one};
+use hh_sockets::{Connection, Listener, Received};
 use hh_store::Tables;
+use hh_wire::Routes;
 use std::alloc::Global;
 
 /// Awaits so many connections of a listener, and serves each that comes once, one after the other (profile):
@@ -31,14 +32,16 @@ pub fn serve_each<T: Tables, L: Listener, C: Clock>(
     ensures refusals_up { IsSure T.is_open office.new → CountsUp T.refusals office.old office.new }
     ensures sure { IsSure T.is_open office.new → IsSure T.is_open office.old }
 {
+    let mut routes = Routes::new();
     for _ in 0..count {
-        serve_next(alloc, office, listener, clock);
+        serve_next(alloc, &mut routes, office, listener, clock);
     }
 }
 
 /// Awaits the next connection and serves it, if it comes.
 fn serve_next<T: Tables, L: Listener, C: Clock>(
     alloc: Global,
+    routes: &mut Routes,
     office: &mut Office<'_, T>,
     listener: &mut L,
     clock: &mut C,
@@ -52,17 +55,19 @@ fn serve_next<T: Tables, L: Listener, C: Clock>(
     let Ok(mut connection) = listener.accept() else {
         return;
     };
-    serve_now(alloc, office, clock, &mut connection);
-    listener.close(connection);
+    let received = serve_now(alloc, routes, office, clock, &mut connection);
+    listener.close(connection, received);
 }
 
-/// Serves a connection at the moment that the clock tells, if it tells one.
+/// Serves a connection at the moment that the clock tells, if it tells one. It answers how much of what the
+/// client sends was read.
 fn serve_now<T: Tables, S: Source, K: Sink, C: Clock>(
     alloc: Global,
+    routes: &mut Routes,
     office: &mut Office<'_, T>,
     clock: &mut C,
     connection: &mut Connection<S, K>,
-)
+) -> Received
     ensures serves { IsSure T.is_open office.new
         → ServesNow (HasRefused T.refusals office.old office.new) office.old.seen office.new.seen
         (exchange S.remaining S.failures K.taken K.failures connection.old connection.new)
@@ -71,8 +76,16 @@ fn serve_now<T: Tables, S: Source, K: Sink, C: Clock>(
     ensures sure { IsSure T.is_open office.new → IsSure T.is_open office.old }
 {
     let Ok(moment) = clock.now() else {
-        return;
+        return Received::Beginning;
     };
     let Connection { source, sink } = connection;
-    let _ = serve_one(alloc, office, moment, source, sink);
+    received_of(serve_one(alloc, routes, office, moment, source, sink))
+}
+
+/// How much of what a client sends was read of one that was served so.
+fn received_of(served: Result<Served, ServeFault>) -> Received {
+    match served {
+        Ok(Served::Closed | Served::Replied) => Received::Whole,
+        Ok(Served::Refused) | Err(_) => Received::Beginning,
+    }
 }

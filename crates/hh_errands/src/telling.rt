@@ -27,7 +27,8 @@ pub(crate) fn tell<O: Sink>(told: &Told, out: &mut O) -> Result<(), ErrandStop>
 
 /// The same of a reply.
 fn tell_reply<O: Sink>(reply: &Reply, out: &mut O) -> Result<(), ErrandStop>
-    ensures told { TellsOutcome (change O.taken O.failures out.old out.new) (Replied reply.now) result }
+    ensures told { TellsOutcome (change O.taken O.failures out.old out.new)
+        (Replied reply.now) result }
     ensures well { OnOk result (O.failures out.new ≡ O.failures out.old) }
     ensures failed { IsErrOf result ErrandStop.Output
         → Failed (O.failures out.old) (O.failures out.new) }

@@ -9,13 +9,13 @@ use std::io::Write;
 use std::net::{Ipv4Addr, TcpStream};
 use std::test::Fail;
 
-/// Answers one connection with its first bytes.
-fn answer_one<L: Listener>(listener: &mut L) -> Result<usize, SocketFailed> {
+/// Answers one connection with its first bytes, and takes it back as one of which so much was read.
+fn answer_one<L: Listener>(listener: &mut L, received: Received) -> Result<usize, SocketFailed> {
     let mut connection = listener.accept()?;
     let mut piece = [0u8; 5];
     let read = connection.source.read(&mut piece).unwrap_or(0);
     let written = connection.sink.write(&piece[..read]).unwrap_or(0);
-    listener.close(connection);
+    listener.close(connection, received);
     Ok(written)
 }
 
@@ -26,13 +26,17 @@ fn a_client_of_the_loopback_is_answered(rt: HostRuntime) -> Result<(), Fail> {
         assert_eq!(&rt; "a free port", "none");
         return Ok(());
     };
-    let mut client = TcpStream::connect(&rt, (Ipv4Addr::LOCALHOST, listener.port()))?;
-    client.write_all(b"hello, there")?;
-    client.shutdown(std::net::Shutdown::Write)?;
-    assert_eq!(&rt; answer_one(&mut listener), Ok(5));
-    let text = io::read_to_string(rt.alloc(), client)?;
-    assert_eq!(&rt; text.as_str(), "hello");
     assert_eq!(&rt; loopback.listen(listener.port()).is_err(), true);
+
+    // What it sends more than is read of it takes nothing back, whatever is said of it.
+    for received in [Received::Whole, Received::Beginning] {
+        let mut client = TcpStream::connect(&rt, (Ipv4Addr::LOCALHOST, listener.port()))?;
+        client.write_all(b"hello, there")?;
+        client.shutdown(std::net::Shutdown::Write)?;
+        assert_eq!(&rt; answer_one(&mut listener, received), Ok(5));
+        let text = io::read_to_string(rt.alloc(), client)?;
+        assert_eq!(&rt; text.as_str(), "hello");
+    }
     Ok(())
 }
 
@@ -56,9 +60,12 @@ fn connections_in_memory_come_in_their_order(rt: HostRuntime) -> Result<(), Fail
         return Ok(());
     };
     assert_eq!(&rt; listener.port(), 8080);
-    assert_eq!(&rt; answer_one(&mut listener), Ok(5));
-    assert_eq!(&rt; answer_one(&mut listener), Ok(3));
-    assert_eq!(&rt; answer_one(&mut listener), Err(SocketFailed));
+    assert_eq!(&rt; answer_one(&mut listener, Received::Whole), Ok(5));
+    assert_eq!(&rt; answer_one(&mut listener, Received::Whole), Ok(3));
+    assert_eq!(&rt;
+        answer_one(&mut listener, Received::Whole),
+        Err(SocketFailed)
+    );
     let Ok(kept) = replies.try_borrow() else {
         assert_eq!(&rt; "replies", "lent");
         return Ok(());

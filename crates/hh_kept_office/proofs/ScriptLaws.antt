@@ -1,5 +1,5 @@
 -- What a script comes to over a database.
-use Rattle.std.proofs.Common.{◌≡◌, ◌≢◌, ◌∙◌, ℕ, List, refl, ap, inr, subst, sym, Result, Ok, Err}
+use Rattle.std.proofs.Common.{◌≡◌, ◌∙◌, ℕ, List, refl, ap, inr, subst, sym, Result, Ok, Err}
 use Rattle.std.specs.Prelude.{⊤, IsTrue}
 use Rattle.sqlite.specs.Effect.{Database}
 use Rattle.jiff.specs.Words.{plain_zone}
@@ -13,7 +13,7 @@ use Rattle.hh_script.specs.Steps.{Step}
 use Rattle.hh_session.specs.Course.{cut_after}
 use Rattle.hh_session.specs.declared.script.ScriptStop.{ScriptStop}
 use Rattle.hh_session.specs.declared.script.ScriptStop.TheVariants as script
-use Rattle.hh_session.specs.Script.{IsScript, IsUnread}
+use Rattle.hh_session.specs.Script.{IsScript}
 use Rattle.hh_session.proofs.GivingUpLaws.{script_then}
 use Rattle.hh_database.specs.declared.stop.DatabaseStop.{DatabaseStop}
 use Rattle.hh_database.specs.declared.stop.DatabaseStop.TheVariants as database
@@ -68,15 +68,3 @@ pub cut_over : (host : HostView) (device : DeviceChange) (file : List ℕ) (cont
     → (IsTrue left.is_open → CutsOver host ⊤ device left.committed steps content) → RunsFileOver host device file content taken left (Err why)
 cut_over host device file content taken left why stop is output steps script cuts =
     subst (λ w. RunsFileOver host device file content taken left (Err w)) (sym (is ∙ ap stop_of output)) (steps, script, cuts)
-
--- a script that cannot be had was not run
-pub unread_over : (host : HostView) (device : DeviceChange) (file : List ℕ) (content : Content) (taken left : Connected) (why : ScriptStop) → why ≢ script.Output
-    → IsUnread host file why → LeavesConnected taken left → device.new ≡ device.old → RunsFileOver host device file content taken left (Err why)
-unread_over host device file content taken left script.Output other unread leaves silent = absurd (other refl)
-unread_over host device file content taken left script.File other unread leaves silent = (unread, leaves, silent)
-unread_over host device file content taken left (script.Off line) other unread leaves silent = (unread, leaves, silent)
-unread_over host device file content taken left (script.Refused fault) other unread leaves silent = (unread, leaves, silent)
-
--- a connection that comes back is as it was
-pub left_same : (taken : Connected) → LeavesConnected taken taken
-left_same taken up = (up, refl, refl)

@@ -26,7 +26,7 @@ use Rattle.hh_wire.specs.declared.incoming.Incoming.TheVariants.{Asked}
 use Rattle.hh_serve.specs.declared.serve.ServeFault.{ServeFault}
 use Rattle.hh_serve.specs.declared.serve.ServeFault.TheVariants.{Write}
 use Rattle.hh_serve.specs.declared.serve.Served.{Served}
-use Rattle.hh_serve.specs.declared.serve.Served.TheVariants.{Replied}
+use Rattle.hh_serve.specs.declared.serve.Served.TheVariants as outcome
 use Rattle.hh_serve.specs.ServeFaults.{serve_fault}
 use Rattle.hh_serve.specs.Serves.{IsAnswer, IsReadOf, Serves, StandsAfterOne}
 
@@ -56,8 +56,8 @@ unwritten fault = Err fault
 module _ (source : Option (List ℕ)) (old new : OfficeView) (counted counts : ℕ) (moment : ℤ) (device : DeviceChange) where
   -- A reply of the office was written, or not to its end.
   module _ (given : Reply) (is : IsAnswer source old new counted counts moment (Ok given)) where
-    pub replied : WritesReply device (reply_text given false) (Ok tt) → Serves source old new counted counts moment device (Ok Replied)
-    replied writes = (Ok given, reply_text given false, is, refl, writes.0)
+    pub replied : WritesReply device (reply_text given false) (Ok tt) → Serves source old new counted counts moment device (Ok outcome.Replied)
+    replied writes = (given, is, writes.0)
 
     unreplied : (fault : WriteFault) → WritesReply device (reply_text given false) (Err fault)
         → (given ≡ reply.Refused memory_fault → unwritten fault ≡ Err write.Memory → ⊥) → Serves source old new counted counts moment device (Err (serve_fault fault))
@@ -72,8 +72,8 @@ module _ (source : Option (List ℕ)) (old new : OfficeView) (counted counts : �
 
   -- The reply to a refused request was.
   module _ (refused : Refused) (is : IsAnswer source old new counted counts moment (Err refused)) where
-    pub refusal_replied : WritesRefusal device refused (Ok tt) → Serves source old new counted counts moment device (Ok Replied)
-    refusal_replied (text, replies, writes, well) = (Err refused, text, is, replies, writes)
+    pub refusal_replied : WritesRefusal device refused (Ok tt) → Serves source old new counted counts moment device (Ok outcome.Refused)
+    refusal_replied (text, replies, writes, well) = (refused, text, is, replies, writes)
 
     pub refusal_unreplied : (failed : DeviceFailed) → WritesRefusal device refused (Err failed) → Serves source old new counted counts moment device (Err Write)
     refusal_unreplied failed (text, replies, writes, failures) = (Err refused, text, is, replies, writes)

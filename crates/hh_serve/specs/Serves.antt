@@ -24,7 +24,7 @@ use Rattle.hh_wire.specs.Message.{Awaits, Reads}
 use Rattle.hh_serve.specs.declared.serve.ServeFault.{ServeFault}
 use Rattle.hh_serve.specs.declared.serve.ServeFault.TheVariants.{Memory, Read, Write}
 use Rattle.hh_serve.specs.declared.serve.Served.{Served}
-use Rattle.hh_serve.specs.declared.serve.Served.TheVariants.{Closed, Replied}
+use Rattle.hh_serve.specs.declared.serve.Served.TheVariants as outcome
 
 -- the office handled a request that came at a moment and replied this, with all that it promises of a request
 pub record Handles (old new : OfficeView) (counted counts : ℕ) (moment : ℤ) (request : Request) (given : Reply) : Type 0 where
@@ -61,12 +61,13 @@ module _ (source : Option (List ℕ)) (old new : OfficeView) (counted counts : �
 
   -- What changes in a sink by the call.
   module _ (device : DeviceChange) where
-    -- Nothing was sent, and nothing is done; an answer went out; a read failed, and nothing is done; a beginning of an answer went
-    -- out; or nothing did, since memory was refused to build the reply of the office to a request that it handled, and that reply
+    -- Nothing was sent, and nothing is done; the office's reply to what was asked went out; a refusal did; a read failed, and nothing
+    -- is done; a beginning of an answer went out; or nothing did, since memory was refused to build the reply of the office to a request that it handled, and that reply
     -- tells something else than refused memory.
     abbrev pub Serves : Result Served ServeFault → Type 0
-    Serves (Ok Closed) = IsReadOf source (Ok incoming.Closed) × (new ≡ old) × Keeps device.old device.new
-    Serves (Ok Replied) = (answer : Answer) × (text : List ℕ) × IsAnswer answer × RepliesAnswer answer text × Appends device.old device.new text
+    Serves (Ok outcome.Closed) = IsReadOf source (Ok incoming.Closed) × (new ≡ old) × Keeps device.old device.new
+    Serves (Ok outcome.Replied) = (given : Reply) × IsAnswer (Ok given) × Appends device.old device.new (reply_text given false)
+    Serves (Ok outcome.Refused) = (refused : Refused) × (text : List ℕ) × IsAnswer (Err refused) × RepliesRefused refused text × Appends device.old device.new text
     Serves (Err Read) = (new ≡ old) × Keeps device.old device.new
     Serves (Err Write) = (answer : Answer) × (text : List ℕ) × IsAnswer answer × RepliesAnswer answer text × AppendsFront device.old device.new text
     Serves (Err Memory) = (given : Reply) × IsAnswer (Ok given) × (given ≢ reply.Refused memory_fault) × Keeps device.old device.new

@@ -8,7 +8,7 @@ use hh_devices::{DeviceFailed, Sink, Source};
 use hh_office::Office;
 use hh_replies::{WriteFault, write_refused, write_reply};
 use hh_store::Tables;
-use hh_wire::{Incoming, WireFault, read_request};
+use hh_wire::{Incoming, Routes, WireFault, read_request};
 use std::alloc::Global;
 
 /// What came of a connection that was served.
@@ -16,8 +16,11 @@ use std::alloc::Global;
 pub enum Served {
     /// The client closed before its first byte, and nothing was written.
     Closed,
-    /// One reply was written.
+    /// The request was whole, and the reply of the office to it was written.
     Replied,
+    /// The request was refused before the office was asked, and one reply that tells so was written. The
+    /// client may still be sending.
+    Refused,
 }
 
 /// Why a connection was not served to its end.
@@ -58,6 +61,7 @@ impl From<WriteFault> for ServeFault {
 /// loads a file or orders a run may come again after either.
 pub fn serve_one<T: Tables, I: Source, O: Sink>(
     alloc: Global,
+    routes: &mut Routes,
     office: &mut Office<'_, T>,
     moment: i64,
     source: &mut I,
@@ -76,7 +80,7 @@ pub fn serve_one<T: Tables, I: Source, O: Sink>(
     ensures read { CountsReading result (I.failures source.old) (I.failures source.new) }
     ensures written { CountsWriting (change O.taken O.failures sink.old sink.new) result }
 {
-    match read_request(alloc, source) {
+    match read_request(alloc, routes, source) {
         Ok(Incoming::Closed) => Ok(Served::Closed),
         Ok(Incoming::Asked(request)) => {
             let reply = office.handle(moment, &request);
@@ -84,7 +88,7 @@ pub fn serve_one<T: Tables, I: Source, O: Sink>(
             Ok(Served::Replied)
         }
         Err(WireFault::Refused(refused)) => match write_refused(alloc, &refused, sink) {
-            Ok(()) => Ok(Served::Replied),
+            Ok(()) => Ok(Served::Refused),
             Err(DeviceFailed) => Err(ServeFault::Write),
         },
         Err(WireFault::Read) => Err(ServeFault::Read),

@@ -7,6 +7,7 @@ use hh_plain_tables::PlainTables;
 use hh_rows::{LeadMinutes, Settings};
 use hh_serve::{ServeFault, Served, serve_one};
 use hh_time::london;
+use hh_wire::Routes;
 use std::alloc::Global;
 
 /// The moment of all connections, 2024-06-29T22:26:40Z.
@@ -85,15 +86,28 @@ impl<'a> Conversation<'a> {
         }
     }
 
+    /// A client that sends all at once, without a failure, and is refused before the office is asked.
+    pub fn refused(sends: &'a [u8], gets: &'a [u8]) -> Conversation<'a> {
+        Conversation {
+            served: Ok(Served::Refused),
+            ..Conversation::of(sends, gets)
+        }
+    }
+
     /// Whether that comes of it.
-    fn comes(&self, alloc: Global, office: &mut Office<'_, PlainTables>) -> bool {
+    fn comes(
+        &self,
+        alloc: Global,
+        routes: &mut Routes,
+        office: &mut Office<'_, PlainTables>,
+    ) -> bool {
         let source = MemorySource::new(self.sends).in_pieces(self.piece.max(1));
         let mut source = source.failing_after(self.read_fails);
         let Ok(sink) = MemorySink::with_room(alloc, self.room) else {
             return false;
         };
         let mut sink = sink.in_pieces(self.piece).failing_after(self.write_fails);
-        let served = serve_one(alloc, office, MOMENT, &mut source, &mut sink);
+        let served = serve_one(alloc, routes, office, MOMENT, &mut source, &mut sink);
         served == self.served
             && source.failures() == self.failed_reads
             && sink.failures() == self.failed_writes
@@ -106,8 +120,9 @@ pub fn all_come(alloc: Global, conversations: &[Conversation<'_>]) -> bool {
     let Some(mut office) = new_office(alloc) else {
         return false;
     };
+    let mut routes = Routes::new();
     for conversation in conversations {
-        if !conversation.comes(alloc, &mut office) {
+        if !conversation.comes(alloc, &mut routes, &mut office) {
             return false;
         }
     }

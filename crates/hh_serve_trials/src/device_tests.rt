@@ -17,23 +17,23 @@ const BODY_TOO_LARGE: &[u8] =
 /// A head with a header that has no name, as far as that shows.
 const BROKEN: &[u8] = b"GET / HTTP/1.1\n:";
 
-/// A client that sends pieces of so many bytes, and waits for its reply then: a further read would fail.
-fn waiting<'a>(piece: usize, sends: &'a [u8], gets: &'a [u8]) -> Conversation<'a> {
+/// A client that sends pieces of so many bytes, and waits for what it gets then: a further read would fail.
+fn waiting(piece: usize, client: Conversation<'_>) -> Conversation<'_> {
     Conversation {
         piece,
-        read_fails: sends.len(),
-        ..Conversation::of(sends, gets)
+        read_fails: client.sends.len(),
+        ..client
     }
 }
 
 /// Whether each of these gets its reply in time.
 fn are_replied(alloc: Global, piece: usize) -> bool {
     let conversations = [
-        waiting(piece, BALANCE, FORBIDDEN),
-        waiting(piece, LOAD, LOADED),
-        waiting(piece, BALANCE, BALANCED),
-        waiting(piece, TOO_LARGE, BODY_TOO_LARGE),
-        waiting(piece, BROKEN, BAD_REQUEST),
+        waiting(piece, Conversation::of(BALANCE, FORBIDDEN)),
+        waiting(piece, Conversation::of(LOAD, LOADED)),
+        waiting(piece, Conversation::of(BALANCE, BALANCED)),
+        waiting(piece, Conversation::refused(TOO_LARGE, BODY_TOO_LARGE)),
+        waiting(piece, Conversation::refused(BROKEN, BAD_REQUEST)),
     ];
     all_come(alloc, &conversations)
 }
@@ -51,7 +51,7 @@ fn requests_in_pieces_get_their_replies_in_time(rt: HostRuntime) -> Result<(), F
 fn is_left(alloc: Global, piece: usize, read_fails: usize) -> bool {
     let cut = Conversation {
         piece,
-        ..Conversation::of(LOAD.get(..read_fails).unwrap_or_default(), BAD_REQUEST)
+        ..Conversation::refused(LOAD.get(..read_fails).unwrap_or_default(), BAD_REQUEST)
     };
     let closed = Conversation {
         served: Ok(Served::Closed),

@@ -2,7 +2,8 @@
 
 use crate::conversations::*;
 use hh_serve::{Served, serve_one};
-use hh_sockets::{Listener, Loopback, RuntimeLoopback};
+use hh_sockets::{Listener, Loopback, Received, RuntimeLoopback};
+use hh_wire::Routes;
 use std::alloc::Global;
 use std::io;
 use std::io::Write;
@@ -19,12 +20,13 @@ fn is_replied<L: Listener>(alloc: Global, listener: &mut L) -> bool {
     };
     let served = serve_one(
         alloc,
+        &mut Routes::new(),
         &mut office,
         MOMENT,
         &mut connection.source,
         &mut connection.sink,
     );
-    listener.close(connection);
+    listener.close(connection, Received::Whole);
     served == Ok(Served::Replied)
 }
 

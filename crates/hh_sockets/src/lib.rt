@@ -5,6 +5,6 @@ mod loopback;
 mod memory;
 mod runtime;
 
-pub use loopback::{Connection, Listener, Loopback, SocketFailed};
+pub use loopback::{Connection, Listener, Loopback, Received, SocketFailed};
 pub use memory::{MemoryListener, MemoryLoopback, MemoryPort};
 pub use runtime::{RuntimeListener, RuntimeLoopback};

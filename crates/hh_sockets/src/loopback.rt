@@ -24,6 +24,15 @@ pub struct Connection<S, K> {
     pub sink: K,
 }
 
+/// How much of what a client sends had been read when its connection is taken back.
+#[derive(Clone, Copy, Debug, PartialEq, Eq)]
+pub enum Received {
+    /// All that it has to say.
+    Whole,
+    /// A beginning. The client may still be sending.
+    Beginning,
+}
+
 /// What listens on ports of the loopback, 127.0.0.1.
 pub trait Loopback {
     type Listener: Listener + Drop;
@@ -64,8 +73,8 @@ pub trait Listener {
             Self.Sink.failures leads self.old self.new result };
 
     /// Takes back the connection that was handed over last, so that its client can read what went out
-    /// to it.
-    fn close(&mut self, connection: Connection<Self::Source, Self::Sink>)
+    /// to it, whether it was read whole or not.
+    fn close(&mut self, connection: Connection<Self::Source, Self::Sink>, received: Received)
         ensures { TakesBack Self.Source.remaining Self.Source.failures Self.Sink.taken
             Self.Sink.failures leads self.old self.new connection };
 }

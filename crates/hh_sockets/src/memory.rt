@@ -3,7 +3,7 @@
 ghost use Rattle.std.specs.Prelude.{◌≡◌, Some};
 ghost use Rattle.hh_sockets.specs.Arrivals.{TakesBack};
 
-use crate::loopback::{Connection, Listener, Loopback, SocketFailed};
+use crate::loopback::{Connection, Listener, Loopback, Received, SocketFailed};
 use hh_devices::{MemorySink, MemorySource};
 use std::alloc::Global;
 use std::cell::RefCell;
@@ -94,7 +94,7 @@ impl<'a> Listener for MemoryListener<'a> {
     }
 
     /// Keeps what went out, if memory is had for it.
-    fn close(&mut self, connection: Connection<MemorySource<'a>, MemorySink>)
+    fn close(&mut self, connection: Connection<MemorySource<'a>, MemorySink>, _received: Received)
         ensures { TakesBack (λ source. Some (left_in source)) source_failures
             (λ sink. Some (taken_by sink)) sink_failures memory_leads self.old self.new
             connection.entry }

@@ -2,7 +2,7 @@
 
 ghost use Rattle.std.specs.Prelude.{◌≡◌, ⊤};
 
-use crate::loopback::{Connection, Listener, Loopback, SocketFailed};
+use crate::loopback::{Connection, Listener, Loopback, Received, SocketFailed};
 use hh_devices::{Source, StreamSink, StreamSource};
 use std::net::{Ipv4Addr, Net, OpenListener, OpenStream, Shutdown, TcpListener};
 use std::time::Duration;
@@ -79,9 +79,10 @@ where
         })
     }
 
-    /// Says that no more goes out, and reads what the client still sends, for a while: a system that
-    /// closes a socket with bytes unread may take back what went out before.
-    fn close(&mut self, connection: Connection<Self::Source, Self::Sink>)
+    /// Says that no more goes out. A system that closes a socket with bytes unread may take back what went
+    /// out before: so a client that may still be sending, or has sent more than was read, is read on for
+    /// a while.
+    fn close(&mut self, connection: Connection<Self::Source, Self::Sink>, received: Received)
         ensures { ⊤ }
     {
         let Connection { mut source, sink } = connection;
@@ -89,10 +90,25 @@ where
         if stream.shutdown(Shutdown::Write).is_err() {
             return;
         }
+        if received == Received::Whole && !has_sent_more(&stream, &mut source) {
+            return;
+        }
         let most = Some(Duration::from_millis(MOST_MILLISECONDS_BEHIND));
         if stream.set_read_timeout(most).is_ok() {
             read_behind(&mut source);
         }
+    }
+}
+
+/// Whether bytes of a client that was read whole are still unread. One of them is read then.
+fn has_sent_more<T: OpenStream, S: Source>(stream: &T, source: &mut S) -> bool {
+    let mut byte = [0u8; 1];
+    if stream.set_nonblocking(true).is_err() {
+        return true;
+    }
+    match source.read(&mut byte) {
+        Ok(count) if count > 0 => stream.set_nonblocking(false).is_ok(),
+        _ => false,
     }
 }
 

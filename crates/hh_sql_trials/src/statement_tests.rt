@@ -320,10 +320,6 @@ fn what_a_run_wrote_is_read_again(rt: HostRuntime) -> Result<(), Fail> {
         [(given(result_key())?, AccountAmounts::of(&result))].as_slice()
     );
     assert_eq!(rt;
-        select_postings_to(&mut conn, rt.alloc(), &posting.0.account)?.as_slice(),
-        [posting].as_slice()
-    );
-    assert_eq!(rt;
         select_postings(&mut conn, rt.alloc())?.as_slice(),
         [posting].as_slice()
     );

@@ -260,15 +260,6 @@ pub select_results_of_is : IsSelect results (1 ∷ 2 ∷ []) (1 ∷ 2 ∷ 3 ∷ 
 unfolding understood everything
 select_results_of_is = record { names = codes "day" ∷ codes "kind" ∷ codes "period" ∷ codes "party" ∷ codes "side" ∷ codes "credited" ∷ codes "balancing" ∷ codes "contracts" ∷ codes "imbalance" ∷ codes "charge" ∷ codes "share" ∷ []; command = refl; unlisted = refl; plain = (refl, refl) }
 
-abbrev pub select_postings_to_text : List ℕ
-select_postings_to_text =
-    codes "SELECT day, kind, party, side, pence FROM postings WHERE party = ?1 AND side = ?2 ORDER BY day, kind, "
-    ++ codes "party, side"
-
-pub select_postings_to_is : IsSelect postings (3 ∷ 4 ∷ []) (1 ∷ 2 ∷ 3 ∷ 4 ∷ []) select_postings_to_text
-unfolding understood everything
-select_postings_to_is = record { names = codes "day" ∷ codes "kind" ∷ codes "party" ∷ codes "side" ∷ codes "pence" ∷ []; command = refl; unlisted = refl; plain = (refl, refl) }
-
 abbrev pub select_postings_text : List ℕ
 select_postings_text = codes "SELECT day, kind, party, side, pence FROM postings ORDER BY day, kind, party, side"
 

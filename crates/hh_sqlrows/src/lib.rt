@@ -24,7 +24,7 @@ pub use make::{make_table, make_tables};
 pub use meter_rows::{replace_meter, select_meter, select_meters_on};
 pub use office_rows::{insert_mark, insert_settings, select_mark, select_settings};
 pub use party_rows::{replace_party, select_parties, select_party};
-pub use posting_rows::{insert_posting, insert_postings, select_postings, select_postings_to};
+pub use posting_rows::{insert_posting, insert_postings, select_postings};
 pub use price_rows::{replace_price, select_price, select_prices_on};
 pub use reallocation_rows::{replace_reallocation, select_reallocations_of};
 pub use reference_rows::{replace_reference, replace_references, select_reference};

@@ -1,8 +1,6 @@
 //! The rows of postings.
 
-ghost use Rattle.std.specs.Prelude.{◌≡◌, false, IsTrue, OnOk, IfOk, filter};
-ghost use Rattle.std.specs.Ordering.{is_eq};
-ghost use Rattle.hh_names.specs.Accounts.{account_cmp};
+ghost use Rattle.std.specs.Prelude.{◌≡◌, false, IsTrue, OnOk, IfOk};
 ghost use Rattle.sqlite.specs.Held.{state};
 ghost use Rattle.hh_sqlrows.specs.Forms.{Puts, PutsAll, rows_under_keys};
 ghost use Rattle.hh_sqlrows.specs.Office.{IsOffice};
@@ -10,9 +8,8 @@ ghost use Rattle.hh_sqlrows.specs.OfficeTables.{postings};
 ghost use Rattle.hh_sqlrows.specs.Reads.{CommitsNothingOf, IsHonest, LeavesOffice, OfOffice, StaysOpen, Stood};
 ghost use Rattle.hh_sqlrows.specs.Statements.{CommitsNothing, Inside, KeepsCommit, StaysInside};
 
-use crate::statement::{select_by, select_entries, write_entry};
+use crate::statement::{select_entries, write_entry};
 use hh_keyed_rows::RowFault;
-use hh_names::Account;
 use hh_num::Pence;
 use hh_states::PostingKey;
 use sqlite::{Alter, Connection, Transaction};
@@ -42,32 +39,6 @@ pub fn insert_posting<S: Alter>(
         "INSERT INTO postings (day, kind, party, side, pence) VALUES (?1, ?2, ?3, ?4, ?5)",
         key,
         pence,
-    )
-}
-
-/// The postings to an account, by run.
-pub fn select_postings_to<S: Alter>(
-    conn: &mut Connection<S>,
-    alloc: Global,
-    account: &Account,
-) -> Result<Vec<(PostingKey, Pence)>, RowFault>
-    ensures value { let old = state S.Store conn.old in
-        let new = state S.Store conn.new in
-        OfOffice old new (IfOk result (λ found.
-        found.items ≡ filter (λ e. is_eq (account_cmp e.0.account account.now))
-        (rows_under_keys postings old.now.trees))) }
-    ensures stood { Stood (state S.Store conn.old) (state S.Store conn.new) }
-    ensures left { LeavesOffice (state S.Store conn.old) (state S.Store conn.new) }
-    ensures mode { conn.old.in_transaction ≡ false → conn.new.in_transaction ≡ false }
-    ensures stays { StaysOpen (state S.Store conn.old) (state S.Store conn.new) result }
-    ensures honest { IsHonest (state S.Store conn.old) (state S.Store conn.new) }
-    ensures survives { CommitsNothingOf (state S.Store conn.old) (state S.Store conn.new) }
-{
-    select_by(
-        conn,
-        alloc,
-        "SELECT day, kind, party, side, pence FROM postings WHERE party = ?1 AND side = ?2 ORDER BY day, kind, party, side",
-        account,
     )
 }
 

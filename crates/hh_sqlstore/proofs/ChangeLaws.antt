@@ -1,5 +1,6 @@
 -- Tables that a transaction has changed, or tried to change, and their content.
-use Rattle.std.proofs.Common.{◌≡◌, ◌∙◌, ℕ, false, IsTrue, ap, refl, subst, sym}
+use Rattle.std.proofs.Common.{◌≡◌, ◌∙◌, ℕ, ℤ, false, IsTrue, Option, None, ap, refl, subst, sym}
+use Rattle.std.specs.Global.{Vec}
 use Rattle.std.specs.FinMap.{find}
 use Rattle.sqlite_trees.specs.declared.store.Store.{Ghosts}
 use Rattle.sqlite.specs.Effect.{Database}
@@ -8,6 +9,7 @@ use Rattle.sqlite.specs.State.{HasCleanDisk, State}
 use Rattle.hh_rows.specs.declared.settings.Settings.{Settings}
 use Rattle.hh_keyed_rows.specs.Values.{version}
 use Rattle.hh_states.specs.Content.{Content}
+use Rattle.hh_states.specs.declared.run_keys.PostingKey.{PostingKey}
 use Rattle.hh_sqlrows.specs.Contents.{content_of}
 use Rattle.hh_sqlrows.specs.Office.{IsOffice}
 use Rattle.hh_sqlrows.specs.OfficeTables.{one_row_cmp}
@@ -35,7 +37,7 @@ still_holds kept old new stays holds = record {
   alike = record { parties = refl; units = refl; references = refl; meters = refl; contracts = refl; reallocations = refl; files = refl; runs = refl; results = refl; credits = refl; postings = refl };
 }
 
-module _ {S : Type 0} (g : Ghosts S) (t : Stored S) (idle : IsIdle g t) (connection : Held S) (count : ℕ) (Change : Database → Database → Type 0)
+module _ {S : Type 0} (g : Ghosts S) (t : Stored S) {posted : Option (Vec (PostingKey × ℤ))} (idle : IsIdle g t posted) (connection : Held S) (count : ℕ) (Change : Database → Database → Type 0)
     (changed : IsTrue (state g connection).is_open → IsChangedBy Change (state g t.connection) (state g connection)) where
   abbrev after : Stored S
   after = record { connection = connection; settings = t.settings; refusals = count }
@@ -56,10 +58,11 @@ module _ {S : Type 0} (g : Ghosts S) (t : Stored S) (idle : IsIdle g t) (connect
   pub content_changed : IsTrue is.is_open → (f : Content → Content) → ((old new : Database) → Change old new → content_of t.settings new.trees ≡ f (content_of t.settings old.trees)) → content_in g after ≡ f (content_in g t)
   content_changed stands f makes = makes was.committed is.committed (committed stands)
 
-  -- they are idle as before
-  pub idle_changed : ((old new : Database) → Change old new → StaysOffice old new) → connection.in_transaction ≡ false → IsIdle g after
+  -- they are idle as before, with no postings at hand
+  pub idle_changed : ((old new : Database) → Change old new → StaysOffice old new) → connection.in_transaction ≡ false → IsIdle g after None
   idle_changed stays mode = record {
     autocommit = mode;
     settled = λ stands. (changed stands).settled;
     holds = λ stands. still_holds t.settings was.committed is.committed (stays _ _ (committed stands)) (idle.holds (changed stands).was_open);
+    at_hand = λ stands. tt;
   }

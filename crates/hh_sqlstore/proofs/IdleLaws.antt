@@ -1,18 +1,23 @@
 -- Tables whose connection has read something, and their content.
-use Rattle.std.proofs.Common.{◌≡◌, ◌∙◌, ℕ, false, IsTrue, ap, subst, sym}
+use Rattle.std.proofs.Common.{◌≡◌, ◌∙◌, ℕ, ℤ, false, IsTrue, Option, ap, subst, sym}
+use Rattle.std.specs.Prelude.{IfSome}
+use Rattle.std.specs.Global.{Vec}
 use Rattle.sqlite_trees.specs.declared.store.Store.{Ghosts}
 use Rattle.sqlite_trees.specs.Tree.{Trees}
 use Rattle.sqlite.specs.Effect.{Database}
 use Rattle.sqlite.specs.Held.{Held, state}
 use Rattle.sqlite.specs.State.{State}
+use Rattle.hh_states.specs.declared.run_keys.PostingKey.{PostingKey}
 use Rattle.hh_keyed_rows.specs.Values.{version}
 use Rattle.hh_sqlrows.specs.Contents.{content_of}
+use Rattle.hh_sqlrows.specs.Forms.{rows_under_keys}
 use Rattle.hh_sqlrows.specs.Office.{IsOffice}
+use Rattle.hh_sqlrows.specs.OfficeTables.{postings}
 use Rattle.hh_sqlparts.specs.Readings.{SelectsOnly, OfSettled}
 use Rattle.hh_sqlstore.specs.Holds.{Holds}
-use Rattle.hh_sqlstore.specs.Stores.{IsIdle, Stored, content_in}
+use Rattle.hh_sqlstore.specs.Stores.{ArePosted, IsIdle, Stored, content_in}
 
-module _ {S : Type 0} (g : Ghosts S) (t : Stored S) (idle : IsIdle g t) (connection : Held S) (count : ℕ) (reading : SelectsOnly (state g t.connection) (state g connection)) where
+module _ {S : Type 0} (g : Ghosts S) (t : Stored S) {posted : Option (Vec (PostingKey × ℤ))} (idle : IsIdle g t posted) (connection : Held S) (count : ℕ) (reading : SelectsOnly (state g t.connection) (state g connection)) where
   abbrev after : Stored S
   after = record { connection = connection; settings = t.settings; refusals = count }
 
@@ -38,11 +43,22 @@ module _ {S : Type 0} (g : Ghosts S) (t : Stored S) (idle : IsIdle g t) (connect
       let settled = idle.settled (reading.stood stands) in
       subst (λ (db : Database). P db.trees) settled (answer stands (office stands) settled)
 
-  -- they are idle as before
-  pub idle_after : connection.in_transaction ≡ false → IsIdle g after
-  idle_after mode = record {
+  -- what is all that there was of the postings is all that there is
+  same_posted : (kept : Option (Vec (PostingKey × ℤ))) → OfSettled was is (ArePosted was kept) → ArePosted is kept
+  same_posted kept all stands =
+      let stood = reading.stood stands in
+      subst (λ (db : Database). IfSome kept (λ rows. rows.items ≡ rows_under_keys postings db.trees)) (sym (left stands).0) (all stands (office stands) (idle.settled stood) stood)
+
+  -- they are idle as before, with these postings at hand
+  pub idle_with : (kept : Option (Vec (PostingKey × ℤ))) → OfSettled was is (ArePosted was kept) → connection.in_transaction ≡ false → IsIdle g after kept
+  idle_with kept all mode = record {
     autocommit = mode;
     settled = λ stands. (left stands).0 ∙ idle.settled (reading.stood stands) ∙ sym (left stands).1;
     holds = λ stands.
         subst (λ (db : Database). Holds version (content_of t.settings db.trees) db) (sym (left stands).1) (idle.holds (reading.stood stands));
+    at_hand = same_posted kept all;
   }
+
+  -- they are idle as before
+  pub idle_after : connection.in_transaction ≡ false → IsIdle g after posted
+  idle_after = idle_with posted (λ stands office settled. idle.at_hand)

@@ -5,15 +5,12 @@ use Rattle.std.specs.List.{AllByRecursion, cons_option}
 use Rattle.std.specs.Ordering.{is_eq, nat_cmp}
 use Rattle.std.proofs.lemmas.Bool.Decides.{nat_tests}
 use Rattle.std.proofs.lemmas.List.Elements.{All-from_recursion, All-map}
-use Rattle.hh_names.specs.declared.account.Account.{Account}
-use Rattle.hh_names.specs.Accounts.{account_cmp}
 use Rattle.hh_calc.specs.declared.result.AccountRow.{AccountRow}
 use Rattle.hh_runs.specs.declared.run_key.RunKey.{RunKey}
 use Rattle.hh_runs.specs.declared.summary.Summary.{Summary}
-use Rattle.hh_states.specs.declared.run_keys.PostingKey.{PostingKey}
 use Rattle.hh_states.specs.declared.run_keys.ResultKey.{ResultKey}
 use Rattle.hh_states.specs.DaySettlement.{from_one_to, periods_on}
-use Rattle.hh_states.specs.Reads.{posting_to, result_in, summary_on}
+use Rattle.hh_states.specs.Reads.{result_in, summary_on}
 use Rattle.hh_states.specs.Runs.{run_key_cmp}
 use Rattle.hh_keyed_rows.specs.declared.amounts.AccountAmounts.{AccountAmounts}
 use Rattle.hh_sqlrows.specs.Contents.{result_of}
@@ -50,12 +47,6 @@ pub runs_picked : (date : ℕ) (rows : List (RunKey × Summary))
     → filter_map (summary_on date) (filter (λ e. is_eq (nat_cmp e.0.date date)) rows) ≡ filter_map (summary_on date) rows
 runs_picked date rows =
     read_of_picked (λ e. is_eq (nat_cmp e.0.date date)) (summary_on date) (λ e other. none_by (e.0.date == date) _ (sym (same_number e.0.date date) ∙ other)) rows
-
--- the postings to an account, of those to it
-pub postings_picked : (account : Account) (rows : List (PostingKey × ℤ))
-    → filter_map (posting_to account) (filter (λ e. is_eq (account_cmp e.0.account account)) rows) ≡ filter_map (posting_to account) rows
-postings_picked account rows =
-    read_of_picked (λ e. is_eq (account_cmp e.0.account account)) (posting_to account) (λ e other. none_by (is_eq (account_cmp e.0.account account)) _ other) rows
 
 -- an account's row with its period
 abbrev pub by_period : ResultKey × AccountAmounts → ℕ × AccountRow

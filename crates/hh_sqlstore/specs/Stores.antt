@@ -1,12 +1,17 @@
 -- The tables of an office in a database: a connection, the settings that it holds, and how often it has refused.
-use Rattle.std.specs.Prelude.{◌≡◌, ℕ, false, List, IsTrue, refl}
+use Rattle.std.specs.Prelude.{◌≡◌, ℕ, ℤ, false, List, Option, IfSome, IsTrue, refl}
 use Rattle.std.specs.Coded.{Coded, code_by, coded×, coded_ℕ, coded_list}
+use Rattle.std.specs.Global.{Vec}
 use Rattle.sqlite_trees.specs.declared.store.Store.{Ghosts}
 use Rattle.sqlite.specs.Held.{Held, held_code, state}
+use Rattle.sqlite.specs.State.{State}
 use Rattle.hh_rows.specs.declared.settings.Settings.{Settings}
 use Rattle.hh_states.specs.Content.{Content}
+use Rattle.hh_states.specs.declared.run_keys.PostingKey.{PostingKey}
 use Rattle.hh_keyed_rows.specs.Values.{version}
 use Rattle.hh_sqlrows.specs.Contents.{content_of}
+use Rattle.hh_sqlrows.specs.Forms.{rows_under_keys}
+use Rattle.hh_sqlrows.specs.OfficeTables.{postings}
 use Rattle.hh_sqlstore.specs.Holds.{Holds}
 
 pub record Stored (S : Type 0) : Type 0 where
@@ -21,13 +26,19 @@ stored_code {S} store =
     (λ p. record { connection = p.0; settings = record { lead_minutes = p.1.1.0; operator_key = p.1.1.1 }; refusals = p.1.0 })
     (λ _. refl)
 
+-- what is at hand of the postings, if they are, is all that there is of them
+abbrev pub ArePosted : State → Option (Vec (PostingKey × ℤ)) → Type 0
+ArePosted now posted = IsTrue now.is_open → IfSome posted (λ rows. rows.items ≡ rows_under_keys postings now.now.trees)
+
 module _ {S : Type 0} (g : Ghosts S) (t : Stored S) where
   -- what the last commit left
   abbrev pub content_in : Content
   content_in = content_of t.settings (state g t.connection).committed.trees
 
-  -- No transaction is under way, and while they stand, what there is now is what was committed, and it holds their content.
-  pub record IsIdle : Type 0 where
+  -- No transaction is under way, and while they stand, what there is now is what was committed, and it holds their content. These
+  -- postings are at hand.
+  pub record IsIdle (posted : Option (Vec (PostingKey × ℤ))) : Type 0 where
     pub autocommit : t.connection.in_transaction ≡ false
     pub settled : IsTrue (state g t.connection).is_open → (state g t.connection).now ≡ (state g t.connection).committed
     pub holds : IsTrue (state g t.connection).is_open → Holds version content_in (state g t.connection).committed
+    pub at_hand : ArePosted (state g t.connection) posted

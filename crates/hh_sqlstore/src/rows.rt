@@ -10,6 +10,7 @@ ghost use Rattle.hh_sqlrows.specs.Contents.{registered_of, result_of};
 ghost use Rattle.hh_sqlrows.specs.Forms.{rows_under_keys};
 ghost use Rattle.hh_sqlrows.specs.OfficeTables.{parties, postings, results, runs};
 ghost use Rattle.hh_sqlparts.specs.Readings.{SelectsOnly, OfSettled};
+ghost use Rattle.hh_sqlstore.specs.Stores.{ArePosted};
 ghost use Rattle.hh_sqlstore.specs.steps.Reported.{IsReported};
 
 use hh_calc::AccountRow;
@@ -19,10 +20,7 @@ use hh_names::{Account, PartyId, PeriodNumber};
 use hh_num::Pence;
 use hh_rows::PartyRegistration;
 use hh_runs::{RunKey, RunKind, Summary};
-use hh_sqlrows::{
-    select_parties, select_postings, select_postings_to, select_results_of, select_run,
-    select_runs_on,
-};
+use hh_sqlrows::{select_parties, select_postings, select_results_of, select_run, select_runs_on};
 use hh_states::{PostingKey, ResultKey};
 use hh_time::SettlementDate;
 use sqlite::{Alter, Connection};
@@ -99,21 +97,47 @@ fn rows_by_period(
         .collect(alloc)
 }
 
-/// What the runs have posted to an account, by the dates of the runs, then by their kinds.
+/// What the runs have posted to an account, by the dates of the runs, then by their kinds. All postings are
+/// read if they aren't at hand, and are at hand then.
 pub(crate) fn postings_to_account<S: Alter>(
     conn: &mut Connection<S>,
     alloc: Global,
+    posted: &mut Option<Vec<(PostingKey, Pence)>>,
     account: &Account,
 ) -> Result<Vec<(RunKey, Pence)>, RowFault>
     ensures value { let old = state S.Store conn.old in
         let new = state S.Store conn.new in
-        OfSettled old new (IfOk result (λ found. found.items
+        ArePosted old posted.old → OfSettled old new (IfOk result (λ found. found.items
         ≡ filter_map (posting_to account.now) (rows_under_keys postings old.now.trees))) }
+    ensures posted { let old = state S.Store conn.old in
+        let new = state S.Store conn.new in
+        ArePosted old posted.old → OfSettled old new (ArePosted old posted.new) }
     ensures reading { SelectsOnly (state S.Store conn.old) (state S.Store conn.new) }
     ensures mode { conn.old.in_transaction ≡ false → conn.new.in_transaction ≡ false }
 {
-    let rows = select_postings_to(conn, alloc, account)?;
-    Ok(postings_to(alloc, account, &rows)?)
+    let rows = all_postings(conn, alloc, posted.take())?;
+    let found = postings_to(alloc, account, &rows)?;
+    *posted = Some(rows);
+    Ok(found)
+}
+
+/// All postings: those at hand, or else those that are read.
+fn all_postings<S: Alter>(
+    conn: &mut Connection<S>,
+    alloc: Global,
+    posted: Option<Vec<(PostingKey, Pence)>>,
+) -> Result<Vec<(PostingKey, Pence)>, RowFault>
+    ensures value { let old = state S.Store conn.old in
+        let new = state S.Store conn.new in
+        ArePosted old posted → OfSettled old new (IfOk result (λ rows.
+        rows.items ≡ rows_under_keys postings old.now.trees)) }
+    ensures reading { SelectsOnly (state S.Store conn.old) (state S.Store conn.new) }
+    ensures mode { conn.old.in_transaction ≡ false → conn.new.in_transaction ≡ false }
+{
+    match posted {
+        Some(rows) => Ok(rows),
+        None => select_postings(conn, alloc),
+    }
 }
 
 /// The summary of a run with the rows of its accounts, if the run is there.

@@ -18,7 +18,9 @@ ghost use Rattle.hh_sqlstore.specs.Stores.{content_in};
 use crate::adopting::settings_of_office;
 use crate::making::make_office;
 use crate::rising::Rising;
+use hh_num::Pence;
 use hh_rows::Settings;
+use hh_states::PostingKey;
 use hh_store::StoreFault;
 use sqlite::{Alter, Connection};
 use std::alloc::Global;
@@ -30,6 +32,8 @@ pub struct SqlTables<S: Alter> {
     pub(crate) connection: Connection<S>,
     pub(crate) settings: Settings,
     pub(crate) refusals: u64,
+    /// All postings, if they were read since the last change.
+    pub(crate) posted: Option<Vec<(PostingKey, Pence)>>,
 }
 
 impl<S: Alter> Model for SqlTables<S> {
@@ -49,7 +53,7 @@ impl<S: Alter> Model for SqlTables<S> {
       connection = t.connection;
       settings = t.settings;
       refusals = t.refusals;
-    }) };
+    }) t.posted };
 }
 
 impl<S: Alter> SqlTables<S> {
@@ -89,6 +93,7 @@ impl<S: Alter> SqlTables<S> {
                 connection,
                 settings,
                 refusals: 0,
+                posted: None,
             }),
             Err(fault) => Err((StoreFault::from(fault), connection)),
         }
@@ -112,6 +117,7 @@ impl<S: Alter> SqlTables<S> {
             connection,
             settings: _,
             refusals: _,
+            posted: _posted,
         } = self;
         connection
     }
@@ -153,6 +159,7 @@ impl<S: Rising> SqlTables<S> {
                 connection,
                 settings,
                 refusals: 0,
+                posted: None,
             }),
             Err(fault) => Err((StoreFault::from(fault), connection)),
         }

@@ -118,7 +118,7 @@ impl<S: Alter> Tables for SqlTables<S> {
     }
 
     fn postings(&mut self, account: &Account) -> Result<Vec<(RunKey, Pence)>, StoreFault> {
-        match postings_to_account(&mut self.connection, self.alloc, account) {
+        match postings_to_account(&mut self.connection, self.alloc, &mut self.posted, account) {
             Ok(rows) => Ok(rows),
             Err(fault) => Err(refuse(&mut self.refusals, StoreFault::from(fault))),
         }
@@ -148,6 +148,7 @@ impl<S: Alter> Tables for SqlTables<S> {
     }
 
     fn apply_load(&mut self, change: LoadChange) -> Result<(), StoreFault> {
+        self.posted = None;
         match keep_load(&mut self.connection, self.alloc, &change) {
             Ok(made) => Ok(made),
             Err(fault) => Err(refuse(&mut self.refusals, StoreFault::from(fault))),
@@ -157,6 +158,7 @@ impl<S: Alter> Tables for SqlTables<S> {
     fn apply_run(&mut self, change: RunChange) -> Result<(), StoreFault> {
         // Does nothing, but carries a law for the proof: each row of a run is of the account of its key.
         rows_of_their_accounts();
+        self.posted = None;
         match keep_run(&mut self.connection, self.alloc, &change) {
             Ok(made) => Ok(made),
             Err(fault) => Err(refuse(&mut self.refusals, StoreFault::from(fault))),

@@ -10,3 +10,4 @@ mod stop;
 
 pub use incoming::{Incoming, WireFault};
 pub use request::{message_is_one, read_request};
+pub use router::Routes;

@@ -12,7 +12,7 @@ ghost use Rattle.hh_wire.specs.steps.RouteRows.{rows};
 use crate::body::read_body;
 use crate::incoming::{Incoming, WireFault};
 use crate::route::{action_at, method_of};
-use crate::router::{Route, office_router};
+use crate::router::{Route, Routes};
 use crate::stop::Stop;
 use hh_devices::Source;
 use hh_heads::{Front, MOST_HEAD_BYTES, MOST_HEADERS, Terms, WholeHead, read_front};
@@ -26,8 +26,8 @@ use std::alloc::Global;
 const MOST_BODY_BYTES: u64 = 1_048_576;
 
 /// Reads a request to the office from what a client sends, in pieces of any lengths (profile). It
-/// reads no further once the request is whole or refused. Memory is taken for the body, the router
-/// and the key alone.
+/// reads no further once the request is whole or refused. Memory is taken for the body, the key and,
+/// where they aren't at hand yet, the routes alone.
 ///
 /// # Errors
 ///
@@ -36,7 +36,11 @@ const MOST_BODY_BYTES: u64 = 1_048_576;
 /// `BodyTooLarge`; `BadRequest` for a cut body; `NoRoute`; `BadMethod`; `LengthRequired`. Once a
 /// head was read `Memory` may come in the place of any answer. `Read` comes where a call of the
 /// source failed in this call, and then the bytes before it waited for more.
-pub fn read_request<S: Source>(alloc: Global, source: &mut S) -> Result<Incoming, WireFault>
+pub fn read_request<S: Source>(
+    alloc: Global,
+    routes: &mut Routes,
+    source: &mut S,
+) -> Result<Incoming, WireFault>
     ensures message { IfSome (S.remaining source.old) (λ bytes. Reads bytes result) }
     ensures awaited { FailsAwaiting result (S.remaining source.old) (S.remaining source.new) }
     ensures failed { CountsRead result (S.failures source.old) (S.failures source.new) }
@@ -51,7 +55,7 @@ pub fn read_request<S: Source>(alloc: Global, source: &mut S) -> Result<Incoming
         })),
         Front::Head { read, spans } => {
             let head = WholeHead::of(&buffer[..read], &headers, spans);
-            match read_behind(alloc, source, &head) {
+            match read_behind(alloc, routes, source, &head) {
                 Ok(request) => Ok(Incoming::Asked(request)),
                 Err(stop) => Err(stop.behind(&head)),
             }
@@ -68,6 +72,7 @@ pub fn message_is_one()
 /// Reads what a head asks: its body, if it has one.
 fn read_behind<S: Source>(
     alloc: Global,
+    routes: &mut Routes,
     source: &mut S,
     head: &WholeHead<'_>,
 ) -> Result<Request, Stop>
@@ -84,12 +89,13 @@ fn read_behind<S: Source>(
         return Err(Stop::Refused(RequestRefusal::BodyTooLarge));
     }
     let body = read_body(alloc, source, head.behind, size as usize)?;
-    Ok(request_with(alloc, head, &terms, body)?)
+    Ok(request_with(alloc, routes, head, &terms, body)?)
 }
 
 /// What a head asks with a body.
 fn request_with(
     alloc: Global,
+    routes: &mut Routes,
     head: &WholeHead<'_>,
     terms: &Terms<'_>,
     body: Vec<u8>,
@@ -98,8 +104,10 @@ fn request_with(
     ensures { let heading = heading_in head.now in
         Asks heading (asked_with heading body.items) result }
 {
-    let router = office_router(alloc)?;
-    let action = action_asked(&router, head, terms, body)?;
+    let router = routes.take(alloc)?;
+    let asked = action_asked(&router, head, terms, body);
+    routes.put_back(router);
+    let action = asked?;
     Ok(Request {
         key: Bytes::new(Vec::from_slice(alloc, terms.key)?),
         action,

@@ -6,6 +6,7 @@ ghost use Rattle.hh_wire.specs.steps.RouteRows.{rows};
 
 use matchit::{InsertError, Router};
 use std::alloc::{AllocError, Global};
+use std::marker::Model;
 use std::str;
 
 /// What a path names.
@@ -25,6 +26,48 @@ pub(crate) enum Route {
     RunsOfDate,
 }
 
+/// The routes of the office, which a server has at hand from one request to the next. They are made for
+/// the first request that asks for one of them.
+#[derive(Drop)]
+pub struct Routes {
+    router: Option<Router<Route>>,
+}
+
+impl Model for Routes {
+    ghost use Rattle.std.specs.Prelude.{◌≡◌, IfSome};
+    ghost use Rattle.hh_wire.specs.steps.RouteRows.{rows};
+
+    ghost Value = { Unit {0} };
+
+    ghost view = { λ _. tt };
+
+    ghost invariant = { λ r. IfSome r.router (λ router. router ≡ rows) };
+}
+
+impl Routes {
+    /// The routes, which aren't made yet. That takes no memory.
+    pub fn new() -> Routes {
+        Routes { router: None }
+    }
+
+    /// Hands over the router, which is made if it isn't at hand. `Err` only where memory is refused.
+    pub(crate) fn take(&mut self, alloc: Global) -> Result<Router<Route>, AllocError>
+        ensures { IfOk result (λ router. router ≡ rows) }
+    {
+        match self.router.take() {
+            Some(router) => Ok(router),
+            None => office_router(alloc),
+        }
+    }
+
+    /// Has the router at hand again.
+    pub(crate) fn put_back(&mut self, router: Router<Route>)
+        requires { router ≡ rows }
+    {
+        self.router = Some(router);
+    }
+}
+
 /// The route of a path, if it has one. It is looked up in the router of the office.
 pub(crate) fn route_at(router: &Router<Route>, target: &[u8]) -> Option<Route>
     requires { router.now ≡ rows }
@@ -41,7 +84,7 @@ pub(crate) fn route_at(router: &Router<Route>, target: &[u8]) -> Option<Route>
 }
 
 /// A router with the routes of the office (profile).
-pub(crate) fn office_router(alloc: Global) -> Result<Router<Route>, AllocError>
+fn office_router(alloc: Global) -> Result<Router<Route>, AllocError>
     ensures { IfOk result (λ router. router ≡ rows) }
 {
     // No route is ill-formed or conflicts with another, so memory alone is refused.

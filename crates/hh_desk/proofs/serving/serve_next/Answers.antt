@@ -15,9 +15,9 @@ returns-in_default-clause-serves g c sure = record {
 pub returns-clause-serves : goal.returns-clause-serves
 returns-clause-serves g c sure =
     let given = c.in-Ok.connection in
-    let served = c.serve_now.ensures.serves sure in
+    let served = c.serve_now-received.ensures.serves sure in
     record {
-      arrival = Some (exchange g.L.Source.Source.remaining g.L.Source.Source.failures g.L.Sink.Sink.taken g.L.Sink.Sink.failures given c.serve_now.new.connection);
+      arrival = Some (exchange g.L.Source.Source.remaining g.L.Source.Source.failures g.L.Sink.Sink.taken g.L.Sink.Sink.failures given c.serve_now-received.new.connection);
       readings = served.reading ∷ [];
       came = λ first earlier leads. c.close.ensures first earlier given (c.in-Ok.ensures first earlier leads);
       told = served.told;

@@ -63,7 +63,7 @@ returns-in-Ok-clause-served g c sure =
     let source = g.I.Source.remaining c.args.source.now in
     let old = c.args.office.now.seen in
     let message = subst (λ (w : WireFault). IsReadOf source (Err w)) c.in-Err-Refused.field-0-is c.in-Err-Refused.ensures.message in
-    refusal_replied source old old _ _ c.args.moment _ c.in-Err-Refused.refused (message, refl) c.in-Ok.ensures
+    refusal_replied source old old 0 0 c.args.moment _ c.in-Err-Refused.refused (message, refl) c.in-Ok.ensures
 
 pub returns-in-Err-Refused-clause-served : goal.returns-in-Err-Refused-clause-served
 returns-in-Err-Refused-clause-served g c sure =

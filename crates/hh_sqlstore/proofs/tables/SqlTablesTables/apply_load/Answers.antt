@@ -1,4 +1,4 @@
-use Rattle.std.proofs.Common.{◌≡◌, IsTrue, subst}
+use Rattle.std.proofs.Common.{◌≡◌, IsTrue, None, subst}
 use Rattle.sqlite.specs.Held.{state}
 use Rattle.hh_states.specs.Changes.{effect_of_load}
 use Rattle.hh_sqlrows.specs.Contents.{content_of}
@@ -6,7 +6,7 @@ use Rattle.hh_sqlchanges.specs.Writes.{StoresLoad}
 use Rattle.hh_sqlstore.specs.Stores.{Stored, content_in}
 use Rattle.hh_sqlstore.proofs.ChangeLaws.{content_changed, idle_changed, reading_of_undone}
 use Rattle.hh_sqlstore.proofs.ContentLaws.{clean_while_open}
-use Rattle.hh_sqlstore.proofs.IdleLaws.{idle_after, same_content}
+use Rattle.hh_sqlstore.proofs.IdleLaws.{idle_with, same_content}
 use Rattle.hh_sqlstore.proofs.tables.SqlTablesTables.apply_load.Goals as goal
 
 pub invariant_of-self : goal.invariant_of-self
@@ -29,7 +29,7 @@ returns-in-Ok-clause-stood g c stands =
 pub invariant_of-self-in-Err : goal.invariant_of-self-in-Err
 invariant_of-self-in-Err g c =
     let clean = clean_while_open g.S.Store c.keep_load.new.connection g.met.S.Store.shut_if_dirty in
-    idle_after g.S.Store _ c.self.invariant c.keep_load.new.connection c.refuse.new.refusals (reading_of_undone _ _ clean c.in-Err.ensures.undone) c.in-Err.ensures.autocommit
+    idle_with g.S.Store _ c.self.invariant c.keep_load.new.connection c.refuse.new.refusals (reading_of_undone _ _ clean c.in-Err.ensures.undone) None (λ stands office settled stood. tt) c.in-Err.ensures.autocommit
 
 pub returns-clause-err : goal.returns-clause-err
 returns-clause-err g c stands =

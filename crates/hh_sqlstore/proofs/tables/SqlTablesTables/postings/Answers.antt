@@ -1,0 +1,24 @@
+use Rattle.std.proofs.Common.{◌≡◌, subst}
+use Rattle.std.specs.Prelude.{filter_map}
+use Rattle.hh_states.specs.Reads.{posting_to, postings_in}
+use Rattle.hh_sqlrows.specs.Forms.{rows_under_keys}
+use Rattle.hh_sqlrows.specs.OfficeTables.{postings}
+use Rattle.hh_sqlstore.specs.Stores.{Stored, content_in}
+use Rattle.hh_sqlstore.proofs.IdleLaws.{idle_with, of_committed}
+use Rattle.hh_sqlstore.proofs.tables.SqlTablesTables.postings.Goals as goal
+
+pub invariant_of-self : goal.invariant_of-self
+invariant_of-self g c =
+    idle_with g.S.Store _ c.self.invariant c.postings_to_account.new.conn c.self.inside.refusals c.in-Ok.ensures.reading
+    c.postings_to_account.new.posted (c.in-Ok.ensures.posted c.self.invariant.at_hand) (c.in-Ok.ensures.mode c.self.invariant.autocommit)
+
+pub invariant_of-self-in-Err : goal.invariant_of-self-in-Err
+invariant_of-self-in-Err g c =
+    idle_with g.S.Store _ c.self.invariant c.postings_to_account.new.conn c.refuse.new.refusals c.in-Err.ensures.reading
+    c.postings_to_account.new.posted (c.in-Err.ensures.posted c.self.invariant.at_hand) (c.in-Err.ensures.mode c.self.invariant.autocommit)
+
+pub returns-in-Ok-clause-value : goal.returns-in-Ok-clause-value
+returns-in-Ok-clause-value g c stands =
+    subst (λ (t : Stored _). c.in-Ok.rows.items ≡ postings_in (content_in g.S.Store t) c.args.account.now) c.self.view_is
+    (of_committed g.S.Store _ c.self.invariant c.postings_to_account.new.conn c.self.inside.refusals c.in-Ok.ensures.reading
+    (λ trees. c.in-Ok.rows.items ≡ filter_map (posting_to c.args.account.now) (rows_under_keys postings trees)) (c.in-Ok.ensures.value c.self.invariant.at_hand) stands)
