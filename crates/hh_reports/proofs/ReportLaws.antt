@@ -15,7 +15,8 @@ use Rattle.hh_num.specs.Totals.{total}
 use Rattle.hh_calc.specs.declared.result.AccountRow.{AccountRow}
 use Rattle.hh_reports.specs.DayReport.{period_account_line, row_of_period, rows_of_period}
 use Rattle.hh_reports.specs.steps.DayReport.{charge_in, row_lines}
-use Rattle.hh_reports.proofs.NetLaws.{next_place, total_next}
+use Rattle.hh_reports.proofs.ListLaws.{next_place}
+use Rattle.hh_reports.proofs.NetLaws.{total_next}
 
 -- the lines of the rows of a period are those of all rows that are of it
 pub accounts_lines : (period : ℕ) (rows : List (ℕ × AccountRow)) → flat_map (row_lines period) rows ≡ flat_map (period_account_line period) (rows_of_period period rows)

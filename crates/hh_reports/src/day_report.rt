@@ -8,8 +8,7 @@ ghost use Rattle.hh_reports.specs.DayReport.{period_account_line, day_report_tex
 ghost use Rattle.hh_reports.specs.steps.DayReport.{charge_in, row_lines};
 ghost use Rattle.hh_reports.specs.Fields.{cash_of, energies_of, energy_text, pence_text, flush_right};
 ghost use Rattle.hh_reports.specs.Nets.{nets_from_rows};
-ghost use Rattle.hh_reports.specs.Output.{Sends};
-ghost use Rattle.hh_reports.specs.steps.Output.{IsShort, Passes};
+ghost use Rattle.hh_reports.specs.Output.{IsShort, Passes, Sends};
 
 use crate::fault::ReportFault;
 use crate::page::Page;

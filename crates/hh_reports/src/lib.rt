@@ -10,6 +10,7 @@ mod run;
 mod sums;
 
 pub use day_report::write_day_report;
-pub use exports::{write_balances, write_results};
+pub use exports::{BalancesWriter, ResultsWriter, write_balances, write_results};
 pub use fault::ReportFault;
 pub use run::ReportedRun;
+pub use sums::AccountSums;

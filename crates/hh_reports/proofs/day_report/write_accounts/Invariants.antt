@@ -4,7 +4,7 @@ use Rattle.std.specs.Prelude.{unsigned_abs}
 use Rattle.hh_num.specs.Totals.{total}
 use Rattle.hh_devices.specs.DeviceChanges.{change}
 use Rattle.hh_reports.specs.steps.DayReport.{charge_in, row_lines}
-use Rattle.hh_reports.specs.steps.Output.{IsPassed}
+use Rattle.hh_reports.specs.Output.{IsPassed}
 use Rattle.hh_reports.proofs.day_report.write_accounts.Given as goal
 
 -- the lines of the rows so far went out or are held back, and their charges are summed
