@@ -1,18 +1,26 @@
 -- What stands of a day report, row after row.
-use Rattle.std.proofs.Common.{◌≡◌, ℕ, zero, suc, ◌+◌, ◌-◌, ◌<◌, ◌≤◌, min, max, ◌⊎◌, Bool, eqb, leb, true, false, cond, List, [], ◌∷◌, ◌++◌, length, get_or, Some, None, inl, inr, refl, sym, ap, subst, ◌∙◌, append_assoc, zero-add, add-zero, arith}
-use Rattle.std.specs.Prelude.{ℤ, pos, neg_ℤ, ◌+ℤ◌, codes, fold, All}
+use Rattle.std.proofs.Common.{◌≡◌, ℕ, zero, suc, ◌+◌, ◌-◌, ◌<◌, ◌≤◌, min, max, ◌⊎◌, Bool, eqb, leb, true, false, cond, List, [], ◌∷◌, ◌++◌, map, length, get_or, Option, Some, None, Result, inl, inr, refl, sym, ap, subst, ◌∙◌, append_assoc, zero-add, add-zero, arith}
+use Rattle.std.specs.Prelude.{ℤ, pos, neg_ℤ, ◌+ℤ◌, codes, fold, All, IsErrAnd}
 use Rattle.std.specs.List.{cons_option, flat_map, range_with_len}
 use Rattle.std.proofs.lemmas.Bool.{cases_lt}
 use Rattle.std.proofs.lemmas.Bool.Decides.{nat_tests}
-use Rattle.std.proofs.lemmas.List.{append-nil}
+use Rattle.std.proofs.lemmas.List.{append-nil, map-append}
 use Rattle.std.proofs.lemmas.List.Concat.{flat_map-append}
 use Rattle.std.proofs.lemmas.List.Elements.{filter_map-append}
+use Rattle.std.proofs.lemmas.List.Elements.{All-append, All-cons}
 use Rattle.hh_num.specs.Totals.{total}
+use Rattle.hh_tables.specs.Tables.{Table}
+use Rattle.hh_names.specs.declared.account.Account.{Account}
 use Rattle.hh_calc.specs.declared.result.AccountRow.{AccountRow}
 use Rattle.hh_reports.specs.declared.run.ReportedRun.{ReportedRun}
 use Rattle.hh_reports.specs.DayReport.{accounts_in, charges_in, day_report_begun, day_report_text, heads_line, last_period, net_line, period_account_line, period_lines, period_residual_line, periods_lines, row_of_period, rows_of_period, title_line}
-use Rattle.hh_reports.specs.Nets.{nets_from_rows}
-use Rattle.hh_reports.specs.Writers.{Rows}
+use Rattle.hh_reports.specs.declared.fault.ReportFault.{ReportFault}
+use Rattle.hh_reports.specs.declared.fault.ReportFault.TheVariants.{Memory}
+use Rattle.hh_reports.specs.Nets.{cash_moved, nets_from_rows}
+use Rattle.hh_reports.specs.Output.{IsPassed, Reaches}
+use Rattle.hh_reports.specs.Writers.{DayState, HasAmounts, HasDay, Rows}
+use Rattle.hh_reports.proofs.NetLaws.{total_next}
+use Rattle.hh_reports.proofs.OutputLaws.{changed, stopped_on, told_back, went_on, Stops}
 use Rattle.hh_reports.specs.steps.DayReport.{closing_line, closing_lines, run_row_lines}
 
 -- the numbers of periods, and those behind them
@@ -27,7 +35,7 @@ range_on a (suc m) n =
     ap (range_with_len a) more ∙ ap (λ l. a ∷ l) (range_on (a + 1) m n) ∙ ap (λ k. a ∷ (range_with_len (a + 1) m ++ range_with_len k n)) place
 
 -- the same lines for each of them
-lines_as : (f g : ℕ → List ℕ) (a n : ℕ) → ((p : ℕ) → a ≤ p → p < a + n → f p ≡ g p) → flat_map f (range_with_len a n) ≡ flat_map g (range_with_len a n)
+pub lines_as : (f g : ℕ → List ℕ) (a n : ℕ) → ((p : ℕ) → a ≤ p → p < a + n → f p ≡ g p) → flat_map f (range_with_len a n) ≡ flat_map g (range_with_len a n)
 lines_as f g a zero same = refl
 lines_as f g a (suc n) same =
     let here : f a ≡ g a = same a (omega arith) (omega arith) in
@@ -43,7 +51,7 @@ other_of_higher a p higher = grind (arith, nat_tests)
 same_number : (a : ℕ) → eqb a a ≡ true
 same_number a = grind (arith, nat_tests)
 
-inside_run : (a b : ℕ) → a ≤ b → leb a b ≡ true
+pub inside_run : (a b : ℕ) → a ≤ b → leb a b ≡ true
 inside_run a b le = grind (arith, nat_tests)
 
 outside_run : (a b : ℕ) → b < a → leb a b ≡ false
@@ -213,6 +221,14 @@ last-on a (x ∷ rows) e = last-on x.0 rows e
 pub last_is : (rows : Rows) (e : ℕ × AccountRow) → last_period (rows ++ e ∷ []) ≡ e.0
 last_is rows e = last-on 0 rows e
 
+pub upto_more : (rows : Rows) (e : ℕ × AccountRow) → AreUpTo (last_period rows) rows → last_period rows ≤ e.0 → 1 ≤ e.0 → AreUpTo (last_period (rows ++ e ∷ [])) (rows ++ e ∷ [])
+upto_more rows e all up numbered =
+    let here : (1 ≤ e.0) × (e.0 ≤ e.0) = (numbered, omega arith) in
+    subst (λ last. AreUpTo last (rows ++ e ∷ [])) (sym (last_is rows e))
+    (All-append (λ x. (1 ≤ x.0) × (x.0 ≤ e.0)) rows (e ∷ [])
+    (λ k d lt. let there = all k d lt in (there.0, omega arith))
+    (All-cons (λ x. (1 ≤ x.0) × (x.0 ≤ e.0)) e [] here (λ k d lt. absurd (omega arith))))
+
 regroup : (h p a c r q b : List ℕ) → (p ++ a) ++ c ≡ q ++ b → ((h ++ p) ++ a) ++ (c ++ r) ≡ (h ++ q) ++ (b ++ r)
 regroup h p a c r q b is =
     let before : ((h ++ p) ++ a) ++ (c ++ r) ≡ h ++ (((p ++ a) ++ c) ++ r) = simp append_assoc in
@@ -263,3 +279,109 @@ text_end run rows all =
     left
     ∙ sym (regroup heads (periods_lines closed rows) (accounts_in run last rows) closings (nets ++ codes "END\n") (periods_lines run.periods rows) [] whole)
     ∙ ap (λ l. ((heads ++ periods_lines closed rows) ++ accounts_in run last rows) ++ l) (sym (append_assoc closings nets (codes "END\n")))
+
+-- the heads alone
+pub day_begun_none : (run : ReportedRun) → title_line run ++ heads_line ≡ day_report_begun run []
+unfolding day_report_begun
+day_begun_none run =
+    let none : min run.periods 0 ≡ 0 = omega arith in
+    let heads = title_line run ++ heads_line in
+    sym (
+    ap (λ n. (heads ++ periods_lines n []) ++ accounts_in run 0 []) none
+    ∙ ap (λ a. (heads ++ []) ++ a) (accounts-none run 0 [] refl)
+    ∙ append-nil (heads ++ []) ∙ append-nil heads)
+
+-- What a writer of a day report gives with one more row.
+module _ (a b : Option (List ℕ)) (f g : ℕ) (old : DayState) (run : ReportedRun) (rows : Rows) (before : HasDay (changed a b f g) old run rows) where
+  -- what a row adds, as the writer finds it
+  abbrev pub added_text : ℕ × AccountRow → List ℕ
+  added_text e = closing_lines (min old.run.periods (old.period - 1)) old.charges (min old.run.periods (e.0 - 1)) ++ run_row_lines old.run e
+
+  same_added : (e : ℕ × AccountRow) → added_text e ≡ row_text run rows e
+  same_added e =
+      ap (λ (q : ReportedRun). closing_lines (min q.periods (old.period - 1)) old.charges (min q.periods (e.0 - 1)) ++ run_row_lines q e) before.run_is
+      ∙ ap (λ p. closing_lines (min run.periods (p - 1)) old.charges (min run.periods (e.0 - 1)) ++ run_row_lines run e) before.period
+      ∙ ap (λ z. closing_lines (min run.periods (last_period rows - 1)) z (min run.periods (e.0 - 1)) ++ run_row_lines run e) before.charges
+
+  module _ (e : ℕ × AccountRow) (upto : old.period ≤ e.0) (numbered : 1 ≤ e.0) where
+    next_text : day_report_begun run (rows ++ e ∷ []) ≡ day_report_begun run rows ++ added_text e
+    next_text =
+        let up : last_period rows ≤ e.0 = subst (λ p. p ≤ e.0) before.period upto in
+        text_row run rows e before.in_order up numbered ∙ ap (λ t. day_report_begun run rows ++ t) (sym (same_added e))
+
+    -- memory is refused before anything is written
+    pub day_refused : {A : Type 0} (Is : A → Type 0) (r : Result A ReportFault) → IsErrAnd r (λ fault. fault ≡ Memory)
+        → Reaches (changed a b f g) Is (day_report_begun run (rows ++ e ∷ [])) r
+    day_refused Is r is =
+        let sent = before.sent in
+        told_back (changed a b f g) Is (day_report_begun run (rows ++ e ∷ [])) Memory r is (
+          (
+            sent.gone,
+            old.held ++ added_text e,
+            next_text ∙ ap (λ t. t ++ added_text e) sent.rest ∙ append_assoc sent.gone old.held (added_text e),
+            sent.went,
+          ),
+          sent.well,
+        )
+
+    -- the line is not written to its end
+    pub day_stopped : (c : Option (List ℕ)) (n : ℕ) (fault : ReportFault) → Stops (changed b c g n) (old.held ++ added_text e) fault
+        → Stops (changed a c f n) (day_report_begun run (rows ++ e ∷ [])) fault
+    day_stopped c n fault now =
+        rw next_text (stopped_on a b c [] old.held f g n (day_report_begun run rows) (added_text e) fault before.sent now)
+
+    charges_before : cond (eqb old.period e.0) old.charges (pos 0) ≡ charges_in e.0 rows
+    charges_before = elim (cases_lt old.period e.0) [
+      | inl lower ↦
+          let above : last_period rows < e.0 = subst (λ p. p < e.0) before.period lower in
+          ap (λ b. cond b old.charges (pos 0)) (other_of_lower old.period e.0 lower)
+          ∙ sym (ap (total (λ (row : AccountRow). row.charge)) (none_above (last_period rows) e.0 rows before.in_order above))
+      | inr here ↦
+          let same : old.period ≡ e.0 = omega arith in
+          ap (λ p. cond (eqb p e.0) old.charges (pos 0)) same
+          ∙ ap (λ b. cond b old.charges (pos 0)) (same_number e.0)
+          ∙ before.charges ∙ ap (λ p. charges_in p rows) (sym before.period ∙ same)
+    ]
+
+    charges_next : charges_in (last_period (rows ++ e ∷ [])) (rows ++ e ∷ []) ≡ charges_in e.0 rows +ℤ e.1.charge
+    charges_next =
+        ap (λ p. charges_in p (rows ++ e ∷ [])) (last_is rows e)
+        ∙ ap (total (λ (row : AccountRow). row.charge)) (rows-same rows e)
+        ∙ total_next (λ (row : AccountRow). row.charge) (rows_of_period e.0 rows) e.1
+
+    -- it is written
+    pub day_given : (c : Option (List ℕ)) (n : ℕ) (new : DayState) → new.run ≡ old.run → new.period ≡ e.0
+        → new.charges ≡ cond (eqb old.period e.0) old.charges (pos 0) +ℤ e.1.charge → HasAmounts new.nets (map cash_moved rows ++ cash_moved e ∷ [])
+        → IsPassed (changed b c g n) new.held (old.held ++ added_text e) → HasDay (changed a c f n) new run (rows ++ e ∷ [])
+    day_given c n new same at summed counted now =
+        record {
+          run_is = same ∙ before.run_is;
+          period = at ∙ sym (last_is rows e);
+          charges = summed ∙ ap (λ z. z +ℤ e.1.charge) charges_before ∙ sym charges_next;
+          nets = subst (HasAmounts new.nets) (sym (map-append cash_moved rows (e ∷ []))) counted;
+          in_order = upto_more rows e before.in_order (subst (λ p. p ≤ e.0) before.period upto) numbered;
+          sent = rw next_text (went_on a b c [] old.held new.held f g n (day_report_begun run rows) (added_text e) before.sent now);
+        }
+
+  -- what the end adds, as the writer finds it
+  abbrev pub ending : Table Account ℤ → List ℕ
+  ending nets = closing_lines (min old.run.periods (old.period - 1)) old.charges old.run.periods ++ flat_map net_line nets ++ codes "END\n"
+
+  end_is : (nets : Table Account ℤ) → nets ≡ old.nets.sums → day_report_text run rows ≡ day_report_begun run rows ++ ending nets
+  end_is nets are =
+      text_end run rows before.in_order
+      ∙ ap (λ t. day_report_begun run rows ++ t) (sym (
+      ap (λ (q : ReportedRun). closing_lines (min q.periods (old.period - 1)) old.charges q.periods ++ flat_map net_line nets ++ codes "END\n") before.run_is
+      ∙ ap (λ p. closing_lines (min run.periods (p - 1)) old.charges run.periods ++ flat_map net_line nets ++ codes "END\n") before.period
+      ∙ ap (λ z. closing_lines (min run.periods (last_period rows - 1)) z run.periods ++ flat_map net_line nets ++ codes "END\n") before.charges
+      ∙ ap (λ t. closing_lines (min run.periods (last_period rows - 1)) (charges_in (last_period rows) rows) run.periods ++ flat_map net_line t ++ codes "END\n") (are ∙ before.nets.sums)))
+
+  pub end_stopped : (nets : Table Account ℤ) → nets ≡ old.nets.sums → (c : Option (List ℕ)) (n : ℕ) (fault : ReportFault) → Stops (changed b c g n) (old.held ++ ending nets) fault
+      → Stops (changed a c f n) (day_report_text run rows) fault
+  end_stopped nets are c n fault now =
+      rw (end_is nets are) (stopped_on a b c [] old.held f g n (day_report_begun run rows) (ending nets) fault before.sent now)
+
+  pub end_given : (nets : Table Account ℤ) → nets ≡ old.nets.sums → (c : Option (List ℕ)) (n : ℕ) (held : List ℕ) → IsPassed (changed b c g n) held (old.held ++ ending nets)
+      → IsPassed (changed a c f n) held (day_report_text run rows)
+  end_given nets are c n held now =
+      rw (end_is nets are) (went_on a b c [] old.held held f g n (day_report_begun run rows) (ending nets) before.sent now)

@@ -64,10 +64,10 @@ found_or_absent : (a : Account) (amounts : Amounts) (there : Bool) → is_some (
 found_or_absent a amounts true is = refl
 found_or_absent a amounts false is = sym (absent a amounts is)
 
-in_table : (a : Account) (amounts : Amounts) → is_some (find account_cmp a (table_of_last account_cmp amounts)) ≡ is_some (find account_cmp a amounts)
+pub in_table : (a : Account) (amounts : Amounts) → is_some (find account_cmp a (table_of_last account_cmp amounts)) ≡ is_some (find account_cmp a amounts)
 in_table a amounts = ap is_some (find-in_key_order account_total (latest account_cmp amounts) a) ∙ is_some-find-latest account_total amounts a
 
-find_sum : (amounts : Amounts) (a : Account) → find account_cmp a (sums_of amounts) ≡ cond (is_some (find account_cmp a (table_of_last account_cmp amounts))) (Some (sum_for a amounts)) None
+pub find_sum : (amounts : Amounts) (a : Account) → find account_cmp a (sums_of amounts) ≡ cond (is_some (find account_cmp a (table_of_last account_cmp amounts))) (Some (sum_for a amounts)) None
 find_sum amounts a = find-with account_cmp (λ k. sum_for k amounts) exact_accounts a (table_of_last account_cmp amounts)
 
 -- the sums hold of each account what its amounts come to
@@ -77,7 +77,7 @@ sum_found amounts a =
     ∙ ap (λ there. unwrap_or (cond there (Some (sum_for a amounts)) None) (pos 0)) (in_table a amounts)
     ∙ found_or_absent a amounts (is_some (find account_cmp a amounts)) refl
 
-sums_sorted : (amounts : Amounts) → T (is_sorted account_cmp (sums_of amounts))
+pub sums_sorted : (amounts : Amounts) → T (is_sorted account_cmp (sums_of amounts))
 sums_sorted amounts =
     rw (is_sorted-with account_cmp (λ k. sum_for k amounts) (table_of_last account_cmp amounts)) (is_sorted-in_key_order account_total (latest account_cmp amounts))
 

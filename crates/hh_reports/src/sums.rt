@@ -1,15 +1,15 @@
 //! What amounts come to for accounts.
 
-ghost use Rattle.std.specs.Prelude.{◌≡◌, ◌<◌, ◌≤◌, ◌*◌, ◌^◌, ◌+ℤ◌, [], ◌∷◌, ◌++◌, unsigned_abs, IfOk, OnErr, OnOk};
+ghost use Rattle.std.specs.Prelude.{◌≡◌, ◌<◌, ◌≤◌, ◌+◌, ◌*◌, ◌^◌, ◌+ℤ◌, [], ◌∷◌, ◌++◌, unsigned_abs, OnErr, OnOk};
 ghost use Rattle.std.specs.FinMap.{put};
 ghost use Rattle.hh_names.specs.Accounts.{account_cmp};
 ghost use Rattle.hh_calc.specs.Settled.{paid_by};
-ghost use Rattle.hh_reports.specs.Nets.{Amounts, nets_from_rows};
+ghost use Rattle.hh_reports.specs.Nets.{Amounts};
 ghost use Rattle.hh_reports.specs.Writers.{HasAmounts};
 ghost use Rattle.hh_reports.specs.steps.Nets.{greatest_amount, sum_in};
 
 use hh_calc::AccountRow;
-use hh_names::{Account, PeriodNumber};
+use hh_names::Account;
 use hh_num::Pence;
 use hh_tables::ListTable;
 use std::alloc::{AllocError, Global};
@@ -88,7 +88,9 @@ impl AccountSums {
     /// Takes what a row moves for its account.
     pub(crate) fn row(&mut self, row: &AccountRow) -> Result<(), AllocError>
         requires few { self.old.given < 2 ^ 62 }
-        ensures { (amounts : Amounts) → HasAmounts self.old amounts
+        ensures more { OnOk result (self.new.given ≡ self.old.given + 1) }
+        ensures kept { OnErr result (self.new.given ≡ self.old.given) }
+        ensures sums { (amounts : Amounts) → HasAmounts self.old amounts
             → OnOk result (HasAmounts self.new (amounts ++ (row.now.account, paid_by row.now) ∷ [])) }
     {
         self.add(cash_of_row(row))
@@ -97,7 +99,9 @@ impl AccountSums {
     /// Takes an amount.
     fn add(&mut self, amount: Amount) -> Result<(), AllocError>
         requires few { self.old.given < 2 ^ 62 }
-        ensures { (amounts : Amounts) → HasAmounts self.old amounts
+        ensures more { OnOk result (self.new.given ≡ self.old.given + 1) }
+        ensures kept { OnErr result (self.new.given ≡ self.old.given) }
+        ensures sums { (amounts : Amounts) → HasAmounts self.old amounts
             → OnOk result (HasAmounts self.new (amounts ++ amount ∷ [])) }
     {
         add_to(&mut self.sums, self.place, amount)?;
@@ -144,18 +148,4 @@ fn add_to(sums: &mut SumTable, place: usize, amount: Amount) -> Result<(), Alloc
 {
     let sum = sums.get_near(place, &amount.account).unwrap_or(0) + amount.pence;
     sums.put_near(place, amount.account, sum)
-}
-
-/// The day nets of the accounts of rows, in account order.
-pub(crate) fn day_nets(
-    alloc: Global,
-    rows: &[(PeriodNumber, AccountRow)],
-) -> Result<SumTable, AllocError>
-    ensures { IfOk result (λ nets. nets ≡ nets_from_rows rows.now) }
-{
-    let mut sums = AccountSums::new(alloc);
-    for row in rows {
-        sums.row(&row.1)?;
-    }
-    Ok(sums.into_table())
 }

@@ -16,11 +16,3 @@ closing_line first charges period = period_residual_line period (neg_ℤ (if per
 -- the residuals of the periods behind so many, up to another number of them
 abbrev pub closing_lines : ℕ → ℤ → ℕ → List ℕ
 closing_lines closed charges until = flat_map (closing_line (closed + 1) charges) (range_with_len (closed + 1) (until - closed))
-
--- the line of a row, if it is of this Settlement Period
-abbrev pub row_lines : ℕ → ℕ × AccountRow → List ℕ
-row_lines period e = if e.0 == period then period_account_line period e.1 else []
-
--- the charge of a row, if it is of this Settlement Period
-abbrev pub charge_in : ℕ → ℕ × AccountRow → ℤ
-charge_in period e = if e.0 == period then e.1.charge else pos 0
