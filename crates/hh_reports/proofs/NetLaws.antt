@@ -132,10 +132,6 @@ amounts_more amounts e old new added counted before =
       given = counted ∙ ap (λ n. n + 1) before.given ∙ sym last;
     }
 
--- no amounts have no sums
-pub none_small : AreSmall 0 []
-none_small a = omega arith
-
 sum_small : (x y : ℤ) (m n : ℕ) → unsigned_abs x ≤ m → unsigned_abs y ≤ n → unsigned_abs (x +ℤ y) ≤ m + n
 sum_small x y m n p q = omega (arith, ints)
 

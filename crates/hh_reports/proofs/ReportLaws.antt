@@ -20,13 +20,6 @@ long_word x le = let fits : FitsSigned w128 x = omega (arith, ints) in to_z-of_z
 pub short_word : (x : ℤ) → unsigned_abs x ≤ 2 ^ 126 → word x ≡ x
 short_word x small = let less : unsigned_abs x ≤ 10 ^ 38 = omega arith in long_word x less
 
--- minus a sum of charges
-pub turned : (held v : ℤ) → held ≡ v → unsigned_abs held ≤ 2 ^ 126 → word (pos 0 -ℤ word held) ≡ neg_ℤ v
-turned held v same small =
-    let one : unsigned_abs held ≤ 10 ^ 38 = omega arith in
-    let other : unsigned_abs (neg_ℤ held) ≤ 10 ^ 38 = omega (arith, ints) in
-    ap word (+ℤ_idl (neg_ℤ (word held)) ∙ ap neg_ℤ (long_word held one)) ∙ long_word (neg_ℤ held) other ∙ ap neg_ℤ same
-
 -- the numbers of so many periods behind one
 pub among_periods : (first count step : ℕ) → step < count → step < length (range_with_len first count)
 among_periods first count step inside = rw (length-range_with_len first count) inside

@@ -47,9 +47,16 @@ impl Model for DayReportWriter {
 
     ghost Value = { DayState };
 
-    ghost view = { λ w. record { run = w.run; period = w.period; charges = w.charges; nets = w.nets; held = w.page } };
+    ghost view = { λ w. record {
+      run = w.run;
+      period = w.period;
+      charges = w.charges;
+      nets = w.nets;
+      held = w.page;
+    } };
 
-    ghost invariant = { λ w. (unsigned_abs w.charges ≤ 2 ^ 63 * w.nets.given) × (w.nets.given ≤ 2 ^ 62) };
+    ghost invariant = { λ w. (unsigned_abs w.charges ≤ 2 ^ 63 * w.nets.given)
+        × (w.nets.given ≤ 2 ^ 62) };
 }
 
 impl DayReportWriter {
@@ -65,7 +72,8 @@ impl DayReportWriter {
         out: &mut S,
     ) -> Result<DayReportWriter, ReportFault>
         ensures { let device = change S.taken S.failures out.old out.new in
-            Reaches device (λ writer. HasDay device writer run.now []) (day_report_begun run.now []) result }
+            Reaches device (λ writer. HasDay device writer run.now [])
+            (day_report_begun run.now []) result }
     {
         let mut page = Page::new(alloc);
         write_heads(&mut page, run, out)?;

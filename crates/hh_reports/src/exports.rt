@@ -61,7 +61,8 @@ impl ResultsWriter {
         out: &mut S,
     ) -> Result<ResultsWriter, ReportFault>
         ensures { let device = change S.taken S.failures out.old out.new in
-            Reaches device (λ writer. HasResults device writer run.now []) (results_text run.now []) result }
+            Reaches device (λ writer. HasResults device writer run.now [])
+            (results_text run.now []) result }
     {
         let mut page = Page::new(alloc);
         page.put(RESULTS_HEADER, out)?;

@@ -30,7 +30,8 @@ pub(crate) fn in_order_of_periods(
 ) -> Result<Vec<(PeriodNumber, AccountRow)>, AllocError>
     ensures rising { IfOk result (λ sorted. IsNonDecreasingBy (λ e. e.0) sorted.items) }
     ensures same { IfOk result (λ sorted. IsPermutation rows.now sorted.items) }
-    ensures stable { IfOk result (λ sorted. IsStableByKey (λ e. e.0) nat_cmp rows.now sorted.items) }
+    ensures stable { IfOk result (λ sorted.
+        IsStableByKey (λ e. e.0) nat_cmp rows.now sorted.items) }
 {
     let mut sorted = Vec::from_slice(alloc, rows)?;
     sorted.sort_by_key(|row| row.0.number())?;

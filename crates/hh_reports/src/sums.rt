@@ -91,7 +91,8 @@ impl AccountSums {
         ensures more { OnOk result (self.new.given ≡ self.old.given + 1) }
         ensures kept { OnErr result (self.new.given ≡ self.old.given) }
         ensures sums { (amounts : Amounts) → HasAmounts self.old amounts
-            → OnOk result (HasAmounts self.new (amounts ++ (row.now.account, paid_by row.now) ∷ [])) }
+            → OnOk result (HasAmounts self.new
+            (amounts ++ (row.now.account, paid_by row.now) ∷ [])) }
     {
         self.add(cash_of_row(row))
     }
