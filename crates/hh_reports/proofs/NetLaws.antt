@@ -1,5 +1,5 @@
 -- What amounts come to for accounts, one amount after the other.
-use Rattle.std.proofs.Common.{◌≡◌, ℕ, ◌+◌, ◌*◌, ◌<◌, ◌≤◌, Bool, true, false, cond, List, [], ◌∷◌, ◌++◌, map, length, take, get_or, Some, None, Ordering, refl, sym, ap, ◌∙◌, arith}
+use Rattle.std.proofs.Common.{◌≡◌, ℕ, ◌+◌, ◌*◌, ◌<◌, ◌≤◌, Bool, true, false, cond, List, [], ◌∷◌, ◌++◌, map, length, take, get_or, Some, None, Ordering, refl, sym, ap, length-append, ◌∙◌, arith}
 use Rattle.std.specs.Prelude.{◌&&◌, ℤ, pos, ◌+ℤ◌, unsigned_abs, unwrap_or, is_some, T}
 use Rattle.std.specs.FinMap.{find, put, is_sorted}
 use Rattle.std.specs.FinMap.Entries.{below_all, find-put, is_sorted-put, same_entries}
@@ -19,7 +19,8 @@ use Rattle.hh_names.specs.Accounts.{account_cmp}
 use Rattle.hh_names.proofs.AccountLaws.{account_total, exact_accounts}
 use Rattle.hh_calc.specs.Formulas.{of_account}
 use Rattle.hh_reports.specs.Nets.{sum_for, sums_of, Amounts}
-use Rattle.hh_reports.specs.steps.Nets.{greatest_amount, sum_in}
+use Rattle.hh_reports.specs.Writers.{HasAmounts, SumsState}
+use Rattle.hh_reports.specs.steps.Nets.{greatest_amount, sum_in, AreSmall}
 
 -- Tables with other values under their keys.
 module _ {K V W : Type 0} (R : K → K → Ordering) (value : K → W) where
@@ -63,10 +64,10 @@ found_or_absent : (a : Account) (amounts : Amounts) (there : Bool) → is_some (
 found_or_absent a amounts true is = refl
 found_or_absent a amounts false is = sym (absent a amounts is)
 
-in_table : (a : Account) (amounts : Amounts) → is_some (find account_cmp a (table_of_last account_cmp amounts)) ≡ is_some (find account_cmp a amounts)
+pub in_table : (a : Account) (amounts : Amounts) → is_some (find account_cmp a (table_of_last account_cmp amounts)) ≡ is_some (find account_cmp a amounts)
 in_table a amounts = ap is_some (find-in_key_order account_total (latest account_cmp amounts) a) ∙ is_some-find-latest account_total amounts a
 
-find_sum : (amounts : Amounts) (a : Account) → find account_cmp a (sums_of amounts) ≡ cond (is_some (find account_cmp a (table_of_last account_cmp amounts))) (Some (sum_for a amounts)) None
+pub find_sum : (amounts : Amounts) (a : Account) → find account_cmp a (sums_of amounts) ≡ cond (is_some (find account_cmp a (table_of_last account_cmp amounts))) (Some (sum_for a amounts)) None
 find_sum amounts a = find-with account_cmp (λ k. sum_for k amounts) exact_accounts a (table_of_last account_cmp amounts)
 
 -- the sums hold of each account what its amounts come to
@@ -76,7 +77,7 @@ sum_found amounts a =
     ∙ ap (λ there. unwrap_or (cond there (Some (sum_for a amounts)) None) (pos 0)) (in_table a amounts)
     ∙ found_or_absent a amounts (is_some (find account_cmp a amounts)) refl
 
-sums_sorted : (amounts : Amounts) → T (is_sorted account_cmp (sums_of amounts))
+pub sums_sorted : (amounts : Amounts) → T (is_sorted account_cmp (sums_of amounts))
 sums_sorted amounts =
     rw (is_sorted-with account_cmp (λ k. sum_for k amounts) (table_of_last account_cmp amounts)) (is_sorted-in_key_order account_total (latest account_cmp amounts))
 
@@ -111,44 +112,41 @@ one_more amounts e =
               ∙ sym (sum_after q))
         ] refl
 
--- the first places of a list, and one more
-pub next_place : {X : Type 0} (xs : List X) (i : ℕ) (x : X) → i < length xs → x ≡ get_or xs i x → take i xs ++ x ∷ [] ≡ take (i + 1) xs
-next_place xs i x inside is = ap (λ y. take i xs ++ y ∷ []) is ∙ sym (take_more xs i x inside)
-
-pub sums_next : (amounts : Amounts) (i : ℕ) (e : Account × ℤ) (sums new : Table Account ℤ) → i < length amounts → e ≡ get_or amounts i e
-    → sums ≡ sums_of (take i amounts) → new ≡ put account_cmp e.0 (sum_in sums e.0 +ℤ e.1) sums → new ≡ sums_of (take (i + 1) amounts)
-sums_next amounts i e sums new inside is so_far added =
+-- one more amount among the sums of those before
+pub sums_more : (amounts : Amounts) (e : Account × ℤ) (sums new : Table Account ℤ) → sums ≡ sums_of amounts
+    → new ≡ put account_cmp e.0 (sum_in sums e.0 +ℤ e.1) sums → new ≡ sums_of (amounts ++ e ∷ [])
+sums_more amounts e sums new so_far added =
     added
     ∙ ap (λ t. put account_cmp e.0 (sum_in t e.0 +ℤ e.1) t) so_far
-    ∙ ap (λ z. put account_cmp e.0 (z +ℤ e.1) (sums_of (take i amounts))) (sum_found (take i amounts) e.0)
-    ∙ one_more (take i amounts) e
-    ∙ ap sums_of (next_place amounts i e inside is)
+    ∙ ap (λ z. put account_cmp e.0 (z +ℤ e.1) (sums_of amounts)) (sum_found amounts e.0)
+    ∙ one_more amounts e
 
--- so many amounts have sums of no greater size than this
-abbrev pub AreBounded : ℕ → Amounts → Type 0
-AreBounded count amounts = (a : Account) → unsigned_abs (sum_for a amounts) ≤ count * greatest_amount
-
-bounded_none : AreBounded 0 []
-bounded_none a = omega arith
-
-pub bounded_first : (amounts : Amounts) → AreBounded 0 (take 0 amounts)
-bounded_first amounts a = omega arith
-
-of_small : (b : Bool) (x : ℤ) (n : ℕ) → unsigned_abs x ≤ n → unsigned_abs (cond b x (pos 0)) ≤ n
-of_small true x n small = small
-of_small false x n small = omega arith
+-- one more amount was given
+pub amounts_more : (amounts : Amounts) (e : Account × ℤ) (old new : SumsState)
+    → new.sums ≡ put account_cmp e.0 (sum_in old.sums e.0 +ℤ e.1) old.sums → new.given ≡ old.given + 1
+    → HasAmounts old amounts → HasAmounts new (amounts ++ e ∷ [])
+amounts_more amounts e old new added counted before =
+    let last : length (amounts ++ e ∷ []) ≡ length amounts + 1 = length-append amounts (e ∷ []) in
+    record {
+      sums = sums_more amounts e old.sums new.sums before.sums added;
+      given = counted ∙ ap (λ n. n + 1) before.given ∙ sym last;
+    }
 
 sum_small : (x y : ℤ) (m n : ℕ) → unsigned_abs x ≤ m → unsigned_abs y ≤ n → unsigned_abs (x +ℤ y) ≤ m + n
 sum_small x y m n p q = omega (arith, ints)
 
-pub bounded_next : (amounts : Amounts) (i : ℕ) (e : Account × ℤ) → i < length amounts → e ≡ get_or amounts i e → unsigned_abs e.1 ≤ greatest_amount
-    → AreBounded i (take i amounts) → AreBounded (i + 1) (take (i + 1) amounts)
-bounded_next amounts i e inside is small so_far a =
-    let step : sum_for a (take (i + 1) amounts) ≡ sum_for a (take i amounts) +ℤ of_account a e.0 e.1
-    = ap (sum_for a) (sym (next_place amounts i e inside is)) ∙ total_next (λ x. of_account a x.0 x.1) (take i amounts) e in
-    let bound : unsigned_abs (sum_for a (take i amounts) +ℤ of_account a e.0 e.1) ≤ i * greatest_amount + greatest_amount
-    = sum_small (sum_for a (take i amounts)) (of_account a e.0 e.1) (i * greatest_amount) greatest_amount (so_far a) (of_small _ e.1 greatest_amount small) in
-    rw step (omega arith)
+-- the sums stay small with an amount that is
+pub small_put : (sums : Table Account ℤ) (e : Account × ℤ) (given : ℕ) → unsigned_abs e.1 ≤ greatest_amount → AreSmall given sums
+    → AreSmall (given + 1) (put account_cmp e.0 (sum_in sums e.0 +ℤ e.1) sums)
+small_put sums e given small before a =
+    let here : unsigned_abs (sum_in sums e.0 +ℤ e.1) ≤ given * greatest_amount + greatest_amount
+    = sum_small (sum_in sums e.0) e.1 (given * greatest_amount) greatest_amount (before e.0) small in
+    let there = before a in
+    rw (find-put account_cmp account_total a e.0 (sum_in sums e.0 +ℤ e.1) sums)
+    (elim (eq_by_cmp account_cmp a e.0) as (λ b. unsigned_abs (unwrap_or (cond b (Some (sum_in sums e.0 +ℤ e.1)) (find account_cmp a sums)) (pos 0)) ≤ (given + 1) * greatest_amount) [
+      | true ↦ omega arith
+      | false ↦ omega arith
+    ])
 
 -- the sums that are looked up are those of the amounts
 pub sums_found : (amounts : Amounts) (sums : Table Account ℤ) → sums ≡ sums_of amounts → sum_in sums ≡ (λ a. sum_for a amounts)

@@ -9,8 +9,7 @@ use Rattle.hh_devices.specs.DeviceChanges.{DeviceChange}
 use Rattle.hh_devices.specs.Devices.{AppendsFront, Failed}
 use Rattle.hh_reports.specs.declared.fault.ReportFault.{ReportFault}
 use Rattle.hh_reports.specs.declared.fault.ReportFault.TheVariants.{Memory, Write}
-use Rattle.hh_reports.specs.Output.{CountsFault, Sends}
-use Rattle.hh_reports.specs.steps.Output.{IsPassed, IsShort, Passes}
+use Rattle.hh_reports.specs.Output.{CountsFault, IsPassed, IsShort, Passes, Reaches, Sends}
 
 appends_none : (a : Option (List ℕ)) → Appends a a []
 appends_none None = tt
@@ -142,3 +141,9 @@ module _ {X : Type 0} (line : X → List ℕ) (xs : List X) (i : ℕ) (x : X) (i
       rw lines_whole
       (stopped_before (changed a c f n) h (flat_map line (take i xs) ++ line x) (flat_map line (drop (i + 1) xs)) fault
       (stopped_on a b c h k f g n (flat_map line (take i xs)) (line x) fault before now))
+
+-- the fault of a call that begins or goes on with a report, told on
+pub told_back : {A : Type 0} (device : DeviceChange) (Is : A → Type 0) (all : List ℕ) (fault : ReportFault) (r : Result A ReportFault)
+    → IsErrAnd r (λ e. e ≡ fault) → Stops device all fault → Reaches device Is all r
+told_back device Is all fault (Ok x) is now = absurd is
+told_back device Is all fault (Err e) is now = (now.0, subst (CountsFault device) (sym is) now.1)

@@ -1,5 +1,5 @@
 -- The day report of a run.
-use Rattle.std.specs.Prelude.{ℕ, ◌==◌, ℤ, neg_ℤ, List, [], ◌∷◌, ◌++◌, map, filter_map, Option, Some, None, codes, decimal, if◌then◌else◌}
+use Rattle.std.specs.Prelude.{ℕ, ◌-◌, min, ◌==◌, nat_le, ℤ, neg_ℤ, List, [], ◌∷◌, ◌++◌, fold, map, filter_map, Option, Some, None, codes, decimal, if◌then◌else◌}
 use Rattle.std.specs.List.{flat_map, range_with_len}
 use Rattle.hh_num.specs.Totals.{total}
 use Rattle.hh_time.specs.DateText.{date_text}
@@ -56,3 +56,20 @@ periods_lines count rows = flat_map (λ period. period_lines period (rows_of_per
 unfoldable pub day_report_text : ReportedRun → List (ℕ × AccountRow) → List ℕ
 day_report_text run rows =
     title_line run ++ heads_line ++ periods_lines run.periods rows ++ flat_map net_line (nets_from_rows rows) ++ codes "END\n"
+
+-- the Settlement Period of the last row; 0 where there is none
+abbrev pub last_period : List (ℕ × AccountRow) → ℕ
+last_period rows = fold (λ _ e. e.0) 0 rows
+
+-- the sum of the charges of a Settlement Period
+abbrev pub charges_in : ℕ → List (ℕ × AccountRow) → ℤ
+charges_in period rows = total (λ row. row.charge) (rows_of_period period rows)
+
+-- the lines of the accounts of a Settlement Period; none where the run has fewer periods
+abbrev pub accounts_in : ReportedRun → ℕ → List (ℕ × AccountRow) → List ℕ
+accounts_in run period rows = if nat_le period run.periods then flat_map (period_account_line period) (rows_of_period period rows) else []
+
+-- what stands of the day report of a run once these rows came in the order of their periods: those before the last row's are whole, and of that one the accounts stand
+unfoldable pub day_report_begun : ReportedRun → List (ℕ × AccountRow) → List ℕ
+day_report_begun run rows =
+    title_line run ++ heads_line ++ periods_lines (min run.periods (last_period rows - 1)) rows ++ accounts_in run (last_period rows) rows

@@ -3,4 +3,5 @@ pub mod Exports
 pub mod Fields
 pub mod Nets
 pub mod Output
+pub mod Writers
 pub mod steps

@@ -1,5 +1,5 @@
 -- What a call that is to write a text comes to.
-use Rattle.std.specs.Prelude.{ℕ, List, Result, Ok, Err}
+use Rattle.std.specs.Prelude.{◌≡◌, ℕ, ◌<◌, List, ◌++◌, length, Result, Ok, Err}
 use Rattle.std.specs.Io.KnownBytes.{Appends}
 use Rattle.hh_devices.specs.DeviceChanges.{DeviceChange, HasFailed, IsWell}
 use Rattle.hh_devices.specs.Devices.{AppendsFront}
@@ -17,3 +17,26 @@ module _ (device : DeviceChange) where
   abbrev pub Sends : {A : Type 0} → List ℕ → Result A ReportFault → Type 0
   Sends text (Ok x) = Appends device.old device.new text × IsWell device
   Sends text (Err fault) = AppendsFront device.old device.new text × CountsFault fault
+
+  -- it is so, or the call failed, and a beginning of all this went out
+  abbrev pub Reaches : {A : Type 0} → (A → Type 0) → List ℕ → Result A ReportFault → Type 0
+  Reaches Is all (Ok x) = Is x
+  Reaches Is all (Err fault) = AppendsFront device.old device.new all × CountsFault fault
+
+-- less than a full page
+abbrev pub IsShort : List ℕ → Type 0
+IsShort holds = length holds < 16_384
+
+-- What changes in a sink, after which a page holds these bytes back.
+module _ (device : DeviceChange) (holds : List ℕ) where
+  -- a beginning of all this went out, the page holds the rest back, which is less than a full page, and the sink did not fail
+  pub record IsPassed (all : List ℕ) : Type 0 where
+    pub gone : List ℕ
+    pub went : Appends device.old device.new gone
+    pub rest : all ≡ gone ++ holds
+    pub short : IsShort holds
+    pub well : IsWell device
+
+  -- so it is, or a call failed, and a beginning of it went out
+  abbrev pub Passes : {A : Type 0} → List ℕ → Result A ReportFault → Type 0
+  Passes all result = Reaches device (λ _. IsPassed all) all result

@@ -1,30 +1,150 @@
 //! The day report of a run.
 
-ghost use Rattle.std.specs.Prelude.{◌≡◌, ◌≤◌, ◌^◌, ◌++◌, codes, decimal, unsigned_abs, IfOk, OnOk};
+ghost use Rattle.std.specs.Prelude.{◌≡◌, ◌==◌, ◌-◌, ◌+◌, ◌<◌, ◌≤◌, ◌^◌, ◌+ℤ◌, [], ◌∷◌, ◌++◌, codes, decimal, min, pos, unsigned_abs, if◌then◌else◌, OnOk};
 ghost use Rattle.std.specs.List.{flat_map};
-ghost use Rattle.hh_num.specs.Totals.{total};
+ghost use Rattle.std.specs.List.Sorted.{IsNonDecreasingBy};
 ghost use Rattle.hh_devices.specs.DeviceChanges.{change};
-ghost use Rattle.hh_reports.specs.DayReport.{period_account_line, day_report_text, heads_line, net_line, period_lines, periods_lines, period_residual_line, rows_of_period, title_line};
-ghost use Rattle.hh_reports.specs.steps.DayReport.{charge_in, row_lines};
+ghost use Rattle.hh_reports.specs.declared.run.ReportedRun.{ReportedRun};
+ghost use Rattle.hh_reports.specs.DayReport.{day_report_begun, day_report_text, heads_line, net_line, period_account_line, period_residual_line, title_line};
+ghost use Rattle.hh_reports.specs.steps.DayReport.{closing_line, closing_lines, run_row_lines};
 ghost use Rattle.hh_reports.specs.Fields.{cash_of, energies_of, energy_text, pence_text, flush_right};
-ghost use Rattle.hh_reports.specs.Nets.{nets_from_rows};
-ghost use Rattle.hh_reports.specs.Output.{Sends};
-ghost use Rattle.hh_reports.specs.steps.Output.{IsShort, Passes};
+ghost use Rattle.hh_reports.specs.Output.{IsShort, Passes, Reaches, Sends};
+ghost use Rattle.hh_reports.specs.Writers.{GivesDay, HasDay, Rows};
 
 use crate::fault::ReportFault;
 use crate::page::Page;
-use crate::period_rows::{is_rising, rows_near};
+use crate::period_rows::{in_order_of_periods, is_rising};
 use crate::run::ReportedRun;
-use crate::sums::day_nets;
+use crate::sums::AccountSums;
 use hh_calc::AccountRow;
 use hh_devices::Sink;
 use hh_names::{Account, PeriodNumber};
 use itoa::Buffer;
 use std::alloc::{AllocError, Global};
+use std::marker::Model;
 
 /// The heads of the columns.
 const HEADS: &[u8] =
     b"PER ACCOUNT                  CREDITED            BALANCING            CONTRACTS            IMBALANCE         CHARGE          SHARE\n";
+
+/// A writer of the day report of a run, given one row after the other in the order of the Settlement
+/// Periods. It keeps no rows: of the text only the lines of a page that is not full, and beside it the sum
+/// of the charges of the last row's period and a net for each account. Contracts see these.
+#[derive(Drop)]
+pub struct DayReportWriter {
+    run: ReportedRun,
+    /// The Settlement Period of the last row; 0 where there is none.
+    period: u8,
+    /// The sum of the charges of that period.
+    charges: i128,
+    nets: AccountSums,
+    page: Page,
+}
+
+impl Model for DayReportWriter {
+    ghost use Rattle.std.specs.Prelude.{◌≤◌, ◌*◌, ◌^◌, unsigned_abs};
+    ghost use Rattle.hh_reports.specs.Writers.{DayState};
+
+    ghost Value = { DayState };
+
+    ghost view = { λ w. record {
+      run = w.run;
+      period = w.period;
+      charges = w.charges;
+      nets = w.nets;
+      held = w.page;
+    } };
+
+    ghost invariant = { λ w. (unsigned_abs w.charges ≤ 2 ^ 63 * w.nets.given)
+        × (w.nets.given ≤ 2 ^ 62) };
+}
+
+impl DayReportWriter {
+    /// Begins the day report of a run: its title and the heads of the columns.
+    ///
+    /// # Errors
+    ///
+    /// `Memory` where memory is refused, `Write` where the output failed or took nothing in this call. A
+    /// beginning of the text may have gone out.
+    pub fn begin<S: Sink>(
+        alloc: Global,
+        run: &ReportedRun,
+        out: &mut S,
+    ) -> Result<DayReportWriter, ReportFault>
+        ensures { let device = change S.taken S.failures out.old out.new in
+            Reaches device (λ writer. HasDay device writer run.now [])
+            (day_report_begun run.now []) result }
+    {
+        let mut page = Page::new(alloc);
+        write_heads(&mut page, run, out)?;
+        Ok(DayReportWriter {
+            run: *run,
+            period: 0,
+            charges: 0,
+            nets: AccountSums::new(alloc),
+            page,
+        })
+    }
+
+    /// Takes a row of a Settlement Period, that of the last row or a later one. Periods that end with it
+    /// get their residuals. A period that the run has not gets no lines, but its rows count in the nets.
+    ///
+    /// # Errors
+    ///
+    /// As of `begin`. The writer then serves no more.
+    pub fn row<S: Sink>(
+        &mut self,
+        period: PeriodNumber,
+        row: &AccountRow,
+        out: &mut S,
+    ) -> Result<(), ReportFault>
+        requires in_order { self.old.period ≤ period }
+        requires few { self.old.nets.given < 2 ^ 62 }
+        ensures numbered { 1 ≤ period }
+        ensures writes { (begun : S) (run : ReportedRun) (rows : Rows)
+            → HasDay (change S.taken S.failures begun out.old) self.old run rows
+            → GivesDay (change S.taken S.failures begun out.new) self.new run
+            (rows ++ (period, row.now) ∷ []) result }
+    {
+        let number = period.number();
+        self.nets.row(row)?;
+        write_row(
+            &mut self.page,
+            &self.run,
+            self.period,
+            self.charges,
+            number,
+            row,
+            out,
+        )?;
+        self.charges = charges_with(self.period, self.charges, number, row);
+        self.period = number;
+        Ok(())
+    }
+
+    /// Writes the residuals of the periods that had none, the day net of each account, and what is held
+    /// back. The day report of the rows that were given then went out whole.
+    ///
+    /// # Errors
+    ///
+    /// As of `begin`.
+    pub fn finish<S: Sink>(self, out: &mut S) -> Result<(), ReportFault>
+        ensures { (begun : S) (run : ReportedRun) (rows : Rows)
+            → HasDay (change S.taken S.failures begun out.old) self run rows
+            → Sends (change S.taken S.failures begun out.new) (day_report_text run rows) result }
+    {
+        let DayReportWriter {
+            run,
+            period,
+            charges,
+            nets,
+            mut page,
+        } = self;
+        let nets = nets.into_table();
+        write_end(&mut page, &run, period, charges, nets.rows(), out)?;
+        page.finish(out)
+    }
+}
 
 /// Writes the day report of a run: a line for each account of each Settlement Period with its energies
 /// in MWh and its cash in pence, after these the residual of the period; then the day net of each
@@ -44,27 +164,139 @@ pub fn write_day_report<S: Sink>(
     ensures writes { Sends (change S.taken S.failures out.old out.new)
         (day_report_text run.now rows.now) result }
 {
-    let nets = day_nets(alloc, rows)?;
-    let mut page = Page::new(alloc);
-    write_day(&mut page, run, rows, nets.rows(), out)?;
-    page.finish(out)
+    if is_rising(rows) {
+        return write_rising(alloc, run, rows, out);
+    }
+    let sorted = in_order_of_periods(alloc, rows)?;
+    write_rising(alloc, run, &sorted, out)
 }
 
-/// Writes the day report of a run whose accounts have these day nets.
-fn write_day<S: Sink>(
-    page: &mut Page,
+/// Writes the day report of a run with rows in the order of their Settlement Periods.
+fn write_rising<S: Sink>(
+    alloc: Global,
     run: &ReportedRun,
     rows: &[(PeriodNumber, AccountRow)],
+    out: &mut S,
+) -> Result<(), ReportFault>
+    requires { IsNonDecreasingBy (λ e. e.0) rows.now }
+    ensures { Sends (change S.taken S.failures out.old out.new)
+        (day_report_text run.now rows.now) result }
+{
+    let mut writer = DayReportWriter::begin(alloc, run, out)?;
+    for row in rows {
+        writer.row(row.0, &row.1, out)?;
+    }
+    writer.finish(out)
+}
+
+/// Writes the line that tells the run, and the heads of the columns.
+fn write_heads<S: Sink>(page: &mut Page, run: &ReportedRun, out: &mut S) -> Result<(), ReportFault>
+    ensures { Passes (change S.taken S.failures out.old out.new) page.new
+        (page.old ++ (title_line run.now ++ heads_line)) result }
+{
+    write_title(page, run, out)?;
+    page.put(heads(), out)
+}
+
+/// Writes what a row adds to a report whose last row was of this Settlement Period, with these charges.
+fn write_row<S: Sink>(
+    page: &mut Page,
+    run: &ReportedRun,
+    last: u8,
+    charges: i128,
+    period: u8,
+    row: &AccountRow,
+    out: &mut S,
+) -> Result<(), ReportFault>
+    requires { unsigned_abs charges ≤ 2 ^ 126 }
+    ensures { Passes (change S.taken S.failures out.old out.new) page.new
+        (page.old ++ (closing_lines (min run.now.periods (last - 1)) charges (min run.now.periods (period - 1))
+        ++ run_row_lines run.now (period, row.now))) result }
+{
+    let closed = closed_periods(run, last);
+    let until = closed_periods(run, period);
+    write_closings(page, closed, charges, until, out)?;
+    if period > run.periods {
+        return Ok(());
+    }
+    write_account(page, period, row, out)
+}
+
+/// How many Settlement Periods of a run are before this one; none where it is 0.
+fn closed_periods(run: &ReportedRun, period: u8) -> u8
+    ensures value { result ≡ min run.now.periods (period - 1) }
+    ensures room { result < 255 }
+{
+    run.periods.min(period.saturating_sub(1))
+}
+
+/// The charges of the period of a row with those of the rows before, where the last of these was of this
+/// period and its charges came to this.
+fn charges_with(last: u8, charges: i128, period: u8, row: &AccountRow) -> i128
+    requires { unsigned_abs charges ≤ 2 ^ 125 }
+    ensures sum { result ≡ (if last == period then charges else pos 0) +ℤ row.now.charge }
+    ensures small { unsigned_abs result ≤ unsigned_abs charges + 2 ^ 63 }
+{
+    let before = if last == period { charges } else { 0 };
+    before + i128::from(row.charge.units())
+}
+
+/// Writes the residuals of the Settlement Periods behind so many, up to another number of them. The first
+/// of these has charges that come to this, the others none. A page that is full goes out before.
+fn write_closings<S: Sink>(
+    page: &mut Page,
+    closed: u8,
+    charges: i128,
+    until: u8,
+    out: &mut S,
+) -> Result<(), ReportFault>
+    requires room { closed < 255 }
+    requires small { unsigned_abs charges ≤ 2 ^ 126 }
+    ensures { Passes (change S.taken S.failures out.old out.new) page.new
+        (page.old ++ closing_lines closed charges until) result }
+{
+    page.pass(out)?;
+    let total = until.saturating_sub(closed);
+    for count in 0..total {
+        write_closing(page, closed + 1, charges, closed + 1 + count, out)?;
+    }
+    Ok(())
+}
+
+/// Writes the residual of a Settlement Period, where the charges come to this in the first and to nothing in
+/// another.
+fn write_closing<S: Sink>(
+    page: &mut Page,
+    first: u8,
+    charges: i128,
+    period: u8,
+    out: &mut S,
+) -> Result<(), ReportFault>
+    requires { unsigned_abs charges ≤ 2 ^ 126 }
+    ensures { Passes (change S.taken S.failures out.old out.new) page.new
+        (page.old ++ closing_line first charges period) result }
+{
+    let charges = if period == first { charges } else { 0 };
+    write_residual(page, period, -charges, out)
+}
+
+/// Writes what stands behind the last row of a report: the residuals of the Settlement Periods that had
+/// none, and the day nets.
+fn write_end<S: Sink>(
+    page: &mut Page,
+    run: &ReportedRun,
+    last: u8,
+    charges: i128,
     nets: &[(Account, i128)],
     out: &mut S,
 ) -> Result<(), ReportFault>
-    requires { nets.now ≡ nets_from_rows rows.now }
+    requires { unsigned_abs charges ≤ 2 ^ 126 }
     ensures { Passes (change S.taken S.failures out.old out.new) page.new
-        (page.old ++ day_report_text run.now rows.now) result }
+        (page.old ++ (closing_lines (min run.now.periods (last - 1)) charges run.now.periods
+        ++ flat_map net_line nets.now ++ codes "END\n")) result }
 {
-    write_title(page, run, out)?;
-    page.put(heads(), out)?;
-    write_periods(page, run.periods, rows, out)?;
+    let closed = closed_periods(run, last);
+    write_closings(page, closed, charges, run.periods, out)?;
     write_nets(page, nets, out)?;
     page.put(b"END\n", out)
 }
@@ -96,83 +328,6 @@ fn push_title(page: &mut Page, run: &ReportedRun) -> Result<(), AllocError>
     page.push(b" ")?;
     page.push(run.kind.code().as_bytes())?;
     page.push(b"\n")
-}
-
-/// Writes the lines of so many Settlement Periods.
-fn write_periods<S: Sink>(
-    page: &mut Page,
-    periods: u8,
-    rows: &[(PeriodNumber, AccountRow)],
-    out: &mut S,
-) -> Result<(), ReportFault>
-    requires { IsShort page.old }
-    ensures { Passes (change S.taken S.failures out.old out.new) page.new
-        (page.old ++ periods_lines periods rows.now) result }
-{
-    let rising = is_rising(rows);
-    for count in 0..periods {
-        let near = rows_near(rows, count + 1, rising);
-        write_period(page, count + 1, near, out)?;
-    }
-    Ok(())
-}
-
-/// Writes the lines of a Settlement Period.
-#[tactic(auto, unfolding(crate::specs::DayReport::period_lines))]
-fn write_period<S: Sink>(
-    page: &mut Page,
-    period: u8,
-    rows: &[(PeriodNumber, AccountRow)],
-    out: &mut S,
-) -> Result<(), ReportFault>
-    requires { IsShort page.old }
-    ensures { Passes (change S.taken S.failures out.old out.new) page.new
-        (page.old ++ period_lines period (rows_of_period period rows.now)) result }
-{
-    let charges = write_accounts(page, period, rows, out)?;
-    write_residual(page, period, -charges, out)
-}
-
-/// Writes a line for each account of a Settlement Period, and answers the sum of their charges.
-fn write_accounts<S: Sink>(
-    page: &mut Page,
-    period: u8,
-    rows: &[(PeriodNumber, AccountRow)],
-    out: &mut S,
-) -> Result<i128, ReportFault>
-    requires { IsShort page.old }
-    ensures writes { Passes (change S.taken S.failures out.old out.new) page.new
-        (page.old ++ flat_map (row_lines period) rows.now) result }
-    ensures charges { IfOk result (λ charges. charges ≡ total (charge_in period) rows.now) }
-    ensures small { IfOk result (λ charges. unsigned_abs charges ≤ 2 ^ 126) }
-{
-    let mut charges = 0;
-    for entry in rows {
-        charges += write_row(page, period, entry, out)?;
-    }
-    Ok(charges)
-}
-
-/// Writes the line of a row that is of a Settlement Period, and answers its charge; nothing, and 0, where
-/// it is of another.
-fn write_row<S: Sink>(
-    page: &mut Page,
-    period: u8,
-    entry: &(PeriodNumber, AccountRow),
-    out: &mut S,
-) -> Result<i128, ReportFault>
-    requires { IsShort page.old }
-    ensures writes { Passes (change S.taken S.failures out.old out.new) page.new
-        (page.old ++ row_lines period entry.now) result }
-    ensures charge { IfOk result (λ charge. charge ≡ charge_in period entry.now) }
-    ensures small { IfOk result (λ charge. unsigned_abs charge ≤ 2 ^ 63) }
-{
-    let (number, row) = entry;
-    if number.number() != period {
-        return Ok(0);
-    }
-    write_account(page, period, row, out)?;
-    Ok(i128::from(row.charge.units()))
 }
 
 /// Writes the line of an account in a Settlement Period.

@@ -1,27 +1,29 @@
 //! What other programs take in: the results of a run and the balances of accounts.
 
-ghost use Rattle.std.specs.Prelude.{◌≡◌, ◌++◌, codes, decimal, OnOk};
+ghost use Rattle.std.specs.Prelude.{◌≡◌, ℕ, List, [], ◌∷◌, ◌++◌, codes, decimal, IfOk, OnOk};
 ghost use Rattle.std.specs.List.{flat_map};
 ghost use Rattle.hh_devices.specs.DeviceChanges.{change};
 ghost use Rattle.hh_time.specs.DateText.{date_text};
 ghost use Rattle.hh_runs.specs.RunKinds.{run_kind_code};
+ghost use Rattle.hh_reports.specs.declared.run.ReportedRun.{ReportedRun};
 ghost use Rattle.hh_reports.specs.Exports.{balance_line, balances_text, party_lines, result_line, results_text};
 ghost use Rattle.hh_reports.specs.Fields.{cash_of, energies_of, energy_text, pence_text};
-ghost use Rattle.hh_reports.specs.Nets.{sum_for};
+ghost use Rattle.hh_reports.specs.Nets.{Amounts, sum_for};
+ghost use Rattle.hh_reports.specs.Output.{Passes, Reaches, Sends};
+ghost use Rattle.hh_reports.specs.Writers.{GivesBalances, GivesResults, HasAmounts, HasBalances, HasResults, Rows};
 ghost use Rattle.hh_reports.specs.steps.Nets.{sum_in};
-ghost use Rattle.hh_reports.specs.Output.{Sends};
-ghost use Rattle.hh_reports.specs.steps.Output.{IsShort, Passes};
 
 use crate::fault::ReportFault;
 use crate::page::Page;
 use crate::run::ReportedRun;
-use crate::sums::{SumTable, posted_sums};
+use crate::sums::{AccountSums, SumTable};
 use hh_calc::AccountRow;
 use hh_devices::Sink;
 use hh_names::{Account, PartyId, PeriodNumber, Side};
 use hh_num::Pence;
 use itoa::Buffer;
 use std::alloc::{AllocError, Global};
+use std::marker::Model;
 
 /// The header of results.
 const RESULTS_HEADER: &[u8] =
@@ -29,6 +31,76 @@ const RESULTS_HEADER: &[u8] =
 
 /// The header of balances.
 const BALANCES_HEADER: &[u8] = b"account,moved_pence\n";
+
+/// A writer of the results of a run, given one row after the other. It keeps no rows: of the text only the
+/// lines of a page that is not full. Contracts see the run and the bytes that are held back.
+#[derive(Drop)]
+pub struct ResultsWriter {
+    run: ReportedRun,
+    page: Page,
+}
+
+impl Model for ResultsWriter {
+    ghost use Rattle.hh_reports.specs.Writers.{ResultsState};
+
+    ghost Value = { ResultsState };
+
+    ghost view = { λ w. record { run = w.run; held = w.page } };
+}
+
+impl ResultsWriter {
+    /// Begins the results of a run: the header.
+    ///
+    /// # Errors
+    ///
+    /// `Memory` where memory is refused, `Write` where the output failed or took nothing in this call. A
+    /// beginning of the text may have gone out.
+    pub fn begin<S: Sink>(
+        alloc: Global,
+        run: &ReportedRun,
+        out: &mut S,
+    ) -> Result<ResultsWriter, ReportFault>
+        ensures { let device = change S.taken S.failures out.old out.new in
+            Reaches device (λ writer. HasResults device writer run.now [])
+            (results_text run.now []) result }
+    {
+        let mut page = Page::new(alloc);
+        page.put(RESULTS_HEADER, out)?;
+        Ok(ResultsWriter { run: *run, page })
+    }
+
+    /// Takes a row of a Settlement Period, which goes out behind those that were given before.
+    ///
+    /// # Errors
+    ///
+    /// As of `begin`. The writer then serves no more.
+    pub fn row<S: Sink>(
+        &mut self,
+        period: PeriodNumber,
+        row: &AccountRow,
+        out: &mut S,
+    ) -> Result<(), ReportFault>
+        ensures { (begun : S) (run : ReportedRun) (rows : Rows)
+            → HasResults (change S.taken S.failures begun out.old) self.old run rows
+            → GivesResults (change S.taken S.failures begun out.new) self.new run
+            (rows ++ (period, row.now) ∷ []) result }
+    {
+        write_result(&mut self.page, &self.run, period, row, out)
+    }
+
+    /// Writes what is held back. The results of the rows that were given then went out whole.
+    ///
+    /// # Errors
+    ///
+    /// As of `begin`.
+    pub fn finish<S: Sink>(mut self, out: &mut S) -> Result<(), ReportFault>
+        ensures { (begun : S) (run : ReportedRun) (rows : Rows)
+            → HasResults (change S.taken S.failures begun out.old) self run rows
+            → Sends (change S.taken S.failures begun out.new) (results_text run rows) result }
+    {
+        self.page.finish(out)
+    }
+}
 
 /// Writes the results of a run as comma-separated values: a header, then a line for each row, in the
 /// order of the rows, with energies in MWh and cash in pence (profile). Lines are made in memory, and go out
@@ -47,53 +119,25 @@ pub fn write_results<S: Sink>(
     ensures writes { Sends (change S.taken S.failures out.old out.new)
         (results_text run.now rows.now) result }
 {
-    let mut page = Page::new(alloc);
-    write_export(&mut page, run, rows, out)?;
-    page.finish(out)
-}
-
-/// Writes the header of results, and a line for each row.
-fn write_export<S: Sink>(
-    page: &mut Page,
-    run: &ReportedRun,
-    rows: &[(PeriodNumber, AccountRow)],
-    out: &mut S,
-) -> Result<(), ReportFault>
-    ensures { Passes (change S.taken S.failures out.old out.new) page.new
-        (page.old ++ results_text run.now rows.now) result }
-{
-    page.put(RESULTS_HEADER, out)?;
-    write_rows(page, run, rows, out)
-}
-
-/// Writes a line for each row.
-fn write_rows<S: Sink>(
-    page: &mut Page,
-    run: &ReportedRun,
-    rows: &[(PeriodNumber, AccountRow)],
-    out: &mut S,
-) -> Result<(), ReportFault>
-    requires { IsShort page.old }
-    ensures { Passes (change S.taken S.failures out.old out.new) page.new
-        (page.old ++ flat_map (result_line run.now) rows.now) result }
-{
+    let mut writer = ResultsWriter::begin(alloc, run, out)?;
     for row in rows {
-        write_result(page, run, row, out)?;
+        writer.row(row.0, &row.1, out)?;
     }
-    Ok(())
+    writer.finish(out)
 }
 
 /// Writes the line of a row.
 fn write_result<S: Sink>(
     page: &mut Page,
     run: &ReportedRun,
-    row: &(PeriodNumber, AccountRow),
+    period: PeriodNumber,
+    row: &AccountRow,
     out: &mut S,
 ) -> Result<(), ReportFault>
     ensures { Passes (change S.taken S.failures out.old out.new) page.new
-        (page.old ++ result_line run.now row.now) result }
+        (page.old ++ result_line run.now (period, row.now)) result }
 {
-    push_result_line(page, run, row)?;
+    push_result_line(page, run, period, row)?;
     page.pass(out)
 }
 
@@ -102,15 +146,16 @@ fn write_result<S: Sink>(
 fn push_result_line(
     page: &mut Page,
     run: &ReportedRun,
-    row: &(PeriodNumber, AccountRow),
+    period: PeriodNumber,
+    row: &AccountRow,
 ) -> Result<(), AllocError>
-    ensures { OnOk result (page.new ≡ page.old ++ result_line run.now row.now) }
+    ensures { OnOk result (page.new ≡ page.old ++ result_line run.now (period, row.now)) }
 {
     push_run(page, run)?;
-    page.push_account(&row.1.account)?;
-    push_period(page, row.0)?;
-    push_energies(page, &row.1)?;
-    push_cash(page, &row.1)?;
+    page.push_account(&row.account)?;
+    push_period(page, period)?;
+    push_energies(page, row)?;
+    push_cash(page, row)?;
     page.push(b"\n")
 }
 
@@ -160,6 +205,77 @@ fn push_cash(page: &mut Page, row: &AccountRow) -> Result<(), AllocError>
     page.push_pence(i128::from(row.share.units()))
 }
 
+/// A writer of balances, given one party after the other once all postings are summed. It keeps no
+/// parties: of the text only the lines of a page that is not full. Contracts see the sums of the postings
+/// and the bytes that are held back.
+#[derive(Drop)]
+pub struct BalancesWriter {
+    sums: SumTable,
+    page: Page,
+}
+
+impl Model for BalancesWriter {
+    ghost use Rattle.hh_reports.specs.Writers.{BalancesState};
+
+    ghost Value = { BalancesState };
+
+    ghost view = { λ w. record { sums = w.sums; held = w.page } };
+}
+
+impl BalancesWriter {
+    /// Begins the balances by what postings come to: the header.
+    ///
+    /// # Errors
+    ///
+    /// `Memory` where memory is refused, `Write` where the output failed or took nothing in this call. A
+    /// beginning of the text may have gone out.
+    pub fn begin<S: Sink>(
+        alloc: Global,
+        sums: AccountSums,
+        out: &mut S,
+    ) -> Result<BalancesWriter, ReportFault>
+        ensures { let device = change S.taken S.failures out.old out.new in
+            (postings : Amounts) → HasAmounts sums postings
+            → Reaches device (λ writer. HasBalances device writer postings [])
+            (balances_text [] (λ a. sum_for a postings)) result }
+    {
+        let mut page = Page::new(alloc);
+        page.put(BALANCES_HEADER, out)?;
+        Ok(BalancesWriter {
+            sums: sums.into_table(),
+            page,
+        })
+    }
+
+    /// Takes a party: the lines of both its accounts go out behind those of the parties before.
+    ///
+    /// # Errors
+    ///
+    /// As of `begin`. The writer then serves no more.
+    pub fn party<S: Sink>(&mut self, party: PartyId, out: &mut S) -> Result<(), ReportFault>
+        ensures { (begun : S) (postings : Amounts) (parties : List (List ℕ))
+            → HasBalances (change S.taken S.failures begun out.old) self.old postings parties
+            → GivesBalances (change S.taken S.failures begun out.new) self.new postings
+            (parties ++ party ∷ []) result }
+    {
+        write_party(&mut self.page, party, &self.sums, out)
+    }
+
+    /// Writes what is held back. The balances of the parties that were given then went out whole.
+    ///
+    /// # Errors
+    ///
+    /// As of `begin`.
+    pub fn finish<S: Sink>(mut self, out: &mut S) -> Result<(), ReportFault>
+        ensures { (begun : S) (postings : Amounts) (parties : List (List ℕ))
+            → HasBalances (change S.taken S.failures begun out.old) self postings parties
+            → Sends (change S.taken S.failures begun out.new)
+            (balances_text parties (λ a. sum_for a postings)) result }
+    {
+        self.page.finish(out)
+    }
+}
+
 /// Writes the balances of the accounts of parties as comma-separated values: a header, then a line for
 /// both accounts of each party, in the order of the parties, with what was posted to the account in all,
 /// in pence; 0 where nothing was (profile). Lines are made in memory, and go out by the page.
@@ -178,40 +294,22 @@ pub fn write_balances<S: Sink>(
         (balances_text parties.now (λ a. sum_for a postings.now)) result }
 {
     let sums = posted_sums(alloc, postings)?;
-    let mut page = Page::new(alloc);
-    write_sums(&mut page, parties, &sums, out)?;
-    page.finish(out)
-}
-
-/// Writes the header of balances, and the lines of both accounts of each party.
-fn write_sums<S: Sink>(
-    page: &mut Page,
-    parties: &[PartyId],
-    sums: &SumTable,
-    out: &mut S,
-) -> Result<(), ReportFault>
-    ensures { Passes (change S.taken S.failures out.old out.new) page.new
-        (page.old ++ balances_text parties.now (sum_in sums.now)) result }
-{
-    page.put(BALANCES_HEADER, out)?;
-    write_parties(page, parties, sums, out)
-}
-
-/// Writes the lines of both accounts of each party.
-fn write_parties<S: Sink>(
-    page: &mut Page,
-    parties: &[PartyId],
-    sums: &SumTable,
-    out: &mut S,
-) -> Result<(), ReportFault>
-    requires { IsShort page.old }
-    ensures { Passes (change S.taken S.failures out.old out.new) page.new
-        (page.old ++ flat_map (party_lines (sum_in sums.now)) parties.now) result }
-{
+    let mut writer = BalancesWriter::begin(alloc, sums, out)?;
     for party in parties {
-        write_party(page, *party, sums, out)?;
+        writer.party(*party, out)?;
     }
-    Ok(())
+    writer.finish(out)
+}
+
+/// What postings come to for each account.
+fn posted_sums(alloc: Global, postings: &[(Account, Pence)]) -> Result<AccountSums, AllocError>
+    ensures { IfOk result (λ sums. HasAmounts sums postings.now) }
+{
+    let mut sums = AccountSums::new(alloc);
+    for posting in postings {
+        sums.posting(posting.0, posting.1)?;
+    }
+    Ok(sums)
 }
 
 /// Writes the lines of both accounts of a party.

@@ -9,7 +9,8 @@ mod period_rows;
 mod run;
 mod sums;
 
-pub use day_report::write_day_report;
-pub use exports::{write_balances, write_results};
+pub use day_report::{DayReportWriter, write_day_report};
+pub use exports::{BalancesWriter, ResultsWriter, write_balances, write_results};
 pub use fault::ReportFault;
 pub use run::ReportedRun;
+pub use sums::AccountSums;

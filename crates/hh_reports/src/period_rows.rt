@@ -1,11 +1,12 @@
-//! The rows of a Settlement Period among those of a run.
+//! The order of rows by their Settlement Periods.
 
-ghost use Rattle.std.specs.Prelude.{◌≡◌, IsTrue};
-ghost use Rattle.std.specs.List.Sorted.{IsNonDecreasingBy};
-ghost use Rattle.hh_reports.specs.DayReport.{rows_of_period};
+ghost use Rattle.std.specs.Prelude.{IfOk, IsTrue};
+ghost use Rattle.std.specs.List.Sorted.{IsNonDecreasingBy, IsPermutation, IsStableByKey};
+ghost use Rattle.std.specs.Ordering.{nat_cmp};
 
 use hh_calc::AccountRow;
 use hh_names::PeriodNumber;
+use std::alloc::{AllocError, Global};
 
 /// Whether the Settlement Periods of rows never fall.
 pub(crate) fn is_rising(rows: &[(PeriodNumber, AccountRow)]) -> bool
@@ -22,28 +23,17 @@ pub(crate) fn is_rising(rows: &[(PeriodNumber, AccountRow)]) -> bool
     true
 }
 
-/// Rows among which are all of a Settlement Period: those alone, where the periods never fall.
-pub(crate) fn rows_near(
+/// The rows in the order of their Settlement Periods, those of one period in the order in which they came.
+pub(crate) fn in_order_of_periods(
+    alloc: Global,
     rows: &[(PeriodNumber, AccountRow)],
-    period: u8,
-    rising: bool,
-) -> &[(PeriodNumber, AccountRow)]
-    requires { IsTrue rising → IsNonDecreasingBy (λ e. e.0) rows.now }
-    ensures { rows_of_period period result.now ≡ rows_of_period period rows.now }
+) -> Result<Vec<(PeriodNumber, AccountRow)>, AllocError>
+    ensures rising { IfOk result (λ sorted. IsNonDecreasingBy (λ e. e.0) sorted.items) }
+    ensures same { IfOk result (λ sorted. IsPermutation rows.now sorted.items) }
+    ensures stable { IfOk result (λ sorted.
+        IsStableByKey (λ e. e.0) nat_cmp rows.now sorted.items) }
 {
-    if !rising {
-        return rows;
-    }
-    rows_at(rows, period)
-}
-
-/// The rows of a Settlement Period, where the periods never fall.
-fn rows_at(rows: &[(PeriodNumber, AccountRow)], period: u8) -> &[(PeriodNumber, AccountRow)]
-    requires { IsNonDecreasingBy (λ e. e.0) rows.now }
-    ensures { rows_of_period period result.now ≡ rows_of_period period rows.now }
-{
-    let begin = rows.partition_point(|row| row.0.number() < period);
-    let rest = &rows[begin..];
-    let count = rest.partition_point(|row| row.0.number() <= period);
-    &rest[..count]
+    let mut sorted = Vec::from_slice(alloc, rows)?;
+    sorted.sort_by_key(|row| row.0.number())?;
+    Ok(sorted)
 }

@@ -1,14 +1,15 @@
 //! What amounts come to for accounts.
 
-ghost use Rattle.std.specs.Prelude.{◌≡◌, ◌≤◌, ◌*◌, ◌^◌, ◌+ℤ◌, map, unsigned_abs, IfOk, OnOk};
+ghost use Rattle.std.specs.Prelude.{◌≡◌, ◌<◌, ◌≤◌, ◌+◌, ◌*◌, ◌^◌, ◌+ℤ◌, [], ◌∷◌, ◌++◌, unsigned_abs, OnErr, OnOk};
 ghost use Rattle.std.specs.FinMap.{put};
 ghost use Rattle.hh_names.specs.Accounts.{account_cmp};
 ghost use Rattle.hh_calc.specs.Settled.{paid_by};
-ghost use Rattle.hh_reports.specs.Nets.{cash_moved, nets_from_rows, sums_of};
+ghost use Rattle.hh_reports.specs.Nets.{Amounts};
+ghost use Rattle.hh_reports.specs.Writers.{HasAmounts};
 ghost use Rattle.hh_reports.specs.steps.Nets.{greatest_amount, sum_in};
 
 use hh_calc::AccountRow;
-use hh_names::{Account, PeriodNumber};
+use hh_names::Account;
 use hh_num::Pence;
 use hh_tables::ListTable;
 use std::alloc::{AllocError, Global};
@@ -38,44 +39,84 @@ impl Model for Amount {
     ghost inverse = { λ v. record { account = v.0; pence = v.1 } };
 }
 
-/// The day nets of the accounts of rows, in account order.
-pub(crate) fn day_nets(
-    alloc: Global,
-    rows: &[(PeriodNumber, AccountRow)],
-) -> Result<SumTable, AllocError>
-    ensures { IfOk result (λ nets. nets ≡ nets_from_rows rows.now) }
-{
-    sums_of(alloc, &cash_moved(alloc, rows)?)
+/// What amounts come to for each account, given one amount after the other. It keeps one sum for each
+/// account, and no amounts. Contracts see the sums in account order, and how many amounts were given.
+#[derive(Drop)]
+pub struct AccountSums {
+    sums: SumTable,
+    /// Where the sum of the next amount's account likely lies.
+    place: usize,
+    given: u64,
 }
 
-/// What postings come to for each account, in account order.
-pub(crate) fn posted_sums(
-    alloc: Global,
-    postings: &[(Account, Pence)],
-) -> Result<SumTable, AllocError>
-    ensures { IfOk result (λ sums. sums ≡ sums_of postings.now) }
-{
-    sums_of(alloc, &posted(alloc, postings)?)
+impl Model for AccountSums {
+    ghost use Rattle.hh_reports.specs.Writers.{SumsState};
+    ghost use Rattle.hh_reports.specs.steps.Nets.{AreSmall};
+
+    ghost Value = { SumsState };
+
+    ghost view = { λ s. record { sums = s.sums; given = s.given } };
+
+    ghost invariant = { λ s. AreSmall s.given s.sums };
 }
 
-/// What rows move for their accounts.
-fn cash_moved(alloc: Global, rows: &[(PeriodNumber, AccountRow)]) -> Result<Vec<Amount>, AllocError>
-    ensures { IfOk result (λ amounts. amounts.items ≡ map cash_moved rows.now) }
-{
-    rows.iter().map(|row| cash_of_row(&row.1)).collect(alloc)
-}
+impl AccountSums {
+    /// The sums of no amounts. Takes no memory.
+    pub fn new(alloc: Global) -> AccountSums
+        ensures { HasAmounts result [] }
+    {
+        AccountSums {
+            sums: SumTable::new(alloc),
+            place: 0,
+            given: 0,
+        }
+    }
 
-/// What postings move for their accounts.
-fn posted(alloc: Global, postings: &[(Account, Pence)]) -> Result<Vec<Amount>, AllocError>
-    ensures { IfOk result (λ amounts. amounts.items ≡ postings.now) }
-{
-    postings
-        .iter()
-        .map(|posting| Amount {
-            account: posting.0,
-            pence: i128::from(posting.1.units()),
+    /// Takes an amount in pence that was posted to an account. `Err` only where memory is refused: the
+    /// sums then serve no more.
+    pub fn posting(&mut self, account: Account, amount: Pence) -> Result<(), AllocError>
+        requires few { self.old.given < 2 ^ 62 }
+        ensures { (amounts : Amounts) → HasAmounts self.old amounts
+            → OnOk result (HasAmounts self.new (amounts ++ (account, amount) ∷ [])) }
+    {
+        self.add(Amount {
+            account,
+            pence: i128::from(amount.units()),
         })
-        .collect(alloc)
+    }
+
+    /// Takes what a row moves for its account.
+    pub(crate) fn row(&mut self, row: &AccountRow) -> Result<(), AllocError>
+        requires few { self.old.given < 2 ^ 62 }
+        ensures more { OnOk result (self.new.given ≡ self.old.given + 1) }
+        ensures kept { OnErr result (self.new.given ≡ self.old.given) }
+        ensures sums { (amounts : Amounts) → HasAmounts self.old amounts
+            → OnOk result (HasAmounts self.new
+            (amounts ++ (row.now.account, paid_by row.now) ∷ [])) }
+    {
+        self.add(cash_of_row(row))
+    }
+
+    /// Takes an amount.
+    fn add(&mut self, amount: Amount) -> Result<(), AllocError>
+        requires few { self.old.given < 2 ^ 62 }
+        ensures more { OnOk result (self.new.given ≡ self.old.given + 1) }
+        ensures kept { OnErr result (self.new.given ≡ self.old.given) }
+        ensures sums { (amounts : Amounts) → HasAmounts self.old amounts
+            → OnOk result (HasAmounts self.new (amounts ++ amount ∷ [])) }
+    {
+        add_to(&mut self.sums, self.place, amount)?;
+        self.place = place_behind(&self.sums, self.place, &amount);
+        self.given += 1;
+        Ok(())
+    }
+
+    /// The sums, in account order.
+    pub(crate) fn into_table(self) -> SumTable
+        ensures { result ≡ self.sums }
+    {
+        self.sums
+    }
 }
 
 /// What a row moves for its account.
@@ -86,19 +127,6 @@ fn cash_of_row(row: &AccountRow) -> Amount
         account: row.account,
         pence: i128::from(row.charge.units()) + i128::from(row.share.units()),
     }
-}
-
-/// What amounts come to for each account, in account order.
-fn sums_of(alloc: Global, amounts: &[Amount]) -> Result<SumTable, AllocError>
-    ensures { IfOk result (λ sums. sums ≡ sums_of amounts.now) }
-{
-    let mut sums = SumTable::new(alloc);
-    let mut place = 0;
-    for amount in amounts {
-        add_to(&mut sums, place, *amount)?;
-        place = place_behind(&sums, place, amount);
-    }
-    Ok(sums)
 }
 
 /// The place behind that of an amount's account, which likely has this one. There the sum of the next
@@ -116,6 +144,7 @@ fn add_to(sums: &mut SumTable, place: usize, amount: Amount) -> Result<(), Alloc
     requires { unsigned_abs (sum_in sums.old amount.0) ≤ 2 ^ 62 * greatest_amount }
     ensures added { OnOk result (sums.new
         ≡ put account_cmp amount.0 (sum_in sums.old amount.0 +ℤ amount.1) sums.old) }
+    ensures kept { OnErr result (sums.new ≡ sums.old) }
     ensures small { unsigned_abs amount.1 ≤ greatest_amount }
 {
     let sum = sums.get_near(place, &amount.account).unwrap_or(0) + amount.pence;

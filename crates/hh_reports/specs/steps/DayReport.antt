@@ -1,12 +1,18 @@
--- The lines and the charge that one row gives a Settlement Period.
-use Rattle.std.specs.Prelude.{ℕ, ◌==◌, ℤ, pos, List, [], if◌then◌else◌}
+-- What one row, and the end of a Settlement Period, add to a day report.
+use Rattle.std.specs.Prelude.{ℕ, ◌+◌, ◌-◌, ◌==◌, nat_le, ℤ, pos, neg_ℤ, List, [], if◌then◌else◌}
+use Rattle.std.specs.List.{flat_map, range_with_len}
 use Rattle.hh_calc.specs.declared.result.AccountRow.{AccountRow}
-use Rattle.hh_reports.specs.DayReport.{period_account_line}
+use Rattle.hh_reports.specs.declared.run.ReportedRun.{ReportedRun}
+use Rattle.hh_reports.specs.DayReport.{period_account_line, period_residual_line}
 
--- the line of a row, if it is of this Settlement Period
-abbrev pub row_lines : ℕ → ℕ × AccountRow → List ℕ
-row_lines period e = if e.0 == period then period_account_line period e.1 else []
+-- the line of a row, if its Settlement Period is one of the run
+abbrev pub run_row_lines : ReportedRun → ℕ × AccountRow → List ℕ
+run_row_lines run e = if nat_le e.0 run.periods then period_account_line e.0 e.1 else []
 
--- the charge of a row, if it is of this Settlement Period
-abbrev pub charge_in : ℕ → ℕ × AccountRow → ℤ
-charge_in period e = if e.0 == period then e.1.charge else pos 0
+-- the residual of a period that ends; only the first that does has charges
+abbrev pub closing_line : ℕ → ℤ → ℕ → List ℕ
+closing_line first charges period = period_residual_line period (neg_ℤ (if period == first then charges else pos 0))
+
+-- the residuals of the periods behind so many, up to another number of them
+abbrev pub closing_lines : ℕ → ℤ → ℕ → List ℕ
+closing_lines closed charges until = flat_map (closing_line (closed + 1) charges) (range_with_len (closed + 1) (until - closed))

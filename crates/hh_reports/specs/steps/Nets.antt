@@ -1,5 +1,5 @@
 -- The sums of accounts while charges are added to them.
-use Rattle.std.specs.Prelude.{ℕ, ◌^◌, ℤ, pos, unwrap_or}
+use Rattle.std.specs.Prelude.{ℕ, ◌*◌, ◌^◌, ◌≤◌, ℤ, pos, unsigned_abs, unwrap_or}
 use Rattle.std.specs.FinMap.{find}
 use Rattle.hh_tables.specs.Tables.{Table}
 use Rattle.hh_names.specs.declared.account.Account.{Account}
@@ -12,3 +12,7 @@ greatest_amount = 2 ^ 64
 -- the sum that a table holds of an account; 0 where it holds none
 abbrev pub sum_in : Table Account ℤ → Account → ℤ
 sum_in sums a = unwrap_or (find account_cmp a sums) (pos 0)
+
+-- the sums are no greater in size than so many amounts together
+abbrev pub AreSmall : ℕ → Table Account ℤ → Type 0
+AreSmall given sums = (a : Account) → unsigned_abs (sum_in sums a) ≤ given * greatest_amount

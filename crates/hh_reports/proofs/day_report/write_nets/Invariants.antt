@@ -2,7 +2,7 @@ use Rattle.std.proofs.Common.{◌++◌, take}
 use Rattle.std.specs.List.{flat_map}
 use Rattle.hh_devices.specs.DeviceChanges.{change}
 use Rattle.hh_reports.specs.DayReport.{net_line}
-use Rattle.hh_reports.specs.steps.Output.{IsPassed}
+use Rattle.hh_reports.specs.Output.{IsPassed}
 use Rattle.hh_reports.proofs.day_report.write_nets.Given as goal
 
 -- the lines of the nets so far went out or are held back

@@ -1,5 +1,5 @@
 use Rattle.std.proofs.Common.{◌<◌, length, rules, subst}
-use Rattle.hh_reports.specs.steps.Output.{IsShort}
+use Rattle.hh_reports.specs.Output.{IsShort}
 use Rattle.hh_reports.proofs.OutputLaws.{held_back, passed}
 use Rattle.hh_reports.proofs.page.Page.pass.Goals as goal
 
