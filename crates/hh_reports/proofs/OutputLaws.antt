@@ -9,7 +9,8 @@ use Rattle.hh_devices.specs.DeviceChanges.{DeviceChange}
 use Rattle.hh_devices.specs.Devices.{AppendsFront, Failed}
 use Rattle.hh_reports.specs.declared.fault.ReportFault.{ReportFault}
 use Rattle.hh_reports.specs.declared.fault.ReportFault.TheVariants.{Memory, Write}
-use Rattle.hh_reports.specs.Output.{CountsFault, IsPassed, IsShort, Passes, Reaches, Sends}
+use Rattle.hh_reports.specs.Output.{CountsFault, IsPassed, IsShort, Reaches, Sends}
+use Rattle.hh_reports.specs.steps.Output.{Passes}
 
 appends_none : (a : Option (List ℕ)) → Appends a a []
 appends_none None = tt

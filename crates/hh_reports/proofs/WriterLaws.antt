@@ -11,7 +11,7 @@ use Rattle.hh_reports.specs.declared.run.ReportedRun.{ReportedRun}
 use Rattle.hh_reports.specs.declared.fault.ReportFault.{ReportFault}
 use Rattle.hh_reports.specs.Exports.{balances_text, party_lines, result_line, results_text}
 use Rattle.hh_reports.specs.Nets.{Amounts, sum_for}
-use Rattle.hh_reports.specs.Output.{Passes}
+use Rattle.hh_reports.specs.steps.Output.{Passes}
 use Rattle.hh_reports.specs.Writers.{BalancesState, GivesBalances, GivesResults, HasBalances, HasResults, ResultsState, Rows}
 use Rattle.hh_reports.proofs.ListLaws.{stopped_early}
 use Rattle.hh_reports.proofs.OutputLaws.{changed, stopped_on, went_on, Stops}

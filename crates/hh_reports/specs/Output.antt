@@ -36,7 +36,3 @@ module _ (device : DeviceChange) (holds : List ℕ) where
     pub rest : all ≡ gone ++ holds
     pub short : IsShort holds
     pub well : IsWell device
-
-  -- so it is, or a call failed, and a beginning of it went out
-  abbrev pub Passes : {A : Type 0} → List ℕ → Result A ReportFault → Type 0
-  Passes all result = Reaches device (λ _. IsPassed all) all result

@@ -6,9 +6,10 @@ ghost use Rattle.std.specs.List.Sorted.{IsNonDecreasingBy};
 ghost use Rattle.hh_devices.specs.DeviceChanges.{change};
 ghost use Rattle.hh_reports.specs.declared.run.ReportedRun.{ReportedRun};
 ghost use Rattle.hh_reports.specs.DayReport.{day_report_begun, day_report_text, heads_line, net_line, period_account_line, period_residual_line, title_line};
-ghost use Rattle.hh_reports.specs.steps.DayReport.{closing_line, closing_lines, run_row_lines};
+ghost use Rattle.hh_reports.specs.steps.DayReport.{closed_before, closing_line, closing_lines, run_row_lines};
+ghost use Rattle.hh_reports.specs.steps.Output.{Passes};
 ghost use Rattle.hh_reports.specs.Fields.{cash_of, energies_of, energy_text, pence_text, flush_right};
-ghost use Rattle.hh_reports.specs.Output.{IsShort, Passes, Reaches, Sends};
+ghost use Rattle.hh_reports.specs.Output.{IsShort, Reaches, Sends};
 ghost use Rattle.hh_reports.specs.Writers.{GivesDay, HasDay, Rows};
 
 use crate::fault::ReportFault;
@@ -210,11 +211,11 @@ fn write_row<S: Sink>(
 ) -> Result<(), ReportFault>
     requires { unsigned_abs charges ≤ 2 ^ 126 }
     ensures { Passes (change S.taken S.failures out.old out.new) page.new
-        (page.old ++ (closing_lines (min run.now.periods (last - 1)) charges (min run.now.periods (period - 1))
-        ++ run_row_lines run.now (period, row.now))) result }
+        (page.old ++ (closing_lines (closed_before run.now last) charges
+        (closed_before run.now period) ++ run_row_lines run.now (period, row.now))) result }
 {
-    let closed = closed_periods(run, last);
-    let until = closed_periods(run, period);
+    let closed = closed_before(run, last);
+    let until = closed_before(run, period);
     write_closings(page, closed, charges, until, out)?;
     if period > run.periods {
         return Ok(());
@@ -223,8 +224,8 @@ fn write_row<S: Sink>(
 }
 
 /// How many Settlement Periods of a run are before this one; none where it is 0.
-fn closed_periods(run: &ReportedRun, period: u8) -> u8
-    ensures value { result ≡ min run.now.periods (period - 1) }
+fn closed_before(run: &ReportedRun, period: u8) -> u8
+    ensures value { result ≡ closed_before run.now period }
     ensures room { result < 255 }
 {
     run.periods.min(period.saturating_sub(1))
@@ -292,10 +293,10 @@ fn write_end<S: Sink>(
 ) -> Result<(), ReportFault>
     requires { unsigned_abs charges ≤ 2 ^ 126 }
     ensures { Passes (change S.taken S.failures out.old out.new) page.new
-        (page.old ++ (closing_lines (min run.now.periods (last - 1)) charges run.now.periods
+        (page.old ++ (closing_lines (closed_before run.now last) charges run.now.periods
         ++ flat_map net_line nets.now ++ codes "END\n")) result }
 {
-    let closed = closed_periods(run, last);
+    let closed = closed_before(run, last);
     write_closings(page, closed, charges, run.periods, out)?;
     write_nets(page, nets, out)?;
     page.put(b"END\n", out)

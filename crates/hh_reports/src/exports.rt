@@ -9,9 +9,10 @@ ghost use Rattle.hh_reports.specs.declared.run.ReportedRun.{ReportedRun};
 ghost use Rattle.hh_reports.specs.Exports.{balance_line, balances_text, party_lines, result_line, results_text};
 ghost use Rattle.hh_reports.specs.Fields.{cash_of, energies_of, energy_text, pence_text};
 ghost use Rattle.hh_reports.specs.Nets.{Amounts, sum_for};
-ghost use Rattle.hh_reports.specs.Output.{Passes, Reaches, Sends};
+ghost use Rattle.hh_reports.specs.Output.{Reaches, Sends};
 ghost use Rattle.hh_reports.specs.Writers.{GivesBalances, GivesResults, HasAmounts, HasBalances, HasResults, Rows};
 ghost use Rattle.hh_reports.specs.steps.Nets.{sum_in};
+ghost use Rattle.hh_reports.specs.steps.Output.{Passes};
 
 use crate::fault::ReportFault;
 use crate::page::Page;

@@ -4,7 +4,8 @@ ghost use Rattle.std.specs.Prelude.{◌≡◌, ◌≤◌, ◌++◌, [], replicat
 ghost use Rattle.hh_devices.specs.DeviceChanges.{change};
 ghost use Rattle.hh_names.specs.Accounts.{account_text};
 ghost use Rattle.hh_reports.specs.Fields.{energy_text, flush_left, pence_text, flush_right};
-ghost use Rattle.hh_reports.specs.Output.{Passes, Sends};
+ghost use Rattle.hh_reports.specs.Output.{Sends};
+ghost use Rattle.hh_reports.specs.steps.Output.{Passes};
 
 use crate::fault::ReportFault;
 use hh_devices::{Sink, write_whole};

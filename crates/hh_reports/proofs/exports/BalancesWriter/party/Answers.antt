@@ -3,7 +3,7 @@ use Rattle.std.specs.Prelude.{ℤ}
 use Rattle.hh_devices.specs.DeviceChanges.{change}
 use Rattle.hh_names.specs.declared.account.Account.{Account}
 use Rattle.hh_reports.specs.Exports.{party_lines}
-use Rattle.hh_reports.specs.Output.{Passes}
+use Rattle.hh_reports.specs.steps.Output.{Passes}
 use Rattle.hh_reports.specs.Writers.{HasBalances}
 use Rattle.hh_reports.proofs.NetLaws.{sums_found}
 use Rattle.hh_reports.proofs.WriterLaws.{balances_party}
