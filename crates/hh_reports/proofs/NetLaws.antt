@@ -1,5 +1,5 @@
 -- What amounts come to for accounts, one amount after the other.
-use Rattle.std.proofs.Common.{◌≡◌, ℕ, ◌+◌, ◌*◌, ◌<◌, ◌≤◌, Bool, true, false, cond, List, [], ◌∷◌, ◌++◌, map, length, take, get_or, Some, None, Ordering, refl, sym, ap, length-append, ◌∙◌, arith}
+use Rattle.std.proofs.Common.{◌≡◌, ℕ, ◌+◌, ◌*◌, ◌≤◌, Bool, true, false, cond, List, [], ◌∷◌, ◌++◌, map, length, Some, None, Ordering, refl, sym, ap, length-append, ◌∙◌, arith}
 use Rattle.std.specs.Prelude.{◌&&◌, ℤ, pos, ◌+ℤ◌, unsigned_abs, unwrap_or, is_some, T}
 use Rattle.std.specs.FinMap.{find, put, is_sorted}
 use Rattle.std.specs.FinMap.Entries.{below_all, find-put, is_sorted-put, same_entries}
@@ -8,7 +8,6 @@ use Rattle.std.specs.declared.cmp.Ordering.TheVariants.{Equal}
 use Rattle.std.proofs.Math.IntN.{+ℤ_idl, +ℤ_idr}
 use Rattle.std.proofs.lemmas.Cmp.{eq_by_cmp_equiv}
 use Rattle.std.proofs.lemmas.Int.{ints}
-use Rattle.std.proofs.lemmas.List.{take_more}
 use Rattle.std.proofs.lemmas.Map.Views.{tells_apart}
 use Rattle.hh_num.specs.Totals.{total}
 use Rattle.hh_num.proofs.TotalLaws.{total-append}

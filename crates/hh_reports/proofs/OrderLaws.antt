@@ -1,9 +1,9 @@
 -- A day report is the same in whatever order its Settlement Periods come.
-use Rattle.std.proofs.Common.{◌≡◌, ℕ, ◌+◌, ◌<◌, eqb, true, false, cond, List, [], ◌∷◌, ◌++◌, map, length, Option, Some, None, refl, sym, ap, subst, ◌∙◌, arith}
-use Rattle.std.specs.Prelude.{◌&&◌, ◌||◌, ℤ, pos, ◌+ℤ◌, unsigned_abs, not, filter, sum_by, is_some, codes, IsPermutation, T}
+use Rattle.std.proofs.Common.{◌≡◌, ℕ, ◌+◌, eqb, true, false, cond, List, [], ◌∷◌, ◌++◌, map, length, Some, None, refl, sym, ap, ◌∙◌, arith}
+use Rattle.std.specs.Prelude.{◌&&◌, ◌||◌, ℤ, pos, ◌+ℤ◌, unsigned_abs, not, filter, sum_by, is_some, codes, IsPermutation}
 use Rattle.std.specs.FinMap.{find}
 use Rattle.std.specs.FinMap.Entries.{same_entries}
-use Rattle.std.specs.List.{cons_option, flat_map, list_any, range_with_len}
+use Rattle.std.specs.List.{cons_option, flat_map, list_any}
 use Rattle.std.specs.List.Sorted.{ties, IsStableByKey}
 use Rattle.std.specs.Ordering.{eq_by_cmp, is_lt, nat_cmp}
 use Rattle.std.proofs.lemmas.Bool.Decides.{nat_tests}

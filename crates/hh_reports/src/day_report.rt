@@ -89,6 +89,7 @@ impl DayReportWriter {
 
     /// Takes a row of a Settlement Period, that of the last row or a later one. Periods that end with it
     /// get their residuals. A period that the run has not gets no lines, but its rows count in the nets.
+    /// No more than 2^62 rows are taken, so that their sums fit.
     ///
     /// # Errors
     ///

@@ -72,8 +72,8 @@ impl AccountSums {
         }
     }
 
-    /// Takes an amount in pence that was posted to an account. `Err` only where memory is refused: the
-    /// sums then serve no more.
+    /// Takes an amount in pence that was posted to an account. No more than 2^62 amounts are taken, so
+    /// that their sums fit. `Err` only where memory is refused: the sums then serve no more.
     pub fn posting(&mut self, account: Account, amount: Pence) -> Result<(), AllocError>
         requires few { self.old.given < 2 ^ 62 }
         ensures { (amounts : Amounts) → HasAmounts self.old amounts
