@@ -134,11 +134,11 @@ class FirstCall(OfTheScript):
     def test_it_shows_which_crate_it_is_at_and_how_far(self):
         told = self.call("word")[2].splitlines()
         self.assertIn("4 crates", told[0])
-        ends = ["proved", "proved", "proved", "built"]
-        for number, (crate, end) in enumerate(zip(PROVED, ends), 1):
+        steps = [("proving", "proved")] * 3 + [("proving and building, which is the longest step", "built")]
+        for number, (crate, (begin, end)) in enumerate(zip(PROVED, steps), 1):
             at = f"settle: [{number}/4] {crate}: "
             begins, ended = told[2 * number - 1 : 2 * number + 1]
-            self.assertEqual(begins, f"{at}proving")
+            self.assertEqual(begins, f"{at}{begin}")
             self.assertRegex(ended, rf"\A{re.escape(at)}{end}, \d+ s\Z")
         self.assertEqual(len(told), 9)
 
