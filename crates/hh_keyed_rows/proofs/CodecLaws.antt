@@ -288,6 +288,3 @@ module _ {K V : Type 0} (key : Codec K) (value : Codec V) (is_key : IsCodec key)
 
   pub entry_fits : (columns : Row) (e : K × V) → entry_in key value columns ≡ Some e → (key.fits e.0 ≡ true) × (value.fits e.1 ≡ true)
   entry_fits columns e is = and_parts (key.fits e.0) (value.fits e.1) ((both_codec key value is_key is_value).fitting columns e [] (entry_read columns e is))
-
-  pub entry_apart : (d e : K × V) → columns_of key value d ≡ columns_of key value e → d ≡ e
-  entry_apart = (both_codec key value is_key is_value).apart

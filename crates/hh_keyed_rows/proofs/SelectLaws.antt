@@ -1,13 +1,15 @@
 -- What a SELECT of all columns answers, as rows of an office's table in the order of its keys.
-use Rattle.std.proofs.Common.{◌≡◌, inl, inr, Bool, true, false, cond, ◌&&◌, ◌++◌, List, [], ◌∷◌, map, filter, drop, Option, Some, None, Ordering, Less, Equal, Greater, is_eq, is_lt, refl, sym, ap, subst, ◌∙◌}
+use Rattle.std.proofs.Common.{◌≡◌, inl, inr, Bool, true, false, cond, ◌&&◌, ◌++◌, List, [], ◌∷◌, map, filter, drop, Option, Some, None, is_some, Ordering, Less, Equal, Greater, is_eq, is_gt, is_lt, refl, sym, ap, subst, ◌∙◌}
 use Rattle.std.specs.Prelude.{filter_map, T}
 use Rattle.std.specs.List.{AllByRecursion, cons_option, flat_map}
 use Rattle.std.specs.List.Sorted.{IsPermutation}
-use Rattle.std.specs.Cmp.{IsTotalOrder}
+use Rattle.std.specs.Cmp.{IsStrictWeakOrder, IsTotalOrder}
+use Rattle.std.specs.Ordering.{ordering_reverse}
 use Rattle.std.specs.FinMap.{find, put, is_sorted}
 use Rattle.std.specs.FinMap.Entries.{by_order, below_all}
 use Rattle.std.proofs.lemmas.Bool.{and_parts, false_from_ne_true}
-use Rattle.std.proofs.lemmas.Cmp.{on_total, tied_itself}
+use Rattle.std.proofs.lemmas.Cmp.{on_total, tied_itself, upto}
+use Rattle.std.proofs.lemmas.List.Kept.{IsSortedBy-filter}
 use Rattle.std.proofs.lemmas.List.Sorted.{IsPermutation-refl, IsPermutation-cons, IsPermutation-trans, IsPermutation-sym, IsPermutation-middle, IsPermutation-map}
 use Rattle.std.proofs.lemmas.Map.Lookups.{CmpEqualImpliesEq}
 use Rattle.sqlite_value.specs.declared.value.Value.{Value}
@@ -19,13 +21,12 @@ use Rattle.sqlite_keyed.proofs.ListLemmas.{IsPermutation-filter, ascending-map, 
 use Rattle.sqlite_keyed.proofs.SortLemmas.{sorted_unique}
 use Rattle.sqlite_rules.specs.Lists.{Has}
 use Rattle.sqlite_rules.proofs.ListLemmas.{all_has, all_from, has_filtered}
-use Rattle.sqlite_rules.proofs.ProbeLemmas.{has_mapped, mapped_has}
 use Rattle.sqlite_trees.proofs.ListLemmas.{all-permutation}
 use Rattle.hh_tables.proofs.TableLaws.{AreDistinct, find-in_key_order, is_sorted-in_key_order}
 use Rattle.hh_tables.specs.Tables.{in_key_order}
 use Rattle.hh_keyed_rows.specs.Codecs.{Codec, IsCodec}
 use Rattle.hh_keyed_rows.specs.KeyedRows.{entry_in, stored_entry, table_in}
-use Rattle.hh_keyed_rows.proofs.CodecLaws.{entry_only, entry_apart, read_only}
+use Rattle.hh_keyed_rows.proofs.CodecLaws.{entry_only}
 use Rattle.hh_keyed_rows.proofs.KeyLaws.{matches, matches_by, value_of, look, find-look}
 
 -- ---- lists
@@ -42,17 +43,6 @@ selected test f (r ∷ rows) = go (test r) (selected test f rows)
 pub map_map : {X Y Z : Type 0} (f : Y → Z) (g : X → Y) (xs : List X) → map f (map g xs) ≡ map (λ x. f (g x)) xs
 map_map f g [] = refl
 map_map f g (x ∷ xs) = ap (λ ys. f (g x) ∷ ys) (map_map f g xs)
-
-same_map : {X Y : Type 0} (f : X → Y) → ((x y : X) → f x ≡ f y → x ≡ y) → (xs ys : List X) → map f xs ≡ map f ys → xs ≡ ys
-same_map f apart [] [] e = refl
-same_map f apart [] (y ∷ ys) e = absurd (cc e)
-same_map f apart (x ∷ xs) [] e = absurd (cc e)
-same_map f apart (x ∷ xs) (y ∷ ys) e =
-    let h : f x ≡ f y = cc e in
-    let t : map f xs ≡ map f ys = cc e in
-    let p : x ≡ y = apart x y h in
-    let q = same_map f apart xs ys t in
-    λ i. p i ∷ q i
 
 pub has_permuted : {X : Type 0} (xs ys : List X) (x : X) → IsPermutation xs ys → Has ys x → Has xs x
 has_permuted xs ys x same = all_has (Has xs) ys x (all-permutation (Has xs) xs ys same (all_from (Has xs) xs (λ e h. h)))
@@ -96,6 +86,57 @@ module _ {K V : Type 0} (R : K → K → Ordering) (total : IsTotalOrder R) wher
 
 -- ---- rows with entries
 
+-- what is read of a list
+map_read : {X Y Z : Type 0} (f : Y → Option Z) (g : X → Y) (xs : List X) → filter_map f (map g xs) ≡ filter_map (λ x. f (g x)) xs
+map_read f g [] = refl
+map_read f g (x ∷ xs) = ap (cons_option (f (g x))) (map_read f g xs)
+
+those_read : {X Y : Type 0} (f : X → Option Y) (xs : List X) → filter_map f xs ≡ filter_map f (filter (λ x. is_some (f x)) xs)
+those_read f [] = refl
+those_read {X} {Y} f (x ∷ xs) = go (f x) refl (those_read f xs)
+  where
+    go : (o : Option Y) → f x ≡ o → filter_map f xs ≡ filter_map f (filter (λ x. is_some (f x)) xs)
+        → cons_option o (filter_map f xs) ≡ filter_map f (cond (is_some o) (x ∷ filter (λ x. is_some (f x)) xs) (filter (λ x. is_some (f x)) xs))
+    go None is more = more
+    go (Some y) is more = ap (λ ys. y ∷ ys) more ∙ sym (ap (λ o. cons_option o (filter_map f (filter (λ x. is_some (f x)) xs))) is)
+
+pub all_read : {X Y : Type 0} (f : X → Option Y) (xs : List X) (ys : List Y) → map f xs ≡ map (λ y. Some y) ys → filter_map f xs ≡ ys
+all_read f [] [] is = refl
+all_read f [] (y ∷ ys) is = absurd (cc is)
+all_read f (x ∷ xs) [] is = absurd (cc is)
+all_read f (x ∷ xs) (y ∷ ys) is =
+    let first : f x ≡ Some y = cc is in
+    ap (λ o. cons_option o (filter_map f xs)) first ∙ ap (λ zs. y ∷ zs) (all_read f xs ys (cc is))
+
+back_read : {X Y : Type 0} (f : Y → Option X) (g : X → Y) (xs : List X) → AllByRecursion (λ x. f (g x) ≡ Some x) xs → filter_map f (map g xs) ≡ xs
+back_read f g [] each = refl
+back_read f g (x ∷ xs) each = ap (λ o. cons_option o (filter_map f (map g xs))) each.0 ∙ ap (λ ys. x ∷ ys) (back_read f g xs each.1)
+
+-- a total order tests as a sort does
+no_greater : (o : Ordering) → is_lt o ≡ false → is_gt (ordering_reverse o) ≡ false
+no_greater Less h = h
+no_greater Equal h = refl
+no_greater Greater h = refl
+
+no_less : (o : Ordering) → is_gt o ≡ false → is_lt (ordering_reverse o) ≡ false
+no_less Less h = refl
+no_less Equal h = refl
+no_less Greater h = h
+
+not_back : (o : Ordering) → is_lt o ≡ true → is_lt (ordering_reverse o) ≡ false
+not_back Less h = refl
+not_back Equal h = refl
+not_back Greater h = absurd (let e = h in cc)
+
+sorts_by : {X : Type 0} (cmp : X → X → Ordering) → IsTotalOrder cmp → IsStrictWeakOrder (λ x y. is_lt (cmp x y))
+sorts_by cmp total = record {
+  one_way = λ x y h. ap is_lt (total.antisymm y x) ∙ not_back (cmp x y) h;
+  chain = λ x y z h k.
+      let first : is_gt (cmp y x) ≡ false = ap is_gt (total.antisymm y x) ∙ no_greater (cmp x y) h in
+      let second : is_gt (cmp z y) ≡ false = ap is_gt (total.antisymm z y) ∙ no_greater (cmp y z) k in
+      ap is_lt (total.antisymm x z) ∙ no_less (cmp z x) (upto total z y x second first);
+}
+
 module _ {K V : Type 0} (R : K → K → Ordering) (total : IsTotalOrder R) (exact : CmpEqualImpliesEq R) (key : Codec K) (value : Codec V) (is_key : IsCodec key) (is_value : IsCodec value) where
   abbrev entry : Row → Option (K × V)
   entry = stored_entry key value
@@ -128,16 +169,6 @@ module _ {K V : Type 0} (R : K → K → Ordering) (total : IsTotalOrder R) (exa
         more,
       )
 
-  -- rows of an answer that are read as entries are the columns of these
-  read_written : (answer : List Row) (found : List (K × V)) → map (entry_in key value) answer ≡ map Some found → answer ≡ map written found
-  read_written [] [] read = refl
-  read_written [] (e ∷ found) read = absurd (cc read)
-  read_written (columns ∷ answer) [] read = absurd (cc read)
-  read_written (columns ∷ answer) (e ∷ found) read =
-      let first = read_only key value is_key is_value columns e (cc read) in
-      let more = read_written answer found (cc read) in
-      λ i. first i ∷ more i
-
   module _ (q : Query) (params : Row) (rows : List Row) (test : Row → Bool) (p : K → Bool) (order : K → Row)
       (tested : (id : Value) (e : K × V) → test (id ∷ written e) ≡ p e.0)
       (outputs : (id : Value) (e : K × V) → output q (params ∷ (id ∷ written e) ∷ []) ≡ (order e.0, written e))
@@ -151,70 +182,83 @@ module _ {K V : Type 0} (R : K → K → Ordering) (total : IsTotalOrder R) (exa
     abbrev shown : K × V → Output
     shown e = (order e.0, written e)
 
-    -- rows that have entries, as these are shown
-    as_entries : (rs : List Row) → ((r : Row) → Has rs r → (id : Value) × (e : K × V) × (r ≡ id ∷ written e) × (entry r ≡ Some e))
-        → (map out rs ≡ map shown (filter_map entry rs))
-    as_entries [] h = refl
-    as_entries (r ∷ rs) h =
-        let it = h r (inl refl) in
-        let is : entry r ≡ Some it.1 = it.3 in
-        let first : out r ≡ shown it.1 = ap out it.2 ∙ outputs it.0 it.1 in
-        let rest = as_entries rs (λ s k. h s (inr k)) in
-        (λ i. first i ∷ rest i) ∙ sym (ap (λ o. map shown (cons_option o (filter_map entry rs))) is)
+    -- what a row of the answer is read as
+    abbrev read : Output → Option (K × V)
+    read o = entry_in key value o.1
 
-    -- rows that pass the test have the entries that do, if each has one
-    as_filtered : (rs : List Row) → ((r : Row) → Has (filter test rs) r → (id : Value) × (e : K × V) × (r ≡ id ∷ written e) × (entry r ≡ Some e))
-        → ((r : Row) (e : K × V) → Has rs r → entry r ≡ Some e → (id : Value) × (r ≡ id ∷ written e))
-        → filter_map entry (filter test rs) ≡ filter (λ e. p e.0) (filter_map entry rs)
-    as_filtered [] h k = refl
-    as_filtered (r ∷ rs) h k = go (as_filtered rs) (test r) refl (entry r) refl
-      where
-        go : (((r : Row) → Has (filter test rs) r → (id : Value) × (e : K × V) × (r ≡ id ∷ written e) × (entry r ≡ Some e))
-            → ((r : Row) (e : K × V) → Has rs r → entry r ≡ Some e → (id : Value) × (r ≡ id ∷ written e))
-            → filter_map entry (filter test rs) ≡ filter (λ e. p e.0) (filter_map entry rs)) → (b : Bool) → test r ≡ b → (o : Option (K × V)) → entry r ≡ o
-            → filter_map entry (cond b (r ∷ filter test rs) (filter test rs)) ≡ filter (λ e. p e.0) (cons_option o (filter_map entry rs))
-        go later true at None is =
-            let it = h r (subst (λ b. Has (cond b (r ∷ filter test rs) (filter test rs)) r) (sym at) (inl refl)) in
-            absurd (let e : ◌≡◌ {A = Option (K × V)} None (Some it.1) = sym is ∙ it.3 in cc)
-        go later true at (Some e) is =
-            let it = k r e (inl refl) is in
-            let picked : p e.0 ≡ true = sym (tested it.0 e) ∙ ap test (sym it.1) ∙ at in
-            let more = later (λ s l. h s (subst (λ b. Has (cond b (r ∷ filter test rs) (filter test rs)) s) (sym at) (inr l))) (λ s f l. k s f (inr l)) in
-            ap (λ o. cons_option o (filter_map entry (filter test rs))) is
-            ∙ ap (λ es. e ∷ es) more ∙ sym (ap (λ b. cond b (e ∷ filter (λ e. p e.0) (filter_map entry rs)) (filter (λ e. p e.0) (filter_map entry rs))) picked)
-        go later false at None is = later (λ s l. h s (subst (λ b. Has (cond b (r ∷ filter test rs) (filter test rs)) s) (sym at) l)) (λ s f l. k s f (inr l))
-        go later false at (Some e) is =
-            let it = k r e (inl refl) is in
-            let passed : p e.0 ≡ false = sym (tested it.0 e) ∙ ap test (sym it.1) ∙ at in
-            later (λ s l. h s (subst (λ b. Has (cond b (r ∷ filter test rs) (filter test rs)) s) (sym at) l)) (λ s f l. k s f (inr l))
-            ∙ sym (ap (λ b. cond b (e ∷ filter (λ e. p e.0) (filter_map entry rs)) (filter (λ e. p e.0) (filter_map entry rs))) passed)
+    abbrev is_read : Output → Bool
+    is_read o = is_some (read o)
+
+    read_out : (r : Row) → Has rows r → read (out r) ≡ entry r
+    read_out r h = ap (entry_in key value) (shows r h) ∙ sym (ap entry (full r h).1)
 
     entry_row : (r : Row) (e : K × V) → Has rows r → entry r ≡ Some e → (id : Value) × (r ≡ id ∷ written e)
     entry_row r e h is =
         let it = full r h in
         (it.0, it.1 ∙ ap (λ cs. it.0 ∷ cs) (entry_only key value is_key is_value it.0 (drop 1 r) e (ap entry (sym it.1) ∙ is)))
 
-    -- the rows that are answered, if each is read as an entry, are those of the keys, in their order
-    pub selects : (found : List (K × V)) (answer : List Row) (kept ordered : List Output) → map (entry_in key value) answer ≡ map Some found
+    -- of what rows show, what is read is what their entries show
+    outs_read : (rs : List Row) → ((r : Row) → Has rs r → Has rows r) → filter is_read (map out rs) ≡ map shown (filter_map entry rs)
+    outs_read [] of = refl
+    outs_read (r ∷ rs) of = go (entry r) refl (outs_read rs (λ s h. of s (inr h)))
+      where
+        go : (o : Option (K × V)) → entry r ≡ o → filter is_read (map out rs) ≡ map shown (filter_map entry rs)
+            → cond (is_read (out r)) (out r ∷ filter is_read (map out rs)) (filter is_read (map out rs)) ≡ map shown (cons_option o (filter_map entry rs))
+        go None is more =
+            ap (λ b. cond b (out r ∷ filter is_read (map out rs)) (filter is_read (map out rs))) (ap is_some (read_out r (of r (inl refl)) ∙ is)) ∙ more
+        go (Some e) is more =
+            let it = entry_row r e (of r (inl refl)) is in
+            let here : out r ≡ shown e = ap out it.1 ∙ outputs it.0 e in
+            ap (λ b. cond b (out r ∷ filter is_read (map out rs)) (filter is_read (map out rs))) (ap is_some (read_out r (of r (inl refl)) ∙ is))
+            ∙ (λ i. here i ∷ more i)
+
+    -- what an entry shows is read as the entry
+    each_read : (rs : List Row) → ((r : Row) → Has rs r → Has rows r) → AllByRecursion (λ e. read (shown e) ≡ Some e) (filter_map entry rs)
+    each_read [] of = tt
+    each_read (r ∷ rs) of = go (entry r) refl (each_read rs (λ s h. of s (inr h)))
+      where
+        go : (o : Option (K × V)) → entry r ≡ o → AllByRecursion (λ e. read (shown e) ≡ Some e) (filter_map entry rs)
+            → AllByRecursion (λ e. read (shown e) ≡ Some e) (cons_option o (filter_map entry rs))
+        go None is more = more
+        go (Some e) is more = (sym (ap entry (entry_row r e (of r (inl refl)) is).1) ∙ is, more)
+
+    -- rows that pass the test have the entries that do
+    as_filtered : (rs : List Row) → ((r : Row) → Has rs r → Has rows r) → filter_map entry (filter test rs) ≡ filter (λ e. p e.0) (filter_map entry rs)
+    as_filtered [] of = refl
+    as_filtered (r ∷ rs) of = go (as_filtered rs (λ s h. of s (inr h))) (test r) refl (entry r) refl
+      where
+        go : filter_map entry (filter test rs) ≡ filter (λ e. p e.0) (filter_map entry rs) → (b : Bool) → test r ≡ b → (o : Option (K × V)) → entry r ≡ o
+            → filter_map entry (cond b (r ∷ filter test rs) (filter test rs)) ≡ filter (λ e. p e.0) (cons_option o (filter_map entry rs))
+        go more true at None is = ap (λ o. cons_option o (filter_map entry (filter test rs))) is ∙ more
+        go more true at (Some e) is =
+            let it = entry_row r e (of r (inl refl)) is in
+            let picked : p e.0 ≡ true = sym (tested it.0 e) ∙ ap test (sym it.1) ∙ at in
+            ap (λ o. cons_option o (filter_map entry (filter test rs))) is
+            ∙ ap (λ es. e ∷ es) more ∙ sym (ap (λ b. cond b (e ∷ filter (λ e. p e.0) (filter_map entry rs)) (filter (λ e. p e.0) (filter_map entry rs))) picked)
+        go more false at None is = more
+        go more false at (Some e) is =
+            let it = entry_row r e (of r (inl refl)) is in
+            let passed : p e.0 ≡ false = sym (tested it.0 e) ∙ ap test (sym it.1) ∙ at in
+            more ∙ sym (ap (λ b. cond b (e ∷ filter (λ e. p e.0) (filter_map entry rs)) (filter (λ e. p e.0) (filter_map entry rs))) passed)
+
+    -- what is read of the rows that are answered are those of the keys, in their order
+    pub answers : (answer : List Row) (kept ordered : List Output)
         → kept ≡ map out (filter test rows) → IsPermutation kept ordered → Rattle.std.specs.Prelude.IsSorted (output_cmp q) ordered → answer ≡ map (λ o. o.1) ordered
-        → found ≡ filter (λ e. p e.0) (table_in R entry rows)
-    selects found answer kept ordered read kept_is same sorted is =
-        let each : (r : Row) → Has (filter test rows) r → (id : Value) × (e : K × V) × (r ≡ id ∷ written e) × (entry r ≡ Some e) = λ r h.
-        let of_rows = (has_filtered test rows r h).0 in
-        let placed : Has ordered (out r) = has_permuted ordered kept (out r) (IsPermutation-sym _ _ same) (subst (λ l. Has l (out r)) (sym kept_is) (mapped_has out (filter test rows) r h)) in
-        let there : Has answer (drop 1 r) = subst (λ v. Has answer v) (shows r of_rows) (subst (λ l. Has l (out r).1) (sym is) (mapped_has (λ (o : Output). o.1) ordered (out r) placed)) in
-        let e = has_mapped (λ (e : K × V). Some e) found (entry_in key value (drop 1 r)) (subst (λ l. Has l (entry_in key value (drop 1 r))) read (mapped_has (entry_in key value) answer (drop 1 r) there)) in
-        let it = full r of_rows in
-        let known : entry r ≡ Some e.0 = ap entry it.1 ∙ e.2 in
-        (it.0, e.0, it.1 ∙ ap (λ cs. it.0 ∷ cs) (read_only key value is_key is_value (drop 1 r) e.0 e.2), known) in
+        → filter_map (entry_in key value) answer ≡ filter (λ e. p e.0) (table_in R entry rows)
+    answers answer kept ordered kept_is same sorted is =
+        let picked : (r : Row) → Has (filter test rows) r → Has rows r = λ r h. (has_filtered test rows r h).0 in
         let es : List (K × V) = filter_map entry (filter test rows) in
         let wanted : List (K × V) = filter (λ e. p e.0) (table_in R entry rows) in
         let once_each = distinct rows table once in
         let permuted : IsPermutation es wanted =
-        subst (λ l. IsPermutation l wanted) (sym (as_filtered rows each entry_row)) (IsPermutation-filter (λ e. p e.0) (filter_map entry rows) (in_key_order R (filter_map entry rows)) (order_permutes R total (filter_map entry rows) once_each)) in
-        let moved : IsPermutation (map shown wanted) ordered =
-        IsPermutation-trans _ kept _ (subst (λ k. IsPermutation (map shown wanted) k) (sym (kept_is ∙ as_entries (filter test rows) each)) (IsPermutation-sym _ _ (IsPermutation-map shown _ _ permuted))) same in
+        subst (λ l. IsPermutation l wanted) (sym (as_filtered rows (λ r h. h))) (IsPermutation-filter (λ e. p e.0) (filter_map entry rows) (in_key_order R (filter_map entry rows)) (order_permutes R total (filter_map entry rows) once_each)) in
+        let moved : IsPermutation (map shown wanted) (filter is_read ordered) =
+        IsPermutation-trans _ (filter is_read kept) _
+        (subst (λ k. IsPermutation (map shown wanted) k) (sym (ap (filter is_read) kept_is ∙ outs_read (filter test rows) picked)) (IsPermutation-sym _ _ (IsPermutation-map shown _ _ permuted)))
+        (IsPermutation-filter is_read _ _ same) in
         let up = ascending-map (λ x y. output_cmp q x y ≡ Less) shown wanted (ascending_weaker _ _ follows wanted (ascending-filter _ (λ e. p e.0) _ (order_rises R total (filter_map entry rows)))) in
-        let placed = sorted_unique (output_cmp q) (on_total (λ o. o.0) (key_cmp_total (map (λ k. k.1) q.order) 0)) (map shown wanted) ordered up moved sorted in
-        same_map written (entry_apart key value is_key is_value) found wanted
-        (sym (read_written answer found read) ∙ is ∙ ap (map (λ (o : Output). o.1)) placed ∙ map_map (λ (o : Output). o.1) shown wanted)
+        let ordering = on_total (λ o. o.0) (key_cmp_total (map (λ k. k.1) q.order) 0) in
+        let placed = sorted_unique (output_cmp q) ordering (map shown wanted) (filter is_read ordered) up moved (IsSortedBy-filter _ (sorts_by (output_cmp q) ordering) is_read ordered sorted) in
+        let each = all-permutation (λ e. read (shown e) ≡ Some e) es wanted permuted (each_read (filter test rows) picked) in
+        ap (filter_map (entry_in key value)) is ∙ map_read (entry_in key value) (λ (o : Output). o.1) ordered ∙ those_read read ordered
+        ∙ ap (filter_map read) placed ∙ back_read read shown wanted each

@@ -1,10 +1,10 @@
 //! Why rows are not read.
 
 ghost use Rattle.std.specs.Prelude.{◌≡◌};
-ghost use Rattle.hh_keyed_rows.specs.RowFaults.{database_refused, rows_refused};
+ghost use Rattle.hh_keyed_rows.specs.RowFaults.{database_refused, output_refused, rows_refused};
 ghost use Rattle.hh_keyed_rows.specs.declared.row_fault.RowFault.TheVariants.{Memory};
 
-use hh_store::StoreFault;
+use hh_store::{OutputFault, StoreFault};
 use sqlite::{Error, ErrorCode};
 use std::alloc::{AllocError, AllocFailed};
 
@@ -53,6 +53,18 @@ impl From<RowFault> for StoreFault {
         match fault {
             RowFault::Memory => StoreFault::Memory,
             RowFault::Store => StoreFault::Store,
+        }
+    }
+}
+
+/// What a report answers where its rows are not read.
+impl From<RowFault> for OutputFault {
+    ghost from_gives = { λ fault refused. refused ≡ output_refused fault };
+
+    fn from(fault: RowFault) -> OutputFault {
+        match fault {
+            RowFault::Memory => OutputFault::Memory,
+            RowFault::Store => OutputFault::Store,
         }
     }
 }

@@ -1,13 +1,15 @@
 -- A day report whose rows come in the order of their Settlement Periods.
 use Rattle.std.proofs.Common.{◌≡◌, ℕ, suc, ◌+◌, ◌<◌, ◌≤◌, List, [], ◌∷◌, ◌++◌, length, length-drop, drop, take, get_or, sym, ap, subst, ◌∙◌, append_assoc, arith}
 use Rattle.std.specs.Prelude.{codes, fold, All}
-use Rattle.std.specs.List.{flat_map}
+use Rattle.std.specs.List.{AllByRecursion, flat_map}
 use Rattle.std.specs.List.Sorted.{IsNonDecreasingBy}
 use Rattle.std.proofs.lemmas.List.{append-nil, get_or-drop, get_or-take, get_or_default, length-take-le}
+use Rattle.std.proofs.lemmas.List.Elements.{All-from_recursion, recursion_from_All}
 use Rattle.hh_devices.specs.DeviceChanges.{DeviceChange}
 use Rattle.hh_calc.specs.declared.result.AccountRow.{AccountRow}
 use Rattle.hh_reports.specs.declared.run.ReportedRun.{ReportedRun}
 use Rattle.hh_reports.specs.declared.fault.ReportFault.{ReportFault}
+use Rattle.hh_reports.specs.Beginnings.{DayGoesOn, GoesOnFrom}
 use Rattle.hh_reports.specs.DayReport.{day_report_begun, day_report_text, heads_line, last_period, net_line, periods_lines, title_line}
 use Rattle.hh_reports.specs.Nets.{nets_from_rows}
 use Rattle.hh_reports.specs.Writers.{Rows}
@@ -78,13 +80,44 @@ first_behind rows i row rising inside is d more =
     let there : (get_or rows i d).0 ≡ row.0 = ap (λ (e : ℕ × AccountRow). e.0) (get_or_default rows i d row inside ∙ sym is) in
     omega arith
 
--- a beginning of the heads is one of the whole report
-pub heads_stopped : (device : DeviceChange) (run : ReportedRun) (rows : Rows) (fault : ReportFault) → Stops device (day_report_begun run []) fault → Stops device (day_report_text run rows) fault
+-- the heads begin the whole report
+heads_go_on : (run : ReportedRun) (rows : Rows) → GoesOnFrom (day_report_begun run []) (day_report_text run rows)
 unfolding day_report_text
-heads_stopped device run rows fault now =
+heads_go_on run rows =
     let heads = title_line run ++ heads_line in
     let periods = periods_lines run.periods rows in
     let nets = flat_map net_line (nets_from_rows rows) in
-    let parts : heads ++ (periods ++ (nets ++ codes "END\n")) ≡ ((heads ++ periods) ++ nets) ++ codes "END\n" = simp append_assoc in
-    stopped_early device heads (periods ++ (nets ++ codes "END\n")) (((heads ++ periods) ++ nets) ++ codes "END\n") fault parts
-    (subst (λ t. Stops device t fault) (sym (day_begun_none run)) now)
+    let parts : ((heads ++ periods) ++ nets) ++ codes "END\n" ≡ heads ++ (periods ++ (nets ++ codes "END\n")) = simp append_assoc in
+    (periods ++ (nets ++ codes "END\n"), parts ∙ ap (λ t. t ++ (periods ++ (nets ++ codes "END\n"))) (day_begun_none run))
+
+-- a beginning of the heads is one of the whole report
+pub heads_stopped : (device : DeviceChange) (run : ReportedRun) (rows : Rows) (fault : ReportFault) → Stops device (day_report_begun run []) fault → Stops device (day_report_text run rows) fault
+heads_stopped device run rows fault now =
+    let on = heads_go_on run rows in
+    stopped_early device (day_report_begun run []) on.0 (day_report_text run rows) fault (sym on.1) now
+
+-- ---- what stands of the report begins it
+
+-- where the periods of two lists together never fall, they never fall in the first, nor from its last on
+stays-parted : (last : ℕ) (front rest : Rows) → StaysUp last (front ++ rest) → StaysUp last front × StaysUp (fold (λ _ e. e.0) last front) rest
+stays-parted last [] rest up = (tt, up)
+stays-parted last (e ∷ front) rest up = let more = stays-parted e.0 front rest up.1 in ((up.0, more.0), more.1)
+
+last-up : (last : ℕ) (rows : Rows) → StaysUp last rows → last ≤ fold (λ _ e. e.0) last rows
+last-up last [] up = omega arith
+last-up last (e ∷ rows) up = let more = last-up e.0 rows up.1 in let first : last ≤ e.0 = up.0 in omega arith
+
+all-upto : (last : ℕ) (rows : Rows) → StaysUp last rows → AllByRecursion (λ e. 1 ≤ e.0) rows → AllByRecursion (λ e. (1 ≤ e.0) × (e.0 ≤ fold (λ _ e. e.0) last rows)) rows
+all-upto last [] up some = tt
+all-upto last (e ∷ rows) up some = ((some.0, last-up e.0 rows up.1), all-upto e.0 rows up.1 some.1)
+
+pub day_goes_on : DayGoesOn
+day_goes_on run [] later some rising = heads_go_on run later
+day_goes_on run (e ∷ rows) later some rising =
+    let up = stays_up 0 (e ∷ rows ++ later) rising (λ d lt. omega arith) in
+    let parts = stays-parted 0 (e ∷ rows) later up in
+    let each = recursion_from_All (λ e. 1 ≤ e.0) (e ∷ rows) some in
+    let within = All-from_recursion _ (e ∷ rows) (all-upto 0 (e ∷ rows) parts.0 each) in
+    let first : 1 ≤ e.0 = each.0 in
+    let last = last-up e.0 rows parts.0.1 in
+    (ended run (e ∷ rows) later, sym (whole_day run (e ∷ rows) later within (omega arith) parts.1))

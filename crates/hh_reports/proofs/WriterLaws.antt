@@ -9,6 +9,7 @@ use Rattle.hh_names.specs.declared.account.Account.{Account}
 use Rattle.hh_calc.specs.declared.result.AccountRow.{AccountRow}
 use Rattle.hh_reports.specs.declared.run.ReportedRun.{ReportedRun}
 use Rattle.hh_reports.specs.declared.fault.ReportFault.{ReportFault}
+use Rattle.hh_reports.specs.Beginnings.{BalancesGoOn, ResultsGoOn}
 use Rattle.hh_reports.specs.Exports.{balances_text, party_lines, result_line, results_text}
 use Rattle.hh_reports.specs.Nets.{Amounts, sum_for}
 use Rattle.hh_reports.specs.steps.Output.{Passes}
@@ -83,3 +84,10 @@ pub balances_stopped : (device : DeviceChange) (balance : Account → ℤ) (part
 balances_stopped device balance parties later all fault is now =
     stopped_early device (balances_text parties balance) (flat_map (party_lines balance) later) (balances_text all balance) fault
     (sym (balances_on balance parties later) ∙ ap (λ all. balances_text all balance) is) now
+
+-- the whole text goes on from that of some rows
+pub results_go_on : ResultsGoOn
+results_go_on run rows later = (flat_map (result_line run) later, results_on run rows later)
+
+pub balances_go_on : BalancesGoOn
+balances_go_on balance parties later = (flat_map (party_lines balance) later, balances_on balance parties later)

@@ -1,3 +1,4 @@
+pub mod Beginnings
 pub mod DayReport
 pub mod Exports
 pub mod Fields

@@ -1,6 +1,6 @@
 //! The day report of a run.
 
-ghost use Rattle.std.specs.Prelude.{◌≡◌, ◌==◌, ◌-◌, ◌+◌, ◌<◌, ◌≤◌, ◌^◌, ◌+ℤ◌, [], ◌∷◌, ◌++◌, codes, decimal, min, pos, unsigned_abs, if◌then◌else◌, OnOk};
+ghost use Rattle.std.specs.Prelude.{◌≡◌, ◌==◌, ◌&&◌, ◌-◌, ◌+◌, ◌<◌, ◌≤◌, ◌^◌, ◌+ℤ◌, [], ◌∷◌, ◌++◌, codes, decimal, min, nat_le, nat_lt, pos, unsigned_abs, if◌then◌else◌, OnOk};
 ghost use Rattle.std.specs.List.{flat_map};
 ghost use Rattle.std.specs.List.Sorted.{IsNonDecreasingBy};
 ghost use Rattle.hh_devices.specs.DeviceChanges.{change};
@@ -85,6 +85,14 @@ impl DayReportWriter {
             nets: AccountSums::new(alloc),
             page,
         })
+    }
+
+    /// Whether a row of this Settlement Period may be taken: the last row is of no later one, and fewer than
+    /// 2^62 rows were taken.
+    pub fn may_take(&self, period: PeriodNumber) -> bool
+        ensures { result ≡ (nat_le self.now.period period && nat_lt self.now.nets.given (2 ^ 62)) }
+    {
+        self.period <= period.number() && !self.nets.is_full()
     }
 
     /// Takes a row of a Settlement Period, that of the last row or a later one. Periods that end with it

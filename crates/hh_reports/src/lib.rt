@@ -4,6 +4,7 @@
 mod day_report;
 mod exports;
 mod fault;
+mod laws;
 mod page;
 mod period_rows;
 mod run;
@@ -12,5 +13,6 @@ mod sums;
 pub use day_report::{DayReportWriter, write_day_report};
 pub use exports::{BalancesWriter, ResultsWriter, write_balances, write_results};
 pub use fault::ReportFault;
+pub use laws::reports_go_on;
 pub use run::ReportedRun;
 pub use sums::AccountSums;

@@ -1,6 +1,6 @@
 //! What amounts come to for accounts.
 
-ghost use Rattle.std.specs.Prelude.{◌≡◌, ◌<◌, ◌≤◌, ◌+◌, ◌*◌, ◌^◌, ◌+ℤ◌, [], ◌∷◌, ◌++◌, unsigned_abs, OnErr, OnOk};
+ghost use Rattle.std.specs.Prelude.{◌≡◌, ◌<◌, ◌≤◌, ◌+◌, ◌*◌, ◌^◌, ◌+ℤ◌, [], ◌∷◌, ◌++◌, nat_le, unsigned_abs, OnErr, OnOk};
 ghost use Rattle.std.specs.FinMap.{put};
 ghost use Rattle.hh_names.specs.Accounts.{account_cmp};
 ghost use Rattle.hh_calc.specs.Settled.{paid_by};
@@ -14,6 +14,9 @@ use hh_num::Pence;
 use hh_tables::ListTable;
 use std::alloc::{AllocError, Global};
 use std::marker::Model;
+
+/// So many amounts are taken, so that their sums fit.
+const MOST_AMOUNTS: u64 = 1 << 62;
 
 /// Sums of pence, in account order.
 pub(crate) type SumTable = ListTable<Account, i128>;
@@ -70,6 +73,13 @@ impl AccountSums {
             place: 0,
             given: 0,
         }
+    }
+
+    /// Whether no more amounts are taken: 2^62 were given.
+    pub fn is_full(&self) -> bool
+        ensures { result ≡ nat_le (2 ^ 62) self.now.given }
+    {
+        self.given >= MOST_AMOUNTS
     }
 
     /// Takes an amount in pence that was posted to an account. No more than 2^62 amounts are taken, so

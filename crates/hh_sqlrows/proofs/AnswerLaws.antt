@@ -1,5 +1,6 @@
 -- What a query leaves of a connection, and what its rows are read as.
-use Rattle.std.proofs.Common.{◌≡◌, ◌⊎◌, inl, inr, ◌∙◌, List, map, Some, None, Option, Ok, Err, Result, IfOk, OnOk, IsTrue, Vec, sym}
+use Rattle.std.proofs.Common.{◌≡◌, ◌⊎◌, inl, inr, ◌∙◌, ◌++◌, List, [], ◌∷◌, map, Some, None, Option, Ok, Err, Result, IfOk, OnOk, IsTrue, Vec, sym, subst}
+use Rattle.std.specs.Prelude.{IsErrAnd}
 use Rattle.std.specs.declared.alloc.Global.{Global}
 use Rattle.sqlite_value.specs.Order.{Row}
 use Rattle.sqlite_resolve.specs.declared.compiled.Compiled.{Compiled}
@@ -8,6 +9,14 @@ use Rattle.sqlite.specs.Clock.{timed}
 use Rattle.sqlite.specs.State.{State, Shown, ShowsRows, IsUnchanged, IsRolledBack}
 use Rattle.hh_keyed_rows.specs.Codecs.{Codec}
 use Rattle.hh_keyed_rows.specs.KeyedRows.{entry_in}
+use Rattle.hh_devices.specs.DeviceChanges.{DeviceChange}
+use Rattle.hh_reports.specs.Output.{CountsFault}
+use Rattle.hh_reports.specs.declared.fault.ReportFault.{ReportFault}
+use Rattle.hh_reports.specs.declared.fault.ReportFault.TheVariants.{Memory, Write}
+use Rattle.hh_store.specs.declared.output_fault.OutputFault.{OutputFault}
+use Rattle.hh_store.specs.Outputs.{CountsOutput}
+use Rattle.hh_store.specs.StoreFaults.{output_fault}
+use Rattle.hh_sqlrows.specs.Giving.{GivesSo, TakesRow}
 use Rattle.hh_sqlrows.specs.steps.Answers.{IsRead}
 
 module _ (sql : List _) (params : Row) (old new : State) where
@@ -31,3 +40,27 @@ module _ (sql : List _) (params : Row) (old new : State) where
 pub left_by : (old new : State) → IsUnchanged old new ⊎ IsRolledBack old new → IsTrue new.is_open → old.now ≡ old.committed → (new.now ≡ old.now) × (new.committed ≡ old.committed)
 left_by old new (inl same) stands settled = (same.0.now_is, same.0.committed_is)
 left_by old new (inr back) stands settled = let u = back.undone stands in (u.0 ∙ sym settled, u.1)
+
+-- rows that a taker was given until it stopped for a fault, which is told on
+module _ {R : Type 0} (Has : List R → Type 0) (Stopped : OutputFault → List R → Type 0) (AreAll AreSome : List R → Type 0) where
+  pub gives_stopped : {A : Type 0} (r : Result A OutputFault) (fault : OutputFault) → IsErrAnd r (λ e. e ≡ fault) → (taken : List R) → Stopped fault taken → AreSome taken
+      → GivesSo Has Stopped AreAll AreSome r
+  gives_stopped (Ok x) fault is taken stopped some = absurd is
+  gives_stopped (Err e) fault is taken stopped some = (taken, subst (λ f. Stopped f taken) (sym is) stopped, some)
+
+  -- it stopped behind a row or before it
+  pub gives_stopped_at : {A : Type 0} (r : Result A OutputFault) (fault : OutputFault) → IsErrAnd r (λ e. e ≡ fault) → (taken : List R) (row : R)
+      → Stopped fault taken ⊎ Stopped fault (taken ++ row ∷ []) → AreSome taken → AreSome (taken ++ row ∷ []) → GivesSo Has Stopped AreAll AreSome r
+  gives_stopped_at r fault is taken row (inl before) some more = gives_stopped r fault is taken before some
+  gives_stopped_at r fault is taken row (inr behind) some more = gives_stopped r fault is (taken ++ row ∷ []) behind more
+
+-- a row is not taken, and what went out is told with it
+pub takes_stopped : {R A : Type 0} (Has : List R → Type 0) (Stopped : OutputFault → List R → Type 0) (rows : List R) (row : R) (r : Result A OutputFault) (fault : OutputFault)
+    → IsErrAnd r (λ e. e ≡ fault) → Stopped fault (rows ++ row ∷ []) → TakesRow Has Stopped rows row r
+takes_stopped Has Stopped rows row (Ok x) fault is stopped = absurd is
+takes_stopped Has Stopped rows row (Err e) fault is stopped = inr (subst (λ f. Stopped f (rows ++ row ∷ [])) (sym is) stopped)
+
+-- the fault of a writer is told as one of the tables
+pub counted_alike : (device : DeviceChange) (fault : ReportFault) → CountsFault device fault → CountsOutput device (output_fault fault)
+counted_alike device Memory counts = counts
+counted_alike device Write counts = counts

@@ -9,7 +9,9 @@ pub mod ManyLaws
 pub mod SelectLaws
 pub mod OrderFacts
 pub mod Selects
+pub mod RisingLaws
 pub mod StatementTexts
+pub mod StreamLaws
 pub mod TextFacts
 pub mod UpdateFormLaws
 pub mod UpdateLaws

@@ -1,11 +1,12 @@
 -- What a statement answers that selects rows of one table, for a table of any form.
-use Rattle.std.proofs.Common.{◌≡◌, ◌+◌, ℕ, suc, List, [], ◌∷◌, length, map, filter, Bool, true, false, cond, Option, Some, Ordering, Less, is_eq, Ok, Err, Result, IfOk, Vec, refl, sym, ap, subst, ◌∙◌}
-use Rattle.std.specs.Prelude.{option_map, slice_get}
+use Rattle.std.proofs.Common.{◌≡◌, inl, inr, ◌+◌, ℕ, suc, List, [], ◌∷◌, ◌++◌, length, map, filter, Bool, true, false, cond, Option, Some, Ordering, Less, is_eq, Ok, Err, Result, IfOk, IsTrue, Vec, refl, sym, ap, subst, ◌∙◌}
+use Rattle.std.specs.Prelude.{filter_map, option_map, slice_get}
 use Rattle.std.specs.List.{flat_map, list_all}
 use Rattle.std.specs.Cmp.{IsTotalOrder}
 use Rattle.std.specs.FinMap.{find}
 use Rattle.std.specs.declared.alloc.Global.{Global}
 use Rattle.std.proofs.lemmas.Cmp.{tied_itself}
+use Rattle.std.proofs.lemmas.List.Elements.{filter_map-append}
 use Rattle.std.proofs.lemmas.Map.Lookups.{CmpEqualImpliesEq}
 use Rattle.sqlite_value.specs.declared.value.Value.{Value}
 use Rattle.sqlite_value.specs.declared.value.Value.TheVariants.{Null}
@@ -15,19 +16,25 @@ use Rattle.sqlite_sql.specs.Query.{IsAnswer, Output, Query, output, output_cmp}
 use Rattle.sqlite_sql.specs.Program.{overlay}
 use Rattle.sqlite_schema.specs.declared.command.Command.TheVariants.{Select}
 use Rattle.sqlite.specs.Listing.{reads_listing, understood}
+use Rattle.sqlite.specs.Clock.{timed}
 use Rattle.sqlite.specs.State.{State, Shown}
-use Rattle.sqlite.proofs.Callers.{IsPlain, command_of, reads_as}
+use Rattle.sqlite.proofs.Callers.{EndsIn, IsPlain, begins_shown, command_of, reads_as}
 use Rattle.hh_keyed_rows.specs.Codecs.{Codec, IsCodec, places_from}
 use Rattle.hh_keyed_rows.specs.KeyedRows.{entry_in}
 use Rattle.hh_keyed_rows.proofs.PlaceLaws.{is_Equal}
 use Rattle.hh_keyed_rows.proofs.RuleLaws.{all_columns, has_rowid, once}
-use Rattle.hh_keyed_rows.proofs.SelectLaws.{map_map, selected, selects}
+use Rattle.hh_keyed_rows.proofs.SelectLaws.{all_read, answers, map_map, selected}
+use Rattle.hh_store.specs.declared.output_fault.OutputFault.{OutputFault}
+use Rattle.hh_sqlrows.specs.Giving.{GivesEach, GivesSo}
 use Rattle.hh_sqlrows.specs.OfficeSchema.{office}
 use Rattle.hh_sqlrows.specs.Office.{IsOffice}
 use Rattle.hh_sqlrows.specs.Forms.{TableForm, rows_under_keys}
+use Rattle.hh_sqlrows.specs.Reads.{OfOffice, Stood}
 use Rattle.hh_sqlrows.specs.steps.Answers.{IsFirst, IsRead}
+use Rattle.hh_sqlrows.specs.steps.Streams.{IsBegun, OfPlain}
 use Rattle.hh_sqlrows.proofs.FormLaws.{IsForm, columns_in, long_rows, shaped_rows, unique_rows, width_of}
 use Rattle.hh_sqlrows.proofs.Selects.{select_by}
+use Rattle.hh_sqlrows.proofs.StreamLaws.{unchanged_itself}
 use Rattle.hh_sqlrows.proofs.WhereLaws.{IsOrdered, follows_by, same_test, shown_columns, tested_by}
 
 -- ---- a statement
@@ -77,9 +84,10 @@ module _ {K V : Type 0} (form : TableForm K V) (is_form : IsForm form) (places o
   follows : (a b : K × V) → form.order a.0 b.0 ≡ Less → output_cmp query (by.codec.write a.0, columns_in form a.0 a.1) (by.codec.write b.0, columns_in form b.0 b.1) ≡ Less
   follows a b h = follows_by by.codec form.order by.is_codec by.ordered order by.wide a.0 b.0 ∙ h
 
-  found_by : (old new : State) (rows : List Row) (found : List (K × V)) → IsOffice old.now → Shown sql params old new rows → map (entry_in form.key form.value) rows ≡ map Some found
-      → found ≡ filter (λ e. p e.0) (rows_under_keys form old.now.trees)
-  found_by old new rows found is h read =
+  -- what is read of the rows that are answered are the rows that pass the test
+  answered_by : (old new : State) (rows : List Row) → IsOffice old.now → Shown sql params old new rows
+      → filter_map (entry_in form.key form.value) rows ≡ filter (λ e. p e.0) (rows_under_keys form old.now.trees)
+  answered_by old new rows is h =
       let tree : List Row = old.now.trees form.table.tree in
       let reads = reads_as sql params old new office is.schema _ text.command text.plain text.unlisted rows h in
       let a : IsAnswer query (overlay old.now.trees []) params rows = reads.answer Null in
@@ -88,10 +96,29 @@ module _ {K V : Type 0} (form : TableForm K V) (is_form : IsForm form) (places o
       let kept : a.kept ≡ map out (filter test tree) = a.distinct ∙ ap (map (output query)) staged ∙ map_map (output query) (λ r. params ∷ r ∷ []) (filter test tree) in
       let long = long_rows form is_form old.now is in
       let shaped = shaped_rows form is_form old.now is in
-      selects form.order is_form.total is_form.exact form.key form.value is_form.is_key is_form.is_value query params tree test p by.codec.write
+      answers form.order is_form.total is_form.exact form.key form.value is_form.is_key is_form.is_value query params tree test p by.codec.write
       (λ id e. tested id e.0 e.1) outputs (λ r l. shown_columns (places_from 1 (width_of form)) r params ∙ all_columns r 1 (width_of form) (long r l)) (λ r l. has_rowid r by.most (long r l ∙ by.some)) follows shaped.0
       (once office form.table form.order is_form.total is_form.exact form.key form.value is_form.is_key is_form.is_value is_form.indexed tree shaped (unique_rows form is_form old.now is))
-      found rows a.kept a.ordered read kept a.same a.sorted a.shown
+      rows a.kept a.ordered kept a.same a.sorted a.shown
+
+  found_by : (old new : State) (rows : List Row) (found : List (K × V)) → IsOffice old.now → Shown sql params old new rows → map (entry_in form.key form.value) rows ≡ map Some found
+      → found ≡ filter (λ e. p e.0) (rows_under_keys form old.now.trees)
+  found_by old new rows found is h read = sym (all_read (entry_in form.key form.value) rows found read) ∙ answered_by old new rows is h
+
+  -- rows with which the answer begins are the first of the rows that pass the test
+  begun_by : (now : State) (found : List (K × V)) → IsOffice now.now → IsTrue now.is_open → IsBegun form.key form.value sql params now found
+      → (rest : List (K × V)) × (filter (λ e. p e.0) (rows_under_keys form now.now.trees) ≡ found ++ rest)
+  begun_by now found is opened (inl none) =
+      let all = filter (λ (e : K × V). p e.0) (rows_under_keys form now.now.trees) in (all, ap (λ es. es ++ all) (sym none))
+  begun_by now found is opened (inr h) =
+      let rows = h.0 in
+      let whole = begins_shown sql params now now rows h.1 (unchanged_itself now opened) (λ c db it source.
+      subst (λ k. EndsIn k db (timed params c.formats it.now)) (sym text.command ∙ ap (λ s. command_of (understood s sql)) (sym is.schema) ∙ ap command_of it.is) tt) in
+      let later = filter_map (entry_in form.key form.value) whole.0 in (
+        later,
+        sym (answered_by now now (rows ++ whole.0) is whole.1) ∙ filter_map-append (entry_in form.key form.value) rows whole.0
+            ∙ ap (λ es. es ++ later) (all_read (entry_in form.key form.value) rows found h.2),
+      )
 
 -- ---- rows by the value of a part of their keys
 
@@ -109,6 +136,22 @@ module _ {K V A : Type 0} (form : TableForm K V) (is_form : IsForm form) (places
   lists_by a old new (Ok found) is h = selects_by a old new h.0 found.items is h.1 h.2
   lists_by a old new (Err e) is h = tt
 
+  -- the rows that are read so far are the first of those of the value that is asked for
+  pub begins_by : (a : A) (now : State) (found : List (K × V)) → IsOffice now.now → IsTrue now.is_open → IsBegun form.key form.value sql (c.write a) now found
+      → (rest : List (K × V)) × (filter (λ e. is_eq (R (part e.0) a)) (rows_under_keys form now.now.trees) ≡ found ++ rest)
+  begins_by a =
+      begun_by form is_form places order sql text by (c.write a) (λ k. is_eq (R (part k) a))
+      (λ id k v. tested_by R total exact c is_c places (id ∷ columns_in form k v) (part k) a narrow (picked id k v))
+
+  -- the rows that are given are those of the value that is asked for
+  pub gives_by : {B : Type 0} (Has : List (K × V) → Type 0) (Stopped : OutputFault → List (K × V) → Type 0) (a : A) (old new : State) (r : Result B OutputFault) → Stood old new
+      → GivesSo Has Stopped (λ taken. OfPlain old new sql (IsRead form.key form.value sql (c.write a) old new taken)) (λ taken. OfPlain old new sql (IsBegun form.key form.value sql (c.write a) old taken)) r
+      → GivesEach Has Stopped (OfOffice old new) (filter (λ e. is_eq (R (part e.0) a)) (rows_under_keys form old.now.trees)) r
+  gives_by Has Stopped a old new (Ok x) stood given =
+      (given.0, given.1, λ stands is. let all = given.2 stands (plain_under sql text.plain old is) in selects_by a old new all.0 given.0 is all.1 all.2)
+  gives_by Has Stopped a old new (Err fault) stood given =
+      (given.0, given.1, λ stands is. begins_by a old given.0 is (stood stands).0 (given.2 stands (plain_under sql text.plain old is)))
+
 -- ---- all rows
 
 all_of : {X : Type 0} (xs : List X) → filter (λ _. true) xs ≡ xs
@@ -121,6 +164,25 @@ module _ {K V : Type 0} (form : TableForm K V) (is_form : IsForm form) (order : 
       → IfOk r (λ found. found.items ≡ rows_under_keys form old.now.trees)
   lists_all old new (Ok found) is h = found_by form is_form [] order sql text by [] (λ k. true) (λ id k v. refl) old new h.0 found.items is h.1 h.2 ∙ all_of (rows_under_keys form old.now.trees)
   lists_all old new (Err e) is h = tt
+
+  pub begins_all : (now : State) (found : List (K × V)) → IsOffice now.now → IsTrue now.is_open → IsBegun form.key form.value sql [] now found
+      → (rest : List (K × V)) × (rows_under_keys form now.now.trees ≡ found ++ rest)
+  begins_all now found is opened h =
+      let begun = begun_by form is_form [] order sql text by [] (λ k. true) (λ id k v. refl) now found is opened h in
+      (begun.0, sym (all_of (rows_under_keys form now.now.trees)) ∙ begun.1)
+
+  pub gives_all : {B : Type 0} (Has : List (K × V) → Type 0) (Stopped : OutputFault → List (K × V) → Type 0) (old new : State) (r : Result B OutputFault) → Stood old new
+      → GivesSo Has Stopped (λ taken. OfPlain old new sql (IsRead form.key form.value sql [] old new taken)) (λ taken. OfPlain old new sql (IsBegun form.key form.value sql [] old taken)) r
+      → GivesEach Has Stopped (OfOffice old new) (rows_under_keys form old.now.trees) r
+  gives_all Has Stopped old new (Ok x) stood given = (
+    given.0,
+    given.1,
+    λ stands is.
+        let all = given.2 stands (plain_under sql text.plain old is) in
+        found_by form is_form [] order sql text by [] (λ k. true) (λ id k v. refl) old new all.0 given.0 is all.1 all.2 ∙ all_of (rows_under_keys form old.now.trees),
+  )
+  gives_all Has Stopped old new (Err fault) stood given =
+      (given.0, given.1, λ stands is. begins_all old given.0 is (stood stands).0 (given.2 stands (plain_under sql text.plain old is)))
 
 -- ---- the row of a key
 

@@ -1,9 +1,14 @@
 -- The content that the tables of an office's database have.
-use Rattle.std.specs.Prelude.{map}
+use Rattle.std.specs.Prelude.{ℕ, ℤ, List, filter, map}
+use Rattle.std.specs.Ordering.{is_eq}
 use Rattle.sqlite_trees.specs.Tree.{Trees}
+use Rattle.hh_names.specs.declared.account.Account.{Account}
 use Rattle.hh_rows.specs.declared.settings.Settings.{Settings}
 use Rattle.hh_rules.specs.History.{Registered}
 use Rattle.hh_calc.specs.declared.result.AccountRow.{AccountRow}
+use Rattle.hh_runs.specs.declared.run_key.RunKey.{RunKey}
+use Rattle.hh_states.specs.Runs.{run_key_cmp}
+use Rattle.hh_states.specs.declared.run_keys.PostingKey.{PostingKey}
 use Rattle.hh_states.specs.declared.run_keys.ResultKey.{ResultKey}
 use Rattle.hh_states.specs.Content.{Content}
 use Rattle.hh_keyed_rows.specs.declared.amounts.AccountAmounts.{AccountAmounts}
@@ -14,6 +19,18 @@ use Rattle.hh_sqlrows.specs.OfficeTables.{contracts, credits, files, meters, par
 -- an account's row of a run under its key, from the amounts that stand there
 abbrev pub result_of : ResultKey × AccountAmounts → ResultKey × AccountRow
 result_of e = (e.0, account_row_of e.0.account e.1)
+
+-- what the accounts have in the Settlement Periods of a run, by period, then by account
+abbrev pub rows_of_run : RunKey → Trees → List (ResultKey × AccountAmounts)
+rows_of_run run trees = filter (λ e. is_eq (run_key_cmp e.0.run run)) (rows_under_keys results trees)
+
+-- an account's row of a run with its Settlement Period
+abbrev pub period_row : ResultKey × AccountAmounts → ℕ × AccountRow
+period_row e = (e.0.period, (result_of e).1)
+
+-- a posting's amount under its account
+abbrev pub posted_amount : PostingKey × ℤ → Account × ℤ
+posted_amount e = (e.0.account, e.1)
 
 -- what is registered and in force
 abbrev pub registered_of : Trees → Registered

@@ -1,9 +1,11 @@
 pub mod Contents
 pub mod Forms
+pub mod Giving
 pub mod Making
 pub mod Office
 pub mod OfficeSchema
 pub mod OfficeTables
 pub mod Reads
 pub mod Statements
+pub mod TakerLaws
 pub mod steps

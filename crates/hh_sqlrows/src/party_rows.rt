@@ -1,21 +1,30 @@
 //! The rows of parties.
 
-ghost use Rattle.std.specs.Prelude.{◌≡◌, false, IsTrue, OnOk, IfOk};
+ghost use Rattle.std.specs.Prelude.{◌≡◌, [], false, IsTrue, OnOk, IfOk};
 ghost use Rattle.std.specs.FinMap.{find};
+ghost use Rattle.hh_devices.specs.DeviceChanges.{change};
 ghost use Rattle.hh_names.specs.Accounts.{bytes_cmp};
 ghost use Rattle.sqlite.specs.Held.{state};
 ghost use Rattle.hh_sqlrows.specs.Forms.{Puts, rows_under_keys};
+ghost use Rattle.hh_sqlrows.specs.Giving.{GivesEach};
 ghost use Rattle.hh_sqlrows.specs.Office.{IsOffice};
 ghost use Rattle.hh_sqlrows.specs.OfficeTables.{parties};
 ghost use Rattle.hh_sqlrows.specs.Reads.{CommitsNothingOf, IsHonest, LeavesOffice, OfOffice, StaysOpen, Stood};
 ghost use Rattle.hh_sqlrows.specs.Statements.{CommitsNothing, Inside, KeepsCommit, StaysInside};
 
+use crate::giving::give_entries;
 use crate::statement::{select_entries, select_first, write_entry};
+use crate::taker::RowTaker;
+use hh_devices::Sink;
 use hh_keyed_rows::RowFault;
 use hh_names::PartyId;
 use hh_rows::{PartyRegistration, PartyRow};
+use hh_store::OutputFault;
 use sqlite::{Alter, Connection, Transaction};
 use std::alloc::Global;
+
+/// What selects all parties.
+const ALL_PARTIES: &str = "SELECT party, day_from, day_to, access_key FROM parties ORDER BY party";
 
 /// Puts what is registered of a party in the place of what was.
 pub fn replace_party<S: Alter>(
@@ -84,10 +93,28 @@ pub fn select_parties<S: Alter>(
     ensures honest { IsHonest (state S.Store conn.old) (state S.Store conn.new) }
     ensures survives { CommitsNothingOf (state S.Store conn.old) (state S.Store conn.new) }
 {
-    select_entries(
-        conn,
-        alloc,
-        "SELECT party, day_from, day_to, access_key FROM parties ORDER BY party",
-        &[],
-    )
+    select_entries(conn, alloc, ALL_PARTIES, &[])
+}
+
+/// Gives a taker all parties, by the bytes of their ids, one after the other.
+pub fn give_parties<S: Alter, T: RowTaker<PartyId, PartyRegistration>, O: Sink>(
+    conn: &mut Connection<S>,
+    alloc: Global,
+    taker: &mut T,
+    out: &mut O,
+) -> Result<(), OutputFault>
+    ensures gives { let old = state S.Store conn.old in
+        let new = state S.Store conn.new in
+        (begun : O) (report : T.Report)
+        → T.has (change O.taken O.failures begun out.old) taker.old report []
+        → GivesEach (T.has (change O.taken O.failures begun out.new) taker.new report)
+        (T.stopped (change O.taken O.failures begun out.new) report) (OfOffice old new)
+        (rows_under_keys parties old.now.trees) result }
+    ensures stood { Stood (state S.Store conn.old) (state S.Store conn.new) }
+    ensures left { LeavesOffice (state S.Store conn.old) (state S.Store conn.new) }
+    ensures mode { conn.old.in_transaction ≡ false → conn.new.in_transaction ≡ false }
+    ensures honest { IsHonest (state S.Store conn.old) (state S.Store conn.new) }
+    ensures survives { CommitsNothingOf (state S.Store conn.old) (state S.Store conn.new) }
+{
+    give_entries(conn, alloc, ALL_PARTIES, &[], taker, out)
 }

@@ -1,19 +1,29 @@
 //! The rows of postings.
 
-ghost use Rattle.std.specs.Prelude.{◌≡◌, false, IsTrue, OnOk, IfOk};
+ghost use Rattle.std.specs.Prelude.{◌≡◌, [], false, IsTrue, OnOk, IfOk};
 ghost use Rattle.sqlite.specs.Held.{state};
 ghost use Rattle.hh_sqlrows.specs.Forms.{Puts, PutsAll, rows_under_keys};
+ghost use Rattle.hh_devices.specs.DeviceChanges.{change};
+ghost use Rattle.hh_sqlrows.specs.Giving.{GivesEach};
 ghost use Rattle.hh_sqlrows.specs.Office.{IsOffice};
 ghost use Rattle.hh_sqlrows.specs.OfficeTables.{postings};
 ghost use Rattle.hh_sqlrows.specs.Reads.{CommitsNothingOf, IsHonest, LeavesOffice, OfOffice, StaysOpen, Stood};
 ghost use Rattle.hh_sqlrows.specs.Statements.{CommitsNothing, Inside, KeepsCommit, StaysInside};
 
+use crate::giving::give_entries;
 use crate::statement::{select_entries, write_entry};
+use crate::taker::RowTaker;
+use hh_devices::Sink;
 use hh_keyed_rows::RowFault;
 use hh_num::Pence;
 use hh_states::PostingKey;
+use hh_store::OutputFault;
 use sqlite::{Alter, Connection, Transaction};
 use std::alloc::Global;
+
+/// What selects all postings.
+const ALL_POSTINGS: &str =
+    "SELECT day, kind, party, side, pence FROM postings ORDER BY day, kind, party, side";
 
 /// Writes a posting of a new run.
 pub fn insert_posting<S: Alter>(
@@ -58,12 +68,30 @@ pub fn select_postings<S: Alter>(
     ensures honest { IsHonest (state S.Store conn.old) (state S.Store conn.new) }
     ensures survives { CommitsNothingOf (state S.Store conn.old) (state S.Store conn.new) }
 {
-    select_entries(
-        conn,
-        alloc,
-        "SELECT day, kind, party, side, pence FROM postings ORDER BY day, kind, party, side",
-        &[],
-    )
+    select_entries(conn, alloc, ALL_POSTINGS, &[])
+}
+
+/// Gives a taker all postings, by run, then by account, one after the other.
+pub fn give_postings<S: Alter, T: RowTaker<PostingKey, Pence>, O: Sink>(
+    conn: &mut Connection<S>,
+    alloc: Global,
+    taker: &mut T,
+    out: &mut O,
+) -> Result<(), OutputFault>
+    ensures gives { let old = state S.Store conn.old in
+        let new = state S.Store conn.new in
+        (begun : O) (report : T.Report)
+        → T.has (change O.taken O.failures begun out.old) taker.old report []
+        → GivesEach (T.has (change O.taken O.failures begun out.new) taker.new report)
+        (T.stopped (change O.taken O.failures begun out.new) report) (OfOffice old new)
+        (rows_under_keys postings old.now.trees) result }
+    ensures stood { Stood (state S.Store conn.old) (state S.Store conn.new) }
+    ensures left { LeavesOffice (state S.Store conn.old) (state S.Store conn.new) }
+    ensures mode { conn.old.in_transaction ≡ false → conn.new.in_transaction ≡ false }
+    ensures honest { IsHonest (state S.Store conn.old) (state S.Store conn.new) }
+    ensures survives { CommitsNothingOf (state S.Store conn.old) (state S.Store conn.new) }
+{
+    give_entries(conn, alloc, ALL_POSTINGS, &[], taker, out)
 }
 
 /// Writes the postings of a new run.

@@ -1,23 +1,33 @@
 //! The rows of results.
 
-ghost use Rattle.std.specs.Prelude.{◌≡◌, map, false, IsTrue, OnOk, IfOk, filter};
-ghost use Rattle.std.specs.Ordering.{is_eq};
-ghost use Rattle.hh_states.specs.Runs.{run_key_cmp};
+ghost use Rattle.std.specs.Prelude.{◌≡◌, [], map, false, IsTrue, OnOk, IfOk};
+ghost use Rattle.std.specs.List.Sorted.{IsNonDecreasingBy};
 ghost use Rattle.hh_keyed_rows.specs.Values.{amounts_of};
 ghost use Rattle.sqlite.specs.Held.{state};
-ghost use Rattle.hh_sqlrows.specs.Forms.{Puts, PutsAll, rows_under_keys};
+ghost use Rattle.hh_sqlrows.specs.Contents.{period_row, rows_of_run};
+ghost use Rattle.hh_sqlrows.specs.Forms.{Puts, PutsAll};
+ghost use Rattle.hh_devices.specs.DeviceChanges.{change};
+ghost use Rattle.hh_sqlrows.specs.Giving.{GivesEach};
 ghost use Rattle.hh_sqlrows.specs.Office.{IsOffice};
 ghost use Rattle.hh_sqlrows.specs.OfficeTables.{amount_entry, results};
 ghost use Rattle.hh_sqlrows.specs.Reads.{CommitsNothingOf, IsHonest, LeavesOffice, OfOffice, StaysOpen, Stood};
 ghost use Rattle.hh_sqlrows.specs.Statements.{CommitsNothing, Inside, KeepsCommit, StaysInside};
 
+use crate::giving::give_by;
 use crate::statement::{select_by, write_entry};
+use crate::taker::RowTaker;
 use hh_calc::AccountRow;
+use hh_devices::Sink;
 use hh_keyed_rows::{AccountAmounts, RowFault};
 use hh_runs::RunKey;
 use hh_states::ResultKey;
+use hh_store::OutputFault;
 use sqlite::{Alter, Connection, Transaction};
 use std::alloc::Global;
+
+/// What selects the rows of a run.
+const RESULTS_OF: &str =
+    "SELECT day, kind, period, party, side, credited, balancing, contracts, imbalance, charge, share FROM results WHERE day = ?1 AND kind = ?2 ORDER BY day, kind, period, party, side";
 
 /// Writes the row of an account in a Settlement Period of a new run. The account is that of the key.
 pub fn insert_result<S: Alter>(
@@ -55,8 +65,7 @@ pub fn select_results_of<S: Alter>(
     ensures value { let old = state S.Store conn.old in
         let new = state S.Store conn.new in
         OfOffice old new (IfOk result (λ found.
-        found.items ≡ filter (λ e. is_eq (run_key_cmp e.0.run run.now))
-        (rows_under_keys results old.now.trees))) }
+        found.items ≡ rows_of_run run.now old.now.trees)) }
     ensures stood { Stood (state S.Store conn.old) (state S.Store conn.new) }
     ensures left { LeavesOffice (state S.Store conn.old) (state S.Store conn.new) }
     ensures mode { conn.old.in_transaction ≡ false → conn.new.in_transaction ≡ false }
@@ -64,12 +73,34 @@ pub fn select_results_of<S: Alter>(
     ensures honest { IsHonest (state S.Store conn.old) (state S.Store conn.new) }
     ensures survives { CommitsNothingOf (state S.Store conn.old) (state S.Store conn.new) }
 {
-    select_by(
-        conn,
-        alloc,
-        "SELECT day, kind, period, party, side, credited, balancing, contracts, imbalance, charge, share FROM results WHERE day = ?1 AND kind = ?2 ORDER BY day, kind, period, party, side",
-        run,
-    )
+    select_by(conn, alloc, RESULTS_OF, run)
+}
+
+/// Gives a taker what the accounts have in the Settlement Periods of a run, by period, then by account, one
+/// row after the other.
+pub fn give_results_of<S: Alter, T: RowTaker<ResultKey, AccountAmounts>, O: Sink>(
+    conn: &mut Connection<S>,
+    alloc: Global,
+    run: &RunKey,
+    taker: &mut T,
+    out: &mut O,
+) -> Result<(), OutputFault>
+    ensures gives { let old = state S.Store conn.old in
+        let new = state S.Store conn.new in
+        (begun : O) (report : T.Report)
+        → T.has (change O.taken O.failures begun out.old) taker.old report []
+        → GivesEach (T.has (change O.taken O.failures begun out.new) taker.new report)
+        (T.stopped (change O.taken O.failures begun out.new) report) (OfOffice old new)
+        (rows_of_run run.now old.now.trees) result }
+    ensures in_order { IsNonDecreasingBy (λ e. e.0)
+        (map period_row (rows_of_run run.now (state S.Store conn.old).now.trees)) }
+    ensures stood { Stood (state S.Store conn.old) (state S.Store conn.new) }
+    ensures left { LeavesOffice (state S.Store conn.old) (state S.Store conn.new) }
+    ensures mode { conn.old.in_transaction ≡ false → conn.new.in_transaction ≡ false }
+    ensures honest { IsHonest (state S.Store conn.old) (state S.Store conn.new) }
+    ensures survives { CommitsNothingOf (state S.Store conn.old) (state S.Store conn.new) }
+{
+    give_by(conn, alloc, RESULTS_OF, run, taker, out)
 }
 
 /// Writes the rows of accounts of a new run. The account of each is that of its key.

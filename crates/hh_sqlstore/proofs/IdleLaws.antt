@@ -58,7 +58,3 @@ module _ {S : Type 0} (g : Ghosts S) (t : Stored S) {posted : Option (Vec (Posti
         subst (λ (db : Database). Holds version (content_of t.settings db.trees) db) (sym (left stands).1) (idle.holds (reading.stood stands));
     at_hand = same_posted kept all;
   }
-
-  -- they are idle as before
-  pub idle_after : connection.in_transaction ≡ false → IsIdle g after posted
-  idle_after = idle_with posted (λ stands office settled. idle.at_hand)

@@ -1,19 +1,19 @@
 -- What is read of the rows that a statement has picked is what is read of all.
 use Rattle.std.proofs.Common.{◌≡◌, ◌∙◌, ℕ, List, [], ◌∷◌, Bool, true, false, cond, map, None, Option, Some, refl, sym, ap, arith}
-use Rattle.std.specs.Prelude.{ℤ, ◌==◌, All, filter, filter_map}
+use Rattle.std.specs.Prelude.{◌==◌, All, filter, filter_map}
 use Rattle.std.specs.List.{AllByRecursion, cons_option}
 use Rattle.std.specs.Ordering.{is_eq, nat_cmp}
 use Rattle.std.proofs.lemmas.Bool.Decides.{nat_tests}
 use Rattle.std.proofs.lemmas.List.Elements.{All-from_recursion, All-map}
-use Rattle.hh_calc.specs.declared.result.AccountRow.{AccountRow}
+use Rattle.sqlite_trees.specs.Tree.{Trees}
 use Rattle.hh_runs.specs.declared.run_key.RunKey.{RunKey}
 use Rattle.hh_runs.specs.declared.summary.Summary.{Summary}
-use Rattle.hh_states.specs.declared.run_keys.ResultKey.{ResultKey}
 use Rattle.hh_states.specs.DaySettlement.{from_one_to, periods_on}
 use Rattle.hh_states.specs.Reads.{result_in, summary_on}
 use Rattle.hh_states.specs.Runs.{run_key_cmp}
-use Rattle.hh_keyed_rows.specs.declared.amounts.AccountAmounts.{AccountAmounts}
-use Rattle.hh_sqlrows.specs.Contents.{result_of}
+use Rattle.hh_sqlrows.specs.Contents.{period_row, result_of, rows_of_run}
+use Rattle.hh_sqlrows.specs.Forms.{rows_under_keys}
+use Rattle.hh_sqlrows.specs.OfficeTables.{results}
 
 module _ {A B : Type 0} (p : A → Bool) (f : A → Option B) (out : (x : A) → p x ≡ false → f x ≡ None) where
   pub read_of_picked : (xs : List A) → filter_map f (filter p xs) ≡ filter_map f xs
@@ -48,14 +48,9 @@ pub runs_picked : (date : ℕ) (rows : List (RunKey × Summary))
 runs_picked date rows =
     read_of_picked (λ e. is_eq (nat_cmp e.0.date date)) (summary_on date) (λ e other. none_by (e.0.date == date) _ (sym (same_number e.0.date date) ∙ other)) rows
 
--- an account's row with its period
-abbrev pub by_period : ResultKey × AccountAmounts → ℕ × AccountRow
-by_period e = (e.0.period, (result_of e).1)
-
--- the rows of a run's accounts, of those of the run
-pub results_picked : (run : RunKey) (rows : List (ResultKey × AccountAmounts))
-    → map by_period (filter (λ e. is_eq (run_key_cmp e.0.run run)) rows) ≡ filter_map (result_in run) (map result_of rows)
-results_picked run rows = read_of_mapped (λ e. is_eq (run_key_cmp e.0.run run)) by_period result_of (result_in run) (λ e. refl) rows
+-- the rows of a run's accounts with their periods, of those of the run
+pub results_picked : (run : RunKey) (trees : Trees) → map period_row (rows_of_run run trees) ≡ filter_map (result_in run) (map result_of (rows_under_keys results trees))
+results_picked run trees = read_of_mapped (λ e. is_eq (run_key_cmp e.0.run run)) period_row result_of (result_in run) (λ e. refl) (rows_under_keys results trees)
 
 -- the Settlement Periods of a date are all of it
 pub all_on_date : (date count : ℕ) → All (λ at. at.date ≡ date) (periods_on date count)

@@ -1,6 +1,4 @@
 -- What contracts of private functions alone cite: the steps of proofs. No public contract names any of it, through whatever definition.
 pub mod Adopted
 pub mod Changed
-pub mod Faults
 pub mod Made
-pub mod Reported

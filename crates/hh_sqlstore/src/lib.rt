@@ -7,6 +7,7 @@ mod faults;
 mod making;
 mod office_tables;
 mod parts;
+mod reporting;
 mod rising;
 mod rows;
 mod schema;

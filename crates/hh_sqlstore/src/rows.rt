@@ -1,17 +1,14 @@
 //! What is read of parties, of runs and of their rows.
 
-ghost use Rattle.std.specs.Prelude.{◌≡◌, None, bytes_eq, false, filter_map, map, IfOk, IfSome};
-ghost use Rattle.std.specs.FinMap.{find};
+ghost use Rattle.std.specs.Prelude.{◌≡◌, bytes_eq, false, filter_map, map, IfOk};
 ghost use Rattle.std.specs.List.{list_any};
 ghost use Rattle.sqlite.specs.Held.{state};
-ghost use Rattle.hh_states.specs.Runs.{run_key_cmp};
 ghost use Rattle.hh_states.specs.Reads.{is_key_known_in, posting_to, result_in, summary_on};
-ghost use Rattle.hh_sqlrows.specs.Contents.{registered_of, result_of};
+ghost use Rattle.hh_sqlrows.specs.Contents.{period_row, registered_of, result_of};
 ghost use Rattle.hh_sqlrows.specs.Forms.{rows_under_keys};
-ghost use Rattle.hh_sqlrows.specs.OfficeTables.{parties, postings, results, runs};
+ghost use Rattle.hh_sqlrows.specs.OfficeTables.{postings, results, runs};
 ghost use Rattle.hh_sqlparts.specs.Readings.{SelectsOnly, OfSettled};
 ghost use Rattle.hh_sqlstore.specs.Stores.{ArePosted};
-ghost use Rattle.hh_sqlstore.specs.steps.Reported.{IsReported};
 
 use hh_calc::AccountRow;
 use hh_kept_rows::{postings_to, runs_on};
@@ -20,7 +17,7 @@ use hh_names::{Account, PartyId, PeriodNumber};
 use hh_num::Pence;
 use hh_rows::PartyRegistration;
 use hh_runs::{RunKey, RunKind, Summary};
-use hh_sqlrows::{select_parties, select_postings, select_results_of, select_run, select_runs_on};
+use hh_sqlrows::{select_parties, select_postings, select_results_of, select_runs_on};
 use hh_states::{PostingKey, ResultKey};
 use hh_time::SettlementDate;
 use sqlite::{Alter, Connection};
@@ -90,7 +87,7 @@ fn rows_by_period(
     rows: &[(ResultKey, AccountAmounts)],
 ) -> Result<Vec<(PeriodNumber, AccountRow)>, AllocError>
     ensures { IfOk result (λ found.
-        found.items ≡ map (λ e. (e.0.period, (result_of e).1)) rows.now) }
+        found.items ≡ map period_row rows.now) }
 {
     rows.iter()
         .map(|row| (row.0.period, row.1.with(row.0.account)))
@@ -138,49 +135,4 @@ fn all_postings<S: Alter>(
         Some(rows) => Ok(rows),
         None => select_postings(conn, alloc),
     }
-}
-
-/// The summary of a run with the rows of its accounts, if the run is there.
-pub(crate) fn reported_run<S: Alter>(
-    conn: &mut Connection<S>,
-    alloc: Global,
-    run: &RunKey,
-) -> Result<Option<(Summary, Vec<(PeriodNumber, AccountRow)>)>, RowFault>
-    ensures there { let old = state S.Store conn.old in
-        let new = state S.Store conn.new in
-        OfSettled old new (IfOk result (λ found. IfSome found (λ reported.
-        IsReported run.now old.now.trees reported.0 reported.1.items))) }
-    ensures none { let old = state S.Store conn.old in
-        let new = state S.Store conn.new in
-        OfSettled old new (IfOk result (λ found. found ≡ None
-        → find run_key_cmp run.now (rows_under_keys runs old.now.trees) ≡ None)) }
-    ensures reading { SelectsOnly (state S.Store conn.old) (state S.Store conn.new) }
-    ensures mode { conn.old.in_transaction ≡ false → conn.new.in_transaction ≡ false }
-{
-    let Some(summary) = select_run(conn, alloc, run)? else {
-        return Ok(None);
-    };
-    let rows = results_of_run(conn, alloc, run)?;
-    Ok(Some((summary, rows)))
-}
-
-/// All registered parties, and all that runs have posted.
-pub(crate) fn parties_and_postings<S: Alter>(
-    conn: &mut Connection<S>,
-    alloc: Global,
-) -> Result<(Vec<(PartyId, PartyRegistration)>, Vec<(PostingKey, Pence)>), RowFault>
-    ensures parties { let old = state S.Store conn.old in
-        let new = state S.Store conn.new in
-        OfSettled old new (IfOk result (λ found.
-        found.0.items ≡ rows_under_keys parties old.now.trees)) }
-    ensures postings { let old = state S.Store conn.old in
-        let new = state S.Store conn.new in
-        OfSettled old new (IfOk result (λ found.
-        found.1.items ≡ rows_under_keys postings old.now.trees)) }
-    ensures reading { SelectsOnly (state S.Store conn.old) (state S.Store conn.new) }
-    ensures mode { conn.old.in_transaction ≡ false → conn.new.in_transaction ≡ false }
-{
-    let parties = select_parties(conn, alloc)?;
-    let postings = select_postings(conn, alloc)?;
-    Ok((parties, postings))
 }

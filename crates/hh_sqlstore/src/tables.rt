@@ -4,16 +4,13 @@ ghost use Rattle.sqlite.specs.Held.{state};
 ghost use Rattle.hh_sqlstore.specs.Stores.{content_in};
 
 use crate::changing::{keep_load, keep_run};
-use crate::faults::{output_refused, refuse};
+use crate::faults::{refuse, refuse_report};
 use crate::parts::{contracts_of_account, data_of_day, register_of};
-use crate::rows::{
-    is_key_known, parties_and_postings, postings_to_account, reported_run, results_of_run,
-    runs_of_date,
-};
+use crate::reporting::{write_balances, write_day_report, write_export};
+use crate::rows::{is_key_known, postings_to_account, results_of_run, runs_of_date};
 use crate::sql_tables::SqlTables;
 use hh_calc::AccountRow;
 use hh_devices::Sink;
-use hh_kept_rows::{write_balances_of, write_day_report_of, write_results_of};
 use hh_names::{Account, Counterparties, FileName, PartyId, PeriodNumber, Reference, UnitId};
 use hh_num::Pence;
 use hh_rows::{ContractRow, FileKind, PartyRegistration, Row, Settings, UnitRegistration};
@@ -125,25 +122,23 @@ impl<S: Alter> Tables for SqlTables<S> {
     }
 
     fn export<O: Sink>(&mut self, run: &RunKey, out: &mut O) -> Result<(), OutputFault> {
-        match reported_run(&mut self.connection, self.alloc, run) {
-            Ok(Some((summary, rows))) => write_results_of(self.alloc, run, &summary, &rows, out),
-            Ok(None) => Ok(()),
-            Err(fault) => Err(output_refused(&mut self.refusals, fault)),
+        match write_export(&mut self.connection, self.alloc, run, out) {
+            Ok(written) => Ok(written),
+            Err(fault) => Err(refuse_report(&mut self.refusals, fault)),
         }
     }
 
     fn day_report<O: Sink>(&mut self, run: &RunKey, out: &mut O) -> Result<(), OutputFault> {
-        match reported_run(&mut self.connection, self.alloc, run) {
-            Ok(Some((summary, rows))) => write_day_report_of(self.alloc, run, &summary, &rows, out),
-            Ok(None) => Ok(()),
-            Err(fault) => Err(output_refused(&mut self.refusals, fault)),
+        match write_day_report(&mut self.connection, self.alloc, run, out) {
+            Ok(written) => Ok(written),
+            Err(fault) => Err(refuse_report(&mut self.refusals, fault)),
         }
     }
 
     fn balances<O: Sink>(&mut self, out: &mut O) -> Result<(), OutputFault> {
-        match parties_and_postings(&mut self.connection, self.alloc) {
-            Ok((parties, postings)) => write_balances_of(self.alloc, &parties, &postings, out),
-            Err(fault) => Err(output_refused(&mut self.refusals, fault)),
+        match write_balances(&mut self.connection, self.alloc, out) {
+            Ok(written) => Ok(written),
+            Err(fault) => Err(refuse_report(&mut self.refusals, fault)),
         }
     }
 

@@ -1,18 +1,40 @@
-use Rattle.std.proofs.Common.{◌∙◌, rules, subst}
+use Rattle.std.proofs.Common.{Ok, Err, map, subst, sym}
 use Rattle.std.specs.Prelude.{IfSome}
+use Rattle.std.specs.FinMap.{find}
+use Rattle.sqlite.specs.Held.{state}
 use Rattle.hh_devices.specs.DeviceChanges.{change}
-use Rattle.hh_store.specs.Outputs.{Outputs, export_in}
+use Rattle.hh_reports.specs.Exports.{results_text}
+use Rattle.hh_states.specs.Runs.{run_key_cmp}
+use Rattle.hh_store.specs.Outputs.{Outputs, export_in, reported_as}
+use Rattle.hh_store.specs.declared.output_fault.OutputFault.{OutputFault}
+use Rattle.hh_sqlrows.specs.Contents.{content_of, period_row, rows_of_run}
+use Rattle.hh_sqlrows.specs.Forms.{rows_under_keys}
+use Rattle.hh_sqlrows.specs.OfficeTables.{runs}
 use Rattle.hh_sqlstore.specs.Stores.{Stored, content_in}
-use Rattle.hh_sqlstore.specs.steps.Reported.{IsReported}
 use Rattle.hh_sqlstore.proofs.IdleLaws.{of_committed}
-use Rattle.hh_sqlstore.proofs.ReportLaws.{exported}
+use Rattle.hh_sqlstore.proofs.ReadLaws.{results_picked}
+use Rattle.hh_sqlstore.proofs.ReportLaws.{reported_so}
 use Rattle.hh_sqlstore.proofs.tables.SqlTablesTables.export.Goals as goal
 
-pub returns-in-Ok-Some-clause-writes : goal.returns-in-Ok-Some-clause-writes
-returns-in-Ok-Some-clause-writes g c stands =
-    let device = change g.O.Sink.taken g.O.Sink.failures c.args.out.now c.write_results_of.new.out in
+pub returns-in-Ok-clause-writes : goal.returns-in-Ok-clause-writes
+returns-in-Ok-clause-writes g c stands =
+    let device = change g.O.Sink.taken g.O.Sink.failures c.args.out.now c.write_export.new.out in
     let run = c.args.run.now in
-    let kept : Stored _ = record { connection = c.self.inside.connection; settings = c.self.inside.settings; refusals = c.self.inside.refusals } in
-    let told = of_committed g.S.Store _ c.self.invariant c.reported_run.new.conn c.self.inside.refusals c.in-Ok-Some.ensures.reading (λ trees. IsReported run trees c.in-Ok-Some.summary c.in-Ok-Some.rows.items) (λ opened office settled. let there = c.in-Ok-Some.ensures.there opened office settled in search rules) stands in
-    subst (λ (t : Stored _). IfSome (export_in (content_in g.S.Store t) run) (λ text. Outputs device text c.write_results_of.result)) c.self.view_is
-    (exported device c.write_results_of.result (content_in g.S.Store kept) run c.in-Ok-Some.summary c.deref.result.now told.summary (c.deref.ensures.value ∙ told.rows) c.write_results_of.ensures.writes)
+    let trees = (state g.S.Store c.self.inside.connection).committed.trees in
+    let written = of_committed g.S.Store _ c.self.invariant c.write_export.new.conn c.self.inside.refusals c.in-Ok.ensures.reading
+    (λ trees. IfSome (find run_key_cmp run (rows_under_keys runs trees)) (λ summary. Outputs device {A = Unit {0}} (results_text (reported_as run summary) (map period_row (rows_of_run run trees))) (Ok tt))) c.in-Ok.ensures.writes stands in
+    let told : IfSome (export_in (content_of c.self.inside.settings trees) run) (λ text. Outputs device {A = Unit {0}} text (Ok tt)) =
+    reported_so {A = Unit {0}} device (Ok tt) results_text run (find run_key_cmp run (rows_under_keys runs trees)) _ _ (results_picked run trees) written in
+    subst (λ (t : Stored _). IfSome (export_in (content_in g.S.Store t) run) (λ text. Outputs device {A = Unit {0}} text (Ok tt))) c.self.view_is told
+
+pub returns-in-Err-clause-writes : goal.returns-in-Err-clause-writes
+returns-in-Err-clause-writes g c stands =
+    let device = change g.O.Sink.taken g.O.Sink.failures c.args.out.now c.write_export.new.out in
+    let run = c.args.run.now in
+    let trees = (state g.S.Store c.self.inside.connection).committed.trees in
+    let written = of_committed g.S.Store _ c.self.invariant c.write_export.new.conn c.self.inside.refusals c.in-Err.ensures.reading
+    (λ trees. IfSome (find run_key_cmp run (rows_under_keys runs trees)) (λ summary. Outputs device {A = Unit {0}} (results_text (reported_as run summary) (map period_row (rows_of_run run trees))) (Err c.in-Err.fault))) c.in-Err.ensures.writes stands in
+    let told : IfSome (export_in (content_of c.self.inside.settings trees) run) (λ text. Outputs device {A = Unit {0}} text (Err c.in-Err.fault)) =
+    reported_so {A = Unit {0}} device (Err c.in-Err.fault) results_text run (find run_key_cmp run (rows_under_keys runs trees)) _ _ (results_picked run trees) written in
+    subst (λ (fault : OutputFault). IfSome (export_in (content_in g.S.Store c.args.self.now) run) (λ text. Outputs device {A = Unit {0}} text (Err fault))) (sym c.refuse_report.ensures.same)
+    (subst (λ (t : Stored _). IfSome (export_in (content_in g.S.Store t) run) (λ text. Outputs device {A = Unit {0}} text (Err c.in-Err.fault))) c.self.view_is told)

@@ -1,0 +1,194 @@
+//! Reports that are written while their rows come out of the database, one after the other.
+
+ghost use Rattle.std.specs.Prelude.{◌≡◌, [], false, map, IfOk, IfSome};
+ghost use Rattle.std.specs.FinMap.{find};
+ghost use Rattle.sqlite.specs.Held.{state};
+ghost use Rattle.hh_devices.specs.DeviceChanges.{change};
+ghost use Rattle.hh_reports.specs.DayReport.{day_report_text};
+ghost use Rattle.hh_reports.specs.Exports.{balances_text, results_text};
+ghost use Rattle.hh_reports.specs.Nets.{Amounts, sum_for};
+ghost use Rattle.hh_reports.specs.Writers.{HasAmounts};
+ghost use Rattle.hh_states.specs.Runs.{run_key_cmp};
+ghost use Rattle.hh_store.specs.Outputs.{CountsOutcome, Outputs, reported_as};
+ghost use Rattle.hh_sqlrows.specs.Contents.{period_row, posted_amount, rows_of_run};
+ghost use Rattle.hh_sqlrows.specs.Forms.{rows_under_keys};
+ghost use Rattle.hh_sqlrows.specs.OfficeTables.{parties, postings, runs};
+ghost use Rattle.hh_sqlparts.specs.Readings.{SelectsOnly, OfSettled};
+
+use hh_devices::Sink;
+use hh_reports::{
+    AccountSums, BalancesWriter, DayReportWriter, ReportedRun, ResultsWriter, reports_go_on,
+};
+use hh_runs::{RunKey, Summary};
+use hh_sqlrows::{give_parties, give_postings, give_results_of, select_run};
+use hh_store::OutputFault;
+use sqlite::{Alter, Connection};
+use std::alloc::Global;
+
+/// A run as its reports show it.
+fn reported_as(run: &RunKey, summary: &Summary) -> ReportedRun
+    ensures { result ≡ reported_as run.now summary.now }
+{
+    ReportedRun {
+        date: run.date,
+        kind: run.kind,
+        periods: summary.periods,
+    }
+}
+
+/// Writes the results of a run, if the run is there.
+pub(crate) fn write_export<S: Alter, O: Sink>(
+    conn: &mut Connection<S>,
+    alloc: Global,
+    run: &RunKey,
+    out: &mut O,
+) -> Result<(), OutputFault>
+    ensures writes { let old = state S.Store conn.old in
+        let new = state S.Store conn.new in
+        OfSettled old new
+        (IfSome (find run_key_cmp run.now (rows_under_keys runs old.now.trees)) (λ summary.
+        Outputs (change O.taken O.failures out.old out.new)
+        (results_text (reported_as run.now summary)
+        (map period_row (rows_of_run run.now old.now.trees))) result)) }
+    ensures counted { CountsOutcome (change O.taken O.failures out.old out.new) result }
+    ensures reading { SelectsOnly (state S.Store conn.old) (state S.Store conn.new) }
+    ensures mode { conn.old.in_transaction ≡ false → conn.new.in_transaction ≡ false }
+{
+    let Some(summary) = select_run(conn, alloc, run)? else {
+        return Ok(());
+    };
+    write_results(conn, alloc, run, &reported_as(run, &summary), out)
+}
+
+/// Writes the results of a run, whose rows are selected.
+fn write_results<S: Alter, O: Sink>(
+    conn: &mut Connection<S>,
+    alloc: Global,
+    run: &RunKey,
+    reported: &ReportedRun,
+    out: &mut O,
+) -> Result<(), OutputFault>
+    ensures writes { let old = state S.Store conn.old in
+        let new = state S.Store conn.new in
+        OfSettled old new (Outputs (change O.taken O.failures out.old out.new)
+        (results_text reported.now (map period_row (rows_of_run run.now old.now.trees))) result) }
+    ensures counted { CountsOutcome (change O.taken O.failures out.old out.new) result }
+    ensures reading { SelectsOnly (state S.Store conn.old) (state S.Store conn.new) }
+    ensures mode { conn.old.in_transaction ≡ false → conn.new.in_transaction ≡ false }
+{
+    // Does nothing, but carries a law for the proof: what some rows give begins what all give.
+    reports_go_on();
+    let mut writer = ResultsWriter::begin(alloc, reported, out)?;
+    give_results_of(conn, alloc, run, &mut writer, out)?;
+    Ok(writer.finish(out)?)
+}
+
+/// Writes the day report of a run, if the run is there.
+pub(crate) fn write_day_report<S: Alter, O: Sink>(
+    conn: &mut Connection<S>,
+    alloc: Global,
+    run: &RunKey,
+    out: &mut O,
+) -> Result<(), OutputFault>
+    ensures writes { let old = state S.Store conn.old in
+        let new = state S.Store conn.new in
+        OfSettled old new
+        (IfSome (find run_key_cmp run.now (rows_under_keys runs old.now.trees)) (λ summary.
+        Outputs (change O.taken O.failures out.old out.new)
+        (day_report_text (reported_as run.now summary)
+        (map period_row (rows_of_run run.now old.now.trees))) result)) }
+    ensures counted { CountsOutcome (change O.taken O.failures out.old out.new) result }
+    ensures reading { SelectsOnly (state S.Store conn.old) (state S.Store conn.new) }
+    ensures mode { conn.old.in_transaction ≡ false → conn.new.in_transaction ≡ false }
+{
+    let Some(summary) = select_run(conn, alloc, run)? else {
+        return Ok(());
+    };
+    write_day(conn, alloc, run, &reported_as(run, &summary), out)
+}
+
+/// Writes the day report of a run, whose rows are selected.
+fn write_day<S: Alter, O: Sink>(
+    conn: &mut Connection<S>,
+    alloc: Global,
+    run: &RunKey,
+    reported: &ReportedRun,
+    out: &mut O,
+) -> Result<(), OutputFault>
+    ensures writes { let old = state S.Store conn.old in
+        let new = state S.Store conn.new in
+        OfSettled old new (Outputs (change O.taken O.failures out.old out.new)
+        (day_report_text reported.now (map period_row (rows_of_run run.now old.now.trees))) result) }
+    ensures counted { CountsOutcome (change O.taken O.failures out.old out.new) result }
+    ensures reading { SelectsOnly (state S.Store conn.old) (state S.Store conn.new) }
+    ensures mode { conn.old.in_transaction ≡ false → conn.new.in_transaction ≡ false }
+{
+    // Does nothing, but carries a law for the proof: what some rows give begins what all give.
+    reports_go_on();
+    let mut writer = DayReportWriter::begin(alloc, reported, out)?;
+    give_results_of(conn, alloc, run, &mut writer, out)?;
+    Ok(writer.finish(out)?)
+}
+
+/// Writes the balances of both accounts of each registered party. The postings are summed first.
+pub(crate) fn write_balances<S: Alter, O: Sink>(
+    conn: &mut Connection<S>,
+    alloc: Global,
+    out: &mut O,
+) -> Result<(), OutputFault>
+    ensures writes { let old = state S.Store conn.old in
+        let new = state S.Store conn.new in
+        OfSettled old new (Outputs (change O.taken O.failures out.old out.new)
+        (balances_text (map (λ e. e.0) (rows_under_keys parties old.now.trees))
+        (λ a. sum_for a (map posted_amount (rows_under_keys postings old.now.trees)))) result) }
+    ensures counted { CountsOutcome (change O.taken O.failures out.old out.new) result }
+    ensures reading { SelectsOnly (state S.Store conn.old) (state S.Store conn.new) }
+    ensures mode { conn.old.in_transaction ≡ false → conn.new.in_transaction ≡ false }
+{
+    let sums = sums_posted(conn, alloc, out)?;
+    write_parties(conn, alloc, sums, out)
+}
+
+/// What was posted to each account in all. Nothing is written.
+fn sums_posted<S: Alter, O: Sink>(
+    conn: &mut Connection<S>,
+    alloc: Global,
+    out: &mut O,
+) -> Result<AccountSums, OutputFault>
+    ensures sums { let old = state S.Store conn.old in
+        let new = state S.Store conn.new in
+        IfOk result (λ sums. (amounts : Amounts) × HasAmounts sums amounts × OfSettled old new
+        (amounts ≡ map posted_amount (rows_under_keys postings old.now.trees))) }
+    ensures nothing { Outputs (change O.taken O.failures out.old out.new) [] result }
+    ensures reading { SelectsOnly (state S.Store conn.old) (state S.Store conn.new) }
+    ensures mode { conn.old.in_transaction ≡ false → conn.new.in_transaction ≡ false }
+{
+    let mut sums = AccountSums::new(alloc);
+    give_postings(conn, alloc, &mut sums, out)?;
+    Ok(sums)
+}
+
+/// Writes the balances of both accounts of each registered party, by what was posted to each account.
+fn write_parties<S: Alter, O: Sink>(
+    conn: &mut Connection<S>,
+    alloc: Global,
+    sums: AccountSums,
+    out: &mut O,
+) -> Result<(), OutputFault>
+    ensures writes { let old = state S.Store conn.old in
+        let new = state S.Store conn.new in
+        (amounts : Amounts) → HasAmounts sums amounts
+        → OfSettled old new (Outputs (change O.taken O.failures out.old out.new)
+        (balances_text (map (λ e. e.0) (rows_under_keys parties old.now.trees))
+        (λ a. sum_for a amounts)) result) }
+    ensures counted { (amounts : Amounts) → HasAmounts sums amounts
+        → CountsOutcome (change O.taken O.failures out.old out.new) result }
+    ensures reading { SelectsOnly (state S.Store conn.old) (state S.Store conn.new) }
+    ensures mode { conn.old.in_transaction ≡ false → conn.new.in_transaction ≡ false }
+{
+    // Does nothing, but carries a law for the proof: what some parties give begins what all give.
+    reports_go_on();
+    let mut writer = BalancesWriter::begin(alloc, sums, out)?;
+    give_parties(conn, alloc, &mut writer, out)?;
+    Ok(writer.finish(out)?)
+}
