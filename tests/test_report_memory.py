@@ -35,7 +35,9 @@ def results_of(accounts):
     for period in range(1, PERIODS + 1):
         for number, account in enumerate(accounts):
             ticks = (7 * number + period) * 1_234_567_890
-            yield TODAY, 0, period, *account, ticks, 100 * number, -ticks // 3, ticks + ticks // 3, -17 * number - period, 17 * number + period
+            pence = 17 * number + period
+            energies = (ticks, 100 * number, -ticks // 3, ticks + ticks // 3)
+            yield TODAY, 0, period, *account, *energies, -pence, pence
 
 
 def peak_of(process):
