@@ -15,7 +15,7 @@ use Rattle.hh_calc.specs.declared.sums.AccountSums.{AccountSums}
 use Rattle.hh_calc.specs.Formulas.{balanced, balancing_of, credited_of, credits_of, net_contracts, period_sums, unit_credits, unit_sums, weighing, weight_of}
 use Rattle.hh_calc.specs.steps.Formulas.{all_sums}
 use Rattle.hh_calc.specs.Ready.{most_subsidiaries, HasFewSubsidiaries}
-use Rattle.hh_calc.specs.steps.Sums.{balancing_amounts, greatest_credit, greatest_sum, greatest_volume, no_sums, with_amounts, with_contracts, with_credits, with_unit, AreChanged, AreGrown, IsWithin}
+use Rattle.hh_calc.specs.steps.Sums.{balancing_amounts, greatest_credit, greatest_sum, greatest_volume, no_sums, with_amounts, with_credits, with_net_by, with_unit, AreChanged, AreGrown, IsWithin}
 use Rattle.hh_calc.specs.Terms.{BmUnit, PeriodTerms}
 use Rattle.hh_calc.proofs.SumLaws.{all_within, changed_on, grown_on, none_more, total-more, weight_of_none}
 use Rattle.hh_calc.proofs.CreditFacts.{credit_of}
@@ -104,10 +104,10 @@ module _ (u : BmUnit) (credits : List CreditRow) (are : credits ≡ unit_credits
 
 -- a period's contracts after its units
 pub contracts_after : (p : PeriodTerms) (old new : List AccountSums)
-    → old ≡ map (unit_sums p.units) p.accounts → AreChanged p.accounts (with_contracts p.contracts) old new → new ≡ all_sums p
+    → old ≡ map (unit_sums p.units) p.accounts → AreChanged p.accounts (with_net_by p.accounts p.contracts) old new → new ≡ all_sums p
 contracts_after p old new e changed = changed (unit_sums p.units) e ∙ (λ i. map (λ a. one a i) p.accounts)
   where
-    one : (a : Account) → with_contracts p.contracts a (unit_sums p.units a) ≡ period_sums p a
+    one : (a : Account) → with_net_by p.accounts p.contracts a (unit_sums p.units a) ≡ period_sums p a
     one a = λ j. record (unit_sums p.units a) { contracts = +ℤ_idl (net_contracts p a) j }
 
 -- sums that have nothing are within any size

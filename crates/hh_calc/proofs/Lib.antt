@@ -1,5 +1,6 @@
 pub mod CreditFacts
 pub mod CreditLaws
+pub mod NetLaws
 pub mod OrderLaws
 pub mod PeriodLaws
 pub mod RowFacts

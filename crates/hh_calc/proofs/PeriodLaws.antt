@@ -1,68 +1,27 @@
 -- What a settled period adds up to.
-use Rattle.std.proofs.Common.{◌≡◌, ℕ, suc, ◌<◌, Bool, true, false, cond, List, [], ◌∷◌, length, get_or, map, refl, sym, ap, ◌∙◌, arith, inl, inr}
-use Rattle.std.specs.Prelude.{◌≢◌, ℤ, pos, neg_ℤ, ◌+ℤ◌, All, Contains}
-use Rattle.std.specs.Ordering.{is_eq, ordering_reverse}
+use Rattle.std.proofs.Common.{◌≡◌, ℕ, ◌<◌, Bool, true, false, cond, List, [], ◌∷◌, length, get_or, map, refl, sym, ap, ◌∙◌, arith, inl, inr}
+use Rattle.std.specs.Prelude.{◌≢◌, ℤ, pos, neg_ℤ, ◌+ℤ◌, All}
 use Rattle.std.specs.Str.{bytes_eq}
-use Rattle.std.specs.Cmp.{tied_itself}
 use Rattle.std.proofs.Math.IntN.{+ℤ_idr, +ℤ_comm, +ℤ_invr, -ℤ-+ℤ_cancel}
 use Rattle.std.proofs.lemmas.Bool.{cases_lt, false_from_ne_true}
 use Rattle.std.proofs.lemmas.Slice.Eq.{bytes_eq-Decides}
 use Rattle.hh_num.specs.Totals.{total}
-use Rattle.hh_num.proofs.TotalLaws.{total-append, total-filter, total-map, total-neg, total-plus, total-same, total-swap, total-zero}
+use Rattle.hh_num.proofs.TotalLaws.{total-append, total-filter, total-map, total-plus, total-same, total-zero}
 use Rattle.hh_names.specs.declared.account.Account.{Account}
-use Rattle.hh_names.specs.Accounts.{account_cmp, is_same_account}
-use Rattle.hh_names.proofs.AccountLaws.{account_total}
 use Rattle.hh_share.specs.Shares.{SumsTo}
 use Rattle.hh_share.proofs.DepartureLaws.{shares_depart_least}
 use Rattle.hh_share.proofs.QuotaLaws.{quotas_rounded}
 use Rattle.hh_share.proofs.SumLaws.{shares_sum}
-use Rattle.hh_names.specs.declared.values.Contract.{Contract}
 use Rattle.hh_calc.specs.declared.data.Subsidiary.{Subsidiary}
 use Rattle.hh_calc.specs.declared.result.AccountRow.{AccountRow}
 use Rattle.hh_calc.specs.declared.result.CreditRow.{CreditRow}
 use Rattle.hh_calc.specs.declared.result.Figures.{Figures}
-use Rattle.hh_calc.specs.Formulas.{contracted, credits_of, figures, lead_credit, loss_adjusted, net_contracts, net_of, of_account, period_sums, residual, subsidiary_credit, unit_credits, weights}
-use Rattle.hh_calc.specs.Ready.{AreInOrder, AreNamed, AreUnitsDistinct, IsContractNamed}
+use Rattle.hh_calc.specs.Formulas.{credits_of, figures, lead_credit, loss_adjusted, period_sums, residual, subsidiary_credit, unit_credits, weights}
+use Rattle.hh_calc.specs.Ready.{AreInOrder, AreNamed, AreUnitsDistinct}
 use Rattle.hh_calc.specs.Settled.{figures_of, paid_by, shares_shown, AddsUp, IsSettled, IsUnitCredited, SharesDepartLeast}
 use Rattle.hh_calc.specs.Terms.{PeriodTerms, Settled, BmUnit}
-use Rattle.hh_calc.proofs.OrderLaws.{rises}
+use Rattle.hh_calc.proofs.NetLaws.{contracts_sum}
 use Rattle.hh_calc.proofs.SpreadLaws.{counted, counts_once, total-IsPermutation, total-flat_map}
-
-module _ (p : PeriodTerms) (up : AreInOrder p) where
-  -- no other place of the accounts is the account's
-  others_differ : (d : Account) (k j : ℕ) → k < length p.accounts → j < length p.accounts → j ≢ k
-      → is_same_account (get_or p.accounts k d) (get_or p.accounts j d) ≡ false
-  others_differ d k j inside among ne = elim (cases_lt k j) [
-    | inl lt ↦ ap is_eq (rises account_cmp p.accounts up k j d lt among)
-    | inr le ↦ ap is_eq (
-        account_total.antisymm (get_or p.accounts k d) (get_or p.accounts j d)
-        ∙ ap ordering_reverse (rises account_cmp p.accounts up j k d (omega arith) inside))
-  ]
-
-  -- an amount of a named account comes up once over the accounts
-  spread : (b : Account) → Contains p.accounts b → (amount : ℤ) → total (λ a. of_account a b amount) p.accounts ≡ amount
-  spread b (k, inside, is) amount =
-      counts_once (is_same_account b) (λ a. amount) p.accounts b k inside
-      (ap is_eq (ap (account_cmp b) is ∙ tied_itself account_total b))
-      (λ j among ne. ap (λ c. is_same_account c (get_or p.accounts j b)) (sym is) ∙ others_differ b k j inside among ne)
-
-  -- a contract is for its seller what it is against its buyer
-  one_contract : (c : Contract) → IsContractNamed p.accounts c → total (λ a. net_of a c) p.accounts ≡ pos 0
-  one_contract c (sells, buys) =
-      total-plus (λ a. of_account a c.counterparties.seller (contracted c)) (λ a. neg_ℤ (of_account a c.counterparties.buyer (contracted c))) p.accounts
-      ∙ (λ i. spread c.counterparties.seller sells (contracted c) i +ℤ total-neg (λ a. of_account a c.counterparties.buyer (contracted c)) p.accounts i)
-      ∙ ap (λ z. contracted c +ℤ neg_ℤ z) (spread c.counterparties.buyer buys (contracted c))
-      ∙ +ℤ_invr (contracted c)
-
-  -- so all contracts together sum to zero over the accounts
-  all_contracts : (cs : List Contract) → All (IsContractNamed p.accounts) cs
-      → total (λ c. total (λ a. net_of a c) p.accounts) cs ≡ pos 0
-  all_contracts [] named = refl
-  all_contracts (c ∷ cs) named = λ i. one_contract c (named 0 c (omega arith)) i +ℤ all_contracts cs (λ k d lt. named (suc k) d (omega arith)) i
-
-  -- and so do the accounts' net contracts
-  contracts_sum : AreNamed p → total (net_contracts p) p.accounts ≡ pos 0
-  contracts_sum named = total-swap net_of p.accounts p.contracts ∙ all_contracts p.contracts named.1
 
 -- The credits from a unit sum to its loss-adjusted volume; where they do not count, to zero.
 unit_credits_sum : (u : BmUnit) (do_count : Bool)
@@ -125,7 +84,7 @@ some_account (a ∷ accounts) f g differs = omega arith
 -- and its shares are quotas rounded.
 pub adds_up : (p : PeriodTerms) (s : Settled) → AreInOrder p → AreNamed p → IsSettled p s → AddsUp p s
 adds_up p s up named settled = record {
-  contracts = rows_sum p s settled (λ f. f.contracts) ∙ contracts_sum p up named;
+  contracts = rows_sum p s settled (λ f. f.contracts) ∙ contracts_sum p.accounts up p.contracts named.1;
   credits = λ distinct. credits_sum p s distinct settled;
   cash = cash_sum p s settled (rw settled.shared (shares_sum (residual p) (weights p) (some_account p.accounts (λ a. (figures p a).charge) (λ a. (period_sums p a).weight))));
   quota = rw settled.shared (quotas_rounded (residual p) (weights p));

@@ -36,11 +36,11 @@ past_limit most x word r e same none = go (is_at_most most word) refl (sym e ∙
 pub imbalance_word : (s : AccountSums) → IsWithin greatest_sum s
     → word (word (word s.credited -ℤ word s.balancing) -ℤ word s.contracts) ≡ imbalance_of s
 imbalance_word s small =
-    let a : unsigned_abs s.credited ≤ 2 * 10 ^ 37 = small.credited in
-    let b : unsigned_abs s.balancing ≤ 2 * 10 ^ 37 = small.balancing in
-    let d : unsigned_abs s.contracts ≤ 2 * 10 ^ 37 = small.contracts in
-    let first : unsigned_abs (s.credited -ℤ s.balancing) ≤ 10 ^ 38 = omega (arith, ints) in
-    let all : unsigned_abs ((s.credited -ℤ s.balancing) -ℤ s.contracts) ≤ 10 ^ 38 = omega (arith, ints) in
+    let a : unsigned_abs s.credited ≤ 4 * 10 ^ 37 = small.credited in
+    let b : unsigned_abs s.balancing ≤ 4 * 10 ^ 37 = small.balancing in
+    let d : unsigned_abs s.contracts ≤ 4 * 10 ^ 37 = small.contracts in
+    let first : unsigned_abs (s.credited -ℤ s.balancing) ≤ 15 * 10 ^ 37 = omega (arith, ints) in
+    let all : unsigned_abs ((s.credited -ℤ s.balancing) -ℤ s.contracts) ≤ 15 * 10 ^ 37 = omega (arith, ints) in
     (λ i. word (word (long_word s.credited (omega arith) i -ℤ long_word s.balancing (omega arith) i) -ℤ long_word s.contracts (omega arith) i))
     ∙ ap (λ z. word (z -ℤ s.contracts)) (long_word (s.credited -ℤ s.balancing) first)
     ∙ long_word ((s.credited -ℤ s.balancing) -ℤ s.contracts) all

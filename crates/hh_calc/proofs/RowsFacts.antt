@@ -58,7 +58,7 @@ pub shown_next : {R X : Type 0} (f : R → X) (xs : List X) (place : ℕ) (d x :
 shown_next f xs place d x inside is rows row so_far same new e =
     ap (map f) e ∙ map-append f rows (row ∷ []) ∙ (λ i. so_far i ++ (same ∙ is) i ∷ []) ∙ sym (take_more xs place d inside)
 
-pub residual_more : (f : Account → ℤ) (accounts : List Account) (place : ℕ) (account : Account) → place < length accounts → account ≡ get_or accounts place account
+pub residual_more : {X : Type 0} (f : X → ℤ) (accounts : List X) (place : ℕ) (account : X) → place < length accounts → account ≡ get_or accounts place account
     → (residual charge : ℤ) → residual ≡ neg_ℤ (total f (take place accounts)) → charge ≡ f account
     → residual -ℤ charge ≡ neg_ℤ (total f (take (place + 1) accounts))
 residual_more f accounts place account inside is residual charge so_far same =
@@ -75,7 +75,7 @@ residual_size place residual charge small le = rw (add-one, suc-mul place greate
 pub residual_word : (held wide residual charge : ℤ) → held ≡ residual → wide ≡ charge → unsigned_abs residual ≤ 10 ^ 35 → unsigned_abs charge ≤ greatest_cash
     → word (held -ℤ word wide) ≡ residual -ℤ charge
 residual_word held wide residual charge same same' small small' =
-    let both : unsigned_abs (residual -ℤ charge) ≤ 10 ^ 38 = omega (arith, ints) in
+    let both : unsigned_abs (residual -ℤ charge) ≤ 15 * 10 ^ 37 = omega (arith, ints) in
     (λ i. word (same i -ℤ word (same' i)))
     ∙ ap (λ z. word (residual -ℤ z)) (long_word charge (omega arith))
     ∙ long_word (residual -ℤ charge) both

@@ -1,15 +1,16 @@
 -- The sums of accounts, as amounts are added to them.
 use Rattle.std.proofs.Common.{◌≡◌, ℕ, zero, suc, ◌+◌, ◌<◌, ◌≤◌, Bool, true, false, cond, List, [], ◌∷◌, length, get_or, set, take, map, refl, sym, ap, subst, ◌∙◌, arith}
-use Rattle.std.specs.Prelude.{ℤ, pos, neg_ℤ, ◌+ℤ◌, unsigned_abs, sum_by}
-use Rattle.std.specs.List.{AllByRecursion, HoldsAt, All}
+use Rattle.std.specs.Prelude.{ℤ, pos, neg_ℤ, ◌+ℤ◌, ◌*ℤ◌, unsigned_abs, sum_by}
+use Rattle.std.specs.List.{AllByRecursion, HoldsAt, All, zip}
 use Rattle.std.specs.List.Sorted.{IsStrictlySortedBy}
 use Rattle.std.specs.Ordering.{is_eq, ordering_reverse}
 use Rattle.std.specs.declared.cmp.Ordering.TheVariants.{Less, Equal, Greater}
 use Rattle.std.specs.Cmp.{tied_itself}
 use Rattle.std.proofs.Math.IntN.{+ℤ_idr, +ℤ_assoc}
-use Rattle.std.proofs.lemmas.List.{take_more}
+use Rattle.std.proofs.lemmas.List.{length-map, take_more}
 use Rattle.std.proofs.lemmas.List.Elements.{All-from_recursion, All-weaker}
 use Rattle.std.proofs.lemmas.List.Sums.{sum_by-append, sum_by-cons}
+use Rattle.std.proofs.lemmas.Slice.Zip.{firsts-zip, get_or-zip}
 use Rattle.hh_num.specs.Totals.{total}
 use Rattle.hh_num.proofs.TotalLaws.{total-append}
 use Rattle.hh_names.specs.declared.account.Account.{Account}
@@ -18,8 +19,8 @@ use Rattle.hh_names.specs.Accounts.{account_cmp, is_same_account}
 use Rattle.hh_names.proofs.AccountLaws.{account_total}
 use Rattle.hh_calc.specs.declared.result.CreditRow.{CreditRow}
 use Rattle.hh_calc.specs.declared.sums.AccountSums.{AccountSums}
-use Rattle.hh_calc.specs.Formulas.{contracted, credited_of, net_of, of_account, weight_of}
-use Rattle.hh_calc.specs.steps.Sums.{contract_amounts, credit_amounts, sums_plus, with_amounts, with_contract, with_contracts, with_credits, AreChanged, AreGrown, IsWithin}
+use Rattle.hh_calc.specs.Formulas.{contracted, credited_of, net_entry_of, net_of, of_account, ticks_per_kwh, weight_of}
+use Rattle.hh_calc.specs.steps.Sums.{contract_amounts, credit_amounts, sums_plus, with_amounts, with_contract, with_contracts, with_credits, with_nets, AreChanged, AreGrown, IsWithin}
 
 -- amounts of another account do not count
 apart : (a to : Account) (x held : AccountSums) → is_same_account to a ≡ false → held ≡ with_amounts to x a held
@@ -180,6 +181,31 @@ sold_and_bought c a s =
   where
     against : (x : ℤ) → of_account a c.counterparties.buyer (neg_ℤ x) ≡ neg_ℤ (of_account a c.counterparties.buyer x)
     against x = elim (is_same_account c.counterparties.buyer a) as (λ t. cond t (neg_ℤ x) (pos 0) ≡ neg_ℤ (cond t x (pos 0))) [ true ↦ refl | false ↦ refl ]
+
+-- no net volumes
+pub no_nets : (a : Account) (s : AccountSums) → s ≡ with_nets [] a s
+no_nets a s = λ j. record { credited = s.credited; balancing = s.balancing; contracts = sym (+ℤ_idr s.contracts) j; weight = s.weight }
+
+-- a list beside another of its length is as long
+pub length-beside : {A B : Type 0} (ks : List A) (vs : List B) → length vs ≡ length ks → length (zip ks vs) ≡ length ks
+length-beside {A} {B} ks vs e = sym (length-map (zip ks vs) (λ (p : A × B). p.0)) ∙ ap length (firsts-zip ks vs e)
+
+-- Net volume after net volume.
+module _ (accounts : List Account) (nets : List ℤ) (own : length nets ≡ length accounts) (i : ℕ) (account : Account) (kwh : ℤ)
+    (inside : i < length accounts) (is : account ≡ get_or accounts i account) (is_net : kwh ≡ get_or nets i kwh) where
+  pub net_step : (a : Account) (s : AccountSums) → with_amounts account (contract_amounts (kwh *ℤ ticks_per_kwh)) a (with_nets (take i (zip accounts nets)) a s)
+      ≡ with_nets (take (i + 1) (zip accounts nets)) a s
+  net_step a s =
+      let entries : List (Account × ℤ) = zip accounts nets in
+      let entry : Account × ℤ = (account, kwh) in
+      let among : i < length entries = rw (length-beside accounts nets own) inside in
+      let stands : entry ≡ get_or entries i entry = (λ j. (is j, is_net j)) ∙ sym (get_or-zip accounts nets i entry inside (omega arith)) in
+      λ j. record {
+        credited = none_more a account s.credited j;
+        balancing = none_more a account s.balancing j;
+        contracts = one_more s.contracts (total (net_entry_of a) (take i entries)) (net_entry_of a entry) _ (total-more (net_entry_of a) entries i entry among stands) j;
+        weight = weight_of_none a account s.weight j;
+      }
 
 -- what holds of each row holds of one that is read
 pub all_read : {X : Type 0} (P : X → Type 0) (rows : List X) (i : ℕ) (row : X) → All P rows → i < length rows → row ≡ get_or rows i row → P row

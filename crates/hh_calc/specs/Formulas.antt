@@ -1,7 +1,7 @@
 -- The settlement of one period, in the shape of the Balancing and Settlement Code's Section T (credited energy, imbalance, residual cashflow); the
 -- formulas and numbers are this office's own. Energy is in ticks, 10^10 to the MWh, cash in pence, positive where the account pays.
 use Rattle.std.specs.Prelude.{ℕ, ◌^◌, unsigned_abs, ℤ, pos, neg_ℤ, ◌+ℤ◌, ◌-ℤ◌, ◌*ℤ◌, List, [], ◌∷◌, ◌++◌, map, filter, not, sum_by, if◌then◌else◌}
-use Rattle.std.specs.List.{flat_map}
+use Rattle.std.specs.List.{flat_map, zip}
 use Rattle.hh_num.specs.Quantities.{hundred_percent}
 use Rattle.hh_num.specs.Rounding.{near}
 use Rattle.hh_num.specs.Totals.{total}
@@ -13,7 +13,7 @@ use Rattle.hh_calc.specs.declared.data.Subsidiary.{Subsidiary}
 use Rattle.hh_calc.specs.declared.result.CreditRow.{CreditRow}
 use Rattle.hh_calc.specs.declared.result.Figures.{Figures}
 use Rattle.hh_calc.specs.declared.sums.AccountSums.{AccountSums}
-use Rattle.hh_calc.specs.Terms.{PeriodTerms, BmUnit}
+use Rattle.hh_calc.specs.Terms.{BmUnit, Contracts, Net, PeriodTerms, Rows}
 
 -- ticks to the kWh
 abbrev pub ticks_per_kwh : ℤ
@@ -84,6 +84,15 @@ module _ (a : Account) where
   abbrev pub net_of : Contract → ℤ
   net_of c = of_account c.counterparties.seller (contracted c) -ℤ of_account c.counterparties.buyer (contracted c)
 
+  -- a net volume, where it is the account's
+  abbrev pub net_entry_of : Account × ℤ → ℤ
+  net_entry_of e = of_account e.0 (e.1 *ℤ ticks_per_kwh)
+
+-- what an account sells by a period's contracts less what it buys, in ticks
+abbrev pub net_by : List Account → Contracts → Account → ℤ
+net_by accounts (Rows rows) a = total (net_of a) rows
+net_by accounts (Net nets) a = total (net_entry_of a) (zip accounts nets)
+
 -- What an account has from these units alone: credited energy is a sum over the credits, balancing volume over the units, and its
 -- weight over the sizes of the credits that weigh.
 abbrev pub unit_sums : List BmUnit → Account → AccountSums
@@ -116,7 +125,7 @@ figures_from account sums price = record {
 module _ (p : PeriodTerms) where
   -- the net contracts of an account in the period, in ticks: what it sells by the contracts less what it buys
   abbrev pub net_contracts : Account → ℤ
-  net_contracts a = total (net_of a) p.contracts
+  net_contracts a = net_by p.accounts p.contracts a
 
   -- the sums of an account over the period: what it has from the units, and its net contracts
   abbrev pub period_sums : Account → AccountSums
@@ -145,3 +154,24 @@ module _ (p : PeriodTerms) where
   -- these shares of the residual are the accounts' quotas by weight, rounded down or up
   abbrev pub AreSharesRounded : List ℤ → Type 0
   AreSharesRounded = AreQuotasRounded residual (effective weights)
+
+-- ---- net volumes in the place of rows
+
+-- what an account sells by a contract less what it buys, in kWh
+abbrev pub sold_by : Account → Contract → ℤ
+sold_by a c =
+    (if is_same_account c.counterparties.seller a then c.volume else pos 0)
+    -ℤ (if is_same_account c.counterparties.buyer a then c.volume else pos 0)
+
+-- what an account sells by these contracts less what it buys, in kWh
+abbrev pub net_kwh : List Contract → Account → ℤ
+net_kwh rows a = total (sold_by a) rows
+
+-- the accounts' net volumes in the place of rows
+abbrev pub netted_contracts : List Account → Contracts → Contracts
+netted_contracts accounts (Rows rows) = Net (map (net_kwh rows) accounts)
+netted_contracts accounts (Net nets) = Net nets
+
+-- a period with its accounts' net volumes in the place of its rows
+abbrev pub netted : PeriodTerms → PeriodTerms
+netted p = record p { contracts = netted_contracts p.accounts p.contracts }

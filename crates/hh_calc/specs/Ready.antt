@@ -1,11 +1,14 @@
 -- What a period is settled under.
-use Rattle.std.specs.Prelude.{ℕ, ◌≢◌, ◌≤◌, List, length, All, AllPairs, Contains}
+use Rattle.std.specs.Prelude.{◌≡◌, ℕ, ◌≢◌, ◌≤◌, ℤ, pos, List, length, All, AllPairs, Contains}
 use Rattle.std.specs.List.Sorted.{IsStrictlySortedBy}
+use Rattle.hh_num.specs.Quantities.{net_volumes}
+use Rattle.hh_num.specs.Ranges.{IsBetween}
+use Rattle.hh_num.specs.Totals.{total}
 use Rattle.hh_names.specs.declared.account.Account.{Account}
 use Rattle.hh_names.specs.declared.values.Contract.{Contract}
 use Rattle.hh_names.specs.Accounts.{account_cmp}
 use Rattle.hh_calc.specs.declared.data.Subsidiary.{Subsidiary}
-use Rattle.hh_calc.specs.Terms.{PeriodTerms, BmUnit}
+use Rattle.hh_calc.specs.Terms.{BmUnit, Contracts, Net, PeriodTerms, Rows}
 
 -- the most subsidiaries that a unit may have
 abbrev pub most_subsidiaries : ℕ
@@ -14,6 +17,21 @@ most_subsidiaries = 799
 -- a unit has at most 799 subsidiaries: all accounts of the market but its lead
 abbrev pub HasFewSubsidiaries : BmUnit → Type 0
 HasFewSubsidiaries u = length u.subsidiaries ≤ most_subsidiaries
+
+-- a net volume is at most 100,000,000 MWh in size
+abbrev pub IsNetVolume : ℤ → Type 0
+IsNetVolume kwh = IsBetween net_volumes.least net_volumes.most kwh
+
+-- each of the accounts has a net volume, and what some sell others buy
+pub record AreNetsReady (accounts : List Account) (nets : List ℤ) : Type 0 where
+  pub each : length nets ≡ length accounts
+  pub even : total (λ kwh. kwh) nets ≡ pos 0
+  pub sizes : All IsNetVolume nets
+
+-- each net volume is one that is kept
+abbrev pub HasNetVolumes : Contracts → Type 0
+HasNetVolumes (Rows rows) = Unit {0}
+HasNetVolumes (Net nets) = All IsNetVolume nets
 
 module _ (accounts : List Account) where
   -- the accounts rise in account order, so that none stands twice
@@ -36,13 +54,18 @@ module _ (accounts : List Account) where
   abbrev pub IsContractNamed : Contract → Type 0
   IsContractNamed c = IsNamed c.counterparties.seller × IsNamed c.counterparties.buyer
 
+  -- the seller and the buyer of each row are some of these; net volumes stand one for each of these, and come to zero
+  abbrev pub AreContractsReady : Contracts → Type 0
+  AreContractsReady (Rows rows) = All IsContractNamed rows
+  AreContractsReady (Net nets) = AreNetsReady accounts nets
+
 module _ (p : PeriodTerms) where
   abbrev pub AreInOrder : Type 0
   AreInOrder = AreAccountsInOrder p.accounts
 
-  -- each lead, subsidiary, seller and buyer is one of the accounts
+  -- each lead, subsidiary, seller and buyer is one of the accounts; net volumes stand one for each of them, and come to zero
   abbrev pub AreNamed : Type 0
-  AreNamed = All (IsUnitNamed p.accounts) p.units × All (IsContractNamed p.accounts) p.contracts
+  AreNamed = All (IsUnitNamed p.accounts) p.units × AreContractsReady p.accounts p.contracts
 
   -- no unit stands twice
   abbrev pub AreUnitsDistinct : Type 0

@@ -1,8 +1,10 @@
 -- What contracts see of a period's data and of its settlement.
-use Rattle.std.specs.Prelude.{ℕ, ℤ, Bool, List}
+use Rattle.std.specs.Prelude.{ℕ, ℤ, neg_ℤ, Bool, List}
+use Rattle.hh_num.specs.Totals.{total}
 use Rattle.hh_names.specs.declared.account.Account.{Account}
 use Rattle.hh_names.specs.declared.values.Contract.{Contract}
 use Rattle.hh_names.specs.declared.values.Reading.{Reading}
+use Rattle.hh_calc.specs.declared.data.Contracts as given
 use Rattle.hh_calc.specs.declared.data.Subsidiary.{Subsidiary}
 use Rattle.hh_calc.specs.declared.result.AccountRow.{AccountRow}
 use Rattle.hh_calc.specs.declared.result.CreditRow.{CreditRow}
@@ -19,14 +21,24 @@ abbrev pub bm_unit : List ℕ → Account → Bool → Reading → List Subsidia
 bm_unit unit lead interconnector reading subsidiaries =
     record { unit = unit; lead = lead; interconnector = interconnector; reading = reading; subsidiaries = subsidiaries }
 
+-- the contracts of a period: the volumes in force, or in account order what each account sells by them less what it buys, in kWh
+pub data Contracts : Type 0 where
+  Rows : List Contract → Contracts
+  Net : List ℤ → Contracts
+
+-- the contracts that the code holds
+abbrev pub contracts_given : given.Contracts → Contracts
+contracts_given (given.TheVariants.Rows rows) = Rows rows.items
+contracts_given (given.TheVariants.Net nets) = Net nets.items
+
 -- all that a period is settled from
 pub record PeriodTerms : Type 0 where
   pub accounts : List Account
   pub units : List BmUnit
-  pub contracts : List Contract
+  pub contracts : Contracts
   pub price : ℤ
 
-abbrev pub period_terms : List Account → List BmUnit → List Contract → ℤ → PeriodTerms
+abbrev pub period_terms : List Account → List BmUnit → Contracts → ℤ → PeriodTerms
 period_terms accounts units contracts price = record { accounts = accounts; units = units; contracts = contracts; price = price }
 
 -- a settled period
@@ -37,3 +49,7 @@ pub record Settled : Type 0 where
 
 abbrev pub settled_period : List AccountRow → List CreditRow → ℤ → Settled
 settled_period accounts credits residual = record { accounts = accounts; credits = credits; residual = residual }
+
+-- a settled period of these rows: its residual is minus the sum of the charges
+abbrev pub settled_as : List AccountRow → List CreditRow → Settled
+settled_as rows credits = settled_period rows credits (neg_ℤ (total (λ r. r.charge) rows))

@@ -1,10 +1,10 @@
 //! What a period is settled from.
 
 ghost use Rattle.std.specs.Prelude.{◌≡◌};
-ghost use Rattle.hh_calc.specs.Terms.{bm_unit, period_terms};
+ghost use Rattle.hh_calc.specs.Terms.{bm_unit, contracts_given, period_terms};
 
 use hh_names::{Account, Contract, Reading, Reallocation, UnitId};
-use hh_num::Price;
+use hh_num::{NetKwh, Price};
 use std::marker::Model;
 
 /// A reallocation in force: what moves from a unit's lead account to a subsidiary account (Section P).
@@ -108,21 +108,29 @@ impl UnitData {
     }
 }
 
+/// What is sold and bought in a period: the contract volumes in force, or the net volume of each
+/// account, in account order. Both settle alike.
+#[derive(Debug, Drop)]
+pub enum Contracts {
+    Rows(Vec<Contract>),
+    Net(Vec<NetKwh>),
+}
+
 /// A period's accounts, units, contracts and price.
 #[derive(Debug, Drop)]
 pub struct PeriodData {
     accounts: Vec<Account>,
     units: Vec<UnitData>,
-    contracts: Vec<Contract>,
+    contracts: Contracts,
     price: Price,
 }
 
 impl Model for PeriodData {
-    ghost use Rattle.hh_calc.specs.Terms.{PeriodTerms};
+    ghost use Rattle.hh_calc.specs.Terms.{contracts_given, PeriodTerms};
 
     ghost Value = { PeriodTerms };
 
-    ghost view = { λ p. record { accounts = p.accounts.items; units = p.units.items; contracts = p.contracts.items; price = p.price } };
+    ghost view = { λ p. record { accounts = p.accounts.items; units = p.units.items; contracts = contracts_given p.contracts; price = p.price } };
 }
 
 impl PeriodData {
@@ -130,10 +138,11 @@ impl PeriodData {
     pub fn new(
         accounts: Vec<Account>,
         units: Vec<UnitData>,
-        contracts: Vec<Contract>,
+        contracts: Contracts,
         price: Price,
     ) -> PeriodData
-        ensures { result ≡ period_terms accounts.items units.items contracts.items price }
+        ensures { let contracts_seen = contracts_given contracts in
+            result ≡ period_terms accounts.items units.items contracts_seen price }
     {
         PeriodData {
             accounts,
@@ -157,9 +166,9 @@ impl PeriodData {
         &self.units
     }
 
-    /// The contract volumes in force.
-    pub fn contracts(&self) -> &[Contract]
-        ensures { result.now ≡ self.now.contracts }
+    /// The contract volumes in force, or the net volumes of the accounts.
+    pub fn contracts(&self) -> &Contracts
+        ensures { contracts_given result.now ≡ self.now.contracts }
     {
         &self.contracts
     }

@@ -2,14 +2,17 @@
 
 ghost use Rattle.std.specs.Prelude.{◌≡◌, ◌+◌, ◌*◌, ◌++◌, [], length, map, replicate, All, IfOk, OnOk};
 ghost use Rattle.hh_calc.specs.Formulas.{credits_of, unit_credits, unit_sums};
+ghost use Rattle.hh_calc.specs.Terms.{contracts_given};
 ghost use Rattle.hh_calc.specs.steps.Formulas.{all_sums};
-ghost use Rattle.hh_calc.specs.Ready.{AreAccountsInOrder, AreInOrder, AreNamed, AreSubsidiariesFew, HasFewSubsidiaries, IsUnitNamed};
-ghost use Rattle.hh_calc.specs.steps.Sums.{greatest_credit, greatest_sum, greatest_unit_sum, greatest_volume, no_sums, with_unit, AreChanged, AreGrown, IsWithin};
+ghost use Rattle.hh_calc.specs.Ready.{AreAccountsInOrder, AreContractsReady, AreInOrder, AreNamed, AreSubsidiariesFew, HasFewSubsidiaries, IsUnitNamed};
+ghost use Rattle.hh_calc.specs.steps.Sums.{greatest_credit, greatest_sum, greatest_unit_sum, greatest_volume, no_sums, with_net_by, with_unit, AreChanged, AreGrown, IsWithin};
 
 use crate::credits::push_credits;
-use crate::data::{PeriodData, UnitData};
+use crate::data::{Contracts, PeriodData, UnitData};
 use crate::result::CreditRow;
-use crate::sums::{AccountSums, add_contracts, add_credits, add_to, amounts_of_balancing};
+use crate::sums::{
+    AccountSums, add_contracts, add_credits, add_nets, add_to, amounts_of_balancing,
+};
 use hh_names::Account;
 use std::alloc::{AllocError, Global};
 
@@ -75,6 +78,22 @@ fn add_units(
     Ok(())
 }
 
+/// Adds to the sums of each account what it sells less what it buys, by rows or by its net volume.
+fn add_net_contracts(accounts: &[Account], contracts: &Contracts, sums: &mut [AccountSums])
+    requires ordered { AreAccountsInOrder accounts.now }
+    requires ready { AreContractsReady accounts.now (contracts_given contracts.now) }
+    requires each { length sums.old ≡ length accounts.now }
+    requires room { All (IsWithin greatest_unit_sum) sums.old }
+    ensures added { let contracts_seen = contracts_given contracts.now in
+        AreChanged accounts.now (with_net_by accounts.now contracts_seen) sums.old sums.new }
+    ensures small { All (IsWithin greatest_sum) sums.new }
+{
+    match contracts {
+        Contracts::Rows(rows) => add_contracts(accounts, rows, sums),
+        Contracts::Net(nets) => add_nets(accounts, nets, sums),
+    }
+}
+
 /// Appends the credits of a period, and adds them, the balancing volumes and the contracts to sums
 /// that have nothing yet.
 fn add_period(
@@ -92,7 +111,7 @@ fn add_period(
     ensures small { OnOk result (All (IsWithin greatest_sum) sums.new) }
 {
     add_units(period.accounts(), period.units(), credits, sums)?;
-    add_contracts(period.accounts(), period.contracts(), sums);
+    add_net_contracts(period.accounts(), period.contracts(), sums);
     Ok(())
 }
 

@@ -1,13 +1,16 @@
 //! Whether a period may be settled.
 
 ghost use Rattle.std.specs.Prelude.{◌≡◌, ◌↔◌, All, IsTrue};
+ghost use Rattle.hh_num.specs.Totals.{total};
 ghost use Rattle.std.specs.declared.cmp.Ordering.TheVariants.{Less};
 ghost use Rattle.hh_names.specs.Accounts.{account_cmp};
-ghost use Rattle.hh_calc.specs.Ready.{AreAccountsInOrder, AreSubsidiariesNamed, HasFewSubsidiaries, IsContractNamed, IsNamed, IsReady, IsUnitNamed};
+ghost use Rattle.hh_calc.specs.Ready.{AreAccountsInOrder, AreContractsReady, AreNetsReady, AreSubsidiariesNamed, HasFewSubsidiaries, IsContractNamed, IsNamed, IsNetVolume, IsReady, IsUnitNamed};
+ghost use Rattle.hh_calc.specs.Terms.{contracts_given};
 
-use crate::data::{PeriodData, Subsidiary, UnitData};
+use crate::data::{Contracts, PeriodData, Subsidiary, UnitData};
 use crate::places::place_of;
 use hh_names::{Account, Contract};
+use hh_num::NetKwh;
 use std::cmp::Ordering;
 
 /// The most subsidiaries that a unit may have.
@@ -112,9 +115,40 @@ fn are_contracts_named(accounts: &[Account], contracts: &[Contract]) -> bool
     true
 }
 
+/// The sum of net volumes, each of which is in its range.
+fn sum_of_nets(nets: &[NetKwh]) -> i128
+    ensures sum { result ≡ total (λ kwh. kwh) nets.now }
+    ensures sizes { All IsNetVolume nets.now }
+{
+    let mut sum = 0i128;
+    for net in nets {
+        sum += i128::from(net.units());
+    }
+    sum
+}
+
+/// Whether each account has a net volume, and what some sell others buy.
+fn are_nets_ready(accounts: &[Account], nets: &[NetKwh]) -> bool
+    ensures { IsTrue result ↔ AreNetsReady accounts.now nets.now }
+{
+    nets.len() == accounts.len() && sum_of_nets(nets) == 0
+}
+
+/// Whether contracts may be settled for these accounts.
+fn are_contracts_ready(accounts: &[Account], contracts: &Contracts) -> bool
+    requires { AreAccountsInOrder accounts.now }
+    ensures { IsTrue result ↔ AreContractsReady accounts.now (contracts_given contracts.now) }
+{
+    match contracts {
+        Contracts::Rows(rows) => are_contracts_named(accounts, rows),
+        Contracts::Net(nets) => are_nets_ready(accounts, nets),
+    }
+}
+
 impl PeriodData {
     /// Whether the period may be settled: the accounts rise in account order, each lead,
-    /// subsidiary, seller and buyer is one of them, and no unit has more than 799 subsidiaries.
+    /// subsidiary, seller and buyer is one of them, and no unit has more than 799 subsidiaries. Net
+    /// volumes stand one for each account, and come to zero.
     pub fn is_ready(&self) -> bool
         ensures { IsTrue result ↔ IsReady self.now }
     {
@@ -124,7 +158,7 @@ impl PeriodData {
         if !are_units_named(self.accounts(), self.units()) {
             return false;
         }
-        if !are_contracts_named(self.accounts(), self.contracts()) {
+        if !are_contracts_ready(self.accounts(), self.contracts()) {
             return false;
         }
         are_subsidiaries_few(self.units())

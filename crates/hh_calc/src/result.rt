@@ -1,11 +1,12 @@
 //! A settled period.
 
-ghost use Rattle.std.specs.Prelude.{◌≡◌};
-ghost use Rattle.hh_calc.specs.Terms.{settled_period};
+ghost use Rattle.std.specs.Prelude.{◌≡◌, neg_ℤ, IfOk, IfSome};
+ghost use Rattle.hh_num.specs.Totals.{total};
+ghost use Rattle.hh_calc.specs.Terms.{settled_as, settled_period};
 
 use hh_names::{Account, UnitId};
 use hh_num::{Pence, Ticks};
-use std::alloc::{AllocError, AllocFailed};
+use std::alloc::{AllocError, AllocFailed, Global};
 use std::marker::Model;
 
 /// An account's figures in a settled period: energy in ticks, cash in pence.
@@ -73,6 +74,30 @@ impl PeriodResult {
         }
     }
 
+    /// The settled period of these rows and credits: its residual is minus the sum of the charges. `None`
+    /// only where that is no amount of cash, for the rows up to some place.
+    pub fn of_rows(accounts: Vec<AccountRow>, credits: Vec<CreditRow>) -> Option<PeriodResult>
+        ensures { IfSome result (λ r. r ≡ settled_as accounts.items credits.items) }
+    {
+        let residual = residual_of(&accounts)?;
+        Some(PeriodResult {
+            accounts,
+            credits,
+            residual,
+        })
+    }
+
+    /// The same once more. `Err` only where memory is refused.
+    pub fn copy(&self, alloc: Global) -> Result<PeriodResult, AllocError>
+        ensures { IfOk result (λ copied. copied ≡ self.now) }
+    {
+        Ok(PeriodResult {
+            accounts: Vec::from_slice(alloc, &self.accounts)?,
+            credits: Vec::from_slice(alloc, &self.credits)?,
+            residual: self.residual,
+        })
+    }
+
     /// The rows of the accounts, in account order.
     pub fn accounts(&self) -> &[AccountRow]
         ensures { result.now ≡ self.now.accounts }
@@ -94,6 +119,17 @@ impl PeriodResult {
     {
         self.residual
     }
+}
+
+/// Minus the sum of the charges of these rows, if it is an amount of cash for the rows up to each place.
+fn residual_of(rows: &[AccountRow]) -> Option<Pence>
+    ensures { IfSome result (λ residual. residual ≡ neg_ℤ (total (λ r. r.charge) rows.now)) }
+{
+    let mut residual = 0i64;
+    for row in rows {
+        residual = residual.checked_sub(row.charge.units())?;
+    }
+    Pence::new(residual)
 }
 
 /// Why a period is not settled.

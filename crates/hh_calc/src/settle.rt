@@ -179,7 +179,8 @@ fn rows_of(
 /// each unit, and the residual cashflow (Section T; shares are profile).
 ///
 /// The accounts rise in account order, and each lead, subsidiary, seller and buyer is one of them;
-/// no unit has more than 799 subsidiaries.
+/// no unit has more than 799 subsidiaries. Net volumes stand one for each account, and come to
+/// zero.
 ///
 /// # Errors
 ///

@@ -1,16 +1,17 @@
 //! The sums of the accounts of a period.
 
-ghost use Rattle.std.specs.Prelude.{◌≡◌, ◌<◌, ◌≤◌, ◌*◌, ◌+◌, ℕ, length, All, unsigned_abs};
-ghost use Rattle.std.specs.List.{HoldsAt};
-ghost use Rattle.hh_calc.specs.Formulas.{balanced, contracted};
+ghost use Rattle.std.specs.Prelude.{◌*ℤ◌, ◌≡◌, ◌<◌, ◌≤◌, ◌*◌, ◌+◌, ℕ, length, All, unsigned_abs};
+ghost use Rattle.std.specs.List.{HoldsAt, zip};
+ghost use Rattle.hh_calc.specs.Formulas.{balanced, contracted, ticks_per_kwh};
 ghost use Rattle.hh_calc.specs.Ready.{most_subsidiaries, AreAccountsInOrder, IsContractNamed, IsNamed};
 ghost use Rattle.hh_calc.specs.steps.Ready.{IsCreditNamed};
-ghost use Rattle.hh_calc.specs.steps.Sums.{added_at, greatest_credit, greatest_sum, greatest_unit_sum, greatest_volume, balancing_amounts, contract_amounts, credit_amounts, no_sums, sums_plus, with_amounts, with_contract, with_contracts, with_credits, AreChanged, AreGrown, IsCreditSmall, IsWithin};
+ghost use Rattle.hh_calc.specs.steps.Sums.{added_at, greatest_credit, greatest_sum, greatest_unit_sum, greatest_volume, balancing_amounts, contract_amounts, credit_amounts, no_sums, sums_plus, with_amounts, with_contract, with_contracts, with_credits, with_nets, AreChanged, AreGrown, IsCreditSmall, IsWithin};
 
 use crate::data::UnitData;
 use crate::places::place_of;
 use crate::result::CreditRow;
 use hh_names::{Account, Contract};
+use hh_num::NetKwh;
 
 /// Ticks to the kWh.
 const TICKS_PER_KWH: i128 = 10_000_000;
@@ -199,5 +200,31 @@ pub(crate) fn add_contracts(accounts: &[Account], contracts: &[Contract], sums: 
 {
     for contract in contracts {
         add_contract(accounts, contract, sums);
+    }
+}
+
+/// A net volume, as what it adds to its account's sums.
+fn amounts_of_net(net: NetKwh) -> AccountSums
+    ensures amounts { result ≡ contract_amounts (net *ℤ ticks_per_kwh) }
+    ensures small { IsWithin greatest_credit result }
+{
+    AccountSums {
+        contracts: i128::from(net.units()) * TICKS_PER_KWH,
+        ..AccountSums::NONE
+    }
+}
+
+/// Adds to the sums of each account its net volume: accounts and net volumes stand in one order.
+pub(crate) fn add_nets(accounts: &[Account], nets: &[NetKwh], sums: &mut [AccountSums])
+    requires ordered { AreAccountsInOrder accounts.now }
+    requires own { length nets.now ≡ length accounts.now }
+    requires each { length sums.old ≡ length accounts.now }
+    requires room { All (IsWithin greatest_unit_sum) sums.old }
+    ensures added { let entries = zip accounts.now nets.now in
+        AreChanged accounts.now (with_nets entries) sums.old sums.new }
+    ensures grown { AreGrown (length accounts.now * greatest_credit) sums.old sums.new }
+{
+    for (place, account) in accounts.iter().enumerate() {
+        add_to(accounts, account, place, amounts_of_net(nets[place]), sums);
     }
 }

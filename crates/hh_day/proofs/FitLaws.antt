@@ -1,5 +1,5 @@
 -- What is written for a run that the machine makes fits the types that keep it.
-use Rattle.std.proofs.Common.{◌≡◌, ℕ, ◌+◌, ◌≤◌, ◌<◌, List, [], ◌∷◌, ◌++◌, map, length, take, get_or, refl, sym, ap, subst, ◌∙◌, cond, Option, Some, None, arith}
+use Rattle.std.proofs.Common.{inl, inr, ◌≡◌, ℕ, ◌+◌, ◌≤◌, ◌<◌, List, [], ◌∷◌, ◌++◌, map, length, take, get_or, refl, sym, ap, subst, ◌∙◌, cond, Option, Some, None, arith}
 use Rattle.std.specs.Prelude.{ℤ, pos, ◌+ℤ◌, ◌==◌, drop, sum_by, unsigned_abs}
 use Rattle.std.specs.Cmp.{eq_by_cmp_equiv}
 use Rattle.std.specs.List.{AllByRecursion}
@@ -13,15 +13,18 @@ use Rattle.hh_names.specs.declared.account.Account.{Account}
 use Rattle.hh_names.proofs.AccountLaws.{account_total}
 use Rattle.hh_rows.specs.declared.settlement_period.SettlementPeriod.{SettlementPeriod}
 use Rattle.hh_calc.specs.declared.result.AccountRow.{AccountRow}
-use Rattle.hh_calc.specs.Ready.{IsReady}
+use Rattle.hh_calc.specs.Ready.{HasNetVolumes, IsReady}
 use Rattle.hh_calc.specs.Settled.{moved_by_row, paid_by}
-use Rattle.hh_calc.specs.Terms.{PeriodTerms, Settled}
+use Rattle.hh_calc.specs.Terms.{Settled}
 use Rattle.hh_runs.specs.declared.summary.Summary.{Summary}
 use Rattle.hh_runs.specs.DayNets.{DayNets, day_cash, day_net_of}
 use Rattle.hh_runs.specs.declared.run_key.RunKey.{RunKey}
 use Rattle.hh_states.specs.declared.run_keys.ResultKey.{ResultKey}
 use Rattle.hh_states.specs.Amounts.{IsSummaryWithin, SummariesWithin, TurnoversWithin, greatest_turnover, turnover_in}
 use Rattle.hh_states.specs.Content.{result_entries, result_key, tables_of}
+use Rattle.hh_states.specs.Nets.{NettedAreReady}
+use Rattle.hh_states.specs.PeriodSettlement.{terms_at}
+use Rattle.hh_calc.specs.Terms.{PeriodTerms}
 use Rattle.hh_states.specs.Readiness.{PeriodsReady}
 use Rattle.hh_states.specs.Reads.{results_in}
 use Rattle.hh_states.specs.RunReads.{HoldsResults, rows_by_period}
@@ -30,9 +33,11 @@ use Rattle.hh_states.specs.States.{State}
 use Rattle.hh_states.specs.Steps.{IsReached, CanRun, after_run, by_run, new_run, new_summary, registered_at, timetable_at}
 use Rattle.hh_state_laws.proofs.RunLaws.{with_former-append}
 use Rattle.hh_state_laws.proofs.TurnoverLaws.{is_day_net, sum_by-made, total_by_sizes}
-use Rattle.hh_store.specs.DayReads.{ArePeriodsOf}
+use Rattle.hh_store.specs.DayReads.{ArePeriodsOf, IsPeriodOf}
+use Rattle.hh_store.specs.declared.day_data.PeriodState.{PeriodState}
+use Rattle.hh_store.specs.declared.day_data.PeriodState.TheVariants.{Changed, Same}
 use Rattle.hh_day.specs.NewRuns.{WritesTheRun}
-use Rattle.hh_day.specs.RunLimits.{AreTurnoversSmall, FitsFields, RunsFit, TermsReady}
+use Rattle.hh_day.specs.RunLimits.{AreTurnoversSmall, FitsFields, MayBeSettled, RunsFit, TermsReady}
 use Rattle.hh_day.specs.steps.RunParts.{AreNetsOf}
 use Rattle.hh_day.proofs.NetLaws.{total_next}
 use Rattle.hh_day.proofs.WriteLaws.{of_the_last, of_those_that_pass, settles_the_day}
@@ -125,11 +130,18 @@ runs_fit turnovers summaries held writes_the_run midnight s moment key reached c
 }
 
 -- what periods are settled from may be settled
-pub terms_ready : PeriodsReady → TermsReady
-terms_ready ready midnight s periods terms reached are = All-from_recursion IsReady terms (each periods terms are)
+pub terms_ready : PeriodsReady → NettedAreReady → TermsReady
+terms_ready ready nets midnight s periods states reached are = All-from_recursion MayBeSettled states (each periods states are)
   where
-    each : (ats : List SettlementPeriod) (ps : List PeriodTerms) → ArePeriodsOf (registered_at midnight s) ats ps → AllByRecursion IsReady ps
+    one : (at : SettlementPeriod) (state : PeriodState) → IsPeriodOf (registered_at midnight s) at state → MayBeSettled state
+    one at (Changed p) (inl is) = subst IsReady (sym is) (ready midnight s at reached).ready
+    one at (Changed p) (inr is) =
+        subst IsReady (sym is.same) (nets (terms_at (registered_at midnight s) at) _ refl (ready midnight s at reached).ready
+        (subst (λ (q : PeriodTerms). HasNetVolumes q.contracts) is.same is.sizes))
+    one at (Same q) is = tt
+
+    each : (ats : List SettlementPeriod) (ps : List PeriodState) → ArePeriodsOf (registered_at midnight s) ats ps → AllByRecursion MayBeSettled ps
     each [] [] all = tt
     each [] (p ∷ ps) all = absurd all
-    each (at ∷ ats) [] all = absurd all
-    each (at ∷ ats) (p ∷ ps) all = (subst IsReady (sym all.0) (ready midnight s at reached).ready, each ats ps all.1)
+    each (at ∷ ats) [] all = tt
+    each (at ∷ ats) (p ∷ ps) all = (one at p all.0, each ats ps all.1)

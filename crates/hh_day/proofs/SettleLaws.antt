@@ -1,6 +1,6 @@
 -- The Settlement Periods of a day, settled one after the other.
-use Rattle.std.proofs.Common.{◌≡◌, ℕ, zero, suc, ◌+◌, ◌<◌, List, [], ◌∷◌, ◌++◌, length, take, get_or, refl, sym, ap, subst, ◌∙◌, Bool, true, false, cond, Some, None, arith}
-use Rattle.std.specs.Prelude.{IsTrue, Option, find, min, not}
+use Rattle.std.proofs.Common.{inl, inr, ◌≡◌, ℕ, zero, suc, ◌+◌, ◌<◌, List, [], ◌∷◌, ◌++◌, length, take, get_or, refl, sym, ap, subst, ◌∙◌, Bool, true, false, cond, Some, None, arith}
+use Rattle.std.specs.Prelude.{All, IsFalse, IsTrue, Option, find, min, not}
 use Rattle.std.specs.List.{AllZip}
 use Rattle.std.specs.Option.{option_or}
 use Rattle.std.proofs.Math.Nat.{min-eq_left}
@@ -11,20 +11,26 @@ use Rattle.hh_rows.specs.declared.settlement_period.SettlementPeriod.{Settlement
 use Rattle.hh_rules.specs.History.{Registered}
 use Rattle.hh_calc.specs.Limits.{is_within_limits}
 use Rattle.hh_calc.specs.steps.Limits.{kept_where}
+use Rattle.hh_calc.specs.Formulas.{netted}
+use Rattle.hh_calc.specs.Ready.{AreUnitsDistinct, IsReady}
 use Rattle.hh_calc.specs.Settled.{IsSettled}
 use Rattle.hh_calc.specs.Terms.{PeriodTerms, Settled}
 use Rattle.hh_states.specs.DaySettlement.{settled_at, settled_day, too_large}
-use Rattle.hh_states.specs.PeriodSettlement.{terms_at}
+use Rattle.hh_states.specs.Nets.{NetsSettleAlike}
+use Rattle.hh_states.specs.PeriodSettlement.{settled, terms_at}
+use Rattle.hh_states.specs.Sums.{CreditsEachOnce}
 use Rattle.hh_states.specs.Readiness.{ArePeriodsConsistent, AreTermsConsistent}
 use Rattle.hh_store.specs.DayReads.{ArePeriodsOf, IsPeriodOf}
+use Rattle.hh_store.specs.declared.day_data.PeriodState.{PeriodState}
+use Rattle.hh_store.specs.declared.day_data.PeriodState.TheVariants.{Changed, Same}
 use Rattle.hh_day.specs.NewRuns.{SettledInOneWay}
 use Rattle.hh_day.specs.steps.PeriodSteps.{SettlesPeriod}
 
 -- So many of these Settlement Periods are settled so from these, and none of them passes a limit, by whatever is registered and in
 -- force, where what each is settled from fits together.
-abbrev pub SettlesFirst : ℕ → List SettlementPeriod → List PeriodTerms → List (SettlementPeriod × Settled) → Type 0
-SettlesFirst n periods terms day =
-    (tables : Registered) → ArePeriodsOf tables periods terms → ArePeriodsConsistent tables periods
+abbrev pub SettlesFirst : ℕ → List SettlementPeriod → List PeriodState → List (SettlementPeriod × Settled) → Type 0
+SettlesFirst n periods states day =
+    (tables : Registered) → ArePeriodsOf tables periods states → ArePeriodsConsistent tables periods
     → (too_large tables (take n periods) ≡ None) × (day ≡ settled_day tables (take n periods))
 
 -- a search over a list that goes on
@@ -52,11 +58,37 @@ module _ {X : Type 0} (test : X → Bool) where
       some_is_not_none : (y : X) → Some y ≡ None → ⊥
       some_is_not_none y e = cc
 
--- what a period comes to that is settled within the limits, where a period is settled in one way
-pub settles_within : SettledInOneWay → (at : SettlementPeriod) (p : PeriodTerms) (s : Settled) → IsTrue (is_within_limits p) → IsSettled p s → SettlesPeriod at p (Some (at, s))
-settles_within one_way at p s within is tables is_of consistent =
+-- what a period is settled from fits together also with net volumes, where it may be settled then
+netted_fits : (terms p : PeriodTerms) → p ≡ netted terms → IsReady p → AreTermsConsistent terms → AreTermsConsistent p
+netted_fits terms p is ready consistent = record {
+  ready = ready;
+  units = subst (λ (q : PeriodTerms). AreUnitsDistinct q) (sym is) consistent.units;
+  credits = subst (λ (q : PeriodTerms). All CreditsEachOnce q.units) (sym is) consistent.credits;
+}
+
+-- what a period comes to that is settled within the limits, where a period is settled in one way, and alike with net volumes
+pub settles_within : SettledInOneWay → NetsSettleAlike → (at : SettlementPeriod) (p : PeriodTerms) (s : Settled) → IsReady p → IsTrue (is_within_limits p) → IsSettled p s
+    → SettlesPeriod at (Changed p) (Some (at, s))
+settles_within one_way alike at p s ready within is tables (inl is_of) consistent =
     ap (λ x. Some (at, x)) (one_way (terms_at tables at) s consistent (subst (λ q. IsSettled q s) is_of is))
     ∙ sym (ap (λ b. kept_where b (settled_at tables at)) (sym (ap is_within_limits is_of) ∙ within))
+settles_within one_way alike at p s ready within is tables (inr netted) consistent =
+    let terms : PeriodTerms = terms_at tables at in
+    let both = alike terms consistent.ready.0 in
+    ap (λ x. Some (at, x)) (one_way p s (netted_fits terms p netted.same ready consistent) is ∙ ap settled netted.same ∙ both.0)
+    ∙ sym (ap (λ b. kept_where b (settled_at tables at)) (sym (ap is_within_limits netted.same ∙ both.1) ∙ within))
+
+-- a period that passes a limit has no settlement
+pub settles_beyond : NetsSettleAlike → (at : SettlementPeriod) (p : PeriodTerms) → IsFalse (is_within_limits p) → SettlesPeriod at (Changed p) None
+settles_beyond alike at p beyond tables (inl is_of) consistent =
+    sym (ap (λ b. kept_where b (settled_at tables at)) (sym (ap is_within_limits is_of) ∙ beyond))
+settles_beyond alike at p beyond tables (inr netted) consistent =
+    sym (ap (λ b. kept_where b (settled_at tables at)) (sym (ap is_within_limits netted.same ∙ (alike (terms_at tables at) consistent.ready.0).1) ∙ beyond))
+
+-- a period that is handed on is what it is settled to, within the limits
+pub settles_same : (at : SettlementPeriod) (s : Settled) → SettlesPeriod at (Same s) (Some (at, s))
+settles_same at s tables is_of consistent =
+    ap (λ x. Some (at, x)) is_of.0 ∙ sym (ap (λ b. kept_where b (settled_at tables at)) is_of.1)
 
 -- a period of which there is a settlement is within the limits, and that is its settlement
 kept : (b : Bool) (x y : SettlementPeriod × Settled) → Some x ≡ kept_where b y → (b ≡ true) × (x ≡ y)
@@ -85,24 +117,24 @@ at_place R (z ∷ xs) (w ∷ ys) zero x y inside all is_x is_y = subst (R x) is_
 at_place R (z ∷ xs) (w ∷ ys) (suc n) x y inside all is_x is_y = at_place R xs ys n x y (omega (arith, inside)) all.1 is_x is_y
 
 -- all are settled, where as many are as there are of both
-pub settles_all : (periods : List SettlementPeriod) (terms : List PeriodTerms) (n : ℕ) (day : List (SettlementPeriod × Settled)) → n ≡ min (length periods) (length terms) → SettlesFirst n periods terms day
-    → (tables : Registered) → ArePeriodsOf tables periods terms → ArePeriodsConsistent tables periods → (too_large tables periods ≡ None) × (day ≡ settled_day tables periods)
-settles_all periods terms n day counted so_far tables are consistent =
-    let long : length terms ≡ length periods = AllZip-long (IsPeriodOf tables) periods terms are in
+pub settles_all : (periods : List SettlementPeriod) (states : List PeriodState) (n : ℕ) (day : List (SettlementPeriod × Settled)) → n ≡ min (length periods) (length states) → SettlesFirst n periods states day
+    → (tables : Registered) → ArePeriodsOf tables periods states → ArePeriodsConsistent tables periods → (too_large tables periods ≡ None) × (day ≡ settled_day tables periods)
+settles_all periods states n day counted so_far tables are consistent =
+    let long : length states ≡ length periods = AllZip-long (IsPeriodOf tables) periods states are in
     let each : n ≡ length periods = counted ∙ min-eq_left (omega arith) in
     subst (λ ps. (too_large tables ps ≡ None) × (day ≡ settled_day tables ps)) (take_all n periods (omega arith)) (so_far tables are consistent)
 
 -- the Settlement Period of a place, with what it is settled from
-module _ (periods : List SettlementPeriod) (terms : List PeriodTerms) (n : ℕ) (at : SettlementPeriod) (p : PeriodTerms) (inside : n < length periods)
-    (is_at : get_or periods n at ≡ at) (is_p : get_or terms n p ≡ p) (day : List (SettlementPeriod × Settled)) (so_far : SettlesFirst n periods terms day) where
+module _ (periods : List SettlementPeriod) (states : List PeriodState) (n : ℕ) (at : SettlementPeriod) (p : PeriodState) (inside : n < length periods)
+    (is_at : get_or periods n at ≡ at) (is_p : get_or states n p ≡ p) (day : List (SettlementPeriod × Settled)) (so_far : SettlesFirst n periods states day) where
   -- it comes to what it is settled as
-  comes_to : (outcome : Option (SettlementPeriod × Settled)) → SettlesPeriod at p outcome → (tables : Registered) → ArePeriodsOf tables periods terms → ArePeriodsConsistent tables periods
+  comes_to : (outcome : Option (SettlementPeriod × Settled)) → SettlesPeriod at p outcome → (tables : Registered) → ArePeriodsOf tables periods states → ArePeriodsConsistent tables periods
       → outcome ≡ kept_where (is_within_limits (terms_at tables at)) (settled_at tables at)
   comes_to outcome settles tables are consistent =
-      settles tables (at_place (IsPeriodOf tables) periods terms n at p inside are is_at is_p) (subst (λ q. AreTermsConsistent (terms_at tables q)) is_at (consistent n at inside))
+      settles tables (at_place (IsPeriodOf tables) periods states n at p inside are is_at is_p) (subst (λ q. AreTermsConsistent (terms_at tables q)) is_at (consistent n at inside))
 
   -- it is settled too
-  pub settles_next : (one : SettlementPeriod × Settled) → SettlesPeriod at p (Some one) → SettlesFirst (n + 1) periods terms (day ++ one ∷ [])
+  pub settles_next : (one : SettlementPeriod × Settled) → SettlesPeriod at p (Some one) → SettlesFirst (n + 1) periods states (day ++ one ∷ [])
   settles_next one settles tables are consistent =
       let is : (is_within_limits (terms_at tables at) ≡ true) × (one ≡ settled_at tables at) =
       kept (is_within_limits (terms_at tables at)) one (settled_at tables at) (comes_to (Some one) settles tables are consistent) in
@@ -114,7 +146,7 @@ module _ (periods : List SettlementPeriod) (terms : List PeriodTerms) (n : ℕ) 
       )
 
   -- it passes a limit, the first that does
-  pub passes_first : SettlesPeriod at p None → (tables : Registered) → ArePeriodsOf tables periods terms → ArePeriodsConsistent tables periods → too_large tables periods ≡ Some at
+  pub passes_first : SettlesPeriod at p None → (tables : Registered) → ArePeriodsOf tables periods states → ArePeriodsConsistent tables periods → too_large tables periods ≡ Some at
   passes_first settles tables are consistent =
       now_found (λ q. not (is_within_limits (terms_at tables q))) periods n at inside is_at (so_far tables are consistent).0
       (ap not (not_kept (is_within_limits (terms_at tables at)) (settled_at tables at) (comes_to None settles tables are consistent)))

@@ -22,6 +22,7 @@ use Rattle.hh_states.specs.Runs.{latest_run}
 use Rattle.hh_states.specs.States.{State}
 use Rattle.hh_states.specs.Steps.{CanRun, IsReached, registered_at}
 use Rattle.hh_store.specs.DayReads.{ArePeriodsOf}
+use Rattle.hh_store.specs.declared.day_data.PeriodState.{PeriodState}
 use Rattle.hh_day.specs.declared.settle.SettledDay.{SettledDay}
 use Rattle.hh_day.specs.declared.settle.SettledDay.TheVariants.{Settled as all_settled, TooLarge}
 
@@ -31,11 +32,11 @@ IsSettledDay tables periods (TooLarge at) = too_large tables periods ≡ Some at
 IsSettledDay tables periods (all_settled day) =
     (too_large tables periods ≡ None) × (day.items ≡ settled_day tables periods)
 
--- These Settlement Periods are settled from these, one for each, by whatever is registered and in force, where what each is settled
+-- These Settlement Periods are settled by these, one for each, by whatever is registered and in force, where what each is settled
 -- from fits together.
-abbrev pub SettlesDay : List SettlementPeriod → List PeriodTerms → SettledDay → Type 0
-SettlesDay periods terms outcome =
-    (tables : Registered) → ArePeriodsOf tables periods terms → ArePeriodsConsistent tables periods
+abbrev pub SettlesDay : List SettlementPeriod → List PeriodState → SettledDay → Type 0
+SettlesDay periods states outcome =
+    (tables : Registered) → ArePeriodsOf tables periods states → ArePeriodsConsistent tables periods
     → IsSettledDay tables periods outcome
 
 -- how many accounts a run settles: those of its first Settlement Period

@@ -8,7 +8,7 @@ use Rattle.hh_rows.specs.declared.settlement_period.SettlementPeriod.{Settlement
 use Rattle.hh_calc.specs.declared.result.AccountRow.{AccountRow}
 use Rattle.hh_calc.specs.Ready.{IsReady}
 use Rattle.hh_calc.specs.Settled.{moved_by_row}
-use Rattle.hh_calc.specs.Terms.{PeriodTerms, Settled}
+use Rattle.hh_calc.specs.Terms.{Settled}
 use Rattle.hh_runs.specs.declared.summary.Summary.{Summary}
 use Rattle.hh_runs.specs.declared.run_key.RunKey.{RunKey}
 use Rattle.hh_states.specs.Amounts.{greatest_turnover}
@@ -17,6 +17,8 @@ use Rattle.hh_states.specs.RunReads.{rows_by_period}
 use Rattle.hh_states.specs.States.{State}
 use Rattle.hh_states.specs.Steps.{CanRun, IsReached, registered_at}
 use Rattle.hh_store.specs.DayReads.{ArePeriodsOf}
+use Rattle.hh_store.specs.declared.day_data.PeriodState.{PeriodState}
+use Rattle.hh_store.specs.declared.day_data.PeriodState.TheVariants.{Changed, Same}
 use Rattle.hh_day.specs.NewRuns.{IsWrittenFor, day_in, former_rows}
 
 -- each account's turnover by rows, under whatever keys they stand, is at most that of a run: so is what any of the rows come to
@@ -37,10 +39,15 @@ pub record FitsRun (run : RunKey) (day : List (SettlementPeriod × Settled)) (fo
   pub now : AreTurnoversSmall (rows_by_period day)
   pub summary : (writes : RunWrites) → IsWrittenFor run day former writes → FitsFields writes.summary
 
+-- what a Settlement Period is settled from may be settled; one that was settled may be handed on
+abbrev pub MayBeSettled : PeriodState → Type 0
+MayBeSettled (Changed terms) = IsReady terms
+MayBeSettled (Same s) = Unit {0}
+
 -- in each state that the machine reaches, what each Settlement Period is settled from may be settled
 abbrev pub TermsReady : Type 0
-TermsReady = (midnight : Midnights) (s : State) (periods : List SettlementPeriod) (terms : List PeriodTerms) → IsReached midnight s
-    → ArePeriodsOf (registered_at midnight s) periods terms → All IsReady terms
+TermsReady = (midnight : Midnights) (s : State) (periods : List SettlementPeriod) (states : List PeriodState) → IsReached midnight s
+    → ArePeriodsOf (registered_at midnight s) periods states → All MayBeSettled states
 
 -- and what is written for each run that is not there and not refused there fits
 abbrev pub RunsFit : Type 0

@@ -7,8 +7,8 @@ ghost use Rattle.hh_day.specs.RunLimits.{RunsFit, TermsReady};
 
 use hh_state_laws::{
     cash_sums_to_zero, contracts_sum_to_zero, day_nets_are_sums, day_nets_from_results,
-    each_period_settled, each_unit_credited, kept_results, periods_ready, postings_total,
-    run_postings_balance, summaries_within, turnovers_within,
+    each_period_settled, each_unit_credited, kept_results, nets_settle_alike, periods_ready,
+    postings_total, run_postings_balance, summaries_within, turnovers_within,
 };
 
 /// That a period that is settled is settled in one way, where what it is settled from fits together
@@ -36,8 +36,9 @@ pub fn writes_the_run()
 pub fn terms_ready()
     ensures { TermsReady }
 {
-    // Does nothing, but carries a law for the proof.
+    // Do nothing, but carry laws for the proof.
     periods_ready();
+    nets_settle_alike();
 }
 
 /// That what is written for a new run of the settled periods of its date fits the types that keep it: in

@@ -3,13 +3,16 @@
 ghost use Rattle.std.specs.Prelude.{◌≡◌, All, IfErr, IfOk};
 ghost use Rattle.hh_calc.specs.Ready.{IsReady};
 ghost use Rattle.hh_states.specs.DaySettlement.{periods_on};
+ghost use Rattle.hh_store.specs.declared.day_data.PeriodState.TheVariants.{Changed};
 ghost use Rattle.hh_day.specs.NewRuns.{SettlesDay};
+ghost use Rattle.hh_day.specs.RunLimits.{MayBeSettled};
 ghost use Rattle.hh_day.specs.steps.PeriodSteps.{SettlesPeriod};
 
 use crate::laws::settled_in_one_way;
 use hh_calc::{CalcFault, PeriodData, PeriodResult, settle_period};
 use hh_rows::SettlementPeriod;
-use hh_store::{StoreFault, periods_of};
+use hh_state_laws::nets_settle_alike;
+use hh_store::{PeriodState, StoreFault, periods_of};
 use hh_time::Day;
 use std::alloc::Global;
 use std::marker::Model;
@@ -55,35 +58,39 @@ pub enum SettledDay {
     Settled(Vec<SettledPeriod>),
 }
 
-/// Settles the Settlement Periods of a day, each from its terms, the first period from the first of
-/// them (Section T in shape).
+/// Settles the Settlement Periods of a day that may have changed, each from its terms, and hands on the
+/// others as they were settled; the first period by the first of these (Section T in shape).
 ///
 /// # Errors
 ///
 /// `Memory` where memory is refused; `Store` where the terms of a period don't fit together, which those
 /// of a state that the machine reaches do.
-pub fn settle_day(alloc: Global, day: &Day, terms: &[PeriodData]) -> Result<SettledDay, StoreFault>
-    ensures settles { IfOk result (SettlesDay (periods_on day.now.date day.now.count) terms.now) }
-    ensures memory_alone { All IsReady terms.now
+pub fn settle_day(
+    alloc: Global,
+    day: &Day,
+    states: &[PeriodState],
+) -> Result<SettledDay, StoreFault>
+    ensures settles { IfOk result (SettlesDay (periods_on day.now.date day.now.count) states.now) }
+    ensures memory_alone { All MayBeSettled states.now
         → IfErr result (λ fault. fault ≡ StoreFault.Memory) }
 {
     let periods = periods_of(alloc, day)?;
-    settle_periods(alloc, &periods, terms)
+    settle_periods(alloc, &periods, states)
 }
 
-/// Settles Settlement Periods, each from its terms.
+/// Settles the Settlement Periods that may have changed, and hands on the others as they were settled.
 fn settle_periods(
     alloc: Global,
     periods: &[SettlementPeriod],
-    terms: &[PeriodData],
+    states: &[PeriodState],
 ) -> Result<SettledDay, StoreFault>
-    ensures settles { IfOk result (SettlesDay periods.now terms.now) }
-    ensures memory_alone { All IsReady terms.now
+    ensures settles { IfOk result (SettlesDay periods.now states.now) }
+    ensures memory_alone { All MayBeSettled states.now
         → IfErr result (λ fault. fault ≡ StoreFault.Memory) }
 {
     let mut settled = Vec::with_capacity(alloc, periods.len())?;
-    for (at, period_terms) in periods.iter().zip(terms) {
-        let Some(period) = settle_at(alloc, at, period_terms)? else {
+    for (at, state) in periods.iter().zip(states) {
+        let Some(period) = settle_at(alloc, at, state)? else {
             return Ok(SettledDay::TooLarge(*at));
         };
         settled.push(period)?;
@@ -91,18 +98,39 @@ fn settle_periods(
     Ok(SettledDay::Settled(settled))
 }
 
-/// Settles a Settlement Period from its terms, unless it passes a limit of settlement.
+/// A Settlement Period as it was settled, or settled from its terms, unless it passes a limit of
+/// settlement.
 fn settle_at(
+    alloc: Global,
+    at: &SettlementPeriod,
+    state: &PeriodState,
+) -> Result<Option<SettledPeriod>, StoreFault>
+    ensures settles { IfOk result (SettlesPeriod at.now state.now) }
+    ensures memory_alone { MayBeSettled state.now
+        → IfErr result (λ fault. fault ≡ StoreFault.Memory) }
+{
+    match state {
+        PeriodState::Changed(terms) => settle_terms(alloc, at, terms),
+        PeriodState::Same(result) => Ok(Some(SettledPeriod {
+            at: *at,
+            result: result.copy(alloc)?,
+        })),
+    }
+}
+
+/// Settles a Settlement Period from its terms, unless it passes a limit of settlement.
+fn settle_terms(
     alloc: Global,
     at: &SettlementPeriod,
     terms: &PeriodData,
 ) -> Result<Option<SettledPeriod>, StoreFault>
-    ensures settles { IfOk result (SettlesPeriod at.now terms.now) }
+    ensures settles { IfOk result (SettlesPeriod at.now (Changed terms.now)) }
     ensures memory_alone { IsReady terms.now
         → IfErr result (λ fault. fault ≡ StoreFault.Memory) }
 {
-    // Does nothing, but carries a law for the proof.
+    // Do nothing, but carry laws for the proof.
     settled_in_one_way();
+    nets_settle_alike();
     if !terms.is_ready() {
         return Err(StoreFault::Store);
     }

@@ -11,6 +11,8 @@ mod inputs_tests;
 #[cfg(test)]
 mod names_tests;
 #[cfg(test)]
+mod positions_tests;
+#[cfg(test)]
 mod rows_tests;
 #[cfg(test)]
 mod rules_tests;

@@ -22,11 +22,12 @@ use Rattle.hh_rules.specs.Leads.{lead_on}
 use Rattle.hh_rules.specs.RegisterView.{AgreesOn}
 use Rattle.hh_rows.specs.declared.rows.Row.{Row}
 use Rattle.hh_rows.specs.declared.rows.Row.TheVariants as row
-use Rattle.hh_calc.specs.Terms.{PeriodTerms, bm_unit, period_terms}
+use Rattle.hh_calc.specs.Terms.{Rows, bm_unit, period_terms}
 use Rattle.hh_states.specs.DaySettlement.{from_one_to, missing_meter, missing_price, periods_on, unit_periods_at}
 use Rattle.hh_states.specs.PeriodSettlement.{accounts_on, price_of, reading_of, row_in_force, rows_in_force, terms_at, unit_at, units_on}
 use Rattle.hh_states.specs.Reads.{names_account}
-use Rattle.hh_store.specs.DayReads.{ArePeriodsOf}
+use Rattle.hh_store.specs.declared.day_data.PeriodState.{PeriodState}
+use Rattle.hh_store.specs.DayReads.{IsStateOf, ArePeriodsOf}
 use Rattle.hh_kept_rows.specs.DayRows.{AgreesOnUnitAt, ContractsByTheirRows, HasContractsOn, HasRowsOn, PartsOfParts, ReadByItsRows, RowsOfADate, SettledByItsRows, is_reference_on, rows_on, volumes_at}
 
 -- two tests that agree on each element find the same
@@ -119,11 +120,11 @@ module _ (date : ℕ) (whole part : Registered) (has : HasRowsOn date whole part
     unit_alike u agrees =
         λ i. option_map (λ (reading : Reading). bm_unit u.0 (lead_on whole u.0 u.1 at.date) u.1.interconnector reading (map (λ e. record { account = e.0.account; reallocation = e.1 }) (agrees.reallocations i))) (agrees.reading i)
 
-    terms_alike : terms_at part at ≡ terms_at whole at
+    pub terms_alike : terms_at part at ≡ terms_at whole at
     terms_alike =
         (λ i. period_terms (flat_map (λ e. both_accounts e.0) (filter (λ e. holds e.1.range at.date) (has.parties i))) (filter_map (unit_at part at) (filter (λ e. holds e.1.range at.date) (has.units i)))
-        (map (λ r. r.contract) (rows_alike date whole part has.contracts at on i)) (unwrap_or (has.prices at on i) (pos 0)))
-        ∙ ap (λ units. period_terms (accounts_on whole at.date) units (map (λ r. r.contract) (rows_in_force whole at)) (unwrap_or (price_of whole at) (pos 0)))
+        (Rows (map (λ r. r.contract) (rows_alike date whole part has.contracts at on i))) (unwrap_or (has.prices at on i) (pos 0)))
+        ∙ ap (λ units. period_terms (accounts_on whole at.date) units (Rows (map (λ r. r.contract) (rows_in_force whole at))) (unwrap_or (price_of whole at) (pos 0)))
         (filter_map_alike (unit_at part at) (unit_at whole at) (units_on whole at.date)
         (all_weaker (λ u. AgreesOnUnitAt whole part u.0 at) (λ u. unit_at part at u ≡ unit_at whole at u) unit_alike (units_on whole at.date) units_agree))
 
@@ -146,12 +147,13 @@ settled_alike date whole part has = record {
 
 -- what each of some Settlement Periods of the date is settled from in the part, it is settled from in the whole
 module _ (date : ℕ) (whole part : Registered) (has : HasRowsOn date whole part) where
-  periods_alike : (periods : List SettlementPeriod) (terms : List PeriodTerms) → AllByRecursion (λ (at : SettlementPeriod). at.date ≡ date) periods
-      → ArePeriodsOf part periods terms → ArePeriodsOf whole periods terms
+  periods_alike : (periods : List SettlementPeriod) (states : List PeriodState) → AllByRecursion (λ (at : SettlementPeriod). at.date ≡ date) periods
+      → ArePeriodsOf part periods states → ArePeriodsOf whole periods states
   periods_alike [] [] on are = are
-  periods_alike [] (t ∷ terms) on are = are
+  periods_alike [] (state ∷ states) on are = are
   periods_alike (at ∷ periods) [] on are = are
-  periods_alike (at ∷ periods) (t ∷ terms) on are = (are.0 ∙ terms_alike date whole part has at on.0, periods_alike periods terms on.1 are.1)
+  periods_alike (at ∷ periods) (state ∷ states) on are =
+      (subst (λ p. IsStateOf p state) (terms_alike date whole part has at on.0) are.0, periods_alike periods states on.1 are.1)
 
 pub read_alike : ReadByItsRows
 read_alike date whole part has periods on day is =
@@ -182,7 +184,7 @@ find_kept R keeps (e ∷ es) k kept =
     ] refl
 
 -- the rows that pass a test are among those that are kept where each of them is kept
-filter_kept : {X : Type 0} (keeps test : X → Bool) (xs : List X) → ((x : X) → test x ≡ true → keeps x ≡ true) → filter test (filter keeps xs) ≡ filter test xs
+pub filter_kept : {X : Type 0} (keeps test : X → Bool) (xs : List X) → ((x : X) → test x ≡ true → keeps x ≡ true) → filter test (filter keeps xs) ≡ filter test xs
 filter_kept keeps test [] kept = refl
 filter_kept keeps test (x ∷ xs) kept =
     let rest = filter_kept keeps test xs kept in

@@ -1,3 +1,4 @@
+mod BesideLaws
 mod ContractLaws
 mod DayLaws
 mod DayRowLaws
@@ -5,5 +6,7 @@ mod NamedLaws
 mod OutputLaws
 mod PartLaws
 mod RangeLaws
+mod RunRangeLaws
+mod SameLaws
 mod SoundLaws
 mod UntilLaws

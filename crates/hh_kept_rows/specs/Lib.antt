@@ -1,3 +1,4 @@
+pub mod DayBeside
 pub mod DayRows
 pub mod Parts
 pub mod Reports

@@ -3,3 +3,4 @@ pub mod DayRolls
 pub mod KeptContracts
 pub mod KeptReallocations
 pub mod Parts
+pub mod RunRanges

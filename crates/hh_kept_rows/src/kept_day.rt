@@ -4,21 +4,21 @@ ghost use Rattle.std.specs.Prelude.{◌≡◌, All, find, filter, filter_map, ma
 ghost use Rattle.hh_rules.specs.Leads.{lead_on};
 ghost use Rattle.hh_rules.specs.RegisterView.{reallocations_at};
 ghost use Rattle.hh_states.specs.DaySettlement.{missing_meter, missing_price, periods_on, unit_periods_at};
-ghost use Rattle.hh_states.specs.PeriodSettlement.{accounts_on, price_of, reading_of, subsidiaries_of, unit_at, units_on};
-ghost use Rattle.hh_store.specs.DayReads.{ArePeriodsOf, IsDayData, IsPeriodOf};
+ghost use Rattle.hh_states.specs.PeriodSettlement.{accounts_on, price_of, reading_of, subsidiaries_of, terms_at, unit_at, units_on};
+ghost use Rattle.hh_store.specs.DayReads.{ArePeriodsOf, IsDayData};
 ghost use Rattle.hh_kept_rows.specs.steps.DayRolls.{IsRollOf, row_on};
 ghost use Rattle.hh_kept_rows.specs.steps.KeptContracts.{is_in_period};
 
 use crate::day_places::{DayPlaces, UnitPlaces};
 use crate::kept_reallocations::{count_of, first_of};
 use crate::kept_register::KeptRegister;
-use hh_calc::{PeriodData, Subsidiary, UnitData};
+use hh_calc::{Contracts, PeriodData, Subsidiary, UnitData};
 use hh_names::{Account, Contract, Reallocation, Side, UnitId};
 use hh_num::{Kwh, Price};
 use hh_rows::{
     ContractKey, ContractRow, ReallocationKey, SettlementPeriod, UnitPeriod, UnitRegistration,
 };
-use hh_store::{DayData, periods_of};
+use hh_store::{DayData, PeriodState, periods_of};
 use hh_time::{Day, SettlementDate};
 use std::alloc::{AllocError, Global};
 
@@ -48,7 +48,7 @@ impl KeptRegister {
     }
 
     /// The first of these Settlement Periods that has no price.
-    fn missing_price(&self, periods: &[SettlementPeriod]) -> Option<SettlementPeriod>
+    pub(crate) fn missing_price(&self, periods: &[SettlementPeriod]) -> Option<SettlementPeriod>
         ensures { result ≡ missing_price self.now periods.now }
     {
         for at in periods {
@@ -67,7 +67,7 @@ impl KeptRegister {
     }
 
     /// What all Settlement Periods of a date have in common.
-    fn roll_of(&self, alloc: Global, date: SettlementDate) -> Result<DayRoll, AllocError>
+    pub(crate) fn roll_of(&self, alloc: Global, date: SettlementDate) -> Result<DayRoll, AllocError>
         ensures { IfOk result (IsRollOf self.now date) }
     {
         Ok(DayRoll {
@@ -78,7 +78,11 @@ impl KeptRegister {
     }
 
     /// The accounts of a date, in account order.
-    fn accounts_on(&self, alloc: Global, date: SettlementDate) -> Result<Vec<Account>, AllocError>
+    pub(crate) fn accounts_on(
+        &self,
+        alloc: Global,
+        date: SettlementDate,
+    ) -> Result<Vec<Account>, AllocError>
         ensures { IfOk result (λ accounts. accounts.items ≡ accounts_on self.now date) }
     {
         let mut accounts = Vec::new(alloc);
@@ -98,7 +102,7 @@ impl KeptRegister {
     }
 
     /// The units of a date, in the order of their ids.
-    fn units_on(
+    pub(crate) fn units_on(
         &self,
         alloc: Global,
         date: SettlementDate,
@@ -145,7 +149,7 @@ impl KeptRegister {
 
     /// The first of these Settlement Periods of one date in which a unit of the date has no reading, with
     /// the first such unit.
-    fn missing_meter(
+    pub(crate) fn missing_meter(
         &self,
         units: &[(UnitId, UnitRegistration)],
         places: &DayPlaces,
@@ -196,20 +200,21 @@ impl KeptRegister {
         roll: &DayRoll,
         places: &DayPlaces,
         periods: &[SettlementPeriod],
-    ) -> Result<Vec<PeriodData>, AllocError>
+    ) -> Result<Vec<PeriodState>, AllocError>
         requires { All (λ at. IsRollOf self.now at.date roll.now) periods.now }
         ensures { IfOk result (λ terms. ArePeriodsOf self.now periods.now terms.items) }
     {
         let mut found = Vec::with_capacity(alloc, periods.len())?;
         for at in periods {
-            found.push(self.period_data(alloc, roll, places, at)?)?;
+            let terms = self.period_data(alloc, roll, places, at)?;
+            found.push(PeriodState::Changed(terms))?;
         }
         Ok(found)
     }
 
     /// What a Settlement Period is settled from. Where it has no price, the price counts as 0, and a unit
     /// that has no reading is left out.
-    fn period_data(
+    pub(crate) fn period_data(
         &self,
         alloc: Global,
         roll: &DayRoll,
@@ -217,24 +222,24 @@ impl KeptRegister {
         at: &SettlementPeriod,
     ) -> Result<PeriodData, AllocError>
         requires { IsRollOf self.now at.now.date roll.now }
-        ensures { IfOk result (IsPeriodOf self.now at.now) }
+        ensures { IfOk result (λ terms. terms ≡ terms_at self.now at.now) }
     {
         let accounts = Vec::from_slice(alloc, &roll.accounts)?;
         let units = self.units_at(alloc, &roll.units, places, at)?;
         let contracts = contracts_at(alloc, &roll.contracts, at)?;
         let price = self.price_at(at);
-        Ok(PeriodData::new(accounts, units, contracts, price))
+        Ok(PeriodData::new(accounts, units, Contracts::Rows(contracts), price))
     }
 
     /// The price of a Settlement Period, which counts as 0 where there is none.
-    fn price_at(&self, at: &SettlementPeriod) -> Price
+    pub(crate) fn price_at(&self, at: &SettlementPeriod) -> Price
         ensures { result ≡ unwrap_or (price_of self.now at.now) (pos 0) }
     {
         self.prices.get(at).unwrap_or(Price::of(0))
     }
 
     /// What the units that have a reading in a Settlement Period are settled from.
-    fn units_at(
+    pub(crate) fn units_at(
         &self,
         alloc: Global,
         units: &[(UnitId, UnitRegistration)],

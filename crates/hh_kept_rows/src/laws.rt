@@ -1,5 +1,6 @@
 //! Laws on parts of what is registered and in force, each the contract of a function that does nothing.
 
+ghost use Rattle.hh_kept_rows.specs.DayBeside.{ReadByWhatIsBeside};
 ghost use Rattle.hh_kept_rows.specs.DayRows.{ContractsByTheirRows, PartsOfParts, ReadByItsRows, RowsOfADate, SettledByItsRows};
 
 /// A Settlement Day is settled alike from all that is registered and in force and from a part that has
@@ -29,4 +30,10 @@ pub fn rows_of_a_date()
 /// A part of a part that serves for some rows serves for them.
 pub fn parts_of_parts()
     ensures { PartsOfParts }
+{}
+
+/// What is read of a Settlement Day from the rows of its date and from what is kept beside them is what is
+/// read of it from all tables, where what is kept agrees with these.
+pub fn read_by_what_is_beside()
+    ensures { ReadByWhatIsBeside }
 {}

@@ -3,19 +3,24 @@
 //! reports.
 #![tactic(auto)]
 
+mod day_beside;
 mod day_places;
 mod kept_contracts;
 mod kept_day;
 mod kept_reallocations;
 mod kept_register;
 mod laws;
+mod net_volumes;
 mod part;
 mod reports;
 mod run_rows;
+mod same_since;
 
+pub use day_beside::DayBeside;
 pub use kept_register::KeptRegister;
 pub use laws::{
-    contracts_by_their_rows, parts_of_parts, read_by_its_rows, rows_of_a_date, settled_by_its_rows,
+    contracts_by_their_rows, parts_of_parts, read_by_its_rows, read_by_what_is_beside,
+    rows_of_a_date, settled_by_its_rows,
 };
 pub use reports::{write_balances_of, write_day_report_of, write_results_of};
 pub use run_rows::{postings_to, results_of, runs_on};

@@ -1,12 +1,16 @@
 -- The columns of keys and values are codecs.
-use Rattle.std.proofs.Common.{refl}
-use Rattle.hh_num.specs.Quantities.{Measure, amounts_of_cash, energies, multipliers, percentages, volumes}
+use Rattle.std.proofs.Common.{◌≡◌, ℤ, pos, negsuc, zero, suc, Bool, true, false, Some, refl, ap}
+use Rattle.hh_num.specs.Quantities.{Measure, amounts_of_cash, energies, multipliers, net_volumes, percentages, volumes}
 use Rattle.hh_names.specs.Words.{is_capital_or_digit, is_file_name_byte, is_letter_or_digit, is_reference_byte, is_unit_byte}
+use Rattle.hh_rules.specs.declared.positions.Position.{Position}
+use Rattle.hh_rules.specs.declared.positions.Position.TheVariants.{Known, Lost}
+use Rattle.sqlite_value.specs.Order.{Row}
+use Rattle.hh_keyed_rows.specs.declared.no_columns.NoColumns.{NoColumns}
 use Rattle.hh_keyed_rows.specs.Codecs.{IsCodec}
 use Rattle.hh_keyed_rows.specs.Fields.{access_key_column, file_name_column, party_column, quantity_column, reference_column, unit_column}
-use Rattle.hh_keyed_rows.specs.Keys.{contract_key_columns, credit_key_columns, file_key_columns, one_row_column, posting_key_columns, reallocation_key_columns, result_key_columns, run_key_columns, unit_period_columns}
-use Rattle.hh_keyed_rows.specs.Values.{most_of_8_bits, most_of_16_bits, most_of_32_bits, amounts_columns, file_columns, party_columns, reading_columns, reallocation_columns, settings_columns, summary_columns, unit_columns, version}
-use Rattle.hh_keyed_rows.proofs.CodecLaws.{blob_codec, both_codec, via_codec}
+use Rattle.hh_keyed_rows.specs.Keys.{contract_key_columns, credit_key_columns, file_key_columns, one_row_column, position_key_columns, posting_key_columns, reallocation_key_columns, result_key_columns, run_key_columns, unit_period_columns}
+use Rattle.hh_keyed_rows.specs.Values.{most_of_8_bits, most_of_16_bits, most_of_32_bits, amounts_columns, file_columns, no_columns, party_columns, position_columns, position_from, position_numbers, reading_columns, reallocation_columns, settings_columns, summary_columns, unit_columns, version}
+use Rattle.hh_keyed_rows.proofs.CodecLaws.{blob_codec, both_codec, coded_codec, none_is_not_some, same_some, via_codec}
 use Rattle.hh_keyed_rows.proofs.FieldLaws.{account_codec, date_codec, file_kind_codec, lead_minutes_codec, mark_codec, number_codec, only_number_codec, operator_key_codec, period_codec, range_codec, run_kind_codec, settlement_period_codec, units_codec, word_codec}
 
 -- ---- words and quantities
@@ -59,6 +63,9 @@ credit_key_codec =
 pub posting_key_codec : IsCodec posting_key_columns
 posting_key_codec = via_codec _ _ (λ k. refl) (λ p. refl) _ (both_codec _ _ run_key_codec account_codec)
 
+pub position_key_codec : IsCodec position_key_columns
+position_key_codec = via_codec _ _ (λ k. refl) (λ p. refl) _ (both_codec _ _ settlement_period_codec account_codec)
+
 -- ---- values
 
 pub registered_party_codec : IsCodec party_columns
@@ -94,3 +101,26 @@ amounts_codec =
 
 pub settings_codec : IsCodec settings_columns
 settings_codec = via_codec _ _ (λ s. refl) (λ p. refl) _ (both_codec _ _ (only_number_codec version) (both_codec _ _ lead_minutes_codec operator_key_codec))
+
+pub position_codec : IsCodec position_columns
+position_codec = coded_codec position_numbers (λ p. position_from p.1 p.0) there (λ p. here p.1 p.0) _ (both_codec _ _ (quantity_codec net_volumes) mark_codec)
+  where
+    there : (position : Position) → position_from (position_numbers position).1 (position_numbers position).0 ≡ Some position
+    there (Known net) = refl
+    there Lost = refl
+
+    here : (lost : Bool) (net : ℤ) (position : Position) → position_from lost net ≡ Some position → (net, lost) ≡ position_numbers position
+    here false net position is = ap position_numbers (same_some is)
+    here true (pos zero) position is = ap position_numbers (same_some is)
+    here true (pos (suc n)) position is = absurd (none_is_not_some is)
+    here true (negsuc n) position is = absurd (none_is_not_some is)
+
+pub no_columns_codec : IsCodec no_columns
+no_columns_codec = record {
+  back = λ a rest fits. refl;
+  only = λ row a rest is. ap (λ (x : NoColumns × Row). x.1) (same_some is);
+  fitting = λ row a rest is. refl;
+  apart = λ a b same. refl;
+  wide = λ a. refl;
+  plain = λ a. refl;
+}

@@ -2,6 +2,7 @@
 use Rattle.hh_rows.specs.declared.keys.ContractKey.{ContractKey}
 use Rattle.hh_rows.specs.declared.keys.ReallocationKey.{ReallocationKey}
 use Rattle.hh_rows.specs.declared.keys.UnitPeriod.{UnitPeriod}
+use Rattle.hh_rules.specs.declared.positions.PositionKey.{PositionKey}
 use Rattle.hh_runs.specs.declared.run_key.RunKey.{RunKey}
 use Rattle.hh_states.specs.declared.file_key.FileKey.{FileKey}
 use Rattle.hh_states.specs.declared.run_keys.CreditKey.{CreditKey}
@@ -53,3 +54,7 @@ credit_key_columns =
 -- date, kind, party, side
 abbrev pub posting_key_columns : Codec PostingKey
 posting_key_columns = via (λ p. record { run = p.0; account = p.1 }) (λ k. (k.run, k.account)) (both run_key_columns account_columns)
+
+-- date, period, party, side
+abbrev pub position_key_columns : Codec PositionKey
+position_key_columns = via (λ p. record { at = p.0; account = p.1 }) (λ k. (k.at, k.account)) (both settlement_period_columns account_columns)

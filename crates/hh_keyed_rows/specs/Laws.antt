@@ -21,9 +21,9 @@ use Rattle.sqlite_trees.specs.declared.store.Shape.TheVariants as shape
 use Rattle.hh_keyed_rows.specs.Codecs.{Codec, IsCodec, blob_column, places_from}
 use Rattle.hh_keyed_rows.specs.Fields.{account_columns, counterparties_columns, date_column, file_kind_column, lead_minutes_column, mark_column, number_column, operator_key_column, period_column, quantity_column, range_columns, run_kind_column, settlement_period_columns, side_column, word_column}
 use Rattle.hh_keyed_rows.specs.KeyedRows.{columns_of, entry_in, stored_entry, table_in}
-use Rattle.hh_keyed_rows.specs.Keys.{contract_key_columns, credit_key_columns, file_key_columns, one_row_column, posting_key_columns, reallocation_key_columns, result_key_columns, run_key_columns, unit_period_columns}
+use Rattle.hh_keyed_rows.specs.Keys.{contract_key_columns, credit_key_columns, file_key_columns, one_row_column, position_key_columns, posting_key_columns, reallocation_key_columns, result_key_columns, run_key_columns, unit_period_columns}
 use Rattle.hh_keyed_rows.specs.Puts.{PutsRow}
-use Rattle.hh_keyed_rows.specs.Values.{amounts_columns, file_columns, party_columns, reading_columns, reallocation_columns, settings_columns, summary_columns, unit_columns}
+use Rattle.hh_keyed_rows.specs.Values.{amounts_columns, file_columns, no_columns, party_columns, position_columns, reading_columns, reallocation_columns, settings_columns, summary_columns, unit_columns}
 
 -- ---- that columns are codecs
 
@@ -55,6 +55,7 @@ pub record AreKeyCodecs : Type 0 where
   pub results : IsCodec result_key_columns
   pub credits : IsCodec credit_key_columns
   pub postings : IsCodec posting_key_columns
+  pub positions : IsCodec position_key_columns
 
 -- those of values
 pub record AreValueCodecs : Type 0 where
@@ -68,6 +69,8 @@ pub record AreValueCodecs : Type 0 where
   pub files : IsCodec file_columns
   pub summaries : IsCodec summary_columns
   pub amounts : IsCodec amounts_columns
+  pub positions : IsCodec position_columns
+  pub keys_alone : IsCodec no_columns
 
 -- ---- of any table
 

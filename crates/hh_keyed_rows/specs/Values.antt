@@ -1,17 +1,20 @@
 -- The columns of the values of tables, in the order in which the tables have them behind their keys.
-use Rattle.std.specs.Prelude.{ℕ}
-use Rattle.hh_num.specs.Quantities.{amounts_of_cash, energies, multipliers, percentages, volumes}
+use Rattle.std.specs.Prelude.{ℕ, ℤ, pos, zero, [], Bool, true, false, Option, Some, None}
+use Rattle.hh_num.specs.Quantities.{amounts_of_cash, energies, multipliers, net_volumes, percentages, volumes}
 use Rattle.hh_names.specs.declared.account.Account.{Account}
 use Rattle.hh_names.specs.declared.values.Reading.{Reading}
 use Rattle.hh_names.specs.declared.values.Reallocation.{Reallocation}
 use Rattle.hh_rows.specs.declared.rows.PartyRegistration.{PartyRegistration}
 use Rattle.hh_rows.specs.declared.rows.UnitRegistration.{UnitRegistration}
 use Rattle.hh_rows.specs.declared.settings.Settings.{Settings}
+use Rattle.hh_rules.specs.declared.positions.Position.{Position}
+use Rattle.hh_rules.specs.declared.positions.Position.TheVariants.{Known, Lost}
 use Rattle.hh_calc.specs.declared.result.AccountRow.{AccountRow}
 use Rattle.hh_runs.specs.declared.summary.Summary.{Summary}
 use Rattle.hh_states.specs.States.{AcceptedFile}
 use Rattle.hh_keyed_rows.specs.declared.amounts.AccountAmounts.{AccountAmounts}
-use Rattle.hh_keyed_rows.specs.Codecs.{Codec, blob_column, both, via}
+use Rattle.hh_keyed_rows.specs.declared.no_columns.NoColumns.{NoColumns}
+use Rattle.hh_keyed_rows.specs.Codecs.{Codec, blob_column, both, coded, via}
 use Rattle.hh_keyed_rows.specs.Fields.{access_key_column, account_columns, lead_minutes_column, mark_column, number_column, only_number, operator_key_column, quantity_column, range_columns}
 
 -- the greatest numbers of 8, 16 and 32 bits
@@ -64,6 +67,25 @@ amounts_columns =
     (λ a. (a.credited, (a.balancing, (a.contracts, (a.imbalance, (a.charge, a.share))))))
     (both (quantity_column energies) (both (quantity_column energies) (both (quantity_column energies)
     (both (quantity_column energies) (both (quantity_column amounts_of_cash) (quantity_column amounts_of_cash))))))
+
+-- the net volume of a position, and whether it is lost: then 0 stands in the place of the volume
+abbrev pub position_numbers : Position → ℤ × Bool
+position_numbers (Known net) = (net, false)
+position_numbers Lost = (pos 0, true)
+
+-- the position of a net volume, which is lost or not
+abbrev pub position_from : Bool → ℤ → Option Position
+position_from false net = Some (Known net)
+position_from true (pos zero) = Some Lost
+position_from true net = None
+
+-- net volume, whether it is lost
+abbrev pub position_columns : Codec Position
+position_columns = coded position_numbers (λ p. position_from p.1 p.0) (both (quantity_column net_volumes) mark_column)
+
+-- nothing, of a table whose rows have their keys alone
+abbrev pub no_columns : Codec NoColumns
+no_columns = record { width = 0; fits = λ _. true; write = λ _. []; read = λ row. Some (record {}, row) }
 
 -- the version of the tables
 abbrev pub version : ℕ

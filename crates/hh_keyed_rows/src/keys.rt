@@ -1,13 +1,14 @@
 //! Keys of tables as columns.
 
 ghost use Rattle.std.specs.Prelude.{◌≡◌};
-ghost use Rattle.hh_keyed_rows.specs.Keys.{contract_key_columns, credit_key_columns, file_key_columns, posting_key_columns, reallocation_key_columns, result_key_columns, run_key_columns, unit_period_columns};
+ghost use Rattle.hh_keyed_rows.specs.Keys.{contract_key_columns, credit_key_columns, file_key_columns, position_key_columns, posting_key_columns, reallocation_key_columns, result_key_columns, run_key_columns, unit_period_columns};
 
 use crate::columned::Columned;
 use crate::columns::Columns;
 use crate::row_fault::RowFault;
 use hh_names::{Account, FileName, PeriodNumber, Reference, UnitId};
 use hh_rows::{ContractKey, FileKind, ReallocationKey, SettlementPeriod, UnitPeriod};
+use hh_rules::PositionKey;
 use hh_runs::{RunKey, RunKind};
 use hh_states::{CreditKey, FileKey, PostingKey, ResultKey};
 use hh_time::SettlementDate;
@@ -151,5 +152,20 @@ impl Columned for PostingKey {
         let run = RunKey::from_columns(columns)?;
         let account = Account::from_columns(columns)?;
         Ok(PostingKey { run, account })
+    }
+}
+
+impl Columned for PositionKey {
+    ghost codec = { position_key_columns };
+
+    fn to_columns<'a>(&'a self, columns: &mut Vec<ValueRef<'a>>) -> Result<(), AllocError> {
+        self.at.to_columns(columns)?;
+        self.account.to_columns(columns)
+    }
+
+    fn from_columns(columns: &mut Columns<'_>) -> Result<PositionKey, RowFault> {
+        let at = SettlementPeriod::from_columns(columns)?;
+        let account = Account::from_columns(columns)?;
+        Ok(PositionKey { at, account })
     }
 }

@@ -10,6 +10,7 @@ mod entries;
 mod fields;
 mod keys;
 mod laws;
+mod no_columns;
 mod one_row;
 mod row_fault;
 mod values;
@@ -22,5 +23,6 @@ pub use laws::{
     column_codecs, gets_find, key_codecs, keys_told_apart, puts_replace, rows_in_any_order,
     rows_read_back, value_codecs,
 };
+pub use no_columns::NoColumns;
 pub use one_row::OneRow;
 pub use row_fault::RowFault;

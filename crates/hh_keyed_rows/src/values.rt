@@ -1,15 +1,16 @@
 //! Values of tables as columns.
 
 ghost use Rattle.std.specs.Prelude.{◌≡◌};
-ghost use Rattle.hh_keyed_rows.specs.Values.{amounts_columns, file_columns, party_columns, reading_columns, reallocation_columns, settings_columns, summary_columns, unit_columns};
+ghost use Rattle.hh_keyed_rows.specs.Values.{amounts_columns, file_columns, party_columns, position_columns, reading_columns, reallocation_columns, settings_columns, summary_columns, unit_columns};
 
 use crate::amounts::AccountAmounts;
 use crate::columned::Columned;
 use crate::columns::{Columns, push_column};
 use crate::row_fault::RowFault;
 use hh_names::{AccessKey, Account, OperatorKey, Reading, Reallocation};
-use hh_num::{Kwh, Pence, Percent, Ticks, Tlm};
+use hh_num::{Kwh, NetKwh, Pence, Percent, Ticks, Tlm};
 use hh_rows::{DateRange, LeadMinutes, PartyRegistration, Settings, UnitRegistration};
+use hh_rules::Position;
 use hh_runs::Summary;
 use hh_store::KeptFile;
 use sqlite::types::ValueRef;
@@ -180,5 +181,30 @@ impl Columned for Settings {
             lead_minutes,
             operator_key,
         })
+    }
+}
+
+impl Columned for Position {
+    ghost codec = { position_columns };
+
+    fn to_columns<'a>(&'a self, columns: &mut Vec<ValueRef<'a>>) -> Result<(), AllocError> {
+        let (kwh, lost) = match self {
+            Position::Known(net) => (net.units(), 0),
+            Position::Lost => (0, 1),
+        };
+        push_column(columns, ValueRef::Int(kwh))?;
+        push_column(columns, ValueRef::Int(lost))
+    }
+
+    fn from_columns(columns: &mut Columns<'_>) -> Result<Position, RowFault> {
+        let net = NetKwh::from_columns(columns)?;
+        let is_lost = bool::from_columns(columns)?;
+        if !is_lost {
+            Ok(Position::Known(net))
+        } else if net.units() == 0 {
+            Ok(Position::Lost)
+        } else {
+            Err(RowFault::Store)
+        }
     }
 }

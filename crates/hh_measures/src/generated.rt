@@ -1,7 +1,7 @@
 //! A period of the market's size.
 
 use crate::draw::Draw;
-use hh_calc::{PeriodData, Subsidiary, UnitData};
+use hh_calc::{Contracts, PeriodData, Subsidiary, UnitData};
 use hh_num::{Kwh, Percent, Price, Tlm};
 use hh_rules::{Account, Contract, Counterparties, Reading, Reallocation, UnitId};
 use std::alloc::Global;
@@ -22,7 +22,12 @@ pub(crate) fn generated_period(alloc: Global) -> Option<PeriodData> {
     let accounts = accounts(alloc)?;
     let units = units(alloc, &accounts, &mut draw)?;
     let contracts = contracts(alloc, &accounts, &mut draw)?;
-    Some(PeriodData::new(accounts, units, contracts, Price::new(7_345_678)?))
+    Some(PeriodData::new(
+        accounts,
+        units,
+        Contracts::Rows(contracts),
+        Price::new(7_345_678)?,
+    ))
 }
 
 /// All accounts, in account order.

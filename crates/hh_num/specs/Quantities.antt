@@ -25,6 +25,10 @@ any_size decimals =
 abbrev pub volumes : Measure
 volumes = either_sign 3 10_000_000
 
+-- net volumes of contracts: whole kWh, at most 100,000,000 MWh in size
+abbrev pub net_volumes : Measure
+net_volumes = either_sign 3 100_000_000_000
+
 -- settled energy: ticks of 10^-10 MWh
 abbrev pub energies : Measure
 energies = any_size 10

@@ -4,7 +4,7 @@ ghost use Rattle.std.specs.Prelude.{◌≡◌, ◌≤◌, ◌++◌, ℤ, ℕ, So
 ghost use Rattle.std.specs.Int.{w64};
 ghost use Rattle.std.proofs.Common.{rules};
 ghost use Rattle.hh_num.specs.Fixed.{fixed_text};
-ghost use Rattle.hh_num.specs.Quantities.{amounts_of_cash, energies, multipliers, percentages, prices, volumes};
+ghost use Rattle.hh_num.specs.Quantities.{amounts_of_cash, energies, multipliers, net_volumes, percentages, prices, volumes};
 ghost use Rattle.hh_num.specs.Ranges.{IsBetween, fixed_between};
 
 use crate::fixed::{read_fixed, write_fixed};
@@ -132,6 +132,37 @@ impl Quantity for Volume {
 
 /// A volume in kWh.
 pub type Kwh = Scaled<Volume>;
+
+/// Net volumes of contracts: MWh with 3 decimals, at most 100,000,000 MWh in size, as whole kWh.
+#[derive(Clone, Copy, Debug, PartialEq, Eq, PartialOrd, Ord)]
+pub struct NetVolume;
+
+impl Quantity for NetVolume {
+    ghost decimals = { net_volumes.decimals };
+
+    ghost least = { net_volumes.least };
+
+    ghost most = { net_volumes.most };
+
+    ghost few_decimals = { Prim.search rules };
+
+    ghost in_words = { Prim.search rules };
+
+    fn decimals() -> u32 {
+        3
+    }
+
+    fn least() -> i64 {
+        -100_000_000_000
+    }
+
+    fn most() -> i64 {
+        100_000_000_000
+    }
+}
+
+/// A net volume of contracts in kWh: what is sold less what is bought.
+pub type NetKwh = Scaled<NetVolume>;
 
 /// Settled energy: MWh with 10 decimals, as whole ticks of 10^-10 MWh.
 #[derive(Clone, Copy, Debug, PartialEq, Eq, PartialOrd, Ord)]

@@ -1,6 +1,6 @@
 -- How often a store has refused through the parts of a request, and which of them refuse for another cause.
 use Rattle.std.proofs.Common.{◌≡◌, ℕ, ◌+◌, ◌≤◌, ◌<◌, List, [], ◌∷◌, ◌++◌, length, refl, sym, ap, subst, Bool, true, false, cond, arith, Option, Some, None, Result, Ok, Err}
-use Rattle.std.specs.Prelude.{All, IfErr, IsErr, IsErrAnd, MatchBool, is_some, ◌==◌, nat_lt, unwrap_or}
+use Rattle.std.specs.Prelude.{All, IfErr, IsErr, IsErrAnd, IsTrue, MatchBool, is_some, ◌==◌, nat_lt, unwrap_or}
 use Rattle.std.specs.List.{AllByRecursion}
 use Rattle.hh_tables.proofs.TableLaws.{false_is_not_true}
 use Rattle.hh_names.specs.declared.fault.Fault.{Fault}
@@ -20,13 +20,12 @@ use Rattle.hh_rules.specs.Refusals.{Standing, refusals_of, whole_standing}
 use Rattle.hh_texts.specs.Files.{file_rows, kind_forms}
 use Rattle.hh_texts.specs.Records.{records_of}
 use Rattle.hh_texts.specs.Rows.{FileForm, at_row, form_under, row_with, rows_by, rows_from, rows_of, rows_under}
-use Rattle.hh_calc.specs.Ready.{IsReady}
-use Rattle.hh_calc.specs.Terms.{PeriodTerms}
 use Rattle.hh_rows.specs.declared.settlement_period.SettlementPeriod.{SettlementPeriod}
 use Rattle.hh_states.specs.Content.{Content}
 use Rattle.hh_store.specs.DayReads.{ArePeriodsOf}
+use Rattle.hh_store.specs.declared.day_data.PeriodState.{PeriodState}
 use Rattle.hh_store.specs.Reached.{AreReached}
-use Rattle.hh_day.specs.RunLimits.{TermsReady}
+use Rattle.hh_day.specs.RunLimits.{MayBeSettled, TermsReady}
 use Rattle.hh_store.specs.StoreFaults.{CountsOneMore, CountsRefusal, store_fault}
 use Rattle.hh_store.specs.declared.store_fault.StoreFault.{StoreFault}
 use Rattle.hh_store.specs.declared.store_fault.StoreFault.TheVariants.{Memory, Store}
@@ -165,10 +164,14 @@ given_elsewhere fault outcome others refused =
     elsewhere_by fault.refusal _ _ (λ is. subst (λ o. IfErr o IsElsewhere) is others) refused
 
 -- what each Settlement Period is settled from is ready in the tables of a reached state
-pub reached_ready : TermsReady → (content : Content) → AreReached content → (periods : List SettlementPeriod) (terms : List PeriodTerms)
-    → ArePeriodsOf content.registered periods terms → All IsReady terms
-reached_ready law content (midnight, s, stands) periods terms are =
-    law midnight s periods terms stands.0 (subst (λ (c : Content). ArePeriodsOf c.registered periods terms) stands.1 are)
+pub reached_ready : TermsReady → (content : Content) → AreReached content → (periods : List SettlementPeriod) (states : List PeriodState)
+    → ArePeriodsOf content.registered periods states → All MayBeSettled states
+reached_ready law content (midnight, s, stands) periods states are =
+    law midnight s periods states stands.0 (subst (λ (c : Content). ArePeriodsOf c.registered periods states) stands.1 are)
+
+-- and what is kept beside them agrees with them
+pub reached_in_step : (content : Content) → AreReached content → IsTrue content.is_in_step
+reached_in_step content (midnight, s, stands) = ap (λ (c : Content). c.is_in_step) stands.1
 
 -- a call that fails for memory alone tells a refusal of another cause
 pub memory_elsewhere : (e : StoreFault) → e ≡ Memory → IsElsewhere (store_fault e)

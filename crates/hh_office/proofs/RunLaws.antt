@@ -1,6 +1,6 @@
 -- Runs that are ordered: what the steps of the office come to.
 use Rattle.std.proofs.Common.{◌≡◌, ℕ, List, [], ◌∷◌, get_or, map, refl, sym, ap, subst, ◌∙◌, Bool, true, false, cond, Option, Some, None, Result, Ok, Err, Ordering, Less, Equal, Greater}
-use Rattle.std.specs.Prelude.{ℤ, MatchBool, OnOk, option_map, IfErr, is_some, ◌||◌, ◌==◌, filter_map}
+use Rattle.std.specs.Prelude.{ℤ, IsTrue, MatchBool, OnOk, option_map, IfErr, is_some, ◌||◌, ◌==◌, filter_map}
 use Rattle.std.specs.Option.{option_or}
 use Rattle.hh_time.specs.Days.{Midnights, is_over, period_count}
 use Rattle.hh_names.specs.declared.fault.Fault.{Fault}
@@ -8,7 +8,8 @@ use Rattle.hh_names.specs.declared.fault.Refusal.TheVariants.{DayNotOver, Missin
 use Rattle.hh_names.specs.Faults.{plain_fault, first_met}
 use Rattle.hh_rows.specs.declared.settlement_period.SettlementPeriod.{SettlementPeriod}
 use Rattle.hh_rules.specs.History.{Registered}
-use Rattle.hh_calc.specs.Terms.{PeriodTerms, Settled}
+use Rattle.hh_calc.specs.Terms.{Settled}
+use Rattle.hh_store.specs.declared.day_data.PeriodState.{PeriodState}
 use Rattle.hh_states.specs.Changes.{IsRunFrom, RunEffect, RunWrites, effect_of_run, run_writes}
 use Rattle.hh_states.specs.Content.{Content, tables_of}
 use Rattle.hh_states.specs.DaySettlement.{missing_meter, missing_price, periods_on, settled_day, too_large}
@@ -20,7 +21,7 @@ use Rattle.hh_day.specs.NewRuns.{day_in, IsSettledDay, SettlesDay, IsWrittenFor,
 use Rattle.hh_day.specs.RunLimits.{FitsRun, RunsFit}
 use Rattle.hh_office.specs.Promises.{Stands, UnlessFailed, gives_up, MakesTransition}
 use Rattle.hh_office.specs.steps.Promises.{reply_of}
-use Rattle.hh_office.specs.steps.Settling.{Lacks, WritesRun, lack_fault, AreTermsOf, IsOverDay, TellsOrder, order_fault, IsNext, IsRunMade, RefusesIn, SettlesIn, rows_before}
+use Rattle.hh_office.specs.steps.Settling.{Lacks, WritesRun, lack_fault, LacksNothing, IsOverDay, TellsOrder, order_fault, IsNext, IsRunMade, RefusesIn, SettlesIn, rows_before}
 use Rattle.hh_office.specs.Views.{OfficeView, midnight_of}
 use Rattle.std.proofs.lemmas.Option.{none-some}
 use Rattle.std.specs.Result.{IsErr, IsErrAnd}
@@ -159,7 +160,11 @@ SettledAs office s moment date (outcome.TooLarge at) = settle_fault (midnight_of
 SettledAs office s moment date (outcome.Settled day) =
     (settle_fault (midnight_of office) s moment date ≡ None) × (day.items ≡ day_in (midnight_of office) s date)
 
--- The day of a date is over, and its periods have these terms.
+-- what is kept beside the tables that stand for a state agrees with them
+pub in_step : (office : OfficeView) (s : State) → Stands office s → IsTrue office.content.is_in_step
+in_step office s stands = ap (λ (c : Content). c.is_in_step) stands.1
+
+-- The day of a date is over, and its periods are settled by these.
 module _ (office : OfficeView) (s : State) (stands : Stands office s) (moment : ℤ) (date : ℕ) (day : Day)
     (over : IsOverDay (midnight_of office) moment date day) where
   abbrev settled_as : SettledDay → Type 0
@@ -170,12 +175,12 @@ module _ (office : OfficeView) (s : State) (stands : Stands office s) (moment : 
   by_outcome (outcome.TooLarge at) full is = settle_exceeds office s stands moment date day.count over.1 over.2 at full is
   by_outcome (outcome.Settled periods) full is = settle_fits office s stands moment date day.count over.1 over.2 periods.items full is
 
-  pub settles : PeriodsReady → (terms : List PeriodTerms) → AreTermsOf office.content.registered (periods_on day.date day.count) terms
-      → (outcome : SettledDay) → SettlesDay (periods_on day.date day.count) terms outcome → settled_as outcome
-  settles ready terms of_day outcome does =
-      let of_date : AreTermsOf office.content.registered (periods_on date day.count) terms =
-      subst (λ d. AreTermsOf office.content.registered (periods_on d day.count) terms) over.0 of_day in
-      let does_date : SettlesDay (periods_on date day.count) terms outcome = subst (λ d. SettlesDay (periods_on d day.count) terms outcome) over.0 does in
+  pub settles : PeriodsReady → (states : List PeriodState) → LacksNothing office.content.registered (periods_on day.date day.count) states
+      → (outcome : SettledDay) → SettlesDay (periods_on day.date day.count) states outcome → settled_as outcome
+  settles ready states of_day outcome does =
+      let of_date : LacksNothing office.content.registered (periods_on date day.count) states =
+      subst (λ d. LacksNothing office.content.registered (periods_on d day.count) states) over.0 of_day in
+      let does_date : SettlesDay (periods_on date day.count) states outcome = subst (λ d. SettlesDay (periods_on d day.count) states outcome) over.0 does in
       by_outcome outcome of_date.0 (does_date office.content.registered of_date.1
       (terms_fit office s stands moment date day.count over.1 over.2 ready))
 

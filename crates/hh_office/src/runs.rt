@@ -1,6 +1,6 @@
 //! Runs that are ordered.
 
-ghost use Rattle.std.specs.Prelude.{◌≡◌, find, option_map, IfErr, IfOk, OnErr, OnOk};
+ghost use Rattle.std.specs.Prelude.{◌≡◌, find, option_map, IfErr, IfOk, IsTrue, OnErr, OnOk};
 ghost use Rattle.std.specs.Ordering.{eq_by_cmp};
 ghost use Rattle.hh_time.specs.Days.{is_over, period_count};
 ghost use Rattle.hh_time.specs.Zone.{midnight_in};
@@ -18,13 +18,13 @@ ghost use Rattle.hh_office.specs.Promises.{RefusalLeaves};
 ghost use Rattle.hh_office.specs.steps.Promises.{MakesInEachState, reply_of};
 ghost use Rattle.hh_office.specs.steps.Reads.{latest_key};
 ghost use Rattle.hh_office.specs.Runs.{run};
-ghost use Rattle.hh_office.specs.steps.Settling.{AreTermsOf, IsEarly, IsNext, IsOverDay, Lacks, IsRunMade, RefusesIn, SettlesIn, TellsOrder, WritesRun, rows_before};
+ghost use Rattle.hh_office.specs.steps.Settling.{IsEarly, IsNext, IsOverDay, Lacks, LacksNothing, IsRunMade, RefusesIn, SettlesIn, TellsOrder, WritesRun, rows_before};
 ghost use Rattle.hh_office.specs.Views.{IsSure, midnight_of};
 ghost use Rattle.jiff.specs.Words.{plain_zone};
 
 use crate::enquiries::{kinds_of, latest_of};
 use crate::office::Office;
-use hh_calc::{AccountRow, PeriodData};
+use hh_calc::AccountRow;
 use hh_day::{
     SettledDay, SettledPeriod, run_change, runs_fit, settle_day, terms_ready, writes_the_run,
 };
@@ -33,7 +33,7 @@ use hh_requests::Reply;
 use hh_rows::{SettlementPeriod, UnitPeriod};
 use hh_runs::{NextRun, RunKey, RunKind, Summary, next_kind};
 use hh_state_laws::{kept_kinds_of_dates, kept_summaries, periods_ready, run_effect};
-use hh_store::{RunChange, StoreFault, Tables};
+use hh_store::{PeriodState, RunChange, StoreFault, Tables};
 use hh_time::{Day, SettlementDate};
 use jiff::tz::TimeZone;
 use std::alloc::Global;
@@ -142,19 +142,19 @@ impl<'z, T: Tables> Office<'z, T> {
         periods_ready();
         terms_ready();
         let day = day_over(&self.zone, moment, date)?;
-        let terms = self.terms_of(&day)?;
-        match settle_day(self.alloc, &day, &terms)? {
+        let states = self.periods_of(&day)?;
+        match settle_day(self.alloc, &day, &states)? {
             SettledDay::Settled(periods) => Ok(periods),
             SettledDay::TooLarge(at) => Err(period_fault(Refusal::TooLarge, &at)),
         }
     }
 
-    /// What each Settlement Period of a day is settled from.
-    fn terms_of(&mut self, day: &Day) -> Result<Vec<PeriodData>, Fault>
-        ensures terms { IsSure T.is_open self.new
-            → IfOk result (λ terms. AreTermsOf self.old.seen.content.registered
-            (periods_on day.now.date day.now.count) terms.items) }
-        ensures lacking { IsSure T.is_open self.new
+    /// What each Settlement Period of a day is settled from, or to.
+    fn periods_of(&mut self, day: &Day) -> Result<Vec<PeriodState>, Fault>
+        ensures states { IsSure T.is_open self.new → IsTrue self.old.seen.content.is_in_step
+            → IfOk result (λ states. LacksNothing self.old.seen.content.registered
+            (periods_on day.now.date day.now.count) states.items) }
+        ensures lacking { IsSure T.is_open self.new → IsTrue self.old.seen.content.is_in_step
             → IfErr result (Lacks self.old.seen.content.registered
             (periods_on day.now.date day.now.count)) }
         ensures same { IsSure T.is_open self.new → self.new.seen ≡ self.old.seen }

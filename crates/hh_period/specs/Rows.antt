@@ -11,7 +11,7 @@ use Rattle.hh_names.specs.declared.values.Counterparties.{Counterparties}
 use Rattle.hh_names.specs.Accounts.{account_cmp, bytes_cmp}
 use Rattle.hh_names.specs.CounterpartyRule.{counterparty_refusals}
 use Rattle.hh_names.specs.Faults.{first_met, row_fault}
-use Rattle.hh_calc.specs.Terms.{PeriodTerms, BmUnit}
+use Rattle.hh_calc.specs.Terms.{BmUnit, PeriodTerms, Rows}
 use Rattle.hh_texts.specs.declared.period_contracts.PeriodContractRow.{PeriodContractRow}
 use Rattle.hh_texts.specs.declared.period_meters.PeriodMeterRow.{PeriodMeterRow}
 
@@ -52,7 +52,7 @@ abbrev pub period_of : List PeriodMeterRow → List PeriodContractRow → ℤ �
 period_of meters contracts price = record {
   accounts = period_accounts meters contracts;
   units = in_force (map bm_unit_entry meters);
-  contracts = in_force (map period_contract_entry contracts);
+  contracts = Rows (in_force (map period_contract_entry contracts));
   price = price;
 }
 

@@ -15,7 +15,7 @@ ghost use Rattle.hh_period.specs.Rows.{accepted_rows, in_force, period_contract_
 use crate::gather::{accounts_named, contracts_in_force, units_in_force};
 use crate::period_text::push_period;
 use crate::rejection::{Input, Rejection};
-use hh_calc::{CalcFault, PeriodData, settle_period};
+use hh_calc::{CalcFault, Contracts, PeriodData, settle_period};
 use hh_devices::{DeviceFailed, Sink, write_whole};
 use hh_names::{Contract, Fault, Refusal};
 use hh_num::Price;
@@ -148,7 +148,7 @@ fn gather_period(
     let price = read_price(price)?;
     let accounts = accounts_named(alloc, &meters, &rows)?;
     let units = units_in_force(alloc, &meters)?;
-    Ok(PeriodData::new(accounts, units, contracts, price))
+    Ok(PeriodData::new(accounts, units, Contracts::Rows(contracts), price))
 }
 
 /// The text of the settled period of the inputs.

@@ -47,6 +47,7 @@ pub struct PlainTables {
 }
 
 impl Model for PlainTables {
+    ghost use Rattle.std.specs.Prelude.{true};
     ghost use Rattle.hh_states.specs.Content.{Content};
 
     ghost Value = { Content };
@@ -59,6 +60,7 @@ impl Model for PlainTables {
       results = t.runs.results;
       credits = t.runs.credits;
       postings = t.runs.postings;
+      is_in_step = true;
     } };
 }
 

@@ -1,12 +1,15 @@
 //! Rows that a database gives back, and rows that no office wrote.
 
-use hh_keyed_rows::{AccountAmounts, Columned, OneRow, RowFault, columns_of, read_entry};
+use hh_keyed_rows::{
+    AccountAmounts, Columned, NoColumns, OneRow, RowFault, columns_of, read_entry,
+};
 use hh_names::{Counterparties, PartyId, Reading, Reallocation, Reference, UnitId};
 use hh_num::{Kwh, Pence, Price, Ticks};
 use hh_rows::{
     ContractKey, PartyRegistration, ReallocationKey, Settings, SettlementPeriod, UnitPeriod,
     UnitRegistration,
 };
+use hh_rules::{Position, PositionKey};
 use hh_runs::{RunKey, Summary};
 use hh_states::{CreditKey, FileKey, PostingKey, ResultKey};
 use hh_store::KeptFile;
@@ -186,6 +189,37 @@ fn rows_of_runs_come_back(rt: HostRuntime) -> Result<(), Fail> {
     Ok(())
 }
 
+#[test]
+fn rows_of_positions_and_touched_periods_come_back(rt: HostRuntime) -> Result<(), Fail> {
+    let alloc = rt.alloc();
+    let mut conn = Connection::open_in_memory(alloc)?;
+    assert!(rt;
+        is_written::<PositionKey, Position, _>(
+            &mut conn,
+            alloc,
+            "SELECT 19905, 3, 'SUPCO', 1, -100000000000, 0",
+            "SELECT ?1 = 19905 AND ?2 = 3 AND ?3 = 'SUPCO' AND ?4 = 1 AND ?5 = -100000000000 AND ?6 = 0"
+        )
+    );
+    assert!(rt;
+        is_written::<PositionKey, Position, _>(
+            &mut conn,
+            alloc,
+            "SELECT 19905, 3, 'GENCO', 0, 0, 1",
+            "SELECT ?1 = 19905 AND ?2 = 3 AND ?3 = 'GENCO' AND ?4 = 0 AND ?5 = 0 AND ?6 = 1"
+        )
+    );
+    assert!(rt;
+        is_written::<SettlementPeriod, NoColumns, _>(
+            &mut conn,
+            alloc,
+            "SELECT 19905, 50",
+            "SELECT ?1 = 19905 AND ?2 = 50"
+        )
+    );
+    Ok(())
+}
+
 /// Whether a row is refused as one that no office wrote.
 fn is_refused<K: Columned + Drop, V: Columned + Drop, S: Alter>(
     conn: &mut Connection<S>,
@@ -255,6 +289,29 @@ fn rows_of_other_versions_and_kinds_are_refused(rt: HostRuntime) -> Result<(), F
         "SELECT 19905, 5, 256, 4, 5050, 2",
     ] {
         assert!(rt; is_refused::<RunKey, Summary, _>(&mut conn, alloc, row));
+    }
+    Ok(())
+}
+
+#[test]
+fn rows_of_positions_off_their_form_are_refused(rt: HostRuntime) -> Result<(), Fail> {
+    let alloc = rt.alloc();
+    let mut conn = Connection::open_in_memory(alloc)?;
+    for row in [
+        "SELECT 19905, 3, 'GENCO', 0, 1, 1",
+        "SELECT 19905, 3, 'GENCO', 0, -1, 1",
+        "SELECT 19905, 3, 'GENCO', 0, 5, 2",
+        "SELECT 19905, 3, 'GENCO', 0, 5, NULL",
+        "SELECT 19905, 3, 'GENCO', 0, 100000000001, 0",
+        "SELECT 19905, 3, 'GENCO', 0, -100000000001, 0",
+        "SELECT 19905, 3, 'GENCO', 0, 5",
+        "SELECT 19905, 3, 'GENCO', 0, 5, 0, 0",
+        "SELECT 19905, 51, 'GENCO', 0, 5, 0",
+    ] {
+        assert!(rt; is_refused::<PositionKey, Position, _>(&mut conn, alloc, row));
+    }
+    for row in ["SELECT 19905, 0", "SELECT 19905", "SELECT 19905, 3, 0"] {
+        assert!(rt; is_refused::<SettlementPeriod, NoColumns, _>(&mut conn, alloc, row));
     }
     Ok(())
 }

@@ -4,7 +4,8 @@ mod FilterFacts
 pub mod HistoryLaws
 mod JudgeFacts
 mod PercentFacts
+pub mod PositionLaws
 pub mod RowLaws
 pub mod ServingLaws
 pub mod StandingLaws
-mod SumFacts
+pub mod SumFacts

@@ -5,6 +5,8 @@ pub mod History
 pub mod Lateness
 pub mod Leads
 pub mod Percents
+pub mod PositionLaws
+pub mod Positions
 pub mod Refusals
 pub mod RegisterView
 pub mod steps

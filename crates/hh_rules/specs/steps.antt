@@ -3,4 +3,5 @@ pub mod Effects
 pub mod FileRows
 pub mod Lateness
 pub mod Percents
+pub mod Positions
 pub mod RegisterView

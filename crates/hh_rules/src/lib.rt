@@ -5,6 +5,7 @@
 mod file_rows;
 mod hold;
 mod judge;
+mod positions;
 mod register;
 mod row_done;
 mod timing;
@@ -19,6 +20,7 @@ pub use hh_rows::{
     PartyRow, PriceRow, ReallocationKey, ReallocationRow, Row, Settings, SettlementPeriod,
     UnitPeriod, UnitRegistration, UnitRow,
 };
+pub use positions::{Position, PositionKey, Positions, positions_by_keys};
 pub use register::Register;
 pub use row_done::RowDone;
 pub use timing::Timing;

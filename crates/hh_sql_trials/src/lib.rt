@@ -4,4 +4,6 @@
 #![tactic(auto)]
 
 #[cfg(test)]
+mod part_tests;
+#[cfg(test)]
 mod statement_tests;

@@ -6,6 +6,7 @@ use hh_keyed_rows::{AccountAmounts, RowFault};
 use hh_names::*;
 use hh_num::*;
 use hh_rows::*;
+use hh_rules::{Position, PositionKey};
 use hh_runs::{RunKey, RunKind, Summary};
 use hh_sqlrows::*;
 use hh_states::{CreditKey, FileKey, PostingKey, ResultKey};
@@ -75,14 +76,14 @@ fn meter_row() -> Option<MeterRow> {
     })
 }
 
-fn price_row() -> Option<PriceRow> {
+pub(crate) fn price_row() -> Option<PriceRow> {
     Some(PriceRow {
         at: third()?,
         price: Price::new(-5_000_000)?,
     })
 }
 
-fn contract_row() -> Option<ContractRow> {
+pub(crate) fn contract_row() -> Option<ContractRow> {
     Some(ContractRow {
         key: ContractKey {
             reference: Reference::read(b"C1")?,
@@ -118,14 +119,14 @@ fn file_key() -> Option<FileKey> {
     })
 }
 
-fn run_key() -> Option<RunKey> {
+pub(crate) fn run_key() -> Option<RunKey> {
     Some(RunKey {
         date: date()?,
         kind: RunKind::R1,
     })
 }
 
-fn summary() -> Option<Summary> {
+pub(crate) fn summary() -> Option<Summary> {
     Some(Summary {
         periods: 48,
         accounts: 4,
@@ -134,7 +135,7 @@ fn summary() -> Option<Summary> {
     })
 }
 
-fn account_row() -> Option<AccountRow> {
+pub(crate) fn account_row() -> Option<AccountRow> {
     Some(AccountRow {
         account: Account::read(b"GENCO-P")?,
         credited: Ticks::new(995_000_000_000)?,
@@ -146,7 +147,7 @@ fn account_row() -> Option<AccountRow> {
     })
 }
 
-fn result_key() -> Option<ResultKey> {
+pub(crate) fn result_key() -> Option<ResultKey> {
     Some(ResultKey {
         run: run_key()?,
         period: PeriodNumber::new(3)?,
@@ -154,7 +155,7 @@ fn result_key() -> Option<ResultKey> {
     })
 }
 
-fn credit_key() -> Option<CreditKey> {
+pub(crate) fn credit_key() -> Option<CreditKey> {
     Some(CreditKey {
         run: run_key()?,
         period: PeriodNumber::new(3)?,
@@ -170,6 +171,32 @@ fn posting_key() -> Option<PostingKey> {
     })
 }
 
+/// A Settlement Period of the date after.
+fn next_third() -> Option<SettlementPeriod> {
+    Some(SettlementPeriod {
+        date: SettlementDate::new(19_906)?,
+        period: PeriodNumber::new(3)?,
+    })
+}
+
+pub(crate) fn position_key() -> Option<PositionKey> {
+    Some(PositionKey {
+        at: third()?,
+        account: Account::read(b"GENCO-P")?,
+    })
+}
+
+pub(crate) fn lost_key() -> Option<PositionKey> {
+    Some(PositionKey {
+        at: third()?,
+        account: Account::read(b"SUPCO-C")?,
+    })
+}
+
+pub(crate) fn known(kwh: i64) -> Option<Position> {
+    Some(Position::Known(NetKwh::new(kwh)?))
+}
+
 fn settings() -> Option<Settings> {
     Some(Settings {
         lead_minutes: LeadMinutes::new(90)?,
@@ -178,7 +205,7 @@ fn settings() -> Option<Settings> {
 }
 
 /// What the office was given, where its texts name it.
-fn given<T>(value: Option<T>) -> Result<T, RowFault> {
+pub(crate) fn given<T>(value: Option<T>) -> Result<T, RowFault> {
     value.ok_or(RowFault::Store)
 }
 
@@ -216,8 +243,36 @@ fn write_office<S: Alter>(tx: &mut Transaction<'_, S>, alloc: Global) -> Result<
     replace_file(tx, alloc, &given(file_key())?, &file)
 }
 
+/// Whether what the transaction has written is read in it.
+fn is_read_inside<S: Alter>(
+    tx: &mut Transaction<'_, S>,
+    alloc: Global,
+    key: &PositionKey,
+) -> Result<bool, RowFault> {
+    let row = given(contract_row())?;
+    let volume = select_contract_inside(tx, alloc, &row.key)?;
+    let position = select_position_inside(tx, alloc, key)?;
+    Ok(volume == Some(row.contract.volume) && position == known(7))
+}
+
+/// Positions, one of which is put twice, touched Settlement Periods, of which those of one date are taken
+/// out again, and that positions are not kept.
+fn write_beside<S: Alter>(tx: &mut Transaction<'_, S>, alloc: Global) -> Result<(), RowFault> {
+    let (key, lost) = (given(position_key())?, given(lost_key())?);
+    let rows = [(key, given(known(7))?), (lost, Position::Lost)];
+    replace_positions(tx, alloc, &rows)?;
+    if !is_read_inside(tx, alloc, &key)? {
+        return Err(RowFault::Store);
+    }
+    replace_position(tx, alloc, &key, &given(known(-99_000))?)?;
+    let (at, next) = (given(third())?, given(next_third())?);
+    touch_periods(tx, alloc, &[at, next, at])?;
+    untouch_on(tx, alloc, &next.date)?;
+    replace_mark(tx, alloc, false)
+}
+
 /// An office's tables in memory, with a row in each that has one in an office at work.
-fn filled(alloc: Global) -> Result<Connection<MemStore>, RowFault> {
+pub(crate) fn filled(alloc: Global) -> Result<Connection<MemStore>, RowFault> {
     let mut conn = Connection::open_in_memory(alloc)?;
     let mut tx = conn.transaction();
     if make_tables(&mut tx).is_err() {
@@ -227,6 +282,7 @@ fn filled(alloc: Global) -> Result<Connection<MemStore>, RowFault> {
     write_registered(&mut tx, alloc)?;
     write_in_force(&mut tx, alloc)?;
     write_run(&mut tx, alloc)?;
+    write_beside(&mut tx, alloc)?;
     if tx.commit().is_err() {
         return Err(RowFault::Store);
     }
@@ -320,6 +376,10 @@ fn what_a_run_wrote_is_read_again(rt: HostRuntime) -> Result<(), Fail> {
         [(given(result_key())?, AccountAmounts::of(&result))].as_slice()
     );
     assert_eq!(rt;
+        select_credits_of(&mut conn, rt.alloc(), &key)?.as_slice(),
+        [(given(credit_key())?, given(Ticks::new(-7))?)].as_slice()
+    );
+    assert_eq!(rt;
         select_postings(&mut conn, rt.alloc())?.as_slice(),
         [posting].as_slice()
     );
@@ -330,10 +390,54 @@ fn what_a_run_wrote_is_read_again(rt: HostRuntime) -> Result<(), Fail> {
 fn what_an_office_was_made_with_is_read_again(rt: HostRuntime) -> Result<(), Fail> {
     let mut conn = filled(rt.alloc())?;
     assert_eq!(rt; select_settings(&mut conn, rt.alloc())?, settings());
-    assert_eq!(rt; select_mark(&mut conn, rt.alloc())?, Some(true));
+    assert_eq!(rt; select_mark(&mut conn, rt.alloc())?, Some(false));
     let found = select_file(&mut conn, rt.alloc(), &given(file_key())?)?;
     assert!(rt;
         matches!(&found, Some(kept) if kept.body() == b"unit,".as_slice() && kept.applied() == 1 && kept.late() == 2)
+    );
+    Ok(())
+}
+
+#[test]
+fn what_is_kept_beside_is_read_again(rt: HostRuntime) -> Result<(), Fail> {
+    let mut conn = filled(rt.alloc())?;
+    let (key, lost) = (given(position_key())?, given(lost_key())?);
+    let position = given(known(-99_000))?;
+    assert_eq!(rt;
+        select_position(&mut conn, rt.alloc(), &key)?,
+        Some(position)
+    );
+    assert_eq!(rt;
+        select_positions_on(&mut conn, rt.alloc(), &key.at.date)?.as_slice(),
+        [(key, position), (lost, Position::Lost)].as_slice()
+    );
+    assert_eq!(rt;
+        select_touched_on(&mut conn, rt.alloc(), &key.at.date)?.as_slice(),
+        [key.at].as_slice()
+    );
+    let next = given(next_third())?;
+    assert!(rt; select_touched_on(&mut conn, rt.alloc(), &next.date)?.is_empty());
+    assert!(rt; select_positions_on(&mut conn, rt.alloc(), &next.date)?.is_empty());
+    Ok(())
+}
+
+#[test]
+fn rows_beside_that_no_office_wrote_are_refused(rt: HostRuntime) -> Result<(), Fail> {
+    let mut conn = filled(rt.alloc())?;
+    let date = given(date())?;
+    let _ = conn.execute("UPDATE positions SET kwh = 1 WHERE lost = 1", &[])?;
+    assert!(rt;
+        matches!(
+            select_positions_on(&mut conn, rt.alloc(), &date),
+            Err(RowFault::Store)
+        )
+    );
+    let _ = conn.execute("INSERT INTO touched (day, period) VALUES (19905, 51)", &[])?;
+    assert!(rt;
+        matches!(
+            select_touched_on(&mut conn, rt.alloc(), &date),
+            Err(RowFault::Store)
+        )
     );
     Ok(())
 }

@@ -1,4 +1,6 @@
 pub mod AccountLaws
+pub mod BesideLaws
 pub mod LoadLaws
 pub mod RunLaws
 pub mod StayLaws
+pub mod TouchLaws

@@ -1,5 +1,5 @@
 -- What the rows of a load make of the content.
-use Rattle.std.proofs.Common.{◌≡◌, ◌++◌, List, [], ◌∷◌, ℕ, Result, OnOk, map, arith, refl, ap, subst}
+use Rattle.std.proofs.Common.{true, ◌≡◌, ◌++◌, List, [], ◌∷◌, ℕ, Result, OnOk, map, arith, refl, ap, subst}
 use Rattle.std.specs.FinMap.{put}
 use Rattle.std.proofs.lemmas.Result.{on_ok_weaker}
 use Rattle.hh_tables.specs.Tables.{put_all}
@@ -22,9 +22,9 @@ use Rattle.hh_states.specs.States.{AcceptedFile, file_key_cmp}
 use Rattle.hh_sqlrows.specs.Contents.{result_of}
 use Rattle.hh_sqlrows.specs.Forms.{Puts, PutsAll}
 use Rattle.hh_sqlrows.specs.OfficeTables as forms
-use Rattle.hh_sqlchanges.specs.Writes.{Becomes, StoresLoad}
+use Rattle.hh_sqlchanges.specs.steps.Becoming.{Becomes}
 use Rattle.hh_sqlchanges.specs.steps.FileRows.{with_file_row, with_file_rows}
-use Rattle.hh_sqlchanges.proofs.StayLaws.{becomes_as, becomes_then, contracts_kept, credits_kept, meters_kept, parties_kept, postings_kept, prices_kept, reallocations_kept, references_kept, registered_becomes, registered_kept, results_kept, runs_kept, stays_office, units_kept}
+use Rattle.hh_sqlchanges.proofs.StayLaws.{becomes_as, becomes_then, beside_kept, contracts_kept, credits_kept, meters_kept, parties_kept, postings_kept, prices_kept, reallocations_kept, references_kept, registered_becomes, registered_kept, results_kept, runs_kept, stays_office, units_kept}
 
 -- ---- one row
 
@@ -126,7 +126,9 @@ module _ (old new : Database) where
       results = ap (map result_of) (results_kept 16 old.trees new.trees puts.others (λ e. omega (arith, e))) i;
       credits = credits_kept 16 old.trees new.trees puts.others (λ e. omega (arith, e)) i;
       postings = postings_kept 16 old.trees new.trees puts.others (λ e. omega (arith, e)) i;
+      is_in_step = true;
     };
+    beside = beside_kept 16 old.trees new.trees puts.others (omega arith);
   }
 
   references_put : (es : List (List ℕ × Counterparties)) → PutsAll forms.references es old new → Becomes (with_references es) old new
@@ -151,7 +153,7 @@ whole_load w c = ap (λ references. record c {
   files = put file_key_cmp w.key w.file c.files;
 }) (references_stand w.rows c.registered)
 
-load_written : (w : LoadWrites) (old first second new : Database) → Puts forms.files w.key w.file old first → Becomes (with_file_rows w.rows) first second → PutsAll forms.references w.references second new → StoresLoad w old new
+load_written : (w : LoadWrites) (old first second new : Database) → Puts forms.files w.key w.file old first → Becomes (with_file_rows w.rows) first second → PutsAll forms.references w.references second new → Becomes (effect_of_load w) old new
 load_written w old first second new file rows references =
     becomes_as (λ c. with_references w.references (with_file_rows w.rows (with_file w.key w.file c))) (effect_of_load w) old new (whole_load w)
     (becomes_then (λ c. with_file_rows w.rows (with_file w.key w.file c)) (with_references w.references) old second new
@@ -160,7 +162,7 @@ load_written w old first second new file rows references =
 
 pub load_made : {X E : Type 0} (w : LoadWrites) (key : FileKey) (file : AcceptedFile) (rows : List Row) (references : List (List ℕ × Counterparties))
     → key ≡ w.key → file ≡ w.file → rows ≡ w.rows → references ≡ w.references → (old first second new : Database) (result : Result X E)
-    → Puts forms.files key file old first → Becomes (with_file_rows rows) first second → OnOk result (PutsAll forms.references references second new) → OnOk result (StoresLoad w old new)
+    → Puts forms.files key file old first → Becomes (with_file_rows rows) first second → OnOk result (PutsAll forms.references references second new) → OnOk result (Becomes (effect_of_load w) old new)
 load_made w key file rows references is_key is_file is_rows is_references old first second new result filed rowed referred = on_ok_weaker result (λ put. load_written w old first second new
     (subst (λ (k : FileKey). Puts forms.files k w.file old first) is_key (subst (λ (f : AcceptedFile). Puts forms.files key f old first) is_file filed))
     (subst (λ (rs : List Row). Becomes (with_file_rows rs) first second) is_rows rowed)

@@ -1,5 +1,5 @@
 -- What the rows of a run make of the content.
-use Rattle.std.proofs.Common.{◌≡◌, ◌∙◌, List, [], ◌∷◌, ℤ, Ordering, Result, OnOk, map, arith, refl, sym, ap, subst}
+use Rattle.std.proofs.Common.{true, ◌≡◌, ◌∙◌, List, [], ◌∷◌, ℤ, Ordering, Result, OnOk, map, arith, refl, sym, ap, subst}
 use Rattle.std.specs.FinMap.{put}
 use Rattle.std.specs.FinMap.Entries.{by_order}
 use Rattle.std.specs.declared.cmp.Ordering.TheVariants.{Less, Equal, Greater}
@@ -24,8 +24,8 @@ use Rattle.hh_sqlrows.specs.Contents.{result_of}
 use Rattle.hh_sqlrows.specs.Forms.{Puts, PutsAll}
 use Rattle.hh_sqlrows.specs.OfficeTables as forms
 use Rattle.hh_sqlchanges.specs.OwnAccounts.{AreOfTheirAccounts}
-use Rattle.hh_sqlchanges.specs.Writes.{Becomes, StoresRun}
-use Rattle.hh_sqlchanges.proofs.StayLaws.{credits_kept, files_kept, postings_kept, registered_kept, results_kept, runs_kept, stays_office, stays_then}
+use Rattle.hh_sqlchanges.specs.steps.Becoming.{Becomes, StoresRunAlone}
+use Rattle.hh_sqlchanges.proofs.StayLaws.{beside_kept, credits_kept, files_kept, postings_kept, registered_kept, results_kept, runs_kept, stays_office, stays_then}
 
 -- ---- values that a function makes of a key and of what stands there
 
@@ -68,7 +68,9 @@ module _ (old new : Database) where
       results = ap (map result_of) (results_kept 18 old.trees new.trees puts.others (λ e. omega (arith, e))) i;
       credits = credits_kept 18 old.trees new.trees puts.others (λ e. omega (arith, e)) i;
       postings = postings_kept 18 old.trees new.trees puts.others (λ e. omega (arith, e)) i;
+      is_in_step = true;
     };
+    beside = beside_kept 18 old.trees new.trees puts.others (omega arith);
   }
 
   results_put : (es : List (ResultKey × AccountRow)) → PutsAll forms.results (map forms.amount_entry es) old new → AreOfTheirAccounts es
@@ -83,7 +85,9 @@ module _ (old new : Database) where
       results = (ap (map result_of) puts.rows ∙ results_shown es _ own) i;
       credits = credits_kept 20 old.trees new.trees puts.others (λ e. omega (arith, e)) i;
       postings = postings_kept 20 old.trees new.trees puts.others (λ e. omega (arith, e)) i;
+      is_in_step = true;
     };
+    beside = beside_kept 20 old.trees new.trees puts.others (omega arith);
   }
 
   credits_put : (es : List (CreditKey × ℤ)) → PutsAll forms.credits es old new → Becomes (λ c. record c { credits = put_all credit_key_cmp es c.credits }) old new
@@ -97,7 +101,9 @@ module _ (old new : Database) where
       results = ap (map result_of) (results_kept 22 old.trees new.trees puts.others (λ e. omega (arith, e))) i;
       credits = puts.rows i;
       postings = postings_kept 22 old.trees new.trees puts.others (λ e. omega (arith, e)) i;
+      is_in_step = true;
     };
+    beside = beside_kept 22 old.trees new.trees puts.others (omega arith);
   }
 
   postings_put : (es : List (PostingKey × ℤ)) → PutsAll forms.postings es old new → Becomes (λ c. record c { postings = put_all posting_key_cmp es c.postings }) old new
@@ -111,30 +117,35 @@ module _ (old new : Database) where
       results = ap (map result_of) (results_kept 24 old.trees new.trees puts.others (λ e. omega (arith, e))) i;
       credits = credits_kept 24 old.trees new.trees puts.others (λ e. omega (arith, e)) i;
       postings = puts.rows i;
+      is_in_step = true;
     };
+    beside = beside_kept 24 old.trees new.trees puts.others (omega arith);
   }
 
 -- ---- the whole run
 
 run_written : (w : RunWrites) (old first second third new : Database) → Puts forms.runs w.key w.summary old first → PutsAll forms.results (map forms.amount_entry w.results) first second
-    → PutsAll forms.credits w.credits second third → PutsAll forms.postings w.postings third new → StoresRun w old new
+    → PutsAll forms.credits w.credits second third → PutsAll forms.postings w.postings third new → StoresRunAlone w old new
 run_written w old first second third new run results credits postings =
     let one = run_put old first w.key w.summary run in
     let three = credits_put second third w.credits credits in
     let four = postings_put third new w.postings postings in
     let two_stays = stays_office 20 first second results.is_office results.others (omega arith) (omega arith) in
     record {
-      stays = stays_then old third new (stays_then old second third (stays_then old first second one.stays two_stays) three.stays) four.stays;
-      content = λ own. (let two = results_put first second w.results results own in λ kept.
-          four.content kept ∙ ap (λ (c : Content). record c { postings = put_all posting_key_cmp w.postings c.postings })
-          (three.content kept ∙ ap (λ (c : Content). record c { credits = put_all credit_key_cmp w.credits c.credits })
-          (two.content kept ∙ ap (λ (c : Content). record c { results = put_all result_key_cmp w.results c.results }) (one.content kept))));
+      stores = record {
+        stays = stays_then old third new (stays_then old second third (stays_then old first second one.stays two_stays) three.stays) four.stays;
+        content = λ own. (let two = results_put first second w.results results own in λ kept.
+            four.content kept ∙ ap (λ (c : Content). record c { postings = put_all posting_key_cmp w.postings c.postings })
+            (three.content kept ∙ ap (λ (c : Content). record c { credits = put_all credit_key_cmp w.credits c.credits })
+            (two.content kept ∙ ap (λ (c : Content). record c { results = put_all result_key_cmp w.results c.results }) (one.content kept))));
+      };
+      beside = four.beside ∙ (three.beside ∙ (beside_kept 20 first.trees second.trees results.others (omega arith) ∙ one.beside));
     }
 
 pub run_made : {X E : Type 0} (w : RunWrites) (key : RunKey) (summary : Summary) (results : List (ResultKey × AccountRow)) (credits : List (CreditKey × ℤ)) (postings : List (PostingKey × ℤ))
     → key ≡ w.key → summary ≡ w.summary → results ≡ w.results → credits ≡ w.credits → postings ≡ w.postings → (old first second third new : Database) (result : Result X E)
     → Puts forms.runs key summary old first → PutsAll forms.results (map forms.amount_entry results) first second → PutsAll forms.credits credits second third
-    → OnOk result (PutsAll forms.postings postings third new) → OnOk result (StoresRun w old new)
+    → OnOk result (PutsAll forms.postings postings third new) → OnOk result (StoresRunAlone w old new)
 run_made w key summary results credits postings is_key is_summary is_results is_credits is_postings old first second third new result run resulted credited posted = on_ok_weaker result (λ put. run_written w old first second third new
     (subst (λ (k : RunKey). Puts forms.runs k w.summary old first) is_key (subst (λ (s : Summary). Puts forms.runs key s old first) is_summary run))
     (subst (λ (es : List (ResultKey × AccountRow)). PutsAll forms.results (map forms.amount_entry es) first second) is_results resulted)

@@ -1,15 +1,17 @@
 -- What a change of one table leaves of an office, and how changes follow each other.
-use Rattle.std.proofs.Common.{◌≡◌, ◌≢◌, ◌<◌, ◌∙◌, ℕ, arith, map, refl, ap}
+use Rattle.std.proofs.Common.{true, ◌≡◌, ◌≢◌, ◌<◌, ◌∙◌, ℕ, arith, map, ap}
 use Rattle.sqlite_trees.specs.Tree.{Trees}
 use Rattle.sqlite.specs.Effect.{Database}
 use Rattle.hh_rules.specs.History.{Registered}
 use Rattle.hh_states.specs.Content.{Content}
 use Rattle.hh_keyed_rows.specs.KeyedRows.{stored_entry, table_in}
-use Rattle.hh_sqlrows.specs.Contents.{registered_of, result_of}
+use Rattle.hh_rows.specs.declared.settings.Settings.{Settings}
+use Rattle.hh_sqlrows.specs.Contents.{beside_in, content_of, registered_of, result_of}
 use Rattle.hh_sqlrows.specs.Forms.{TableForm, KeepsOthers, rows_under_keys}
 use Rattle.hh_sqlrows.specs.Office.{IsOffice}
 use Rattle.hh_sqlrows.specs.OfficeTables as forms
-use Rattle.hh_sqlchanges.specs.Writes.{Becomes, StaysOffice}
+use Rattle.hh_sqlchanges.specs.Writes.{StaysOffice}
+use Rattle.hh_sqlchanges.specs.steps.Becoming.{Becomes}
 
 -- ---- the tables that stay
 
@@ -17,7 +19,7 @@ rows_kept : {K V : Type 0} (form : TableForm K V) (old new : Trees) → new form
 rows_kept form old new same = ap (λ rows. table_in form.order (stored_entry form.key form.value) rows) same
 
 module _ (tree : ℕ) (old new : Trees) (others : KeepsOthers tree old new) where
-  settings_kept : 0 ≢ tree → rows_under_keys forms.settings new ≡ rows_under_keys forms.settings old
+  pub settings_kept : 0 ≢ tree → rows_under_keys forms.settings new ≡ rows_under_keys forms.settings old
   settings_kept apart = rows_kept forms.settings old new (others.0 apart)
 
   pub parties_kept : 2 ≢ tree → rows_under_keys forms.parties new ≡ rows_under_keys forms.parties old
@@ -56,6 +58,12 @@ module _ (tree : ℕ) (old new : Trees) (others : KeepsOthers tree old new) wher
   pub postings_kept : 24 ≢ tree → rows_under_keys forms.postings new ≡ rows_under_keys forms.postings old
   postings_kept apart = rows_kept forms.postings old new (others.1.1.1.1.1.1.1.1.1.1.1.1.0 apart)
 
+  pub positions_kept : 26 ≢ tree → rows_under_keys forms.positions new ≡ rows_under_keys forms.positions old
+  positions_kept apart = rows_kept forms.positions old new (others.1.1.1.1.1.1.1.1.1.1.1.1.1.0 apart)
+
+  pub touched_kept : 28 ≢ tree → rows_under_keys forms.touched new ≡ rows_under_keys forms.touched old
+  touched_kept apart = rows_kept forms.touched old new (others.1.1.1.1.1.1.1.1.1.1.1.1.1.1.0 apart)
+
   marks_kept : 30 ≢ tree → rows_under_keys forms.marks new ≡ rows_under_keys forms.marks old
   marks_kept apart = rows_kept forms.marks old new (others.1.1.1.1.1.1.1.1.1.1.1.1.1.1.1.0 apart)
 
@@ -69,6 +77,26 @@ module _ (tree : ℕ) (old new : Trees) (others : KeepsOthers tree old new) wher
     references = references_kept (λ e. omega (arith, e, beside)) i;
     contracts = contracts_kept (λ e. omega (arith, e, beside)) i;
     reallocations = reallocations_kept (λ e. omega (arith, e, beside)) i;
+  }
+
+  -- a change of the content leaves what stands beside it
+  pub beside_kept : tree < 26 → beside_in new ≡ beside_in old
+  beside_kept low = λ i. record {
+    positions = positions_kept (λ e. omega (arith, e, low)) i;
+    touched = ap (map (λ e. e.0)) (touched_kept (λ e. omega (arith, e, low))) i;
+  }
+
+  -- a change beside the content leaves that
+  pub content_kept : 24 < tree → (kept : Settings) → content_of kept new ≡ content_of kept old
+  content_kept high kept = λ i. record {
+    settings = kept;
+    registered = registered_kept (omega (arith, high)) i;
+    files = files_kept (λ e. omega (arith, e, high)) i;
+    runs = runs_kept (λ e. omega (arith, e, high)) i;
+    results = ap (map result_of) (results_kept (λ e. omega (arith, e, high))) i;
+    credits = credits_kept (λ e. omega (arith, e, high)) i;
+    postings = postings_kept (λ e. omega (arith, e, high)) i;
+    is_in_step = true;
   }
 
 module _ (tree : ℕ) (old new : Database) (is_office : IsOffice new) (others : KeepsOthers tree old.trees new.trees) where
@@ -93,7 +121,9 @@ module _ (tree : ℕ) (old new : Database) (is_office : IsOffice new) (others : 
       results = ap (map result_of) (results_kept tree old.trees new.trees others (λ e. omega (arith, e, high))) i;
       credits = credits_kept tree old.trees new.trees others (λ e. omega (arith, e, high)) i;
       postings = postings_kept tree old.trees new.trees others (λ e. omega (arith, e, high)) i;
+      is_in_step = true;
     };
+    beside = beside_kept tree old.trees new.trees others (omega (arith, high));
   }
 
 -- ---- one change after the other
@@ -109,7 +139,8 @@ pub becomes_then : (f g : Content → Content) (old mid new : Database) → Beco
 becomes_then f g old mid new first second = record {
   stays = stays_then old mid new first.stays second.stays;
   content = λ kept. second.content kept ∙ ap g (first.content kept);
+  beside = second.beside ∙ first.beside;
 }
 
 pub becomes_as : (f g : Content → Content) (old new : Database) → ((c : Content) → f c ≡ g c) → Becomes f old new → Becomes g old new
-becomes_as f g old new same it = record { stays = it.stays; content = λ kept. it.content kept ∙ same _ }
+becomes_as f g old new same it = record { stays = it.stays; content = λ kept. it.content kept ∙ same _; beside = it.beside }

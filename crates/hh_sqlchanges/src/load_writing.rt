@@ -4,11 +4,15 @@ ghost use Rattle.std.specs.Prelude.{◌≡◌, OnOk};
 ghost use Rattle.sqlite.specs.Held.{state};
 ghost use Rattle.hh_sqlrows.specs.Office.{IsOffice};
 ghost use Rattle.hh_sqlrows.specs.Statements.{CommitsNothing, Inside, KeepsCommit, StaysInside};
-ghost use Rattle.hh_sqlchanges.specs.Writes.{Becomes, StoresLoad};
+ghost use Rattle.hh_states.specs.Changes.{effect_of_load};
+ghost use Rattle.hh_sqlchanges.specs.Writes.{ChangesByLoad};
+ghost use Rattle.hh_sqlchanges.specs.steps.Becoming.{Becomes};
 ghost use Rattle.hh_sqlchanges.specs.steps.FileRows.{with_file_row, with_file_rows};
 
+use crate::beside_writing::write_beside;
 use hh_keyed_rows::RowFault;
-use hh_rows::Row;
+use hh_rows::{Row, SettlementPeriod};
+use hh_rules::{Position, PositionKey};
 use hh_sqlrows::{
     replace_contract, replace_file, replace_meter, replace_party, replace_price,
     replace_reallocation, replace_references, replace_unit,
@@ -18,8 +22,33 @@ use sqlite::{Alter, Transaction};
 use std::alloc::Global;
 
 /// Writes what an accepted file changes: the file, its rows that are not late, and the references that
-/// it fixes. After an `Err` a part of that may stand in the transaction, which is then to be undone.
+/// it fixes; and beside them these positions, each in the place of the one of its key, and that these
+/// Settlement Periods were touched. After an `Err` a part of that may stand in the transaction, which is
+/// then to be undone.
 pub fn write_load<S: Alter>(
+    tx: &mut Transaction<'_, S>,
+    alloc: Global,
+    change: &LoadChange,
+    positions: &[(PositionKey, Position)],
+    touched: &[SettlementPeriod],
+) -> Result<(), RowFault>
+    ensures same_reference { tx.new.conn.ghost_name ≡ tx.old.conn.ghost_name }
+    ensures writes { let old = state S.Store tx.old.conn.now in
+        let new = state S.Store tx.new.conn.now in
+        Inside old new (IsOffice old.now → OnOk result
+        (ChangesByLoad change.now positions.now touched.now old.now new.now)) }
+    ensures inside { StaysInside (state S.Store tx.old.conn.now)
+        (state S.Store tx.new.conn.now) result }
+    ensures left { KeepsCommit (state S.Store tx.old.conn.now) (state S.Store tx.new.conn.now) }
+    ensures survives { CommitsNothing (state S.Store tx.old.conn.now)
+        (state S.Store tx.new.conn.now) }
+{
+    write_content(tx, alloc, change)?;
+    write_beside(tx, alloc, positions, touched)
+}
+
+/// Writes the file, its rows that are not late, and the references that it fixes.
+fn write_content<S: Alter>(
     tx: &mut Transaction<'_, S>,
     alloc: Global,
     change: &LoadChange,
@@ -27,7 +56,8 @@ pub fn write_load<S: Alter>(
     ensures same_reference { tx.new.conn.ghost_name ≡ tx.old.conn.ghost_name }
     ensures writes { let old = state S.Store tx.old.conn.now in
         let new = state S.Store tx.new.conn.now in
-        Inside old new (IsOffice old.now → OnOk result (StoresLoad change.now old.now new.now)) }
+        Inside old new (IsOffice old.now
+        → OnOk result (Becomes (effect_of_load change.now) old.now new.now)) }
     ensures inside { StaysInside (state S.Store tx.old.conn.now)
         (state S.Store tx.new.conn.now) result }
     ensures left { KeepsCommit (state S.Store tx.old.conn.now) (state S.Store tx.new.conn.now) }

@@ -1,8 +1,11 @@
+pub mod BesideLaws
 pub mod DayLaws
+pub mod MovedLaws
 pub mod NamedForms
 pub mod NamedNames
 pub mod NamedParts
 pub mod NamedRows
 pub mod NamedSelects
 pub mod NamedTables
+pub mod PositionsAnew
 pub mod ReadingLaws

@@ -106,6 +106,14 @@ module _ {K V : Type 0} (R : K → K → Ordering) (o : IsTotalOrder R) where
         ∙ ap (λ f. cond (is_some f) (find R k whole) None) (find_kept_by R whole rows keeps found ns k named)
         ∙ found_later (find R k whole)
 
+    -- what is found in the table of the rows of names is found in the whole
+    pub found_of_named : {N : Type 0} (rows : N → Table K V) → ((n : N) → All (IsOf R whole) (rows n)) → (ns : List N) (k : K) (v : V) → find R k (put_all R (flat_map rows ns) []) ≡ Some v → find R k whole ≡ Some v
+    found_of_named rows are ns k v found =
+        elim (is_some (find R k (flat_map rows ns))) as (λ b. cond b (find R k whole) None ≡ Some v → find R k whole ≡ Some v) [
+          | true ↦ λ here. here
+          | false ↦ λ none. cc
+        ] (sym (find-put_all (flat_map rows ns) [] k (recursion_from_All (IsOf R whole) (flat_map rows ns) (all_flat (IsOf R whole) rows are ns))) ∙ found)
+
     -- the row of a key
     pub entry_is : (n : K) → All (IsOf R whole) (entry_under R whole n)
     entry_is n = elim (find R n whole) as (λ f. find R n whole ≡ f → All (IsOf R whole) (found_entry n f)) [

@@ -23,6 +23,10 @@ use Rattle.hh_rows.specs.declared.settlement_period.SettlementPeriod.{Settlement
 use Rattle.hh_rows.specs.declared.rows.Row.{Row}
 use Rattle.hh_rows.specs.Keys.{contract_key_cmp, reallocation_key_cmp, settlement_period_cmp, unit_period_cmp}
 use Rattle.hh_rows.proofs.KeyLaws.{contract_key_total, exact_reallocation_keys, exact_settlement_periods, exact_unit_periods, reallocation_key_total, settlement_period_total, unit_period_total}
+use Rattle.hh_rules.specs.Positions.{position_key_cmp}
+use Rattle.hh_rules.specs.declared.positions.Position.{Position}
+use Rattle.hh_rules.specs.declared.positions.PositionKey.{PositionKey}
+use Rattle.hh_beside.proofs.PositionKeys.{position_key_total}
 use Rattle.hh_sqlrows.specs.OfficeTables.{is_of_unit_on}
 use Rattle.hh_sqlparts.specs.declared.named_names.UnitDay.{UnitDay}
 use Rattle.hh_sqlparts.specs.steps.Named.{FindsNamed, HasReallocated, IsAmong, date_of, entry_under, price_key_of, prices_of, reading_key_of, readings_of, reallocated_at, reallocated_of, reallocations_of, reference_of, unit_day, unit_day_of, unit_of, volume_key_of}
@@ -88,6 +92,14 @@ module _ (rows : List Row) where
       finds_of_rows contract_key_cmp contract_key_total whole contract_key_cmp (λ k. k) (entry_under contract_key_cmp whole)
       (entry_is contract_key_cmp contract_key_total whole) (entry_found contract_key_cmp contract_key_total whole)
       volume_key_of volume_key_of (λ r. own_name (volume_key_of r)) rows
+
+  pub positions_named : (key : Row → Option PositionKey) (whole : Table PositionKey Position) (names : List PositionKey) → All (IsAmong position_key_cmp key names) rows → (found part : Table PositionKey Position)
+      → found ≡ flat_map (entry_under position_key_cmp whole) names → part ≡ put_all position_key_cmp found []
+      → FindsNamed position_key_cmp key rows whole part
+  positions_named key whole =
+      finds_of_rows position_key_cmp position_key_total whole position_key_cmp (λ k. k) (entry_under position_key_cmp whole)
+      (entry_is position_key_cmp position_key_total whole) (entry_found position_key_cmp position_key_total whole)
+      key key (λ r. own_name (key r)) rows
 
   pub meters_named : (whole : Table UnitPeriod Reading) → T (is_sorted unit_period_cmp whole) → (names : List UnitDay) → All (IsAmong unit_day_cmp unit_day_of names) rows → (found part : Table UnitPeriod Reading)
       → found ≡ flat_map (readings_of whole) names → part ≡ put_all unit_period_cmp found []

@@ -1,3 +1,4 @@
+pub mod BesideAnew
 pub mod Named
 pub mod Readings
 pub mod steps

@@ -1,3 +1,4 @@
 -- What contracts of private functions alone cite: the steps of proofs. No public contract names any of it, through whatever definition.
 pub mod DayParts
+pub mod Moved
 pub mod Named

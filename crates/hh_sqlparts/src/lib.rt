@@ -2,15 +2,22 @@
 //! from, and the part that rows of a file are judged by.
 #![tactic(auto)]
 
+mod beside_anew;
+mod changed_positions;
+mod day_beside;
 mod day_contracts;
 mod day_rows;
 mod day_units;
+mod moved_positions;
 mod named;
 mod named_entries;
 mod named_names;
 mod named_tables;
 mod tables;
 
+pub use beside_anew::{BesideAnew, select_beside_anew};
+pub use changed_positions::select_positions_after;
+pub use day_beside::select_day_beside;
 pub use day_contracts::select_contracts_of_day;
 pub use day_rows::select_day;
 pub use named::select_named;

@@ -4,9 +4,10 @@ ghost use Rattle.std.specs.Prelude.{◌≡◌, false, IfOk};
 ghost use Rattle.std.specs.List.{flat_map};
 ghost use Rattle.hh_names.specs.Accounts.{bytes_cmp};
 ghost use Rattle.hh_rows.specs.Keys.{contract_key_cmp};
+ghost use Rattle.hh_rules.specs.Positions.{position_key_cmp};
 ghost use Rattle.sqlite.specs.Held.{state};
 ghost use Rattle.hh_sqlrows.specs.Forms.{rows_under_keys};
-ghost use Rattle.hh_sqlrows.specs.OfficeTables.{contracts, meters, period_prices, reallocations, references};
+ghost use Rattle.hh_sqlrows.specs.OfficeTables.{contracts, meters, period_prices, positions, reallocations, references};
 ghost use Rattle.hh_sqlparts.specs.Readings.{SelectsOnly, OfSettled};
 ghost use Rattle.hh_sqlparts.specs.steps.Named.{entry_under, prices_of, readings_of, reallocations_of};
 
@@ -15,8 +16,10 @@ use hh_keyed_rows::RowFault;
 use hh_names::{Counterparties, Reading, Reallocation, Reference, UnitId};
 use hh_num::{Kwh, Price};
 use hh_rows::{ContractKey, ReallocationKey, SettlementPeriod, UnitPeriod};
+use hh_rules::{Position, PositionKey};
 use hh_sqlrows::{
-    select_contract, select_meters_on, select_prices_on, select_reallocations_of, select_reference,
+    select_contract, select_meters_on, select_position, select_prices_on, select_reallocations_of,
+    select_reference,
 };
 use hh_time::SettlementDate;
 use sqlite::{Alter, Connection};
@@ -62,6 +65,29 @@ pub(crate) fn contracts_under<S: Alter>(
     'names: for name in names {
         if let Some(volume) = select_contract(conn, alloc, name)? {
             found.push((*name, volume))?;
+        }
+    }
+    Ok(found)
+}
+
+/// The positions under keys.
+pub(crate) fn positions_under<S: Alter>(
+    conn: &mut Connection<S>,
+    alloc: Global,
+    names: &[PositionKey],
+) -> Result<Vec<(PositionKey, Position)>, RowFault>
+    ensures value { let old = state S.Store conn.old in
+        let new = state S.Store conn.new in
+        OfSettled old new (IfOk result (λ found. found.items
+        ≡ flat_map (entry_under position_key_cmp (rows_under_keys positions old.now.trees))
+        names.now)) }
+    ensures reading { SelectsOnly (state S.Store conn.old) (state S.Store conn.new) }
+    ensures mode { conn.old.in_transaction ≡ false → conn.new.in_transaction ≡ false }
+{
+    let mut found = Vec::new(alloc);
+    'names: for name in names {
+        if let Some(position) = select_position(conn, alloc, name)? {
+            found.push((*name, position))?;
         }
     }
     Ok(found)

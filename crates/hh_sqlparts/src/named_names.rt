@@ -104,7 +104,10 @@ pub(crate) fn names_in<N: Name>(alloc: Global, rows: &[Row]) -> Result<Vec<N>, A
 }
 
 /// The names of a set.
-fn names_of<N: Name>(alloc: Global, names: BTreeSet<N>) -> Result<Vec<N>, AllocError>
+pub(crate) fn names_of<N: Ord + Copy>(
+    alloc: Global,
+    names: BTreeSet<N>,
+) -> Result<Vec<N>, AllocError>
     ensures { IfOk result (λ list. list.items ≡ names.keys) }
 {
     names.into_iter().collect(alloc)

@@ -1,23 +1,27 @@
 -- The columns of keys compare as the keys do.
-use Rattle.std.proofs.Common.{◌∙◌, pos, refl}
+use Rattle.std.proofs.Common.{◌∙◌, pos, ap, refl}
 use Rattle.std.specs.Cmp.{IsTotalOrder, nat_cmp_total, on_total, then_total}
 use Rattle.std.specs.Ordering.{nat_cmp, on}
 use Rattle.std.proofs.lemmas.Map.Lookups.{CmpEqualImpliesEq, exact_bytes, exact_pairs, exact_unsigned}
 use Rattle.sqlite_value.proofs.OrderLemmas.{value_cmp-Int, value_cmp-Text}
+use Rattle.hh_names.specs.declared.account.Account.{Account}
 use Rattle.hh_names.specs.Accounts.{account_cmp, bytes_cmp, side_cmp, side_number}
-use Rattle.hh_names.proofs.AccountLaws.{bytes_total}
+use Rattle.hh_names.proofs.AccountLaws.{account_total, bytes_total, exact_accounts}
 use Rattle.hh_rows.specs.Keys.{contract_key_cmp, reallocation_key_cmp, settlement_period_cmp, unit_period_cmp}
 use Rattle.hh_rows.specs.Kinds.{kind_word}
 use Rattle.hh_rows.specs.declared.keys.ReallocationKey.{ReallocationKey}
+use Rattle.hh_rows.specs.declared.settlement_period.SettlementPeriod.{SettlementPeriod}
+use Rattle.hh_rows.proofs.KeyLaws.{exact_settlement_periods, settlement_period_total}
+use Rattle.hh_rules.specs.Positions.{position_key_cmp}
 use Rattle.hh_runs.specs.RunKinds.{run_kind_cmp, run_kind_number}
-use Rattle.hh_states.specs.Content.{posting_key_cmp, result_key_cmp}
+use Rattle.hh_states.specs.Content.{credit_key_cmp, posting_key_cmp, result_key_cmp}
 use Rattle.hh_states.specs.Runs.{run_key_cmp}
 use Rattle.hh_states.specs.States.{file_key_cmp}
 use Rattle.hh_keyed_rows.specs.Codecs.{Codec, IsCodec, both, nat_column, text_column, via}
 use Rattle.hh_keyed_rows.specs.Fields.{account_columns, date_column, file_kind_column, file_name_column, period_column, reference_column, run_kind_column, settlement_period_columns, side_column, party_column, unit_column}
-use Rattle.hh_keyed_rows.specs.Keys.{contract_key_columns, file_key_columns, one_row_column, posting_key_columns, result_key_columns, run_key_columns, unit_period_columns}
+use Rattle.hh_keyed_rows.specs.Keys.{contract_key_columns, credit_key_columns, file_key_columns, one_row_column, position_key_columns, posting_key_columns, result_key_columns, run_key_columns, unit_period_columns}
 use Rattle.hh_keyed_rows.proofs.CodecLaws.{both_codec, via_codec}
-use Rattle.hh_keyed_rows.proofs.FieldLaws.{account_codec, date_codec, file_kind_codec, period_codec, word_codec}
+use Rattle.hh_keyed_rows.proofs.FieldLaws.{account_codec, date_codec, file_kind_codec, period_codec, settlement_period_codec, word_codec}
 use Rattle.hh_keyed_rows.proofs.KeyCodecs.{run_key_codec, unit_period_codec}
 use Rattle.hh_keyed_rows.proofs.PlaceLaws.{int_cmp-nats}
 use Rattle.hh_sqlrows.specs.OfficeTables.{one_row_cmp, unit_date_cmp}
@@ -84,6 +88,24 @@ result_key_ordered a b =
 
 pub posting_key_ordered : IsOrdered posting_key_columns posting_key_cmp
 posting_key_ordered a b = both_ordered run_key_columns account_columns run_key_cmp account_cmp run_key_codec run_key_ordered account_ordered (a.run, a.account) (b.run, b.account)
+
+pub credit_key_ordered : IsOrdered credit_key_columns credit_key_cmp
+credit_key_ordered a b =
+    both_ordered run_key_columns (both period_column (both unit_column account_columns)) run_key_cmp _ run_key_codec run_key_ordered
+    (both_ordered period_column (both unit_column account_columns) nat_cmp _ period_codec nat_ordered (both_ordered unit_column account_columns bytes_cmp account_cmp (word_codec _ _ _) text_ordered account_ordered))
+    (a.run, (a.period, (a.unit, a.account))) (b.run, (b.period, (b.unit, b.account)))
+
+-- ---- positions
+
+pub position_key_total : IsTotalOrder position_key_cmp
+position_key_total = then_total (on_total (λ k. k.at) settlement_period_total) (on_total (λ k. k.account) account_total)
+
+pub exact_position_keys : CmpEqualImpliesEq position_key_cmp
+exact_position_keys a b h =
+    ap (λ (p : SettlementPeriod × Account). record { at = p.0; account = p.1 }) (exact_pairs settlement_period_cmp account_cmp exact_settlement_periods exact_accounts (a.at, a.account) (b.at, b.account) h)
+
+pub position_key_ordered : IsOrdered position_key_columns position_key_cmp
+position_key_ordered a b = both_ordered settlement_period_columns account_columns settlement_period_cmp account_cmp settlement_period_codec settlement_period_ordered account_ordered (a.at, a.account) (b.at, b.account)
 
 -- ---- a unit on a date
 

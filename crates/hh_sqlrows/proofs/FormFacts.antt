@@ -6,10 +6,10 @@ use Rattle.hh_names.proofs.AccountLaws.{bytes_total}
 use Rattle.hh_rows.proofs.KeyLaws.{contract_key_total, exact_contract_keys, exact_reallocation_keys, exact_settlement_periods, exact_unit_periods, reallocation_key_total, settlement_period_total, unit_period_total}
 use Rattle.hh_states.proofs.KeyLaws.{credit_key_total, exact_credit_keys, exact_file_keys, exact_posting_keys, exact_result_keys, exact_run_keys, file_key_total, posting_key_total, result_key_total, run_key_total}
 use Rattle.hh_keyed_rows.proofs.FieldLaws.{counterparties_codec, mark_codec, settlement_period_codec}
-use Rattle.hh_keyed_rows.proofs.KeyCodecs.{amounts_codec, contract_key_codec, credit_key_codec, file_codec, file_key_codec, one_row_codec, party_codec, posting_key_codec, quantity_codec, reading_codec, reallocation_codec, reallocation_key_codec, reference_codec, registered_party_codec, registered_unit_codec, result_key_codec, run_key_codec, settings_codec, summary_codec, unit_codec, unit_period_codec}
+use Rattle.hh_keyed_rows.proofs.KeyCodecs.{amounts_codec, contract_key_codec, credit_key_codec, file_codec, file_key_codec, no_columns_codec, one_row_codec, party_codec, position_codec, position_key_codec, posting_key_codec, quantity_codec, reading_codec, reallocation_codec, reallocation_key_codec, reference_codec, registered_party_codec, registered_unit_codec, result_key_codec, run_key_codec, settings_codec, summary_codec, unit_codec, unit_period_codec}
 use Rattle.hh_keyed_rows.proofs.PutLaws.{cast_int}
-use Rattle.hh_sqlrows.specs.OfficeTables.{contracts, credits, files, marks, meters, parties, postings, period_prices, reallocations, references, results, runs, settings, units}
-use Rattle.hh_sqlrows.proofs.ColumnLaws.{exact_one_rows, one_row_total}
+use Rattle.hh_sqlrows.specs.OfficeTables.{contracts, credits, files, marks, meters, parties, period_prices, positions, postings, reallocations, references, results, runs, settings, touched, units}
+use Rattle.hh_sqlrows.proofs.ColumnLaws.{exact_one_rows, exact_position_keys, one_row_total, position_key_total}
 use Rattle.hh_sqlrows.proofs.FormLaws.{IsForm, no_clash, or_false}
 use Rattle.hh_sqlrows.proofs.UpdateFormLaws.{IsChangeable, and_true}
 
@@ -279,6 +279,46 @@ postings_form = record {
   long = refl;
   present = refl;
   kinds = λ k v. (cast_int _, (cast_int _, (refl, (cast_int _, (cast_int _, refl)))));
+  values = λ k v. refl;
+}
+
+pub positions_form : IsForm positions
+positions_form = record {
+  total = position_key_total;
+  exact = exact_position_keys;
+  is_key = position_key_codec;
+  is_value = position_codec;
+  listed = refl;
+  there = inr (inr (inr (inr (inr (inr (inr (inr (inr (inr (inr (inr (inr (inl refl)))))))))))));
+  own = λ db. refl;
+  unkeyed = refl;
+  uncounted = refl;
+  free = λ olds news. refl;
+  indexed = λ r new. or_false _;
+  unique = λ db r h. no_clash _ h;
+  long = refl;
+  present = refl;
+  kinds = λ k v. (cast_int _, (cast_int _, (refl, (cast_int _, (cast_int _, (cast_int _, refl))))));
+  values = λ k v. refl;
+}
+
+pub touched_form : IsForm touched
+touched_form = record {
+  total = settlement_period_total;
+  exact = exact_settlement_periods;
+  is_key = settlement_period_codec;
+  is_value = no_columns_codec;
+  listed = refl;
+  there = inr (inr (inr (inr (inr (inr (inr (inr (inr (inr (inr (inr (inr (inr (inl refl))))))))))))));
+  own = λ db. refl;
+  unkeyed = refl;
+  uncounted = refl;
+  free = λ olds news. refl;
+  indexed = λ r new. or_false _;
+  unique = λ db r h. no_clash _ h;
+  long = refl;
+  present = refl;
+  kinds = λ k v. (cast_int _, (cast_int _, refl));
   values = λ k v. refl;
 }
 

@@ -1,5 +1,7 @@
 pub mod ColumnLaws
 pub mod AnswerLaws
+pub mod DeleteLaws
+pub mod Deletes
 pub mod FormFacts
 pub mod FormLaws
 pub mod InsertLaws
@@ -13,6 +15,7 @@ pub mod RisingLaws
 pub mod StatementTexts
 pub mod StreamLaws
 pub mod TextFacts
+pub mod TouchLaws
 pub mod UpdateFormLaws
 pub mod UpdateLaws
 pub mod Updates

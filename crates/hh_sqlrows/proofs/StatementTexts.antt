@@ -2,7 +2,8 @@
 use Rattle.std.proofs.Common.{◌++◌, ℕ, List, [], ◌∷◌, codes, refl}
 use Rattle.sqlite_tied.specs.Compute.{everything}
 use Rattle.sqlite.specs.Listing.{understood}
-use Rattle.hh_sqlrows.specs.OfficeTables.{contracts, credits, files, marks, meters, parties, postings, period_prices, reallocations, references, results, runs, settings, units}
+use Rattle.hh_sqlrows.specs.OfficeTables.{contracts, credits, files, marks, meters, parties, period_prices, positions, postings, reallocations, references, results, runs, settings, touched, units}
+use Rattle.hh_sqlrows.proofs.Deletes.{IsDelete}
 use Rattle.hh_sqlrows.proofs.FormLaws.{IsInsert, IsReplace}
 use Rattle.hh_sqlrows.proofs.SelectLaws.{IsSelect}
 use Rattle.hh_sqlrows.proofs.UpdateFormLaws.{IsUpdate}
@@ -118,6 +119,36 @@ pub insert_posting_is : IsInsert postings insert_posting_text
 unfolding understood everything
 insert_posting_is = (refl, (refl, refl))
 
+abbrev pub replace_mark_text : List ℕ
+replace_mark_text = codes "INSERT OR REPLACE INTO marks (id, positions) VALUES (?1, ?2)"
+
+pub replace_mark_is : IsReplace marks replace_mark_text
+unfolding understood everything
+replace_mark_is = (refl, (refl, refl))
+
+abbrev pub replace_position_text : List ℕ
+replace_position_text = codes "INSERT OR REPLACE INTO positions (day, period, party, side, kwh, lost) VALUES (?1, ?2, ?3, ?4, ?5, ?6)"
+
+pub replace_position_is : IsReplace positions replace_position_text
+unfolding understood everything
+replace_position_is = (refl, (refl, refl))
+
+abbrev pub touch_period_text : List ℕ
+touch_period_text = codes "INSERT OR REPLACE INTO touched (day, period) VALUES (?1, ?2)"
+
+pub touch_period_is : IsReplace touched touch_period_text
+unfolding understood everything
+touch_period_is = (refl, (refl, refl))
+
+-- ---- rows that are taken out
+
+abbrev pub untouch_on_text : List ℕ
+untouch_on_text = codes "DELETE FROM touched WHERE day = ?1"
+
+pub untouch_on_is : IsDelete touched (1 ∷ []) untouch_on_text
+unfolding understood everything
+untouch_on_is = (refl, (refl, refl))
+
 -- ---- rows that are selected
 
 abbrev pub select_settings_text : List ℕ
@@ -203,6 +234,13 @@ pub select_reference_is : IsSelect references (1 ∷ []) (1 ∷ []) select_refer
 unfolding understood everything
 select_reference_is = record { names = codes "reference" ∷ codes "seller" ∷ codes "seller_side" ∷ codes "buyer" ∷ codes "buyer_side" ∷ []; command = refl; unlisted = refl; plain = (refl, refl) }
 
+abbrev pub select_references_text : List ℕ
+select_references_text = codes "SELECT reference, seller, seller_side, buyer, buyer_side FROM refs ORDER BY reference"
+
+pub select_references_is : IsSelect references [] (1 ∷ []) select_references_text
+unfolding understood everything
+select_references_is = record { names = codes "reference" ∷ codes "seller" ∷ codes "seller_side" ∷ codes "buyer" ∷ codes "buyer_side" ∷ []; command = refl; unlisted = refl; plain = (refl, refl) }
+
 abbrev pub select_contract_text : List ℕ
 select_contract_text =
     codes "SELECT reference, day, period, kwh FROM contracts WHERE reference = ?1 AND day = ?2 AND period = ?3 "
@@ -218,6 +256,13 @@ select_contracts_on_text = codes "SELECT reference, day, period, kwh FROM contra
 pub select_contracts_on_is : IsSelect contracts (2 ∷ []) (1 ∷ 2 ∷ 3 ∷ []) select_contracts_on_text
 unfolding understood everything
 select_contracts_on_is = record { names = codes "reference" ∷ codes "day" ∷ codes "period" ∷ codes "kwh" ∷ []; command = refl; unlisted = refl; plain = (refl, refl) }
+
+abbrev pub select_contracts_text : List ℕ
+select_contracts_text = codes "SELECT reference, day, period, kwh FROM contracts ORDER BY reference, day, period"
+
+pub select_contracts_is : IsSelect contracts [] (1 ∷ 2 ∷ 3 ∷ []) select_contracts_text
+unfolding understood everything
+select_contracts_is = record { names = codes "reference" ∷ codes "day" ∷ codes "period" ∷ codes "kwh" ∷ []; command = refl; unlisted = refl; plain = (refl, refl) }
 
 abbrev pub select_reallocations_of_text : List ℕ
 select_reallocations_of_text =
@@ -251,6 +296,13 @@ pub select_runs_on_is : IsSelect runs (1 ∷ []) (1 ∷ 2 ∷ []) select_runs_on
 unfolding understood everything
 select_runs_on_is = record { names = codes "day" ∷ codes "kind" ∷ codes "periods" ∷ codes "accounts" ∷ codes "residual" ∷ codes "postings" ∷ []; command = refl; unlisted = refl; plain = (refl, refl) }
 
+abbrev pub select_runs_text : List ℕ
+select_runs_text = codes "SELECT day, kind, periods, accounts, residual, postings FROM runs ORDER BY day, kind"
+
+pub select_runs_is : IsSelect runs [] (1 ∷ 2 ∷ []) select_runs_text
+unfolding understood everything
+select_runs_is = record { names = codes "day" ∷ codes "kind" ∷ codes "periods" ∷ codes "accounts" ∷ codes "residual" ∷ codes "postings" ∷ []; command = refl; unlisted = refl; plain = (refl, refl) }
+
 abbrev pub select_results_of_text : List ℕ
 select_results_of_text =
     codes "SELECT day, kind, period, party, side, credited, balancing, contracts, imbalance, charge, share FROM "
@@ -266,3 +318,51 @@ select_postings_text = codes "SELECT day, kind, party, side, pence FROM postings
 pub select_postings_is : IsSelect postings [] (1 ∷ 2 ∷ 3 ∷ 4 ∷ []) select_postings_text
 unfolding understood everything
 select_postings_is = record { names = codes "day" ∷ codes "kind" ∷ codes "party" ∷ codes "side" ∷ codes "pence" ∷ []; command = refl; unlisted = refl; plain = (refl, refl) }
+
+abbrev pub select_credits_of_text : List ℕ
+select_credits_of_text =
+    codes "SELECT day, kind, period, unit, party, side, credited FROM credits WHERE day = ?1 AND kind = ?2 ORDER "
+    ++ codes "BY day, kind, period, unit, party, side"
+
+pub select_credits_of_is : IsSelect credits (1 ∷ 2 ∷ []) (1 ∷ 2 ∷ 3 ∷ 4 ∷ 5 ∷ 6 ∷ []) select_credits_of_text
+unfolding understood everything
+select_credits_of_is = record { names = codes "day" ∷ codes "kind" ∷ codes "period" ∷ codes "unit" ∷ codes "party" ∷ codes "side" ∷ codes "credited" ∷ []; command = refl; unlisted = refl; plain = (refl, refl) }
+
+abbrev pub select_position_text : List ℕ
+select_position_text =
+    codes "SELECT day, period, party, side, kwh, lost FROM positions WHERE day = ?1 AND period = ?2 AND party = "
+    ++ codes "?3 AND side = ?4 ORDER BY day, period, party, side"
+
+pub select_position_is : IsSelect positions (1 ∷ 2 ∷ 3 ∷ 4 ∷ []) (1 ∷ 2 ∷ 3 ∷ 4 ∷ []) select_position_text
+unfolding understood everything
+select_position_is = record { names = codes "day" ∷ codes "period" ∷ codes "party" ∷ codes "side" ∷ codes "kwh" ∷ codes "lost" ∷ []; command = refl; unlisted = refl; plain = (refl, refl) }
+
+abbrev pub select_positions_on_text : List ℕ
+select_positions_on_text =
+    codes "SELECT day, period, party, side, kwh, lost FROM positions WHERE day = ?1 ORDER BY day, period, party, "
+    ++ codes "side"
+
+pub select_positions_on_is : IsSelect positions (1 ∷ []) (1 ∷ 2 ∷ 3 ∷ 4 ∷ []) select_positions_on_text
+unfolding understood everything
+select_positions_on_is = record { names = codes "day" ∷ codes "period" ∷ codes "party" ∷ codes "side" ∷ codes "kwh" ∷ codes "lost" ∷ []; command = refl; unlisted = refl; plain = (refl, refl) }
+
+abbrev pub select_positions_text : List ℕ
+select_positions_text = codes "SELECT day, period, party, side, kwh, lost FROM positions ORDER BY day, period, party, side"
+
+pub select_positions_is : IsSelect positions [] (1 ∷ 2 ∷ 3 ∷ 4 ∷ []) select_positions_text
+unfolding understood everything
+select_positions_is = record { names = codes "day" ∷ codes "period" ∷ codes "party" ∷ codes "side" ∷ codes "kwh" ∷ codes "lost" ∷ []; command = refl; unlisted = refl; plain = (refl, refl) }
+
+abbrev pub select_touched_on_text : List ℕ
+select_touched_on_text = codes "SELECT day, period FROM touched WHERE day = ?1 ORDER BY day, period"
+
+pub select_touched_on_is : IsSelect touched (1 ∷ []) (1 ∷ 2 ∷ []) select_touched_on_text
+unfolding understood everything
+select_touched_on_is = record { names = codes "day" ∷ codes "period" ∷ []; command = refl; unlisted = refl; plain = (refl, refl) }
+
+abbrev pub select_touched_text : List ℕ
+select_touched_text = codes "SELECT day, period FROM touched ORDER BY day, period"
+
+pub select_touched_is : IsSelect touched [] (1 ∷ 2 ∷ []) select_touched_text
+unfolding understood everything
+select_touched_is = record { names = codes "day" ∷ codes "period" ∷ []; command = refl; unlisted = refl; plain = (refl, refl) }

@@ -1,9 +1,11 @@
--- The content that the tables of an office's database have.
-use Rattle.std.specs.Prelude.{ℕ, ℤ, List, filter, map}
+-- The content that the tables of an office's database have, and what is kept beside it.
+use Rattle.std.specs.Prelude.{ℕ, ℤ, List, filter, map, Bool, true, Option}
+use Rattle.std.specs.FinMap.{find}
 use Rattle.std.specs.Ordering.{is_eq}
 use Rattle.sqlite_trees.specs.Tree.{Trees}
 use Rattle.hh_names.specs.declared.account.Account.{Account}
 use Rattle.hh_rows.specs.declared.settings.Settings.{Settings}
+use Rattle.hh_rows.specs.declared.settlement_period.SettlementPeriod.{SettlementPeriod}
 use Rattle.hh_rules.specs.History.{Registered}
 use Rattle.hh_calc.specs.declared.result.AccountRow.{AccountRow}
 use Rattle.hh_runs.specs.declared.run_key.RunKey.{RunKey}
@@ -11,10 +13,11 @@ use Rattle.hh_states.specs.Runs.{run_key_cmp}
 use Rattle.hh_states.specs.declared.run_keys.PostingKey.{PostingKey}
 use Rattle.hh_states.specs.declared.run_keys.ResultKey.{ResultKey}
 use Rattle.hh_states.specs.Content.{Content}
+use Rattle.hh_beside.specs.Beside.{Beside}
 use Rattle.hh_keyed_rows.specs.declared.amounts.AccountAmounts.{AccountAmounts}
 use Rattle.hh_keyed_rows.specs.Values.{account_row_of}
 use Rattle.hh_sqlrows.specs.Forms.{rows_under_keys}
-use Rattle.hh_sqlrows.specs.OfficeTables.{contracts, credits, files, meters, parties, period_prices, postings, reallocations, references, results, runs, units}
+use Rattle.hh_sqlrows.specs.OfficeTables.{contracts, credits, files, marks, meters, one_row_cmp, parties, period_prices, positions, postings, reallocations, references, results, runs, touched, units}
 
 -- an account's row of a run under its key, from the amounts that stand there
 abbrev pub result_of : ResultKey × AccountAmounts → ResultKey × AccountRow
@@ -32,6 +35,10 @@ period_row e = (e.0.period, (result_of e).1)
 abbrev pub posted_amount : PostingKey × ℤ → Account × ℤ
 posted_amount e = (e.0.account, e.1)
 
+-- the Settlement Periods that were touched, in their order
+abbrev pub touched_periods : Trees → List SettlementPeriod
+touched_periods trees = map (λ e. e.0) (rows_under_keys touched trees)
+
 -- what is registered and in force
 abbrev pub registered_of : Trees → Registered
 registered_of trees = record {
@@ -44,7 +51,7 @@ registered_of trees = record {
   reallocations = rows_under_keys reallocations trees;
 }
 
--- the content with these settings
+-- the content with these settings, as if what is kept beside it agreed with it
 abbrev pub content_of : Settings → Trees → Content
 content_of settings trees = record {
   settings = settings;
@@ -54,4 +61,13 @@ content_of settings trees = record {
   results = map result_of (rows_under_keys results trees);
   credits = rows_under_keys credits trees;
   postings = rows_under_keys postings trees;
+  is_in_step = true;
 }
+
+-- what is kept beside the content
+abbrev pub beside_in : Trees → Beside
+beside_in trees = record { positions = rows_under_keys positions trees; touched = touched_periods trees }
+
+-- the mark, which says whether anything is kept beside the content
+abbrev pub mark_in : Trees → Option Bool
+mark_in trees = find one_row_cmp (record {}) (rows_under_keys marks trees)

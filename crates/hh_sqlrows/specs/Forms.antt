@@ -1,5 +1,5 @@
 -- Tables of an office as tables of a database: the form of their rows, and what a statement makes of them.
-use Rattle.std.specs.Prelude.{◌≡◌, ◌≢◌, ℕ, List}
+use Rattle.std.specs.Prelude.{◌≡◌, ◌≢◌, ℕ, List, Bool, filter, not}
 use Rattle.std.specs.List.{AllByRecursion}
 use Rattle.std.specs.FinMap.{put}
 use Rattle.std.specs.declared.cmp.Ordering.{Ordering}
@@ -39,4 +39,10 @@ pub record Puts {K V : Type 0} (form : TableForm K V) (key : K) (value : V) (old
 pub record PutsAll {K V : Type 0} (form : TableForm K V) (entries : List (K × V)) (old new : Database) : Type 0 where
   pub is_office : IsOffice new
   pub rows : rows_under_keys form new.trees ≡ tables.put_all form.order entries (rows_under_keys form old.trees)
+  pub others : KeepsOthers form.table.tree old.trees new.trees
+
+-- The rows whose keys pass a test are gone, the others of the table are there still, and the other tables are as they were.
+pub record Removes {K V : Type 0} (form : TableForm K V) (test : K → Bool) (old new : Database) : Type 0 where
+  pub is_office : IsOffice new
+  pub rows : rows_under_keys form new.trees ≡ filter (λ e. not (test e.0)) (rows_under_keys form old.trees)
   pub others : KeepsOthers form.table.tree old.trees new.trees

@@ -15,6 +15,9 @@ use Rattle.hh_rows.specs.declared.rows.UnitRegistration.{UnitRegistration}
 use Rattle.hh_rows.specs.declared.settings.Settings.{Settings}
 use Rattle.hh_rows.specs.declared.settlement_period.SettlementPeriod.{SettlementPeriod}
 use Rattle.hh_rows.specs.Keys.{contract_key_cmp, reallocation_key_cmp, settlement_period_cmp, unit_period_cmp}
+use Rattle.hh_rules.specs.Positions.{position_key_cmp}
+use Rattle.hh_rules.specs.declared.positions.Position.{Position}
+use Rattle.hh_rules.specs.declared.positions.PositionKey.{PositionKey}
 use Rattle.hh_calc.specs.declared.result.AccountRow.{AccountRow}
 use Rattle.hh_runs.specs.declared.run_key.RunKey.{RunKey}
 use Rattle.hh_runs.specs.declared.summary.Summary.{Summary}
@@ -26,12 +29,13 @@ use Rattle.hh_states.specs.Content.{credit_key_cmp, posting_key_cmp, result_key_
 use Rattle.hh_states.specs.Runs.{run_key_cmp}
 use Rattle.hh_states.specs.States.{AcceptedFile, file_key_cmp}
 use Rattle.hh_keyed_rows.specs.declared.amounts.AccountAmounts.{AccountAmounts}
+use Rattle.hh_keyed_rows.specs.declared.no_columns.NoColumns.{NoColumns}
 use Rattle.hh_keyed_rows.specs.declared.one_row.OneRow.{OneRow}
 use Rattle.hh_keyed_rows.specs.Fields.{counterparties_columns, mark_column, party_column, quantity_column, reference_column, settlement_period_columns, unit_column}
-use Rattle.hh_keyed_rows.specs.Keys.{contract_key_columns, credit_key_columns, file_key_columns, one_row_column, posting_key_columns, reallocation_key_columns, result_key_columns, run_key_columns, unit_period_columns}
-use Rattle.hh_keyed_rows.specs.Values.{amounts_columns, amounts_of, file_columns, party_columns, reading_columns, reallocation_columns, settings_columns, summary_columns, unit_columns}
+use Rattle.hh_keyed_rows.specs.Keys.{contract_key_columns, credit_key_columns, file_key_columns, one_row_column, position_key_columns, posting_key_columns, reallocation_key_columns, result_key_columns, run_key_columns, unit_period_columns}
+use Rattle.hh_keyed_rows.specs.Values.{amounts_columns, amounts_of, file_columns, no_columns, party_columns, position_columns, reading_columns, reallocation_columns, settings_columns, summary_columns, unit_columns}
 use Rattle.hh_sqlrows.specs.Forms.{TableForm}
-use Rattle.hh_sqlrows.specs.OfficeSchema.{contracts_table, credits_table, files_table, marks_table, meters_table, parties_table, postings_table, prices_table, reallocations_table, refs_table, results_table, runs_table, settings_table, units_table}
+use Rattle.hh_sqlrows.specs.OfficeSchema.{contracts_table, credits_table, files_table, marks_table, meters_table, parties_table, positions_table, postings_table, prices_table, reallocations_table, refs_table, results_table, runs_table, settings_table, touched_table, units_table}
 
 -- the key of a table that has one row
 abbrev pub one_row_cmp : OneRow → OneRow → Ordering
@@ -114,7 +118,17 @@ postings = record {
   value = quantity_column amounts_of_cash;
 }
 
--- ---- whether positions of accounts are kept
+-- ---- beside the content: positions of accounts, Settlement Periods that a change touched, and whether positions are kept
+
+abbrev pub positions : TableForm PositionKey Position
+positions = record { at = 13; table = positions_table; order = position_key_cmp; key = position_key_columns; value = position_columns }
+
+abbrev pub touched : TableForm SettlementPeriod NoColumns
+touched = record { at = 14; table = touched_table; order = settlement_period_cmp; key = settlement_period_columns; value = no_columns }
+
+-- a Settlement Period as a row that has it alone
+abbrev pub touched_entry : SettlementPeriod → SettlementPeriod × NoColumns
+touched_entry at = (at, record {})
 
 abbrev pub marks : TableForm OneRow Bool
 marks = record { at = 15; table = marks_table; order = one_row_cmp; key = one_row_column; value = mark_column }

@@ -11,13 +11,17 @@ ghost use Rattle.hh_sqlrows.specs.OfficeTables.{contracts};
 ghost use Rattle.hh_sqlrows.specs.Reads.{CommitsNothingOf, IsHonest, LeavesOffice, OfOffice, StaysOpen, Stood};
 ghost use Rattle.hh_sqlrows.specs.Statements.{CommitsNothing, Inside, KeepsCommit, StaysInside};
 
-use crate::statement::{select_by, select_first, write_entry};
+use crate::statement::{select_by, select_entries, select_first, select_first_inside, write_entry};
 use hh_keyed_rows::RowFault;
 use hh_num::Kwh;
 use hh_rows::{ContractKey, ContractRow};
 use hh_time::SettlementDate;
 use sqlite::{Alter, Connection, Transaction};
 use std::alloc::Global;
+
+/// What selects the row of a contract.
+const CONTRACT: &str =
+    "SELECT reference, day, period, kwh FROM contracts WHERE reference = ?1 AND day = ?2 AND period = ?3 ORDER BY reference, day, period";
 
 /// Puts the volume of a contract in the place of the one of its reference and Settlement Period. Its
 /// seller and buyer stand under its reference.
@@ -63,12 +67,30 @@ pub fn select_contract<S: Alter>(
     ensures honest { IsHonest (state S.Store conn.old) (state S.Store conn.new) }
     ensures survives { CommitsNothingOf (state S.Store conn.old) (state S.Store conn.new) }
 {
-    select_first(
-        conn,
-        alloc,
-        "SELECT reference, day, period, kwh FROM contracts WHERE reference = ?1 AND day = ?2 AND period = ?3 ORDER BY reference, day, period",
-        key,
-    )
+    select_first(conn, alloc, CONTRACT, key)
+}
+
+/// The volume of a contract, in a transaction: as what was written in it has left it.
+pub fn select_contract_inside<S: Alter>(
+    tx: &mut Transaction<'_, S>,
+    alloc: Global,
+    key: &ContractKey,
+) -> Result<Option<Kwh>, RowFault>
+    ensures same_reference { tx.new.conn.ghost_name ≡ tx.old.conn.ghost_name }
+    ensures value { let old = state S.Store tx.old.conn.now in
+        let new = state S.Store tx.new.conn.now in
+        Inside old new (IsOffice old.now → IfOk result (λ found.
+        found ≡ find contract_key_cmp key.now (rows_under_keys contracts old.now.trees))) }
+    ensures same { let old = state S.Store tx.old.conn.now in
+        let new = state S.Store tx.new.conn.now in
+        Inside old new (IsOffice old.now → OnOk result (new.now ≡ old.now)) }
+    ensures inside { StaysInside (state S.Store tx.old.conn.now)
+        (state S.Store tx.new.conn.now) result }
+    ensures left { KeepsCommit (state S.Store tx.old.conn.now) (state S.Store tx.new.conn.now) }
+    ensures survives { CommitsNothing (state S.Store tx.old.conn.now)
+        (state S.Store tx.new.conn.now) }
+{
+    select_first_inside(tx, alloc, CONTRACT, key)
 }
 
 /// The volumes of the contracts of a date, by reference, then by period.
@@ -94,5 +116,29 @@ pub fn select_contracts_on<S: Alter>(
         alloc,
         "SELECT reference, day, period, kwh FROM contracts WHERE day = ?1 ORDER BY reference, day, period",
         date,
+    )
+}
+
+/// The volumes of all contracts, by reference, then by Settlement Period.
+pub fn select_contracts<S: Alter>(
+    conn: &mut Connection<S>,
+    alloc: Global,
+) -> Result<Vec<(ContractKey, Kwh)>, RowFault>
+    ensures value { let old = state S.Store conn.old in
+        let new = state S.Store conn.new in
+        OfOffice old new (IfOk result (λ found.
+        found.items ≡ rows_under_keys contracts old.now.trees)) }
+    ensures stood { Stood (state S.Store conn.old) (state S.Store conn.new) }
+    ensures left { LeavesOffice (state S.Store conn.old) (state S.Store conn.new) }
+    ensures mode { conn.old.in_transaction ≡ false → conn.new.in_transaction ≡ false }
+    ensures stays { StaysOpen (state S.Store conn.old) (state S.Store conn.new) result }
+    ensures honest { IsHonest (state S.Store conn.old) (state S.Store conn.new) }
+    ensures survives { CommitsNothingOf (state S.Store conn.old) (state S.Store conn.new) }
+{
+    select_entries(
+        conn,
+        alloc,
+        "SELECT reference, day, period, kwh FROM contracts ORDER BY reference, day, period",
+        &[],
     )
 }

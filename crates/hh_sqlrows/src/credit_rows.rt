@@ -1,17 +1,21 @@
 //! The rows of credits.
 
-ghost use Rattle.std.specs.Prelude.{◌≡◌, false, IsTrue, OnOk};
+ghost use Rattle.std.specs.Prelude.{◌≡◌, false, IsTrue, OnOk, IfOk, filter};
+ghost use Rattle.std.specs.Ordering.{is_eq};
+ghost use Rattle.hh_states.specs.Runs.{run_key_cmp};
 ghost use Rattle.sqlite.specs.Held.{state};
-ghost use Rattle.hh_sqlrows.specs.Forms.{Puts, PutsAll};
+ghost use Rattle.hh_sqlrows.specs.Forms.{Puts, PutsAll, rows_under_keys};
 ghost use Rattle.hh_sqlrows.specs.Office.{IsOffice};
 ghost use Rattle.hh_sqlrows.specs.OfficeTables.{credits};
+ghost use Rattle.hh_sqlrows.specs.Reads.{CommitsNothingOf, IsHonest, LeavesOffice, OfOffice, StaysOpen, Stood};
 ghost use Rattle.hh_sqlrows.specs.Statements.{CommitsNothing, Inside, KeepsCommit, StaysInside};
 
-use crate::statement::write_entry;
+use crate::statement::{select_by, write_entry};
 use hh_keyed_rows::RowFault;
 use hh_num::Ticks;
+use hh_runs::RunKey;
 use hh_states::CreditKey;
-use sqlite::{Alter, Transaction};
+use sqlite::{Alter, Connection, Transaction};
 use std::alloc::Global;
 
 /// Writes a credit of a new run.
@@ -61,4 +65,30 @@ pub fn insert_credits<S: Alter>(
         insert_credit(tx, alloc, &row.0, &row.1)?;
     }
     Ok(())
+}
+
+/// The credits of a run, by period, then by unit, then by account.
+pub fn select_credits_of<S: Alter>(
+    conn: &mut Connection<S>,
+    alloc: Global,
+    run: &RunKey,
+) -> Result<Vec<(CreditKey, Ticks)>, RowFault>
+    ensures value { let old = state S.Store conn.old in
+        let new = state S.Store conn.new in
+        OfOffice old new (IfOk result (λ found.
+        found.items ≡ filter (λ e. is_eq (run_key_cmp e.0.run run.now))
+        (rows_under_keys credits old.now.trees))) }
+    ensures stood { Stood (state S.Store conn.old) (state S.Store conn.new) }
+    ensures left { LeavesOffice (state S.Store conn.old) (state S.Store conn.new) }
+    ensures mode { conn.old.in_transaction ≡ false → conn.new.in_transaction ≡ false }
+    ensures stays { StaysOpen (state S.Store conn.old) (state S.Store conn.new) result }
+    ensures honest { IsHonest (state S.Store conn.old) (state S.Store conn.new) }
+    ensures survives { CommitsNothingOf (state S.Store conn.old) (state S.Store conn.new) }
+{
+    select_by(
+        conn,
+        alloc,
+        "SELECT day, kind, period, unit, party, side, credited FROM credits WHERE day = ?1 AND kind = ?2 ORDER BY day, kind, period, unit, party, side",
+        run,
+    )
 }

@@ -9,6 +9,7 @@ mod make;
 mod meter_rows;
 mod office_rows;
 mod party_rows;
+mod position_rows;
 mod posting_rows;
 mod price_rows;
 mod reallocation_rows;
@@ -18,20 +19,33 @@ mod result_rows;
 mod run_rows;
 mod statement;
 mod taker;
+mod touched_rows;
 mod unit_rows;
 
-pub use contract_rows::{replace_contract, select_contract, select_contracts_on};
-pub use credit_rows::{insert_credit, insert_credits};
+pub use contract_rows::{
+    replace_contract, select_contract, select_contract_inside, select_contracts,
+    select_contracts_on,
+};
+pub use credit_rows::{insert_credit, insert_credits, select_credits_of};
 pub use file_rows::{replace_file, select_file};
 pub use make::{make_table, make_tables};
 pub use meter_rows::{replace_meter, select_meter, select_meters_on};
-pub use office_rows::{insert_mark, insert_settings, select_mark, select_settings};
+pub use office_rows::{insert_mark, insert_settings, replace_mark, select_mark, select_settings};
 pub use party_rows::{give_parties, replace_party, select_parties, select_party};
+pub use position_rows::{
+    replace_position, replace_positions, select_position, select_position_inside, select_positions,
+    select_positions_on,
+};
 pub use posting_rows::{give_postings, insert_posting, insert_postings, select_postings};
 pub use price_rows::{replace_price, select_price, select_prices_on};
 pub use reallocation_rows::{replace_reallocation, select_reallocations_of};
-pub use reference_rows::{replace_reference, replace_references, select_reference};
+pub use reference_rows::{
+    replace_reference, replace_references, select_reference, select_references,
+};
 pub use result_rows::{give_results_of, insert_result, insert_results, select_results_of};
-pub use run_rows::{insert_run, select_run, select_runs_on};
+pub use run_rows::{insert_run, select_run, select_runs, select_runs_on};
 pub use taker::RowTaker;
+pub use touched_rows::{
+    select_touched, select_touched_on, touch_period, touch_periods, untouch_on,
+};
 pub use unit_rows::{replace_unit, select_unit, select_units};

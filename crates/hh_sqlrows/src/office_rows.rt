@@ -67,6 +67,32 @@ pub fn insert_mark<S: Alter>(
     )
 }
 
+/// Puts whether positions are kept in the place of what was said of it.
+pub fn replace_mark<S: Alter>(
+    tx: &mut Transaction<'_, S>,
+    alloc: Global,
+    positions: bool,
+) -> Result<(), RowFault>
+    ensures same_reference { tx.new.conn.ghost_name ≡ tx.old.conn.ghost_name }
+    ensures puts { let old = state S.Store tx.old.conn.now in
+        let new = state S.Store tx.new.conn.now in
+        Inside old new (IsOffice old.now
+        → OnOk result (Puts marks (record {}) positions old.now new.now)) }
+    ensures inside { StaysInside (state S.Store tx.old.conn.now)
+        (state S.Store tx.new.conn.now) result }
+    ensures left { KeepsCommit (state S.Store tx.old.conn.now) (state S.Store tx.new.conn.now) }
+    ensures survives { CommitsNothing (state S.Store tx.old.conn.now)
+        (state S.Store tx.new.conn.now) }
+{
+    write_entry(
+        tx,
+        alloc,
+        "INSERT OR REPLACE INTO marks (id, positions) VALUES (?1, ?2)",
+        &OneRow,
+        &positions,
+    )
+}
+
 /// The settings.
 pub fn select_settings<S: Alter>(
     conn: &mut Connection<S>,

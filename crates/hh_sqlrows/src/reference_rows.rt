@@ -10,7 +10,7 @@ ghost use Rattle.hh_sqlrows.specs.OfficeTables.{references};
 ghost use Rattle.hh_sqlrows.specs.Reads.{CommitsNothingOf, IsHonest, LeavesOffice, OfOffice, StaysOpen, Stood};
 ghost use Rattle.hh_sqlrows.specs.Statements.{CommitsNothing, Inside, KeepsCommit, StaysInside};
 
-use crate::statement::{select_first, write_entry};
+use crate::statement::{select_entries, select_first, write_entry};
 use hh_keyed_rows::RowFault;
 use hh_names::{Counterparties, Reference};
 use sqlite::{Alter, Connection, Transaction};
@@ -89,4 +89,28 @@ pub fn replace_references<S: Alter>(
         replace_reference(tx, alloc, &row.0, &row.1)?;
     }
     Ok(())
+}
+
+/// All references with their sellers and buyers, by their bytes.
+pub fn select_references<S: Alter>(
+    conn: &mut Connection<S>,
+    alloc: Global,
+) -> Result<Vec<(Reference, Counterparties)>, RowFault>
+    ensures value { let old = state S.Store conn.old in
+        let new = state S.Store conn.new in
+        OfOffice old new (IfOk result (λ found.
+        found.items ≡ rows_under_keys references old.now.trees)) }
+    ensures stood { Stood (state S.Store conn.old) (state S.Store conn.new) }
+    ensures left { LeavesOffice (state S.Store conn.old) (state S.Store conn.new) }
+    ensures mode { conn.old.in_transaction ≡ false → conn.new.in_transaction ≡ false }
+    ensures stays { StaysOpen (state S.Store conn.old) (state S.Store conn.new) result }
+    ensures honest { IsHonest (state S.Store conn.old) (state S.Store conn.new) }
+    ensures survives { CommitsNothingOf (state S.Store conn.old) (state S.Store conn.new) }
+{
+    select_entries(
+        conn,
+        alloc,
+        "SELECT reference, seller, seller_side, buyer, buyer_side FROM refs ORDER BY reference",
+        &[],
+    )
 }

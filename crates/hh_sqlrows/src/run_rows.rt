@@ -11,7 +11,7 @@ ghost use Rattle.hh_sqlrows.specs.OfficeTables.{runs};
 ghost use Rattle.hh_sqlrows.specs.Reads.{CommitsNothingOf, IsHonest, LeavesOffice, OfOffice, StaysOpen, Stood};
 ghost use Rattle.hh_sqlrows.specs.Statements.{CommitsNothing, Inside, KeepsCommit, StaysInside};
 
-use crate::statement::{select_by, select_first, write_entry};
+use crate::statement::{select_by, select_entries, select_first, write_entry};
 use hh_keyed_rows::RowFault;
 use hh_runs::{RunKey, Summary};
 use hh_time::SettlementDate;
@@ -93,5 +93,29 @@ pub fn select_runs_on<S: Alter>(
         alloc,
         "SELECT day, kind, periods, accounts, residual, postings FROM runs WHERE day = ?1 ORDER BY day, kind",
         date,
+    )
+}
+
+/// All runs with their summaries, by date, then by kind.
+pub fn select_runs<S: Alter>(
+    conn: &mut Connection<S>,
+    alloc: Global,
+) -> Result<Vec<(RunKey, Summary)>, RowFault>
+    ensures value { let old = state S.Store conn.old in
+        let new = state S.Store conn.new in
+        OfOffice old new (IfOk result (λ found.
+        found.items ≡ rows_under_keys runs old.now.trees)) }
+    ensures stood { Stood (state S.Store conn.old) (state S.Store conn.new) }
+    ensures left { LeavesOffice (state S.Store conn.old) (state S.Store conn.new) }
+    ensures mode { conn.old.in_transaction ≡ false → conn.new.in_transaction ≡ false }
+    ensures stays { StaysOpen (state S.Store conn.old) (state S.Store conn.new) result }
+    ensures honest { IsHonest (state S.Store conn.old) (state S.Store conn.new) }
+    ensures survives { CommitsNothingOf (state S.Store conn.old) (state S.Store conn.new) }
+{
+    select_entries(
+        conn,
+        alloc,
+        "SELECT day, kind, periods, accounts, residual, postings FROM runs ORDER BY day, kind",
+        &[],
     )
 }

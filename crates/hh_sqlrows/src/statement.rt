@@ -41,6 +41,32 @@ pub(crate) fn write_entry<S: Alter, K: Columned, V: Columned>(
     }
 }
 
+/// Executes a text whose parameters are the columns of one value.
+pub(crate) fn execute_by<S: Alter, A: Columned>(
+    tx: &mut Transaction<'_, S>,
+    alloc: Global,
+    text: &str,
+    asked: &A,
+) -> Result<(), RowFault>
+    ensures same_reference { tx.new.conn.ghost_name ≡ tx.old.conn.ghost_name }
+    ensures executes { let old = state S.Store tx.old.conn.now in
+        let new = state S.Store tx.new.conn.now in
+        Inside old new (OnOk result ((count : ℕ)
+        × ExecutesInside 0 text.now (A.codec.write asked.now) old new (Ok count))) }
+    ensures inside { StaysInside (state S.Store tx.old.conn.now)
+        (state S.Store tx.new.conn.now) result }
+    ensures left { KeepsCommit (state S.Store tx.old.conn.now) (state S.Store tx.new.conn.now) }
+    ensures survives { CommitsNothing (state S.Store tx.old.conn.now)
+        (state S.Store tx.new.conn.now) }
+{
+    let mut params = Vec::new(alloc);
+    asked.to_columns(&mut params)?;
+    match tx.execute(text, params.as_slice()) {
+        Ok(_) => Ok(()),
+        Err(error) => Err(RowFault::from(error)),
+    }
+}
+
 /// The keys and the values that a text selects by parameters.
 pub(crate) fn select_entries<S: Alter, K: Columned + Drop, V: Columned + Drop>(
     conn: &mut Connection<S>,
@@ -160,6 +186,60 @@ pub(crate) fn select_first<S: Alter, K: Columned + Drop, V: Columned + Drop>(
         Ok(found) => Ok(value_of_first::<K, V>(found)),
         Err(fault) => Err(fault),
     }
+}
+
+/// The keys and the values that a text selects by parameters, in a transaction.
+fn select_inside<S: Alter, K: Columned + Drop, V: Columned + Drop>(
+    tx: &mut Transaction<'_, S>,
+    alloc: Global,
+    text: &str,
+    params: &[ValueRef<'_>],
+) -> Result<Vec<(K, V)>, RowFault>
+    ensures same_reference { tx.new.conn.ghost_name ≡ tx.old.conn.ghost_name }
+    ensures read { let old = state S.Store tx.old.conn.now in
+        let new = state S.Store tx.new.conn.now in
+        Inside old new (IfOk result (λ found.
+        IsRead K.codec V.codec text.now (bound params.now) old new found.items)) }
+    ensures same { let old = state S.Store tx.old.conn.now in
+        let new = state S.Store tx.new.conn.now in
+        Inside old new (IsPlainOf old text.now → OnOk result (new.now ≡ old.now)) }
+    ensures inside { StaysInside (state S.Store tx.old.conn.now)
+        (state S.Store tx.new.conn.now) result }
+    ensures left { KeepsCommit (state S.Store tx.old.conn.now) (state S.Store tx.new.conn.now) }
+    ensures survives { CommitsNothing (state S.Store tx.old.conn.now)
+        (state S.Store tx.new.conn.now) }
+{
+    match tx.query_all(text, params) {
+        Ok(rows) => read_entries(alloc, rows.as_slice()),
+        Err(error) => Err(RowFault::from(error)),
+    }
+}
+
+/// The value of the first row that a text selects by its key, in a transaction.
+pub(crate) fn select_first_inside<S: Alter, K: Columned + Drop, V: Columned + Drop>(
+    tx: &mut Transaction<'_, S>,
+    alloc: Global,
+    text: &str,
+    key: &K,
+) -> Result<Option<V>, RowFault>
+    ensures same_reference { tx.new.conn.ghost_name ≡ tx.old.conn.ghost_name }
+    ensures found { let old = state S.Store tx.old.conn.now in
+        let new = state S.Store tx.new.conn.now in
+        Inside old new (IfOk result (λ value.
+        IsFirst K.codec V.codec text.now (K.codec.write key.now) old new value)) }
+    ensures same { let old = state S.Store tx.old.conn.now in
+        let new = state S.Store tx.new.conn.now in
+        Inside old new (IsPlainOf old text.now → OnOk result (new.now ≡ old.now)) }
+    ensures inside { StaysInside (state S.Store tx.old.conn.now)
+        (state S.Store tx.new.conn.now) result }
+    ensures left { KeepsCommit (state S.Store tx.old.conn.now) (state S.Store tx.new.conn.now) }
+    ensures survives { CommitsNothing (state S.Store tx.old.conn.now)
+        (state S.Store tx.new.conn.now) }
+{
+    let mut params = Vec::new(alloc);
+    key.to_columns(&mut params)?;
+    let found = select_inside(tx, alloc, text, params.as_slice())?;
+    Ok(value_of_first::<K, V>(found))
 }
 
 /// The value of the first entry.

@@ -35,6 +35,7 @@ still_holds kept old new stays holds = record {
   settings = ap (find one_row_cmp (record {})) stays.settings ∙ holds.settings;
   prices = refl;
   alike = record { parties = refl; units = refl; references = refl; meters = refl; contracts = refl; reallocations = refl; files = refl; runs = refl; results = refl; credits = refl; postings = refl };
+  in_step = refl;
 }
 
 module _ {S : Type 0} (g : Ghosts S) (t : Stored S) {posted : Option (Vec (PostingKey × ℤ))} (idle : IsIdle g t posted) (connection : Held S) (count : ℕ) (Change : Database → Database → Type 0)

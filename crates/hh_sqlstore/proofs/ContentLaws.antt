@@ -25,16 +25,16 @@ same_registered : (a b : Registered) → a.parties ≡ b.parties → a.units ≡
 same_registered a b p u f m s c r =
     let e : ◌≡◌ {A = Registered} (record { parties = a.parties; units = a.units; references = a.references; meters = a.meters; prices = a.prices; contracts = a.contracts; reallocations = a.reallocations }) b = rw (p, u, f, m, s, c, r) in e
 
-same_content : (a b : Content) → a.settings ≡ b.settings → a.registered ≡ b.registered → a.files ≡ b.files → a.runs ≡ b.runs → a.results ≡ b.results → a.credits ≡ b.credits → a.postings ≡ b.postings → a ≡ b
-same_content a b s g f r t c p =
-    let e : ◌≡◌ {A = Content} (record { settings = a.settings; registered = a.registered; files = a.files; runs = a.runs; results = a.results; credits = a.credits; postings = a.postings }) b = rw (s, g, f, r, t, c, p) in e
+same_content : (a b : Content) → a.settings ≡ b.settings → a.registered ≡ b.registered → a.files ≡ b.files → a.runs ≡ b.runs → a.results ≡ b.results → a.credits ≡ b.credits → a.postings ≡ b.postings → a.is_in_step ≡ b.is_in_step → a ≡ b
+same_content a b s g f r t c p i =
+    let e : ◌≡◌ {A = Content} (record { settings = a.settings; registered = a.registered; files = a.files; runs = a.runs; results = a.results; credits = a.credits; postings = a.postings; is_in_step = a.is_in_step }) b = rw (s, g, f, r, t, c, p, i) in e
 
 module _ (content : Content) (db : Database) (holds : Holds version content db) where
   pub content_is : content ≡ content_of content.settings db.trees
   content_is =
       let alike = holds.alike in
       let registered = same_registered content.registered (registered_of db.trees) alike.parties alike.units alike.references alike.meters holds.prices alike.contracts alike.reallocations in
-      same_content content (content_of content.settings db.trees) refl registered alike.files alike.runs alike.results alike.credits alike.postings
+      same_content content (content_of content.settings db.trees) refl registered alike.files alike.runs alike.results alike.credits alike.postings holds.in_step
 
   -- it holds the content that it has with the settings that stand in it
   pub holds_its_own : Holds version (content_of content.settings db.trees) db
@@ -44,4 +44,5 @@ module _ (content : Content) (db : Database) (holds : Holds version content db) 
     settings = holds.settings;
     prices = refl;
     alike = record { parties = refl; units = refl; references = refl; meters = refl; contracts = refl; reallocations = refl; files = refl; runs = refl; results = refl; credits = refl; postings = refl };
+    in_step = refl;
   }

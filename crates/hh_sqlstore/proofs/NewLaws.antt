@@ -75,6 +75,7 @@ module _ (kept : Settings) (first second last : Database) (empty : IsEmptyOffice
         credits = sym (no_rows credits last.trees (all_still.1.1.1.1.1.1.1.1.1.1.1.0 (λ e. omega (arith, e)) (λ e. omega (arith, e))));
         postings = sym (no_rows postings last.trees (all_still.1.1.1.1.1.1.1.1.1.1.1.1.0 (λ e. omega (arith, e)) (λ e. omega (arith, e))));
       };
+      in_step = refl;
     };
     mark = mark_stands;
     beside = (all_still.1.1.1.1.1.1.1.1.1.1.1.1.1.0 (λ e. omega (arith, e)) (λ e. omega (arith, e)), (all_still.1.1.1.1.1.1.1.1.1.1.1.1.1.1.0 (λ e. omega (arith, e)) (λ e. omega (arith, e)), tt));

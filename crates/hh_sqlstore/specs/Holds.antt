@@ -1,5 +1,5 @@
 -- What a database of an office holds, by the version of its tables.
-use Rattle.std.specs.Prelude.{◌≡◌, ℕ, [], ◌∷◌, false, map, Some}
+use Rattle.std.specs.Prelude.{◌≡◌, ℕ, [], ◌∷◌, true, false, map, Some}
 use Rattle.std.specs.FinMap.{find}
 use Rattle.sqlite_trees.specs.Tree.{Trees}
 use Rattle.sqlite.specs.Effect.{Database}
@@ -31,7 +31,7 @@ pub record HoldsAlike (content : Content) (trees : Trees) : Type 0 where
   pub credits : content.credits ≡ rows_under_keys credits trees
   pub postings : content.postings ≡ rows_under_keys postings trees
 
--- The tables of this version hold the content. There is one version so far: versions may differ in their tables, in the
+-- The tables of this version hold the content; nothing is kept beside it that could differ. There is one version so far: versions may differ in their tables, in the
 -- row of the settings, which names the version, and in how prices are kept.
 pub record Holds (number : ℕ) (content : Content) (db : Database) : Type 0 where
   pub of_version : number ≡ version
@@ -39,6 +39,7 @@ pub record Holds (number : ℕ) (content : Content) (db : Database) : Type 0 whe
   pub settings : HasSettings content.settings db.trees
   pub prices : content.registered.prices ≡ rows_under_keys period_prices db.trees
   pub alike : HoldsAlike content db.trees
+  pub in_step : content.is_in_step ≡ true
 
 -- The database was just made: nothing has been accepted, no positions are kept, and no Settlement Period was touched.
 pub record IsNewOffice (kept : Settings) (db : Database) : Type 0 where

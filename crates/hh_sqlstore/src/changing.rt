@@ -1,9 +1,9 @@
 //! Changes of an office's database, each in one transaction.
 
-ghost use Rattle.std.specs.Prelude.{◌≡◌, false, OnErr, OnOk, IsTrue};
+ghost use Rattle.std.specs.Prelude.{◌≡◌, [], false, OnErr, OnOk, IsTrue};
 ghost use Rattle.sqlite.specs.Held.{state};
 ghost use Rattle.sqlite.specs.State.{HasCleanDisk};
-ghost use Rattle.hh_sqlchanges.specs.Writes.{StoresLoad, StoresRun};
+ghost use Rattle.hh_sqlchanges.specs.Writes.{ChangesByLoad, ChangesByRun};
 ghost use Rattle.hh_sqlstore.specs.steps.Changed.{IsChangedBy};
 ghost use Rattle.hh_sqlstore.specs.steps.Made.{IsUndone};
 
@@ -13,7 +13,8 @@ use hh_store::{LoadChange, RunChange};
 use sqlite::{Alter, Connection};
 use std::alloc::Global;
 
-/// Writes what an accepted file changes, whole or not at all.
+/// Writes what an accepted file changes, whole or not at all. No positions and no touched Settlement Periods are
+/// kept yet.
 pub(crate) fn keep_load<S: Alter>(
     connection: &mut Connection<S>,
     alloc: Global,
@@ -24,14 +25,14 @@ pub(crate) fn keep_load<S: Alter>(
         IsTrue old.is_open → old.now ≡ old.committed }
     ensures made { let old = state S.Store connection.old in
         let new = state S.Store connection.new in
-        HasCleanDisk new → OnOk result (IsChangedBy (StoresLoad change.now) old new) }
+        HasCleanDisk new → OnOk result (IsChangedBy (ChangesByLoad change.now [] []) old new) }
     ensures undone { let old = state S.Store connection.old in
         let new = state S.Store connection.new in
         OnErr result (IsUndone old new) }
     ensures autocommit { connection.new.in_transaction ≡ false }
 {
     let mut tx = connection.transaction();
-    write_load(&mut tx, alloc, change)?;
+    write_load(&mut tx, alloc, change, &[], &[])?;
     match tx.commit() {
         Ok(()) => Ok(()),
         Err(error) => Err(RowFault::from(error)),
@@ -49,7 +50,7 @@ pub(crate) fn keep_run<S: Alter>(
         IsTrue old.is_open → old.now ≡ old.committed }
     ensures made { let old = state S.Store connection.old in
         let new = state S.Store connection.new in
-        HasCleanDisk new → OnOk result (IsChangedBy (StoresRun change.now) old new) }
+        HasCleanDisk new → OnOk result (IsChangedBy (ChangesByRun change.now) old new) }
     ensures undone { let old = state S.Store connection.old in
         let new = state S.Store connection.new in
         OnErr result (IsUndone old new) }

@@ -119,7 +119,7 @@ module _ {K V : Type 0} (R : K → K → Ordering) where
     | false ↦ λ is. (refl, lacks k es is)
   ] none
 
-  below_lacks : (k : K) (es : List (K × V)) → T (below_all R k es) → Lacks k es
+  pub below_lacks : (k : K) (es : List (K × V)) → T (below_all R k es) → Lacks k es
   below_lacks k [] h = tt
   below_lacks k (e ∷ es) h =
       let parts = both_parts (is_lt (R k e.0)) (below_all R k es) h in

@@ -40,12 +40,12 @@ use Rattle.hh_state_laws.proofs.EffectiveLaws.{Keeps, KeepsParty, KeepsUnit, cou
 use Rattle.hh_state_laws.proofs.PutLaws.{keys-put, keys-put_in_time, length-put_within, percents-put_in_time, stays-put, stays-put_new, table-put_entry, table-put_in_time, table-put_new, values-put}
 
 -- none of the conditions of a list is met
-abbrev NoneMet : List (Refusal × Bool) → Type 0
+abbrev pub NoneMet : List (Refusal × Bool) → Type 0
 NoneMet [] = Unit {0}
 NoneMet (r ∷ rs) = (r.1 ≡ false) × NoneMet rs
 
 -- where no refusal is the first that is met, none is met
-none_met : (rs : List (Refusal × Bool)) → first_met rs ≡ None → NoneMet rs
+pub none_met : (rs : List (Refusal × Bool)) → first_met rs ≡ None → NoneMet rs
 none_met [] none = tt
 none_met (r ∷ rs) none = elim r.1 as (λ b. cond b (Some r.0) (first_met rs) ≡ None → (b ≡ false) × NoneMet rs) [
   | true ↦ λ e. cc
@@ -253,7 +253,7 @@ nothing_consistent = record {
 }
 
 -- a row that is accepted after a history leaves consistent what is registered and in force
-consistent_with : (timetable : Timetable) (history : History) (a : Accepted) → AreConsistent (registered_in timetable history) → IsRow a.row → refusal_after timetable history a ≡ None
+pub consistent_with : (timetable : Timetable) (history : History) (a : Accepted) → AreConsistent (registered_in timetable history) → IsRow a.row → refusal_after timetable history a ≡ None
     → AreConsistent (registered_in timetable (history ++ a ∷ []))
 consistent_with timetable history a before valued accepted =
     subst AreConsistent (sym (looks_back timetable history a)) (with_accepted timetable a.moment a.row (registered_in timetable history) before accepted)

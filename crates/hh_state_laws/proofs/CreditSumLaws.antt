@@ -61,18 +61,18 @@ module _ {X : Type 0} (alike : X → X → Bool) (itself : (x : X) → alike x x
       others = all-weaken (λ y. alike x y ≡ false) (λ y. alike y x ≡ false) (λ y differ. turned y x ∙ differ) xs apart.0
 
 -- whether two Settlement Periods have one number
-abbrev have_one_number : SettlementPeriod → SettlementPeriod → Bool
+abbrev pub have_one_number : SettlementPeriod → SettlementPeriod → Bool
 have_one_number x y = x.period == y.period
 
 -- no two Settlement Periods of a date have one number
-numbers_differ : (date count : ℕ) → NoneAlike have_one_number (periods_on date count)
+pub numbers_differ : (date count : ℕ) → NoneAlike have_one_number (periods_on date count)
 numbers_differ date count =
     distinct-weaken (λ x y. is_same_number x.period y.period) have_one_number
     (λ x y apart. ne_eqb x.period y.period (λ one. false_is_not_true (sym apart ∙ sym (ap (is_same_number x.period) one) ∙ (eq_by_cmp_equiv nat_cmp_total).refl x.period)))
     (periods_on date count) (periods_distinct date count)
 
 -- equality of numbers may be turned
-turned_number : (a b : ℕ) → (a == b) ≡ (b == a)
+pub turned_number : (a b : ℕ) → (a == b) ≡ (b == a)
 turned_number a b = elim (b == a) as (λ t. (b == a) ≡ t → (a == b) ≡ t) [
   | true ↦ λ is. eq-eqb a b (sym (eqb-true b a is))
   | false ↦ λ is. ne_eqb a b (λ e. eqb-false b a is (sym e))

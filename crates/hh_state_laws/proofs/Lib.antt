@@ -1,23 +1,24 @@
-mod AcceptedLaws
+pub mod AcceptedLaws
 mod AmountLaws
-mod ApartLaws
+pub mod ApartLaws
 pub mod BalanceLaws
 pub mod CompleteLaws
 pub mod ConsistentLaws
 pub mod CountLaws
 pub mod CreditSumLaws
-mod EffectiveLaws
+pub mod EffectiveLaws
 mod LoadLaws
+pub mod NetLaws
 pub mod PostingLaws
-mod PutLaws
+pub mod PutLaws
 mod RangeLaws
 pub mod ReachLaws
 pub mod ReadyLaws
 pub mod ResultLaws
-mod RisingLaws
+pub mod RisingLaws
 pub mod RunLaws
 pub mod RunReadLaws
-mod RunRowLaws
+pub mod RunRowLaws
 pub mod RunSumLaws
 pub mod SettledLaws
 pub mod TurnoverLaws

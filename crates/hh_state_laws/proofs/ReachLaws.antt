@@ -122,4 +122,5 @@ load_effect midnight s load reached can =
       results = in_key_order result_key_cmp (results_same timetable s.history more s.runs within i);
       credits = in_key_order credit_key_cmp (credits_same timetable s.history more s.runs within i);
       postings = in_key_order posting_key_cmp (all_postings_same timetable s.history more (with_former [] s.runs) pairs i);
+      is_in_step = true;
     }

@@ -38,7 +38,7 @@ use Rattle.hh_rules.specs.History.{Registered}
 use Rattle.hh_rules.specs.Refusals.{most_parties}
 use Rattle.hh_rules.specs.RegisterView.{reallocations_at}
 use Rattle.hh_calc.specs.declared.data.Subsidiary.{Subsidiary}
-use Rattle.hh_calc.specs.Ready.{HasFewSubsidiaries, IsContractNamed, IsUnitNamed}
+use Rattle.hh_calc.specs.Ready.{AreContractsReady, HasFewSubsidiaries, IsContractNamed, IsUnitNamed}
 use Rattle.hh_calc.specs.Terms.{BmUnit}
 use Rattle.hh_names.specs.PartyAccounts.{both_accounts}
 use Rattle.hh_states.specs.PeriodSettlement.{accounts_on, reading_of, rows_in_force, subsidiaries_of, terms_at, unit_with, units_on}
@@ -142,7 +142,7 @@ module _ {K V : Type 0} {R : K → K → Ordering} (o : IsTotalOrder R) where
 -- what is made of the elements for which something is found
 module _ {X Y Z : Type 0} (see : X → Option Z) (make : X → Z → Y) where
   -- holds of each what holds of all that may be made
-  all_made : (P : Y → Type 0) (xs : List X) → AllByRecursion (λ x. (z : Z) → see x ≡ Some z → P (make x z)) xs → AllByRecursion P (filter_map (λ x. option_map (make x) (see x)) xs)
+  pub all_made : (P : Y → Type 0) (xs : List X) → AllByRecursion (λ x. (z : Z) → see x ≡ Some z → P (make x z)) xs → AllByRecursion P (filter_map (λ x. option_map (make x) (see x)) xs)
   all_made P [] h = tt
   all_made P (x ∷ xs) h =
       let rest : List Y = filter_map (λ y. option_map (make y) (see y)) xs in
@@ -172,7 +172,7 @@ below_parties a (e ∷ es) below =
     (ap (λ o. ordering_then o (side_cmp a.side Production)) under, (ap (λ o. ordering_then o (side_cmp a.side Consumption)) under, below_parties a es (second _ _ below)))
 
 -- so that the accounts of rising parties rise
-parties_rise : (es : Table (List ℕ) PartyRegistration) → T (is_sorted bytes_cmp es) → IsStrictlySortedBy account_cmp (flat_map (λ e. both_accounts e.0) es)
+pub parties_rise : (es : Table (List ℕ) PartyRegistration) → T (is_sorted bytes_cmp es) → IsStrictlySortedBy account_cmp (flat_map (λ e. both_accounts e.0) es)
 unfolding IsStrictlySortedBy
 parties_rise [] up = record {}
 parties_rise (e ∷ es) up =
@@ -198,7 +198,7 @@ one_value : {A : Type 0} (x y : A) → Some x ≡ Some y → x ≡ y
 one_value x y e = cc
 
 -- an account is there if its party is found with a range that holds the date
-account_there : (date : ℕ) (es : Table (List ℕ) PartyRegistration) (a : Account) (p : PartyRegistration) → find bytes_cmp a.party es ≡ Some p → holds p.range date ≡ true
+pub account_there : (date : ℕ) (es : Table (List ℕ) PartyRegistration) (a : Account) (p : PartyRegistration) → find bytes_cmp a.party es ≡ Some p → holds p.range date ≡ true
     → Contains (flat_map (λ e. both_accounts e.0) (filter (λ e. holds e.1.range date) es)) a
 account_there date [] a p found held = cc
 account_there date (e ∷ es) a p found held =
@@ -384,10 +384,10 @@ module _ (tables : Registered) (consistent : AreConsistent tables) (at : Settlem
   row_with e c = record { key = e.0; contract = record { counterparties = c; volume = e.1 } }
 
   -- sellers and buyers are there
-  contracts_named : All (IsContractNamed accounts) (terms_at tables at).contracts
+  contracts_named : AreContractsReady accounts (terms_at tables at).contracts
   contracts_named =
       let es : Table ContractKey ℤ = filter (λ e. eq_by_cmp settlement_period_cmp e.0.at at) tables.contracts in
-      All-from_recursion (IsContractNamed accounts) (terms_at tables at).contracts
+      All-from_recursion (IsContractNamed accounts) (map (λ (r : ContractRow). r.contract) (rows_in_force tables at))
       (all-map (IsContractNamed accounts) (λ (r : ContractRow). r.contract) (rows_in_force tables at)
       (all_made (λ (e : ContractKey × ℤ). find bytes_cmp e.0.reference tables.references) row_with (λ r. IsContractNamed accounts r.contract) es
       (all-weaken IsContractOf (λ e. (c : Counterparties) → find bytes_cmp e.0.reference tables.references ≡ Some c → IsContractNamed accounts (row_with e c).contract) contract_there es

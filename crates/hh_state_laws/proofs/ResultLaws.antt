@@ -93,7 +93,7 @@ module _ (key : RunKey) (timetable : Timetable) (history : History) (date count 
   rows_of q = map (λ r. (result_key key q.0 r, r)) q.1.accounts
 
   -- those of one period rise by account
-  period_rises : (at : SettlementPeriod) → Rises result_key_cmp (λ e. e.0) (rows_of (settled_at seen at))
+  pub period_rises : (at : SettlementPeriod) → Rises result_key_cmp (λ e. e.0) (rows_of (settled_at seen at))
   period_rises at =
       let p : PeriodTerms = terms_at seen at in
       distinct-map (λ (a b : ResultKey × AccountRow). is_not_below result_key_cmp a.0 b.0) (λ r. (result_key key at r, r)) (settled p).accounts

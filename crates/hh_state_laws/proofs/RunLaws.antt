@@ -1,5 +1,5 @@
 -- The tables of the state after a new run are those before with what the run writes.
-use Rattle.std.proofs.Common.{◌≡◌, List, [], ◌∷◌, ◌++◌, map, refl, sym, ap, subst, ◌∙◌, false, Option, None, Ordering, append_assoc}
+use Rattle.std.proofs.Common.{◌≡◌, List, [], ◌∷◌, ◌++◌, map, refl, sym, ap, subst, ◌∙◌, true, false, Option, None, Ordering, append_assoc}
 use Rattle.std.specs.Prelude.{ℤ, take, Some}
 use Rattle.std.specs.FinMap.{find, put}
 use Rattle.std.specs.List.{AllByRecursion, flat_map}
@@ -133,4 +133,5 @@ run_effect midnight s moment key can = λ i. record {
   results = results_path midnight s key can.0 i;
   credits = credits_path midnight s key can.0 i;
   postings = postings_path midnight s key can.0 i;
+  is_in_step = true;
 }

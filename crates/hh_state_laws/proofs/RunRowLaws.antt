@@ -118,7 +118,7 @@ pub all_of : {X : Type 0} (P : X → Type 0) → ((x : X) → P x) → (xs : Lis
 all_of P each [] = tt
 all_of P each (x ∷ xs) = (each x, all_of P each xs)
 
-all_blocks : {X Y : Type 0} (P : Y → Type 0) (block : X → List Y) → ((x : X) → AllByRecursion P (block x)) → (xs : List X) → AllByRecursion P (flat_map block xs)
+pub all_blocks : {X Y : Type 0} (P : Y → Type 0) (block : X → List Y) → ((x : X) → AllByRecursion P (block x)) → (xs : List X) → AllByRecursion P (flat_map block xs)
 all_blocks P block each [] = tt
 all_blocks P block each (x ∷ xs) = all-append P (block x) (flat_map block xs) (each x) (all_blocks P block each xs)
 

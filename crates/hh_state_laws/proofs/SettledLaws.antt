@@ -37,7 +37,7 @@ use Rattle.hh_state_laws.proofs.AmountLaws.{in_key_order_moves, told_apart}
 use Rattle.hh_state_laws.proofs.ApartLaws.{NoneAlike, all-append, all-map, distinct-append, distinct-map, distinct_blocks, first_part, have_one_key, second_part}
 
 -- rows made of figures and shares show the figures
-figures_shown : (fs : List Figures) (shares : List ℤ) → length fs ≡ length shares → map figures_of (account_rows fs shares) ≡ fs
+pub figures_shown : (fs : List Figures) (shares : List ℤ) → length fs ≡ length shares → map figures_of (account_rows fs shares) ≡ fs
 figures_shown [] shares same = refl
 figures_shown (f ∷ fs) [] same = absurd (omega arith)
 figures_shown (f ∷ fs) (x ∷ shares) same = ap (λ t. f ∷ t) (figures_shown fs shares (omega arith))
@@ -98,7 +98,7 @@ module _ (u : BmUnit) where
   all_own (s ∷ subsidiaries) = (refl, all_own subsidiaries)
 
   -- and so are all credits from it
-  own_credits : AllByRecursion (λ c. c.unit ≡ u.unit) (unit_credits u)
+  pub own_credits : AllByRecursion (λ c. c.unit ≡ u.unit) (unit_credits u)
   own_credits = all-append (λ c. c.unit ≡ u.unit) (map to_subsidiary u.subsidiaries) (to_lead ∷ []) (all_own u.subsidiaries) (refl, tt)
 
   -- other accounts have other credits

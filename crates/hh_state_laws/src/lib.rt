@@ -4,6 +4,7 @@
 mod amounts;
 mod consistency;
 mod effects;
+mod nets;
 mod ranges;
 mod run_reads;
 mod sums;
@@ -16,6 +17,7 @@ pub use consistency::{
     sound_states,
 };
 pub use effects::{kept_files, load_effect, run_effect};
+pub use nets::nets_settle_alike;
 pub use ranges::{accepted_files_in_range, keys_never_meet, values_in_range};
 pub use run_reads::{
     day_nets_from_results, kept_kinds_of_dates, kept_postings, kept_results, kept_runs_of_dates,

@@ -1,5 +1,5 @@
 -- The tables that an office keeps, and those that stand for a state.
-use Rattle.std.specs.Prelude.{ℤ, List, [], map, Option}
+use Rattle.std.specs.Prelude.{ℤ, List, [], map, Bool, true, Option}
 use Rattle.std.specs.List.{flat_map}
 use Rattle.std.specs.Ordering.{nat_cmp, on, then_cmp}
 use Rattle.std.specs.declared.cmp.Ordering.{Ordering}
@@ -38,7 +38,8 @@ credit_key_cmp =
 abbrev pub posting_key_cmp : PostingKey → PostingKey → Ordering
 posting_key_cmp = then_cmp (on (λ k. k.run) run_key_cmp) (on (λ k. k.account) account_cmp)
 
--- the thirteen tables: the settings, the seven of what is registered and in force, the files, and four of the runs
+-- The thirteen tables: the settings, the seven of what is registered and in force, the files, and four of the runs. And whether what
+-- a store keeps beside them, so that a run settles again only what has changed, agrees with them.
 pub record Content : Type 0 where
   pub settings : Settings
   pub registered : Registered
@@ -47,6 +48,7 @@ pub record Content : Type 0 where
   pub results : Table ResultKey AccountRow
   pub credits : Table CreditKey ℤ
   pub postings : Table PostingKey ℤ
+  pub is_in_step : Bool
 
 -- the tables of an office with these settings, in which nothing has been accepted
 abbrev pub empty_content : Settings → Content
@@ -58,6 +60,7 @@ empty_content settings = record {
   results = [];
   credits = [];
   postings = [];
+  is_in_step = true;
 }
 
 -- the key of an account's row in a Settlement Period of a run
@@ -103,7 +106,7 @@ module _ (timetable : Timetable) (s : State) where
   abbrev pub all_postings : List (PostingKey × ℤ)
   all_postings = flat_map (λ r. posting_entries r.1.key (postings_after timetable s.history r.0 r.1)) (runs_with_former s)
 
--- the tables that stand for a state, each in the order of its keys
+-- the tables that stand for a state, each in the order of its keys; what is kept beside them agrees with them
 abbrev pub tables_of : Midnights → State → Content
 tables_of midnight s =
     let timetable : Timetable = office_timetable midnight s.settings in
@@ -115,4 +118,5 @@ tables_of midnight s =
       results = in_key_order result_key_cmp (all_results timetable s);
       credits = in_key_order credit_key_cmp (all_credits timetable s);
       postings = in_key_order posting_key_cmp (all_postings timetable s);
+      is_in_step = true;
     }

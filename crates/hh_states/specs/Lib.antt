@@ -2,6 +2,7 @@ pub mod Amounts
 pub mod Changes
 pub mod Content
 pub mod DaySettlement
+pub mod Nets
 pub mod PeriodSettlement
 pub mod Ranges
 pub mod Readiness

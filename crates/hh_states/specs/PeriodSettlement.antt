@@ -24,7 +24,7 @@ use Rattle.hh_calc.specs.declared.result.AccountRow.{AccountRow}
 use Rattle.hh_calc.specs.declared.result.CreditRow.{CreditRow}
 use Rattle.hh_calc.specs.declared.result.Figures.{Figures}
 use Rattle.hh_calc.specs.Formulas.{all_figures, credits_of, residual, residual_shares}
-use Rattle.hh_calc.specs.Terms.{BmUnit, PeriodTerms, Settled, bm_unit, period_terms, settled_period}
+use Rattle.hh_calc.specs.Terms.{BmUnit, PeriodTerms, Rows, Settled, bm_unit, period_terms, settled_period}
 
 module _ (tables : Registered) where
   -- the accounts of a date: both accounts of each party whose range holds it, in their order
@@ -71,8 +71,8 @@ module _ (tables : Registered) where
     -- then, and the unit is left out.
     abbrev pub terms_at : PeriodTerms
     terms_at =
-        period_terms (accounts_on at.date) (filter_map unit_at (units_on at.date)) (map (λ r. r.contract) rows_in_force)
-        (unwrap_or (price_of at) (pos 0))
+        period_terms (accounts_on at.date) (filter_map unit_at (units_on at.date))
+        (Rows (map (λ r. r.contract) rows_in_force)) (unwrap_or (price_of at) (pos 0))
 
 -- an account's row, from its figures and its share of the residual
 abbrev pub account_row : Figures → ℤ → AccountRow

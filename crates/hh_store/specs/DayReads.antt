@@ -1,23 +1,47 @@
 -- What is read of a Settlement Day, to settle it from.
-use Rattle.std.specs.Prelude.{◌≡◌, List, None}
+use Rattle.std.specs.Prelude.{◌≡◌, ◌⊎◌, ℕ, List, length, filter, Bool, true, false, None, IsTrue}
 use Rattle.std.specs.List.{AllZip}
 use Rattle.hh_rows.specs.declared.settlement_period.SettlementPeriod.{SettlementPeriod}
 use Rattle.hh_rules.specs.History.{Registered}
+use Rattle.hh_calc.specs.Limits.{is_within_limits}
+use Rattle.hh_calc.specs.Formulas.{netted}
+use Rattle.hh_calc.specs.Ready.{HasNetVolumes}
 use Rattle.hh_calc.specs.Terms.{PeriodTerms}
 use Rattle.hh_states.specs.DaySettlement.{missing_meter, missing_price}
-use Rattle.hh_states.specs.PeriodSettlement.{terms_at}
+use Rattle.hh_states.specs.PeriodSettlement.{settled, terms_at}
 use Rattle.hh_store.specs.declared.day_data.DayData.{DayData}
+use Rattle.hh_store.specs.declared.day_data.PeriodState.{PeriodState}
+use Rattle.hh_store.specs.declared.day_data.PeriodState.TheVariants.{Changed, Same}
 
--- this is what a Settlement Period is settled from
-abbrev pub IsPeriodOf : Registered → SettlementPeriod → PeriodTerms → Type 0
-IsPeriodOf tables at terms = terms ≡ terms_at tables at
+-- a Settlement Period may have changed since a run settled it
+abbrev pub is_changed : PeriodState → Bool
+is_changed (Changed terms) = true
+is_changed (Same s) = false
 
--- these are what these Settlement Periods are settled from, one for each
-abbrev pub ArePeriodsOf : Registered → List SettlementPeriod → List PeriodTerms → Type 0
+-- how many of these may have changed
+abbrev pub count_changed : List PeriodState → ℕ
+count_changed periods = length (filter is_changed periods)
+
+-- the same with the accounts' net volumes in the place of the contract volumes in force; each is one that is kept
+pub record IsNetted (terms p : PeriodTerms) : Type 0 where
+  pub same : p ≡ netted terms
+  pub sizes : HasNetVolumes p.contracts
+
+-- a Settlement Period with these terms is settled from this, or this is what it is settled to within the limits
+abbrev pub IsStateOf : PeriodTerms → PeriodState → Type 0
+IsStateOf terms (Changed p) = (p ≡ terms) ⊎ IsNetted terms p
+IsStateOf terms (Same s) = (s ≡ settled terms) × IsTrue (is_within_limits terms)
+
+-- so it is by the rows as they stand
+abbrev pub IsPeriodOf : Registered → SettlementPeriod → PeriodState → Type 0
+IsPeriodOf tables at state = IsStateOf (terms_at tables at) state
+
+-- these are so of these Settlement Periods, one for each
+abbrev pub ArePeriodsOf : Registered → List SettlementPeriod → List PeriodState → Type 0
 ArePeriodsOf tables = AllZip (IsPeriodOf tables)
 
 -- This is read of these Settlement Periods: the first of them that has no price, if there is one; the first reading that a unit
--- lacks, if there is one; and where neither is missing, what each is settled from.
+-- lacks, if there is one; and where neither is missing, what each is settled from or to.
 pub record IsDayData (tables : Registered) (periods : List SettlementPeriod) (day : DayData) : Type 0 where
   pub price : day.missing_price ≡ missing_price tables periods
   pub meter : day.missing_meter ≡ missing_meter tables periods

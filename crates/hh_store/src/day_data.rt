@@ -1,6 +1,9 @@
 //! What a Settlement Day is settled from.
 
-use hh_calc::PeriodData;
+ghost use Rattle.std.specs.Prelude.{◌≡◌};
+ghost use Rattle.hh_store.specs.DayReads.{count_changed, is_changed};
+
+use hh_calc::{PeriodData, PeriodResult};
 use hh_rows::{SettlementPeriod, UnitPeriod};
 
 /// What the Settlement Periods of a date are settled from, and what is missing for it (profile).
@@ -11,6 +14,42 @@ pub struct DayData {
     /// The first period in which a unit has no reading, if there is one, with the first such unit by the
     /// bytes of its id.
     pub missing_meter: Option<UnitPeriod>,
-    /// What each period is settled from, in order; of no meaning where a price or a reading is missing.
-    pub periods: Vec<PeriodData>,
+    /// Each period in order; of no meaning where a price or a reading is missing.
+    pub periods: Vec<PeriodState>,
+}
+
+/// A Settlement Period that is to be settled (profile).
+#[derive(Debug, Drop)]
+pub enum PeriodState {
+    /// It may have changed since a run settled it: what it is settled from.
+    Changed(PeriodData),
+    /// It is as the latest run of its date settled it.
+    Same(PeriodResult),
+}
+
+impl PeriodState {
+    /// Whether it may have changed.
+    pub fn is_changed(&self) -> bool
+        ensures { result ≡ is_changed self.now }
+    {
+        match self {
+            PeriodState::Changed(_) => true,
+            PeriodState::Same(_) => false,
+        }
+    }
+}
+
+impl DayData {
+    /// How many Settlement Periods may have changed since a run settled them.
+    pub fn changed(&self) -> usize
+        ensures { result ≡ count_changed self.now.periods.items }
+    {
+        let mut count = 0;
+        for period in &self.periods {
+            if period.is_changed() {
+                count += 1;
+            }
+        }
+        count
+    }
 }

@@ -10,7 +10,7 @@ mod settlement_periods;
 mod store_fault;
 mod tables;
 
-pub use day_data::DayData;
+pub use day_data::{DayData, PeriodState};
 pub use kept_file::KeptFile;
 pub use load_change::LoadChange;
 pub use output_fault::OutputFault;

@@ -124,9 +124,10 @@ pub trait Tables {
 
     /// What the Settlement Periods of a day are settled from: the first that has no price, if there is one;
     /// the first in which a unit of the date has no reading, if there is one, with the first such unit by
-    /// the bytes of its id; and where neither is missing, what each is settled from (Section T in shape).
+    /// the bytes of its id; and where neither is missing, what each is settled from (Section T in shape),
+    /// or, where the rows as they stand settle it to what the latest run has, that (profile).
     fn day_data(&mut self, day: &Day) -> Result<DayData, StoreFault>
-        ensures value { IsTrue (is_open self.new)
+        ensures value { IsTrue (is_open self.new) → IsTrue (content self.old).is_in_step
             → IfOk result (IsDayData (content self.old).registered
             (periods_on day.now.date day.now.count)) }
         ensures same { IsTrue (is_open self.new) → content self.new ≡ content self.old }

@@ -62,3 +62,16 @@ pub put_ends_table : {K V E : Type 0} {R : K → K → Ordering} → IsTotalOrde
     → OnOk r (new ≡ insert_entry R es k v) → OnErr r (new ≡ es) → IsTable R new
 put_ends_table o k v es new (Ok _) h done failed = put_table o k v es new h done
 put_ends_table {R = R} o k v es new (Err _) h done failed = subst (λ rows. IsTable R rows) (sym failed) h
+
+-- two insertions, one after the other
+module _ {K V E : Type 0} (R : K → K → Ordering) (first second : K × V) (es table new : List (K × V)) (r : Result (Unit {0}) E) where
+  pub puts_two : es ≡ table → OnOk r (new ≡ insert_entry R (insert_entry R es first.0 first.1) second.0 second.1)
+      → OnOk r (new ≡ put R second.0 second.1 (put R first.0 first.1 table))
+  puts_two is done =
+      put_ends R second.0 second.1 (insert_entry R es first.0 first.1) (put R first.0 first.1 table) new r
+      (insert_entry-put R first.0 first.1 es ∙ ap (put R first.0 first.1) is) done
+
+pub puts_two_table : {K V E : Type 0} {R : K → K → Ordering} → IsTotalOrder R → (first second : K × V) (es new : List (K × V)) (r : Result (Unit {0}) E) → IsTable R es
+    → OnOk r (new ≡ insert_entry R (insert_entry R es first.0 first.1) second.0 second.1) → OnErr r (new ≡ es) → IsTable R new
+puts_two_table o first second es new (Ok _) h done failed = put_table o second.0 second.1 _ new (put_table o first.0 first.1 es _ h refl) done
+puts_two_table {R = R} o first second es new (Err _) h done failed = subst (λ rows. IsTable R rows) (sym failed) h

@@ -1,10 +1,10 @@
 //! Tables in memory, kept as trees of rows by their keys.
 
-ghost use Rattle.std.specs.Prelude.{◌≡◌, [], IsSome, OnOk, OnErr};
+ghost use Rattle.std.specs.Prelude.{◌≡◌, [], ◌∷◌, IfOk, IsSome, OnOk, OnErr};
 ghost use Rattle.std.specs.BTreeMap.{get};
 ghost use Rattle.std.specs.FinMap.{find, put};
-ghost use Rattle.hh_tables.specs.Tables.{IsTable};
-ghost use Rattle.hh_tables.specs.steps.Trees.{Inserts, PutsBack};
+ghost use Rattle.hh_tables.specs.Tables.{IsTable, put_all};
+ghost use Rattle.hh_tables.specs.steps.Trees.{Inserts, InsertsTwo, PutsBack};
 
 use std::alloc::{AllocError, Global};
 use std::collections::BTreeMap;
@@ -55,6 +55,26 @@ impl<K: Ord + Copy, V: Copy> TreeTable<K, V> {
         self.rows.insert(key, value)?;
         Ok(())
     }
+
+    /// Puts two rows into the table, one after the other, each in the place of the one under its key if
+    /// there is one, or neither. `Err` only where memory is refused: the table is then as it was.
+    pub fn put_two(&mut self, first: (K, V), second: (K, V)) -> Result<(), AllocError>
+        ensures ok { OnOk result (self.new ≡ put_all K.cmp (first ∷ second ∷ []) self.old) }
+        ensures err { OnErr result (self.new ≡ self.old) }
+    {
+        put_two_into(&mut self.rows, first, second)
+    }
+
+    /// The rows with their keys, in the order of the keys. `Err` only where memory is refused.
+    pub fn rows(&self, alloc: Global) -> Result<Vec<(K, V)>, AllocError>
+        ensures { IfOk result (λ rows. rows.items ≡ self.now) }
+    {
+        let mut rows = Vec::with_capacity(alloc, self.rows.len())?;
+        for (key, value) in &self.rows {
+            rows.push((*key, *value))?;
+        }
+        Ok(rows)
+    }
 }
 
 /// Puts a row into each of two tables, in the place of the one under its key if there is one, or into
@@ -88,6 +108,23 @@ fn put_into_both<K: Ord + Copy, V: Copy, L: Ord + Copy, W: Copy>(
     let before = first.insert(row.0, row.1)?;
     if let Err(refused) = second.insert(second_row.0, second_row.1) {
         put_back(first, &row.0, before);
+        return Err(refused.into());
+    }
+    Ok(())
+}
+
+/// Puts two rows into a tree, one after the other, or neither where memory is refused.
+fn put_two_into<K: Ord + Copy, V: Copy>(
+    rows: &mut BTreeMap<K, V>,
+    first: (K, V),
+    second: (K, V),
+) -> Result<(), AllocError>
+    ensures ok { OnOk result (InsertsTwo K.cmp first second rows.old.entries rows.new.entries) }
+    ensures err { OnErr result (rows.new.entries ≡ rows.old.entries) }
+{
+    let before = rows.insert(first.0, first.1)?;
+    if let Err(refused) = rows.insert(second.0, second.1) {
+        put_back(rows, &first.0, before);
         return Err(refused.into());
     }
     Ok(())

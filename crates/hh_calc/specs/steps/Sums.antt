@@ -6,8 +6,8 @@ use Rattle.hh_names.specs.declared.values.Contract.{Contract}
 use Rattle.hh_names.specs.Accounts.{is_same_account}
 use Rattle.hh_calc.specs.declared.result.CreditRow.{CreditRow}
 use Rattle.hh_calc.specs.declared.sums.AccountSums.{AccountSums}
-use Rattle.hh_calc.specs.Formulas.{balancing_of, credited_of, net_of, of_account, unit_credits, weight_of}
-use Rattle.hh_calc.specs.Terms.{BmUnit}
+use Rattle.hh_calc.specs.Formulas.{balancing_of, credited_of, net_by, net_entry_of, net_of, of_account, unit_credits, weight_of}
+use Rattle.hh_calc.specs.Terms.{BmUnit, Contracts}
 
 abbrev pub no_sums : AccountSums
 no_sums = record { credited = pos 0; balancing = pos 0; contracts = pos 0; weight = 0 }
@@ -83,6 +83,24 @@ with_contracts contracts a held = record {
   weight = held.weight;
 }
 
+-- an account's sums after net volumes of accounts are added
+abbrev pub with_nets : List (Account × ℤ) → Account → AccountSums → AccountSums
+with_nets entries a held = record {
+  credited = held.credited;
+  balancing = held.balancing;
+  contracts = held.contracts +ℤ total (net_entry_of a) entries;
+  weight = held.weight;
+}
+
+-- an account's sums after the contracts of a period are added
+abbrev pub with_net_by : List Account → Contracts → Account → AccountSums → AccountSums
+with_net_by accounts contracts a held = record {
+  credited = held.credited;
+  balancing = held.balancing;
+  contracts = held.contracts +ℤ net_by accounts contracts a;
+  weight = held.weight;
+}
+
 -- each account's sums have changed so
 abbrev pub AreChanged : List Account → (Account → AccountSums → AccountSums) → List AccountSums → List AccountSums → Type 0
 AreChanged accounts change old new = (had : Account → AccountSums) → old ≡ map had accounts → new ≡ map (λ a. change a (had a)) accounts
@@ -98,7 +116,7 @@ pub record IsWithin (most : ℕ) (s : AccountSums) : Type 0 where
 abbrev pub AreGrown : ℕ → List AccountSums → List AccountSums → Type 0
 AreGrown growth old new = (most : ℕ) → All (IsWithin most) old → All (IsWithin (most + growth)) new
 
--- the greatest credit from a unit, in ticks
+-- the greatest credit from a unit, and the greatest net volume, in ticks
 abbrev pub greatest_credit : ℕ
 greatest_credit = 10 ^ 18
 
@@ -110,9 +128,9 @@ greatest_volume = 2 * 10 ^ 14
 abbrev pub greatest_unit_sum : ℕ
 greatest_unit_sum = 19 * 10 ^ 36
 
--- the greatest sum of an account over as many units and as many contracts, in ticks
+-- the greatest sum of an account over as many units and as many contracts or net volumes, in ticks
 abbrev pub greatest_sum : ℕ
-greatest_sum = 2 * 10 ^ 37
+greatest_sum = 4 * 10 ^ 37
 
 -- a credit is no greater in size than the greatest
 abbrev pub IsCreditSmall : CreditRow → Type 0

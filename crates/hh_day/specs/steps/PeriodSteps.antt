@@ -4,15 +4,16 @@ use Rattle.hh_rows.specs.declared.settlement_period.SettlementPeriod.{Settlement
 use Rattle.hh_rules.specs.History.{Registered}
 use Rattle.hh_calc.specs.Limits.{is_within_limits}
 use Rattle.hh_calc.specs.steps.Limits.{kept_where}
-use Rattle.hh_calc.specs.Terms.{PeriodTerms, Settled}
+use Rattle.hh_calc.specs.Terms.{Settled}
 use Rattle.hh_states.specs.DaySettlement.{settled_at}
 use Rattle.hh_states.specs.PeriodSettlement.{terms_at}
 use Rattle.hh_states.specs.Readiness.{AreTermsConsistent}
 use Rattle.hh_store.specs.DayReads.{IsPeriodOf}
+use Rattle.hh_store.specs.declared.day_data.PeriodState.{PeriodState}
 
--- A Settlement Period is settled from this, by whatever is registered and in force, where what it is settled from fits together;
+-- A Settlement Period is settled by this, by whatever is registered and in force, where what it is settled from fits together;
 -- there is no settlement exactly where it would pass a limit.
-abbrev pub SettlesPeriod : SettlementPeriod → PeriodTerms → Option (SettlementPeriod × Settled) → Type 0
-SettlesPeriod at terms outcome =
-    (tables : Registered) → IsPeriodOf tables at terms → AreTermsConsistent (terms_at tables at)
+abbrev pub SettlesPeriod : SettlementPeriod → PeriodState → Option (SettlementPeriod × Settled) → Type 0
+SettlesPeriod at state outcome =
+    (tables : Registered) → IsPeriodOf tables at state → AreTermsConsistent (terms_at tables at)
     → outcome ≡ kept_where (is_within_limits (terms_at tables at)) (settled_at tables at)

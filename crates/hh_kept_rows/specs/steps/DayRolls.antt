@@ -15,3 +15,8 @@ pub record IsRollOf (tables : Registered) (date : ℕ) (roll : DayRoll) : Type 0
   pub accounts : roll.accounts.items ≡ accounts_on tables date
   pub units : roll.units.items ≡ units_on tables date
   pub contracts : roll.contracts.items ≡ filter_map (row_on tables date) tables.contracts
+
+-- the same but for the contracts
+pub record IsHeadOf (tables : Registered) (date : ℕ) (roll : DayRoll) : Type 0 where
+  pub accounts : roll.accounts.items ≡ accounts_on tables date
+  pub units : roll.units.items ≡ units_on tables date

@@ -10,7 +10,7 @@ use Rattle.hh_names.specs.Faults.{first_met, plain_fault}
 use Rattle.hh_rows.specs.declared.settlement_period.SettlementPeriod.{SettlementPeriod}
 use Rattle.hh_rules.specs.History.{Registered}
 use Rattle.hh_calc.specs.declared.result.AccountRow.{AccountRow}
-use Rattle.hh_calc.specs.Terms.{PeriodTerms, Settled}
+use Rattle.hh_calc.specs.Terms.{Settled}
 use Rattle.hh_runs.specs.declared.run_kind.RunKind.{RunKind}
 use Rattle.hh_runs.specs.declared.summary.Summary.{Summary}
 use Rattle.hh_runs.specs.NextRun.{order_refusals}
@@ -25,6 +25,7 @@ use Rattle.hh_states.specs.Reads.{results_in, runs_in}
 use Rattle.hh_states.specs.States.{State}
 use Rattle.hh_states.specs.Steps.{CanRun, after_run, missing_meter_fault, period_fault, settle_fault}
 use Rattle.hh_store.specs.DayReads.{ArePeriodsOf}
+use Rattle.hh_store.specs.declared.day_data.PeriodState.{PeriodState}
 use Rattle.hh_day.specs.NewRuns.{IsWrittenFor, day_in}
 use Rattle.hh_office.specs.Promises.{Stands, UnlessFailed}
 use Rattle.hh_office.specs.Views.{OfficeView, midnight_of}
@@ -49,9 +50,9 @@ abbrev pub lack_fault : Registered → List SettlementPeriod → Option Fault
 lack_fault tables periods =
     option_or (option_map (period_fault MissingPrice) (missing_price tables periods)) (option_map missing_meter_fault (missing_meter tables periods))
 
--- nothing is missing for these Settlement Periods, and they are settled from these, one for each
-abbrev pub AreTermsOf : Registered → List SettlementPeriod → List PeriodTerms → Type 0
-AreTermsOf tables periods terms = (lack_fault tables periods ≡ None) × ArePeriodsOf tables periods terms
+-- nothing is missing for these Settlement Periods, and they are settled by these, one for each
+abbrev pub LacksNothing : Registered → List SettlementPeriod → List PeriodState → Type 0
+LacksNothing tables periods states = (lack_fault tables periods ≡ None) × ArePeriodsOf tables periods states
 
 -- something is missing for these Settlement Periods, unless the request was given up
 abbrev pub Lacks : Registered → List SettlementPeriod → Fault → Type 0

@@ -1,5 +1,5 @@
 -- Room for a row among the percentages in force.
-use Rattle.std.specs.Prelude.{◌≡◌, ◌+◌, ◌<◌, ◌≤ℤ◌, ◌+ℤ◌, Bool, true, None}
+use Rattle.std.specs.Prelude.{◌≡◌, ◌<◌, ◌≤ℤ◌, ◌+ℤ◌, Bool, true, None}
 use Rattle.std.specs.FinMap.{find}
 use Rattle.hh_names.specs.Accounts.{bytes_cmp}
 use Rattle.hh_rows.specs.declared.rows.Row.{Row}

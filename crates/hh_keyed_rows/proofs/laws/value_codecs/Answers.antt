@@ -1,5 +1,5 @@
 use Rattle.hh_keyed_rows.proofs.FieldLaws.{counterparties_codec, range_codec}
-use Rattle.hh_keyed_rows.proofs.KeyCodecs.{amounts_codec, file_codec, reading_codec, reallocation_codec, registered_party_codec, registered_unit_codec, settings_codec, summary_codec}
+use Rattle.hh_keyed_rows.proofs.KeyCodecs.{amounts_codec, file_codec, no_columns_codec, position_codec, reading_codec, reallocation_codec, registered_party_codec, registered_unit_codec, settings_codec, summary_codec}
 use Rattle.hh_keyed_rows.proofs.laws.value_codecs.Goals as goal
 
 pub returns : goal.returns
@@ -14,4 +14,6 @@ returns c = record {
   files = file_codec;
   summaries = summary_codec;
   amounts = amounts_codec;
+  positions = position_codec;
+  keys_alone = no_columns_codec;
 }

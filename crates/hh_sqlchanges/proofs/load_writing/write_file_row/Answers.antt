@@ -2,7 +2,7 @@ use Rattle.std.proofs.Common.{OnOk, subst, sym}
 use Rattle.std.proofs.lemmas.Result.{on_ok_weaker}
 use Rattle.sqlite.specs.Held.{state}
 use Rattle.hh_rows.specs.declared.rows.Row.{Row}
-use Rattle.hh_sqlchanges.specs.Writes.{Becomes}
+use Rattle.hh_sqlchanges.specs.steps.Becoming.{Becomes}
 use Rattle.hh_sqlchanges.specs.steps.FileRows.{with_file_row}
 use Rattle.hh_sqlchanges.proofs.LoadLaws.{contract_put, meter_put, party_put, price_put, reallocation_put, unit_put}
 use Rattle.hh_sqlchanges.proofs.load_writing.write_file_row.Goals as goal

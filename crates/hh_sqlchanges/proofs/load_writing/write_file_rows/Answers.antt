@@ -4,7 +4,7 @@ use Rattle.sqlite.specs.State.{HasCleanDisk}
 use Rattle.sqlite.proofs.StateLemmas.{survives_then}
 use Rattle.hh_rows.specs.declared.rows.Row.{Row}
 use Rattle.hh_sqlrows.proofs.ManyLaws.{take_next}
-use Rattle.hh_sqlchanges.specs.Writes.{Becomes}
+use Rattle.hh_sqlchanges.specs.steps.Becoming.{Becomes}
 use Rattle.hh_sqlchanges.specs.steps.FileRows.{with_file_rows}
 use Rattle.hh_sqlchanges.proofs.LoadLaws.{rows_more}
 use Rattle.hh_sqlchanges.proofs.load_writing.write_file_rows.Goals as goal

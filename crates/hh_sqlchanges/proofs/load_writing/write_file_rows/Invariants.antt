@@ -2,7 +2,7 @@ use Rattle.std.proofs.Common.{◌≡◌, IsTrue, take}
 use Rattle.sqlite.specs.State.{HasCleanDisk, Survives}
 use Rattle.sqlite.specs.Held.{state}
 use Rattle.hh_sqlrows.specs.Office.{IsOffice}
-use Rattle.hh_sqlchanges.specs.Writes.{Becomes}
+use Rattle.hh_sqlchanges.specs.steps.Becoming.{Becomes}
 use Rattle.hh_sqlchanges.specs.steps.FileRows.{with_file_rows}
 use Rattle.hh_sqlchanges.proofs.load_writing.write_file_rows.Given as goal
 

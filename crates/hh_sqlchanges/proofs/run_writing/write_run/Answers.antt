@@ -1,23 +1,15 @@
-use Rattle.std.proofs.Common.{arith}
+use Rattle.std.proofs.Common.{arith, ap}
 use Rattle.sqlite.specs.Held.{state}
 use Rattle.sqlite.specs.State.{HasCleanDisk}
-use Rattle.hh_sqlchanges.proofs.RunLaws.{run_made}
+use Rattle.hh_sqlchanges.proofs.BesideLaws.{run_changed}
 use Rattle.hh_sqlchanges.proofs.run_writing.write_run.Goals as goal
 
 pub returns-clause-writes : goal.returns-clause-writes
 returns-clause-writes g c clean inside is =
     let old = state g.S.Store c.args.tx.now.conn.now in
-    let first = state g.S.Store c.insert_run.new.tx.conn.now in
-    let second = state g.S.Store c.insert_results.new.tx.conn.now in
-    let third = state g.S.Store c.insert_credits.new.tx.conn.now in
-    let new = state g.S.Store c.insert_postings.new.tx.conn.now in
-    let clean_third : HasCleanDisk third = omega (arith, c.insert_postings.ensures.survives.clean, clean) in
-    let clean_second : HasCleanDisk second = omega (arith, c.in_ok-insert_credits.ensures.survives.clean, clean_third) in
-    let clean_first : HasCleanDisk first = omega (arith, c.in_ok-insert_results.ensures.survives.clean, clean_second) in
-    let in_first = c.in_ok-insert_run.ensures.inside clean_first inside in
-    let in_second = c.in_ok-insert_results.ensures.inside clean_second in_first in
-    let in_third = c.in_ok-insert_credits.ensures.inside clean_third in_second in
-    let run = c.in_ok-insert_run.ensures.puts clean_first inside is in
-    let results = c.in_ok-insert_results.ensures.puts clean_second in_first run.is_office in
-    let credits = c.in_ok-insert_credits.ensures.puts clean_third in_second results.is_office in
-    run_made c.args.change.now c.key.result c.summary.result c.results.result.now c.credits.result.now c.postings.result.now c.key.ensures c.summary.ensures c.results.ensures c.credits.ensures c.postings.ensures old.now first.now second.now third.now new.now c.insert_postings.result run results credits (c.insert_postings.ensures.puts clean in_third credits.is_office)
+    let mid = state g.S.Store c.write_run_rows.new.tx.conn.now in
+    let new = state g.S.Store c.untouch_on.new.tx.conn.now in
+    let clean_mid : HasCleanDisk mid = omega (arith, c.untouch_on.ensures.survives.clean, clean) in
+    let in_mid = c.in_ok-write_run_rows.ensures.inside clean_mid inside in
+    let stored = c.in_ok-write_run_rows.ensures.writes clean_mid inside is in
+    run_changed c.args.change.now c.key.result.date (ap (λ k. k.date) c.key.ensures) old.now mid.now new.now c.untouch_on.result stored (c.untouch_on.ensures.removes clean in_mid stored.stores.stays.is_office)

@@ -1,6 +1,7 @@
-use Rattle.std.proofs.Common.{[], ◌∷◌, ◌++◌, ◌+◌, take, sym, subst, ap, arith, ◌∙◌}
+use Rattle.std.proofs.Common.{inl, [], ◌∷◌, ◌++◌, ◌+◌, take, sym, subst, ap, arith, ◌∙◌}
 use Rattle.std.proofs.lemmas.List.{take_more}
 use Rattle.std.proofs.lemmas.Slice.Zip.{all_zipped_more}
+use Rattle.hh_store.specs.declared.day_data.PeriodState.TheVariants.{Changed}
 use Rattle.hh_store.specs.DayReads.{ArePeriodsOf, IsPeriodOf}
 use Rattle.hh_kept_rows.proofs.kept_register.KeptRegister.data_of.Goals as goal
 
@@ -10,8 +11,8 @@ loop-at-preserved c =
     let periods = c.args.periods.now in
     let i = c.loop-at.at-index in
     let at = c.at-item.result in
-    let terms = c.in_ok-period_data.field-0 in
-    let more = all_zipped_more (IsPeriodOf tables) (take i periods) c.loop-at.found.items at terms c.loop-at.invariant c.in_ok-period_data.ensures in
+    let state = Changed c.in_ok-terms.terms in
+    let more = all_zipped_more (IsPeriodOf tables) (take i periods) c.loop-at.found.items at state c.loop-at.invariant (inl c.in_ok-terms.ensures) in
     let next = sym (take_more periods i at (omega arith) ∙ ap (λ a. take i periods ++ a ∷ []) (sym c.at-item.is)) in
     subst (ArePeriodsOf tables (take (i + 1) periods)) (sym c.in_ok-push.ensures.items)
-    (subst (λ ps. ArePeriodsOf tables ps (c.loop-at.found.items ++ terms ∷ [])) next more)
+    (subst (λ ps. ArePeriodsOf tables ps (c.loop-at.found.items ++ state ∷ [])) next more)

@@ -1,6 +1,6 @@
 use Rattle.std.proofs.Common.{map, ap, ◌∙◌}
 use Rattle.std.specs.Prelude.{filter, filter_map}
-use Rattle.hh_calc.specs.Terms.{period_terms}
+use Rattle.hh_calc.specs.Terms.{period_terms, Rows}
 use Rattle.hh_states.specs.PeriodSettlement.{unit_at}
 use Rattle.hh_kept_rows.specs.steps.KeptContracts.{is_in_period}
 use Rattle.hh_kept_rows.proofs.DayLaws.{rows_at}
@@ -14,5 +14,5 @@ returns c =
     ∙ (λ i. period_terms
     ((c.in_ok-accounts.ensures.items ∙ c.deref.ensures.value ∙ c.requires.accounts) i)
     ((c.in_ok-units.ensures ∙ ap (filter_map (unit_at tables at)) (c.deref-2.ensures.value ∙ c.requires.units)) i)
-    ((c.in_ok-contracts.ensures ∙ ap (λ rows. map (λ r. r.contract) (filter (is_in_period at.period) rows)) (c.deref-3.ensures.value ∙ c.requires.contracts) ∙ ap (map (λ r. r.contract)) (rows_at tables at)) i)
+    (Rows ((c.in_ok-contracts.ensures ∙ ap (λ rows. map (λ r. r.contract) (filter (is_in_period at.period) rows)) (c.deref-3.ensures.value ∙ c.requires.contracts) ∙ ap (map (λ r. r.contract)) (rows_at tables at)) i))
     (c.price_at-price.ensures i))

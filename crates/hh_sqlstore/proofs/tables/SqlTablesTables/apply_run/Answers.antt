@@ -2,7 +2,7 @@ use Rattle.std.proofs.Common.{◌≡◌, IsTrue, None, subst}
 use Rattle.sqlite.specs.Held.{state}
 use Rattle.hh_states.specs.Changes.{effect_of_run}
 use Rattle.hh_sqlrows.specs.Contents.{content_of}
-use Rattle.hh_sqlchanges.specs.Writes.{StoresRun}
+use Rattle.hh_sqlchanges.specs.Writes.{ChangesByRun}
 use Rattle.hh_sqlstore.specs.Stores.{Stored, content_in}
 use Rattle.hh_sqlstore.proofs.ChangeLaws.{content_changed, idle_changed, reading_of_undone}
 use Rattle.hh_sqlstore.proofs.ContentLaws.{clean_while_open}
@@ -12,14 +12,14 @@ use Rattle.hh_sqlstore.proofs.tables.SqlTablesTables.apply_run.Goals as goal
 pub invariant_of-self : goal.invariant_of-self
 invariant_of-self g c =
     let clean = clean_while_open g.S.Store c.keep_run.new.connection g.met.S.Store.shut_if_dirty in
-    idle_changed g.S.Store _ c.self.invariant c.keep_run.new.connection c.self.inside.refusals (StoresRun c.args.change) (λ stands. c.in-Ok.ensures.made (clean stands)) (λ old new written. written.stays) c.in-Ok.ensures.autocommit
+    idle_changed g.S.Store _ c.self.invariant c.keep_run.new.connection c.self.inside.refusals (ChangesByRun c.args.change) (λ stands. c.in-Ok.ensures.made (clean stands)) (λ old new written. written.stores.stays) c.in-Ok.ensures.autocommit
 
 pub returns-in-Ok-clause-ok : goal.returns-in-Ok-clause-ok
 returns-in-Ok-clause-ok g c stands midnight from =
     let clean = clean_while_open g.S.Store c.keep_run.new.connection g.met.S.Store.shut_if_dirty in
     let new = (state g.S.Store c.keep_run.new.connection).committed.trees in
     subst (λ (t : Stored _). content_of c.self.inside.settings new ≡ effect_of_run c.args.change (content_in g.S.Store t)) c.self.view_is
-    (content_changed g.S.Store _ c.self.invariant c.keep_run.new.connection c.self.inside.refusals (StoresRun c.args.change) (λ stands. c.in-Ok.ensures.made (clean stands)) stands (effect_of_run c.args.change) (λ old new written. written.content (c.rows_of_their_accounts.ensures midnight _ c.args.change from) c.self.inside.settings))
+    (content_changed g.S.Store _ c.self.invariant c.keep_run.new.connection c.self.inside.refusals (ChangesByRun c.args.change) (λ stands. c.in-Ok.ensures.made (clean stands)) stands (effect_of_run c.args.change) (λ old new written. written.stores.content (c.rows_of_their_accounts.ensures midnight _ c.args.change from) c.self.inside.settings))
 
 pub returns-in-Ok-clause-stood : goal.returns-in-Ok-clause-stood
 returns-in-Ok-clause-stood g c stands =

@@ -1,0 +1,341 @@
+-- A Settlement Period that no row in time touches has its price still, and is settled from what it was, but for its accounts.
+use Rattle.std.proofs.Common.{◌≡◌, ℕ, ◌+◌, List, [], ◌∷◌, ◌++◌, map, refl, sym, ap, subst, ◌∙◌, Bool, true, false, cond, Option, Some, None, Ordering, append_assoc}
+use Rattle.std.specs.Prelude.{ℤ, filter, filter_map, is_some, not, option_map, T, IsTrue}
+use Rattle.std.specs.Cmp.{IsTotalOrder, eq_by_cmp_equiv}
+use Rattle.std.specs.FinMap.{find, put, is_sorted}
+use Rattle.std.specs.FinMap.Entries.{by_order, find-put}
+use Rattle.std.specs.List.{AllByRecursion, cons_option}
+use Rattle.std.specs.Ordering.{eq_by_cmp, is_eq}
+use Rattle.std.specs.declared.cmp.Ordering.TheVariants.{Less, Equal, Greater}
+use Rattle.std.proofs.lemmas.Bool.{and_parts, not-false, or_parts}
+use Rattle.std.proofs.lemmas.List.{append-nil}
+use Rattle.hh_tables.specs.Tables.{Table}
+use Rattle.hh_tables.proofs.MergeLaws.{from_true}
+use Rattle.hh_tables.proofs.RowLaws.{below_less, first, second}
+use Rattle.hh_tables.proofs.TableLaws.{false_is_not_true}
+use Rattle.hh_names.specs.declared.account.Account.{Account}
+use Rattle.hh_names.specs.declared.values.Reading.{Reading}
+use Rattle.hh_names.specs.Accounts.{bytes_cmp, is_same_account}
+use Rattle.hh_names.specs.Faults.{first_met}
+use Rattle.hh_names.proofs.AccountLaws.{bytes_total}
+use Rattle.std.proofs.lemmas.Map.Lookups.{exact_bytes}
+use Rattle.hh_rows.specs.DateRanges.{holds, is_inside}
+use Rattle.hh_rows.specs.Keys.{contract_key_cmp, settlement_period_cmp, unit_period_cmp}
+use Rattle.hh_rows.specs.RowKinds.{IsRow}
+use Rattle.hh_rows.specs.declared.keys.ContractKey.{ContractKey}
+use Rattle.hh_rows.specs.declared.keys.ReallocationKey.{ReallocationKey}
+use Rattle.hh_rows.specs.declared.keys.UnitPeriod.{UnitPeriod}
+use Rattle.hh_rows.specs.declared.rows.ContractRow.{ContractRow}
+use Rattle.hh_rows.specs.declared.rows.MeterRow.{MeterRow}
+use Rattle.hh_rows.specs.declared.rows.PriceRow.{PriceRow}
+use Rattle.hh_rows.specs.declared.rows.ReallocationRow.{ReallocationRow}
+use Rattle.hh_rows.specs.declared.rows.Row.{Row}
+use Rattle.hh_rows.specs.declared.rows.Row.TheVariants as row
+use Rattle.hh_rows.specs.declared.rows.UnitRegistration.{UnitRegistration}
+use Rattle.hh_rows.specs.declared.rows.UnitRow.{UnitRow}
+use Rattle.hh_rows.specs.declared.settlement_period.SettlementPeriod.{SettlementPeriod}
+use Rattle.hh_rows.proofs.KeyLaws.{exact_contract_keys, exact_reallocation_keys, contract_key_total, reallocation_key_total, settlement_period_total, unit_period_total}
+use Rattle.hh_rules.specs.Effects.{put_in_time, with_row}
+use Rattle.hh_rules.specs.FileRows.{first_fault, refusal_after, timely_rows}
+use Rattle.hh_rules.specs.History.{History, Registered, registered_in}
+use Rattle.hh_rules.specs.Lateness.{Accepted, Timetable, accepted_at, is_before_deadline, is_in_time, timing_of}
+use Rattle.hh_rules.specs.Leads.{lead_on}
+use Rattle.hh_rules.specs.Refusals.{is_same_mark, is_unit_moved, refusals_of, unit_refusals, whole_standing}
+use Rattle.hh_rules.specs.RegisterView.{reallocations_at}
+use Rattle.hh_rules.proofs.HistoryLaws.{looks_back}
+use Rattle.hh_calc.specs.declared.data.Subsidiary.{Subsidiary}
+use Rattle.hh_calc.specs.Terms.{BmUnit, bm_unit}
+use Rattle.hh_states.specs.PeriodSettlement.{price_of, reading_of, row_in_force, rows_in_force, subsidiaries_of, unit_at, unit_with, units_on}
+use Rattle.hh_states.specs.Soundness.{AreConsistent}
+use Rattle.hh_state_laws.proofs.AcceptedLaws.{told}
+use Rattle.hh_state_laws.proofs.ApartLaws.{all-filter, all-weaken, below_lacks, not_found, second_part}
+use Rattle.hh_state_laws.proofs.ConsistentLaws.{NoneMet, consistent_with, none_met}
+use Rattle.hh_state_laws.proofs.EffectiveLaws.{not_passed, one_account, wider_holds}
+use Rattle.hh_state_laws.proofs.PutLaws.{stays-put_new}
+use Rattle.hh_beside.specs.Beside.{is_among, terms_for}
+use Rattle.hh_beside.specs.Keeping.{touched_by}
+
+-- ---- tables into which a row is put
+
+-- what is made of what is found under a key, if anything is
+abbrev made : {K V B : Type 0} → K → (K × V → Option B) → Option V → Option B
+made k g None = None
+made k g (Some u) = g (k, u)
+
+module _ {K V : Type 0} {R : K → K → Ordering} (o : IsTotalOrder R) where
+  -- under the key of each entry something is found
+  each_there : (es : List (K × V)) → AllByRecursion (λ e. is_some (find R e.0 es) ≡ true) es
+  each_there [] = tt
+  each_there (e ∷ es) = (
+    ap (λ b. is_some (cond b (Some e.1) (find R e.0 es))) ((eq_by_cmp_equiv o).refl e.0),
+    all-weaken (λ f. is_some (find R f.0 es) ≡ true) (λ f. is_some (find R f.0 (e ∷ es)) ≡ true) (λ f. or_first (eq_by_cmp R f.0 e.0) e.1 (find R f.0 es)) es (each_there es),
+  )
+    where
+      or_first : (b : Bool) (v : V) (found : Option V) → is_some found ≡ true → is_some (cond b (Some v) found) ≡ true
+      or_first true v found there = refl
+      or_first false v found there = there
+
+  module _ (exact : (x y : K) → R x y ≡ Equal → x ≡ y) (k : K) (v : V) where
+    -- of entries whose keys pass a test a row whose key doesn't changes nothing
+    pub passing-put : (passes : K → Bool) → passes k ≡ false → (es : List (K × V)) → filter (λ e. passes e.0) (put R k v es) ≡ filter (λ e. passes e.0) es
+    passing-put passes off [] = ap (λ b. cond b ((k, v) ∷ []) []) off
+    passing-put passes off (e ∷ es) =
+        let later : List (K × V) = filter (λ f. passes f.0) es in
+        elim (R k e.0) as (λ r. R k e.0 ≡ r → filter (λ f. passes f.0) (by_order r ((k, v) ∷ e ∷ es) ((e.0, v) ∷ es) (e ∷ put R k v es)) ≡ filter (λ f. passes f.0) (e ∷ es)) [
+          | Less ↦ λ is. ap (λ b. cond b ((k, v) ∷ filter (λ f. passes f.0) (e ∷ es)) (filter (λ f. passes f.0) (e ∷ es))) off
+          | Equal ↦ λ is.
+              let own : passes e.0 ≡ false = ap passes (sym (exact k e.0 is)) ∙ off in
+              ap (λ b. cond b ((e.0, v) ∷ later) later) own ∙ sym (ap (λ b. cond b (e ∷ later) later) own)
+          | Greater ↦ λ is. ap (λ more. cond (passes e.0) (e ∷ more) more) (passing-put passes off es)
+        ] refl
+
+    -- a row of which is made what was made of its key's row before changes nothing of what is made of all
+    made-put : {B : Type 0} (g : K × V → Option B) (es : List (K × V)) → T (is_sorted R es) → g (k, v) ≡ made k g (find R k es) → filter_map g (put R k v es) ≡ filter_map g es
+    made-put g [] up same = ap (λ b. cons_option b []) same
+    made-put g (e ∷ es) up same =
+        elim (R k e.0) as (λ r. R k e.0 ≡ r → g (k, v) ≡ made k g (cond (is_eq r) (Some e.1) (find R k es))
+        → filter_map g (by_order r ((k, v) ∷ e ∷ es) ((e.0, v) ∷ es) (e ∷ put R k v es)) ≡ filter_map g (e ∷ es)) [
+          | Less ↦ λ is as_before.
+              let none : find R k es ≡ None = not_found R k es (below_lacks R k es (below_less o k e.0 es is (first _ _ up))) in
+              ap (λ b. cons_option b (filter_map g (e ∷ es))) (as_before ∙ ap (made k g) none)
+          | Equal ↦ λ is as_before. ap (λ b. cons_option b (filter_map g es)) (subst (λ x. g (x, v) ≡ g (x, e.1)) (exact k e.0 is) as_before)
+          | Greater ↦ λ is as_before. ap (cons_option (g e)) (made-put g es (second _ _ up) as_before)
+        ] refl same
+
+module _ {X Y : Type 0} where
+  -- what is made of those that pass
+  made_of_passing : (f : X → Option Y) (test : X → Bool) (xs : List X) → filter_map f (filter test xs) ≡ filter_map (λ x. cond (test x) (f x) None) xs
+  made_of_passing f test [] = refl
+  made_of_passing f test (x ∷ xs) =
+      elim (test x) as (λ b. filter_map f (cond b (x ∷ filter test xs) (filter test xs)) ≡ cons_option (cond b (f x) None) (filter_map (λ y. cond (test y) (f y) None) xs)) [
+        | true ↦ ap (cons_option (f x)) (made_of_passing f test xs)
+        | false ↦ made_of_passing f test xs
+      ]
+
+  -- the same is made of all where the same is made of each
+  made_the_same : (f g : X → Option Y) (xs : List X) → AllByRecursion (λ x. f x ≡ g x) xs → filter_map f xs ≡ filter_map g xs
+  made_the_same f g [] same = refl
+  made_the_same f g (x ∷ xs) same = λ i. cons_option (same.0 i) (made_the_same f g xs same.1 i)
+
+-- nothing is nothing, whether a test passes or not
+nothing_if : {B : Type 0} (nothing : Option B) (b : Bool) → cond b nothing nothing ≡ nothing
+nothing_if nothing true = refl
+nothing_if nothing false = refl
+
+-- marks that are the same are one
+one_mark : (a b : Bool) → is_same_mark a b ≡ true → a ≡ b
+one_mark true b same = sym same
+one_mark false true same = cc
+one_mark false false same = refl
+
+-- ---- a Settlement Period that stays
+
+-- two Registered have the same of a Settlement Period: its price, and what it is settled from but for its accounts
+pub record IsPeriodSame (at : SettlementPeriod) (old new : Registered) : Type 0 where
+  pub price : price_of new at ≡ price_of old at
+  pub units : filter_map (unit_at new at) (units_on new at.date) ≡ filter_map (unit_at old at) (units_on old at.date)
+  pub contracts : rows_in_force new at ≡ rows_in_force old at
+
+-- so it would be settled from the same if it had the same accounts
+pub same_terms : (at : SettlementPeriod) (old new : Registered) → IsPeriodSame at old new → (accounts : List Account) → terms_for accounts new at ≡ terms_for accounts old at
+same_terms at old new same accounts = rw same.price (rw same.units (rw same.contracts refl))
+
+-- the Settlement Period that a row touches, if it touches one, is not this one
+abbrev pub Misses : SettlementPeriod → Option SettlementPeriod → Type 0
+Misses at None = Unit {0}
+Misses at (Some p) = eq_by_cmp settlement_period_cmp p at ≡ false
+
+-- what an accepted row leaves of a Settlement Period that it doesn't touch
+module _ (tables : Registered) (consistent : AreConsistent tables) (at : SettlementPeriod) where
+  -- nothing is changed
+  same : IsPeriodSame at tables tables
+  same = record { price = refl; units = refl; contracts = refl }
+
+  -- another Settlement Period is another also the other way round
+  turned : (p : SettlementPeriod) → eq_by_cmp settlement_period_cmp p at ≡ false → eq_by_cmp settlement_period_cmp at p ≡ false
+  turned p apart = (eq_by_cmp_equiv settlement_period_total).symm at p ∙ apart
+
+  -- a unit's row: a reading is only of a unit that is effective, and what it is settled from stays
+  module _ (r : UnitRow) where
+    -- what a unit with this id is settled from, if the date is its and it has this reading
+    abbrev made_with : Option Reading → UnitRegistration → Option BmUnit
+    made_with o u = cond (holds u.range at.date) (option_map (unit_with tables at (r.unit, u)) o) None
+
+    -- so of a unit that is known, if it is
+    abbrev made_of_known : Option Reading → Option UnitRegistration → Option BmUnit
+    made_of_known o None = None
+    made_of_known o (Some u) = made_with o u
+
+    -- what any unit is settled from, if the date is its
+    abbrev of_date : List ℕ × UnitRegistration → Option BmUnit
+    of_date e = cond (holds e.1.range at.date) (unit_at tables at e) None
+
+    -- without a reading nothing is made
+    nothing_made : (o : Option UnitRegistration) → made_of_known None o ≡ None
+    nothing_made None = refl
+    nothing_made (Some u) = nothing_if None (holds u.range at.date)
+
+    module _ (accepted : first_met (unit_refusals (whole_standing tables) r) ≡ None) where
+      unmet : NoneMet (unit_refusals (whole_standing tables) r)
+      unmet = none_met (unit_refusals (whole_standing tables) r) accepted
+
+      -- of the new registration is made what is made of the known one, where the date is the known one's
+      as_known : (reading : Reading) (u : UnitRegistration) → find bytes_cmp r.unit tables.units ≡ Some u → IsTrue (holds u.range at.date) → made_with (Some reading) r.registration ≡ made_with (Some reading) u
+      as_known reading u known held =
+          let inside : IsTrue (is_inside u.range r.registration.range) =
+          not-false (is_inside u.range r.registration.range) (not_passed (λ (x : UnitRegistration). not (is_inside x.range r.registration.range)) (find bytes_cmp r.unit tables.units) u unmet.1.1.0 known) in
+          let alike = and_parts (is_same_account u.lead r.registration.lead) (is_same_mark u.interconnector r.registration.interconnector)
+          (not-false _ (not_passed (λ (x : UnitRegistration). is_unit_moved x r.registration) (find bytes_cmp r.unit tables.units) u unmet.1.1.1.0 known)) in
+          ap (λ b. cond b (Some (unit_with tables at (r.unit, r.registration) reading)) None) (wider_holds u.range r.registration.range at.date inside held)
+          ∙ (λ i. Some (bm_unit r.unit (sym (one_account u.lead r.registration.lead alike.0) i) (sym (one_mark u.interconnector r.registration.interconnector alike.1) i) reading
+          (subsidiaries_of tables (record { unit = r.unit; at = at }))))
+          ∙ sym (ap (λ b. cond b (Some (unit_with tables at (r.unit, u) reading)) None) held)
+
+      as_before : of_date (r.unit, r.registration) ≡ made r.unit of_date (find bytes_cmp r.unit tables.units)
+      as_before =
+          let key : UnitPeriod = record { unit = r.unit; at = at } in
+          same_made (reading_of tables key) refl
+          ∙ by_known (find bytes_cmp r.unit tables.units)
+        where
+          by_known : (o : Option UnitRegistration) → made_of_known (reading_of tables (record { unit = r.unit; at = at })) o ≡ made r.unit of_date o
+          by_known None = refl
+          by_known (Some u) = refl
+
+          same_made : (o : Option Reading) → reading_of tables (record { unit = r.unit; at = at }) ≡ o → made_with o r.registration ≡ made_of_known o (find bytes_cmp r.unit tables.units)
+          same_made None is = nothing_if None (holds r.registration.range at.date) ∙ sym (nothing_made (find bytes_cmp r.unit tables.units))
+          same_made (Some reading) is =
+              let effective = consistent.meters (record { unit = r.unit; at = at }) (ap is_some is) in
+              as_known reading effective.registration effective.registered effective.holding ∙ sym (ap (made_of_known (Some reading)) effective.registered)
+
+      with_unit : IsPeriodSame at tables (with_row true (row.Unit r) tables)
+      with_unit = record {
+        price = refl;
+        units = made_of_passing (unit_at tables at) (λ e. holds e.1.range at.date) (put bytes_cmp r.unit r.registration tables.units)
+            ∙ made-put bytes_total exact_bytes r.unit r.registration of_date tables.units (from_true _ consistent.rising.units) as_before
+            ∙ sym (made_of_passing (unit_at tables at) (λ e. holds e.1.range at.date) tables.units);
+        contracts = refl;
+      }
+
+  -- a reading's row of another Settlement Period
+  with_meter : (r : MeterRow) → eq_by_cmp settlement_period_cmp r.key.at at ≡ false → IsPeriodSame at tables (with_row true (row.Meter r) tables)
+  with_meter r apart = record {
+    price = refl;
+    units = λ i. filter_map (λ e. option_map (unit_with tables at e) (reading_stays e.0 i)) (units_on tables at.date);
+    contracts = refl;
+  }
+    where
+      reading_stays : (unit : List ℕ) → find unit_period_cmp (record { unit = unit; at = at }) (put unit_period_cmp r.key r.reading tables.meters) ≡ reading_of tables (record { unit = unit; at = at })
+      reading_stays unit =
+          let key : UnitPeriod = record { unit = unit; at = at } in
+          find-put unit_period_cmp unit_period_total key r.key r.reading tables.meters
+          ∙ ap (λ b. cond b (Some r.reading) (find unit_period_cmp key tables.meters)) (second_part (bytes_cmp unit r.key.unit) (settlement_period_cmp at r.key.at) (turned r.key.at apart))
+
+  -- a price's row of another Settlement Period
+  with_price : (r : PriceRow) → eq_by_cmp settlement_period_cmp r.at at ≡ false → IsPeriodSame at tables (with_row true (row.Price r) tables)
+  with_price r apart = record {
+    price = find-put settlement_period_cmp settlement_period_total at r.at r.price tables.prices
+        ∙ ap (λ b. cond b (Some r.price) (find settlement_period_cmp at tables.prices)) (turned r.at apart);
+    units = refl;
+    contracts = refl;
+  }
+
+  -- a contract's row that is late or of another Settlement Period: references in force stay fixed
+  module _ (in_time : Bool) (r : ContractRow) where
+    abbrev new : Registered
+    new = with_row in_time (row.Contract r) tables
+
+    abbrev of_period : Table ContractKey ℤ → Table ContractKey ℤ
+    of_period = filter (λ e. eq_by_cmp settlement_period_cmp e.0.at at)
+
+    volumes_stay : (timely : Bool) → (timely ≡ true → eq_by_cmp settlement_period_cmp r.key.at at ≡ false)
+        → of_period (put_in_time contract_key_cmp timely (Some (r.key, r.contract.volume)) tables.contracts) ≡ of_period tables.contracts
+    volumes_stay true misses =
+        passing-put contract_key_total exact_contract_keys r.key r.contract.volume (λ (k : ContractKey). eq_by_cmp settlement_period_cmp k.at at) (misses refl) tables.contracts
+    volumes_stay false misses = refl
+
+    reference_stays : (e : ContractKey × ℤ) → is_some (find contract_key_cmp e.0 tables.contracts) ≡ true → row_in_force new e ≡ row_in_force tables e
+    reference_stays e there =
+        let has = consistent.contracts e.0 there in
+        ap (option_map (λ c. record { key = e.0; contract = record { counterparties = c; volume = e.1 } }))
+        (stays-put_new bytes_total r.key.reference r.contract.counterparties tables.references e.0.reference has.counterparties has.fixed ∙ sym has.fixed)
+
+    with_contract : (in_time ≡ true → eq_by_cmp settlement_period_cmp r.key.at at ≡ false) → IsPeriodSame at tables new
+    with_contract apart = record {
+      price = refl;
+      units = refl;
+      contracts = ap (filter_map (row_in_force new)) (volumes_stay in_time apart)
+          ∙ made_the_same (row_in_force new) (row_in_force tables) (of_period tables.contracts)
+          (all-weaken (λ e. is_some (find contract_key_cmp e.0 tables.contracts) ≡ true) (λ e. row_in_force new e ≡ row_in_force tables e) reference_stays (of_period tables.contracts)
+          (all-filter (λ e. is_some (find contract_key_cmp e.0 tables.contracts) ≡ true) (λ e. eq_by_cmp settlement_period_cmp e.0.at at) tables.contracts (each_there contract_key_total tables.contracts)));
+    }
+
+  -- a reallocation's row that is late or of another Settlement Period
+  with_reallocation : (in_time : Bool) (r : ReallocationRow) → (in_time ≡ true → eq_by_cmp settlement_period_cmp r.key.unit_period.at at ≡ false) → IsPeriodSame at tables (with_row in_time (row.Reallocation r) tables)
+  with_reallocation false r apart = record { price = refl; units = refl; contracts = refl }
+  with_reallocation true r apart = record {
+    price = refl;
+    units = λ i.
+        filter_map (λ e. option_map (λ reading. bm_unit e.0 (lead_on tables e.0 e.1 at.date) e.1.interconnector reading (map {B = Subsidiary} (λ f. record { account = f.0.account; reallocation = f.1 }) (reallocations_stay e.0 i)))
+        (reading_of tables (record { unit = e.0; at = at }))) (units_on tables at.date);
+    contracts = refl;
+  }
+    where
+      reallocations_stay : (unit : List ℕ) → reallocations_at (with_row true (row.Reallocation r) tables) (record { unit = unit; at = at }) ≡ reallocations_at tables (record { unit = unit; at = at })
+      reallocations_stay unit =
+          let key : UnitPeriod = record { unit = unit; at = at } in
+          passing-put reallocation_key_total exact_reallocation_keys r.key r.reallocation (λ (k : ReallocationKey). eq_by_cmp unit_period_cmp k.unit_period key)
+          (second_part (bytes_cmp r.key.unit_period.unit unit) (settlement_period_cmp r.key.unit_period.at at) (apart refl)) tables.reallocations
+
+-- a row of any kind that is accepted leaves as it is what no row in time touches
+row_stays : (at : SettlementPeriod) (timetable : Timetable) (moment : ℤ) (r : Row) (tables : Registered) → AreConsistent tables
+    → first_met (refusals_of (whole_standing tables) (timing_of timetable (accepted_at moment r)) r) ≡ None
+    → (is_in_time timetable (accepted_at moment r) ≡ true → Misses at (touched_by r))
+    → IsPeriodSame at tables (with_row (is_in_time timetable (accepted_at moment r)) r tables)
+row_stays at timetable moment (row.Party r) tables consistent accepted misses = record { price = refl; units = refl; contracts = refl }
+row_stays at timetable moment (row.Unit r) tables consistent accepted misses = with_unit tables consistent at r accepted
+row_stays at timetable moment (row.Meter r) tables consistent accepted misses = with_meter tables consistent at r (misses refl)
+row_stays at timetable moment (row.Price r) tables consistent accepted misses = with_price tables consistent at r (misses refl)
+row_stays at timetable moment (row.Contract r) tables consistent accepted misses = with_contract tables consistent at (is_before_deadline timetable moment r.key.at) r misses
+row_stays at timetable moment (row.Reallocation r) tables consistent accepted misses =
+    with_reallocation tables consistent at (is_before_deadline timetable moment r.key.unit_period.at) r misses
+
+-- what stays and stays again has stayed
+stays_twice : (at : SettlementPeriod) (a b c : Registered) → IsPeriodSame at a b → IsPeriodSame at b c → IsPeriodSame at a c
+stays_twice at a b c here there = record { price = there.price ∙ here.price; units = there.units ∙ here.units; contracts = there.contracts ∙ here.contracts }
+
+-- what isn't among some and one more is another than the one, and not among the some
+not_among : (at : SettlementPeriod) (o : Option SettlementPeriod) (ps : List SettlementPeriod) → is_among (cons_option o ps) at ≡ false → Misses at o × (is_among ps at ≡ false)
+not_among at None ps none = (tt, none)
+not_among at (Some p) ps none = or_parts (eq_by_cmp settlement_period_cmp p at) (is_among ps at) none
+
+-- of rows that come one after the other each misses what those in time don't touch
+misses_each : (at : SettlementPeriod) (timetable : Timetable) (a : Accepted) (rows : History) → is_among (filter_map touched_by (timely_rows timetable (a ∷ rows))) at ≡ false
+    → (is_in_time timetable a ≡ true → Misses at (touched_by a.row)) × (is_among (filter_map touched_by (timely_rows timetable rows)) at ≡ false)
+misses_each at timetable a rows none =
+    let later : History = filter (is_in_time timetable) rows in
+    elim (is_in_time timetable a) as (λ t. is_in_time timetable a ≡ t → is_among (filter_map touched_by (map (λ (b : Accepted). b.row) (cond t (a ∷ later) later))) at ≡ false
+    → (is_in_time timetable a ≡ true → Misses at (touched_by a.row)) × (is_among (filter_map touched_by (timely_rows timetable rows)) at ≡ false)) [
+      | true ↦ λ timely untouched. let parts = not_among at (touched_by a.row) (filter_map touched_by (timely_rows timetable rows)) untouched in (λ _. parts.0, parts.1)
+      | false ↦ λ late untouched. (λ timely. absurd (false_is_not_true (sym late ∙ timely)), untouched)
+    ] refl none
+
+-- rows that come one after the other, none of them refused, leave as it is what those in time don't touch
+pub rows_stay : (at : SettlementPeriod) (timetable : Timetable) (rows history : History) (n : ℕ) → AllByRecursion (λ a. IsRow a.row) rows → first_fault timetable history n rows ≡ None
+    → AreConsistent (registered_in timetable history) → is_among (filter_map touched_by (timely_rows timetable rows)) at ≡ false
+    → IsPeriodSame at (registered_in timetable history) (registered_in timetable (history ++ rows))
+rows_stay at timetable [] history n valued none consistent untouched =
+    subst (λ h. IsPeriodSame at (registered_in timetable history) (registered_in timetable h)) (sym (append-nil history)) (record { price = refl; units = refl; contracts = refl })
+rows_stay at timetable (a ∷ rows) history n valued none consistent untouched =
+    let old : Registered = registered_in timetable history in
+    let misses = misses_each at timetable a rows untouched in
+    elim (refusal_after timetable history a) as (λ o. refusal_after timetable history a ≡ o → told n o (first_fault timetable (history ++ a ∷ []) (n + 1) rows) ≡ None
+    → IsPeriodSame at old (registered_in timetable (history ++ a ∷ rows))) [
+      | Some why ↦ λ is refused. cc
+      | None ↦ λ is later.
+          let here : IsPeriodSame at old (registered_in timetable (history ++ a ∷ [])) =
+          subst (IsPeriodSame at old) (sym (looks_back timetable history a)) (row_stays at timetable a.moment a.row old consistent is misses.0) in
+          let there : IsPeriodSame at (registered_in timetable (history ++ a ∷ [])) (registered_in timetable ((history ++ a ∷ []) ++ rows)) =
+          rows_stay at timetable rows (history ++ a ∷ []) (n + 1) valued.1 later (consistent_with timetable history a consistent valued.0 is) misses.1 in
+          subst (λ h. IsPeriodSame at old (registered_in timetable h)) (append_assoc history (a ∷ []) rows)
+          (stays_twice at old (registered_in timetable (history ++ a ∷ [])) (registered_in timetable ((history ++ a ∷ []) ++ rows)) here there)
+    ] refl none

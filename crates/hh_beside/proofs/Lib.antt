@@ -1,0 +1,18 @@
+pub mod AgreeLaws
+pub mod DayKept
+pub mod DayLoads
+pub mod DayPeriods
+pub mod DayReadings
+pub mod DayRows
+pub mod DayRuns
+pub mod DayTests
+pub mod PositionKeys
+pub mod PositionLists
+pub mod PositionLoads
+pub mod PositionMade
+mod PositionNets
+pub mod PositionParts
+pub mod PositionRanges
+pub mod PositionSums
+pub mod PositionTables
+pub mod PositionWrites

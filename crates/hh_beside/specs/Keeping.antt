@@ -1,0 +1,63 @@
+-- What a load and a run change of what is kept beside the tables, and what is kept beside tables that were taken over.
+use Rattle.std.specs.Prelude.{◌==◌, ℤ, List, [], ◌∷◌, ◌++◌, filter, filter_map, not, Option, Some, None, option_map}
+use Rattle.std.specs.FinMap.{find, put}
+use Rattle.std.specs.List.{flat_map}
+use Rattle.hh_tables.specs.Tables.{Table}
+use Rattle.hh_rows.specs.Keys.{contract_key_cmp}
+use Rattle.hh_rows.specs.declared.keys.ContractKey.{ContractKey}
+use Rattle.hh_rows.specs.declared.rows.ContractRow.{ContractRow}
+use Rattle.hh_rows.specs.declared.rows.Row.{Row}
+use Rattle.hh_rows.specs.declared.rows.Row.TheVariants as row
+use Rattle.hh_rows.specs.declared.settlement_period.SettlementPeriod.{SettlementPeriod}
+use Rattle.hh_rules.specs.History.{Registered}
+use Rattle.hh_rules.specs.Positions.{with_contract}
+use Rattle.hh_rules.specs.declared.positions.Position.{Position}
+use Rattle.hh_rules.specs.declared.positions.PositionKey.{PositionKey}
+use Rattle.hh_states.specs.Changes.{LoadWrites, RunWrites}
+use Rattle.hh_states.specs.Content.{Content}
+use Rattle.hh_states.specs.DaySettlement.{periods_on}
+use Rattle.hh_states.specs.PeriodSettlement.{row_in_force}
+use Rattle.hh_beside.specs.Beside.{Beside}
+
+-- the Settlement Period that a row in time touches, if it touches one: registrations touch none
+abbrev pub touched_by : Row → Option SettlementPeriod
+touched_by (row.Party r) = None
+touched_by (row.Unit r) = None
+touched_by (row.Meter r) = Some r.key.at
+touched_by (row.Price r) = Some r.at
+touched_by (row.Contract r) = Some r.key.at
+touched_by (row.Reallocation r) = Some r.key.unit_period.at
+
+-- the contract row that this one takes the place of, by the volumes in force: a reference's seller and buyer never change
+abbrev pub replaced_by : ContractRow → Table ContractKey ℤ → Option ContractRow
+replaced_by r volumes = option_map (λ v. record r { contract = record r.contract { volume = v } }) (find contract_key_cmp r.key volumes)
+
+-- the positions after rows in time come one after the other, where these volumes are in force before them
+abbrev pub positions_with : List Row → Table ContractKey ℤ → Table PositionKey Position → Table PositionKey Position
+positions_with [] volumes positions = positions
+positions_with (row.Contract r ∷ rows) volumes positions =
+    positions_with rows (put contract_key_cmp r.key r.contract.volume volumes) (with_contract (replaced_by r volumes) r positions)
+positions_with (_ ∷ rows) volumes positions = positions_with rows volumes positions
+
+-- after a load
+abbrev pub beside_with_load : LoadWrites → Registered → Beside → Beside
+beside_with_load w tables beside = record {
+  positions = positions_with w.rows tables.contracts beside.positions;
+  touched = filter_map touched_by w.rows ++ beside.touched;
+}
+
+-- after a run: the periods of its date are as it settled them
+abbrev pub beside_with_run : RunWrites → Beside → Beside
+beside_with_run w beside = record beside { touched = filter (λ at. not (at.date == w.key.date)) beside.touched }
+
+-- the positions by contracts in force, one after the other
+abbrev pub positions_of : List ContractRow → Table PositionKey Position → Table PositionKey Position
+positions_of [] positions = positions
+positions_of (r ∷ rows) positions = positions_of rows (with_contract None r positions)
+
+-- beside tables that were kept alone so far: all positions, and each Settlement Period of each run is touched
+abbrev pub beside_of : Content → Beside
+beside_of content = record {
+  positions = positions_of (filter_map (row_in_force content.registered) content.registered.contracts) [];
+  touched = flat_map (λ e. periods_on e.0.date e.1.periods) content.runs;
+}

@@ -1,0 +1,41 @@
+-- That what is kept beside the tables goes on agreeing with them.
+use Rattle.std.specs.Prelude.{◌≡◌, ℤ, Bool, IsTrue}
+use Rattle.hh_tables.specs.Tables.{Table}
+use Rattle.hh_time.specs.Days.{Midnights}
+use Rattle.hh_rows.specs.declared.settings.Settings.{Settings}
+use Rattle.hh_runs.specs.declared.run_key.RunKey.{RunKey}
+use Rattle.hh_states.specs.declared.file_key.FileKey.{FileKey}
+use Rattle.hh_states.specs.Changes.{load_writes, run_writes}
+use Rattle.hh_states.specs.Content.{Content, tables_of}
+use Rattle.hh_states.specs.States.{AcceptedFile, State}
+use Rattle.hh_states.specs.Steps.{CanLoad, CanRun, IsReached, Load, after_load, after_run}
+use Rattle.hh_beside.specs.Beside.{Beside, agrees}
+use Rattle.hh_beside.specs.DayLaws.{HaveTheSame}
+use Rattle.hh_beside.specs.Keeping.{beside_of, beside_with_load, beside_with_run}
+
+-- the same positions, and the same Settlement Periods that were touched, in whichever order and however often
+abbrev pub AreAlike : Beside → Beside → Type 0
+AreAlike these those = (these.positions ≡ those.positions) × HaveTheSame these.touched those.touched
+
+-- what agrees with the tables of a state that the machine reaches does so after a load that it accepts
+abbrev pub LoadsAgree : Type 0
+LoadsAgree = (midnight : Midnights) (s : State) (load : Load) (beside after : Beside) → IsReached midnight s
+    → CanLoad midnight s load → IsTrue (agrees (tables_of midnight s) beside)
+    → AreAlike after (beside_with_load (load_writes midnight s load) (tables_of midnight s).registered beside)
+    → IsTrue (agrees (tables_of midnight (after_load midnight s load)) after)
+
+-- and after a run that it makes
+abbrev pub RunsAgree : Type 0
+RunsAgree = (midnight : Midnights) (s : State) (moment : ℤ) (key : RunKey) (beside after : Beside) → IsReached midnight s
+    → CanRun midnight s moment key → IsTrue (agrees (tables_of midnight s) beside)
+    → AreAlike after (beside_with_run (run_writes midnight s key) beside)
+    → IsTrue (agrees (tables_of midnight (after_run s key)) after)
+
+-- what is made anew beside tables agrees with them
+abbrev pub MadeAnewAgrees : Type 0
+MadeAnewAgrees = (content : Content) (made : Beside) → AreAlike made (beside_of content) → IsTrue (agrees content made)
+
+-- what agrees with tables does so whatever the settings and the files are, and whether or not it is said to
+abbrev pub AgreesWhatever : Type 0
+AgreesWhatever = (content : Content) (beside : Beside) (settings : Settings) (files : Table FileKey AcceptedFile) (is_in_step : Bool)
+    → agrees (record content { settings = settings; files = files; is_in_step = is_in_step }) beside ≡ agrees content beside

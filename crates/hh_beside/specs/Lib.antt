@@ -1,0 +1,5 @@
+pub mod Beside
+pub mod DayLaws
+pub mod Keeping
+pub mod Laws
+pub mod PositionLaws

@@ -1,0 +1,205 @@
+-- That the positions that are kept go on being what the contracts in force come to, and what they give a Settlement Period.
+use Rattle.std.specs.Prelude.{◌≡◌, ℤ, pos, ◌-ℤ◌, List, [], ◌∷◌, ◌++◌, map, filter_map, Bool, true, false, All, unwrap_or, Some, IsTrue}
+use Rattle.std.specs.FinMap.{find, put}
+use Rattle.std.specs.List.{AllByRecursion, list_all}
+use Rattle.std.specs.Option.{option_or}
+use Rattle.hh_num.specs.Quantities.{net_volumes}
+use Rattle.hh_num.specs.Ranges.{IsBetween}
+use Rattle.hh_num.specs.Totals.{total}
+use Rattle.hh_tables.specs.Tables.{IsTable, Table, put_all}
+use Rattle.hh_time.specs.Days.{Midnights}
+use Rattle.hh_names.specs.declared.account.Account.{Account}
+use Rattle.hh_rows.specs.Keys.{contract_key_cmp}
+use Rattle.hh_rows.specs.declared.keys.ContractKey.{ContractKey}
+use Rattle.hh_rows.specs.declared.rows.ContractRow.{ContractRow}
+use Rattle.hh_rows.specs.declared.rows.Row.{Row}
+use Rattle.hh_rows.specs.declared.rows.Row.TheVariants as row
+use Rattle.hh_rows.specs.declared.settlement_period.SettlementPeriod.{SettlementPeriod}
+use Rattle.hh_rules.specs.History.{Registered}
+use Rattle.hh_rules.specs.RegisterView.{AgreesOn}
+use Rattle.hh_rules.specs.Positions.{moved, position_in, position_key, position_key_cmp, position_plus, volume_of, with_contract}
+use Rattle.hh_rules.specs.declared.positions.Position.{Position}
+use Rattle.hh_rules.specs.declared.positions.Position.TheVariants.{Known, Lost}
+use Rattle.hh_rules.specs.declared.positions.PositionKey.{PositionKey}
+use Rattle.hh_runs.specs.declared.run_key.RunKey.{RunKey}
+use Rattle.hh_states.specs.Changes.{load_writes, put_rows}
+use Rattle.hh_states.specs.Content.{tables_of}
+use Rattle.hh_states.specs.PeriodSettlement.{accounts_on, row_in_force}
+use Rattle.hh_states.specs.Soundness.{AreConsistent}
+use Rattle.hh_states.specs.States.{State}
+use Rattle.hh_states.specs.Steps.{CanLoad, IsReached, Load, after_load, after_run}
+use Rattle.hh_beside.specs.Beside.{are_positions_right, net_position}
+use Rattle.hh_beside.specs.Keeping.{positions_of, positions_with, replaced_by}
+
+-- a position that is known is what the contracts in force come to; an account without one is named by none of them
+abbrev pub KnownIsNet : Type 0
+KnownIsNet = (tables : Registered) (positions : Table PositionKey Position) (key : PositionKey) (net : ℤ)
+    → IsTrue (are_positions_right tables positions) → position_in positions key ≡ Known net → net ≡ net_position tables key
+
+-- positions that are made anew from the contracts in force are right
+abbrev pub MadeAnewAreRight : Type 0
+MadeAnewAreRight = (tables : Registered)
+    → IsTrue (are_positions_right tables (positions_of (filter_map (row_in_force tables) tables.contracts) []))
+
+-- positions that are right in a state that the machine reaches are so after a load that it accepts
+abbrev pub LoadsKeepPositions : Type 0
+LoadsKeepPositions = (midnight : Midnights) (s : State) (load : Load) (positions : Table PositionKey Position)
+    → IsReached midnight s → CanLoad midnight s load → IsTrue (are_positions_right (tables_of midnight s).registered positions)
+    → IsTrue (are_positions_right (tables_of midnight (after_load midnight s load)).registered
+    (positions_with (load_writes midnight s load).rows (tables_of midnight s).registered.contracts positions))
+
+-- and as they stand they are so after a run
+abbrev pub RunsKeepPositions : Type 0
+RunsKeepPositions = (midnight : Midnights) (s : State) (key : RunKey) (positions : Table PositionKey Position)
+    → IsTrue (are_positions_right (tables_of midnight s).registered positions)
+    → IsTrue (are_positions_right (tables_of midnight (after_run s key)).registered positions)
+
+-- ---- the net volumes of a Settlement Period
+
+-- the key of an account's position in a Settlement Period
+abbrev pub position_at : SettlementPeriod → Account → PositionKey
+position_at at account = record { at = at; account = account }
+
+-- a position is known
+abbrev pub is_known : Position → Bool
+is_known (Known net) = true
+is_known Lost = false
+
+-- the net volume of a position; one that is lost counts as 0
+abbrev pub volume_in : Position → ℤ
+volume_in (Known net) = net
+volume_in Lost = pos 0
+
+-- the net volume of a position, if it is known, is one that is kept
+abbrev pub IsInRange : Position → Type 0
+IsInRange (Known net) = IsBetween net_volumes.least net_volumes.most net
+IsInRange Lost = Unit {0}
+
+module _ (positions : Table PositionKey Position) (at : SettlementPeriod) where
+  -- the positions of these accounts in a Settlement Period are known
+  abbrev pub are_known : List Account → Bool
+  are_known = list_all (λ a. is_known (position_in positions (position_at at a)))
+
+  -- the net volumes of these accounts in a Settlement Period
+  abbrev pub volumes_at : List Account → List ℤ
+  volumes_at = map (λ a. volume_in (position_in positions (position_at at a)))
+
+-- the net volumes of a Settlement Period's accounts are what the contracts in force come to, and sum to zero
+pub record AreNets (tables : Registered) (at : SettlementPeriod) (volumes : List ℤ) : Type 0 where
+  pub exact : volumes ≡ map (λ a. net_position tables (position_at at a)) (accounts_on tables at.date)
+  pub zero : total (λ v. v) volumes ≡ pos 0
+
+-- of what is registered and in force, where it is consistent, the net positions of a Settlement Period sum to zero
+abbrev pub NetsSumToZero : Type 0
+NetsSumToZero = (tables : Registered) (at : SettlementPeriod) → AreConsistent tables
+    → total (λ a. net_position tables (position_at at a)) (accounts_on tables at.date) ≡ pos 0
+
+-- where the positions are right, and those of a Settlement Period's accounts are known, they give its net volumes
+abbrev pub KnownAreNets : Type 0
+KnownAreNets = (midnight : Midnights) (s : State) (at : SettlementPeriod) (positions : Table PositionKey Position)
+    → IsReached midnight s → IsTrue (are_positions_right (tables_of midnight s).registered positions)
+    → IsTrue (are_known positions at (accounts_on (tables_of midnight s).registered at.date))
+    → AreNets (tables_of midnight s).registered at
+    (volumes_at positions at (accounts_on (tables_of midnight s).registered at.date))
+
+-- net volumes from positions whose volumes are kept are such volumes
+abbrev pub VolumesInRange : Type 0
+VolumesInRange = (at : SettlementPeriod) (positions : Table PositionKey Position) (accounts : List Account)
+    → AllByRecursion (λ e. IsInRange e.1) positions
+    → AllByRecursion (IsBetween net_volumes.least net_volumes.most) (volumes_at positions at accounts)
+
+-- positions whose volumes are kept are such after any rows
+abbrev pub PositionsStayInRange : Type 0
+PositionsStayInRange = (rows : List Row) (volumes : Table ContractKey ℤ) (positions : Table PositionKey Position)
+    → AllByRecursion (λ e. IsInRange e.1) positions → AllByRecursion (λ e. IsInRange e.1) (positions_with rows volumes positions)
+
+-- and so are positions that are made anew
+abbrev pub MadeAnewInRange : Type 0
+MadeAnewInRange = (rows : List ContractRow) → AllByRecursion (λ e. IsInRange e.1) (positions_of rows [])
+
+-- ---- tables of positions that are written
+
+-- the positions that rows write one after the other, where these volumes are in force before them
+abbrev pub positions_written : List Row → Table ContractKey ℤ → Table PositionKey Position → List (PositionKey × Position)
+positions_written [] volumes positions = []
+positions_written (row.Contract r ∷ rows) volumes positions =
+    let more : ℤ = r.contract.volume -ℤ volume_of (replaced_by r volumes) in
+    let sells : PositionKey = position_key r r.contract.counterparties.seller in
+    let buys : PositionKey = position_key r r.contract.counterparties.buyer in
+    (sells, position_plus more (position_in positions sells))
+    ∷ (buys, position_plus (pos 0 -ℤ more) (position_in (moved sells more positions) buys))
+    ∷ positions_written rows (put contract_key_cmp r.key r.contract.volume volumes) (with_contract (replaced_by r volumes) r positions)
+positions_written (_ ∷ rows) volumes positions = positions_written rows volumes positions
+
+-- the positions after rows are a table
+abbrev pub PositionsStayTable : Type 0
+PositionsStayTable = (rows : List Row) (volumes : Table ContractKey ℤ) (positions : Table PositionKey Position)
+    → IsTable position_key_cmp positions → IsTable position_key_cmp (positions_with rows volumes positions)
+
+-- what rows write, put into the table, makes the positions after them
+abbrev pub WrittenAreAfter : Type 0
+WrittenAreAfter = (rows : List Row) (volumes : Table ContractKey ℤ) (positions : Table PositionKey Position)
+    → put_all position_key_cmp (positions_written rows volumes positions) positions ≡ positions_with rows volumes positions
+
+-- the positions after rows and more rows are those after the more, by the volumes that the rows left in force
+abbrev pub PositionsRowByRow : Type 0
+PositionsRowByRow = (rows more : List Row) (tables : Registered) (positions : Table PositionKey Position)
+    → positions_with (rows ++ more) tables.contracts positions
+    ≡ positions_with more (put_rows rows tables).contracts (positions_with rows tables.contracts positions)
+
+-- two tables in which the same is found under each key are one
+abbrev pub OneByFound : Type 0
+OneByFound = (positions others : Table PositionKey Position) → IsTable position_key_cmp positions → IsTable position_key_cmp others
+    → ((key : PositionKey) → find position_key_cmp key positions ≡ find position_key_cmp key others) → positions ≡ others
+
+-- what is found once changed positions are put into a table: the changed position, or else that of the table
+abbrev pub FoundOnceChanged : Type 0
+FoundOnceChanged = (changed positions : Table PositionKey Position) (key : PositionKey) → IsTable position_key_cmp changed
+    → find position_key_cmp key (put_all position_key_cmp changed positions)
+    ≡ option_or (find position_key_cmp key changed) (find position_key_cmp key positions)
+
+-- to change one position more is to put it into the table with the others
+abbrev pub OneMoreChanged : Type 0
+OneMoreChanged = (changed positions : Table PositionKey Position) (key : PositionKey) (position : Position)
+    → IsTable position_key_cmp changed → IsTable position_key_cmp positions
+    → put_all position_key_cmp (put position_key_cmp key position changed) positions
+    ≡ put position_key_cmp key position (put_all position_key_cmp changed positions)
+
+-- to add a volume to a position that is changed, or else in the table, is to add it in the table with the changed ones
+abbrev pub MovedOnceChanged : Type 0
+MovedOnceChanged = (changed positions : Table PositionKey Position) (key : PositionKey) (volume : ℤ)
+    → IsTable position_key_cmp changed → IsTable position_key_cmp positions
+    → put_all position_key_cmp
+    (put position_key_cmp key
+    (position_plus volume
+    (unwrap_or (option_or (find position_key_cmp key changed) (find position_key_cmp key positions)) (Known (pos 0))))
+    changed) positions
+    ≡ moved key volume (put_all position_key_cmp changed positions)
+
+-- a part of what is registered and in force that has what rows are judged by gives the positions after them
+abbrev pub PartsGivePositions : Type 0
+PartsGivePositions = (rows : List Row) (whole part : Registered) (positions : Table PositionKey Position)
+    → All (AgreesOn whole part) rows
+    → positions_with rows part.contracts positions ≡ positions_with rows whole.contracts positions
+
+module _ (whole part : Table PositionKey Position) where
+  -- what is found in the part is found in the whole
+  abbrev pub IsPartOf : Type 0
+  IsPartOf = (key : PositionKey) (position : Position) → find position_key_cmp key part ≡ Some position
+      → find position_key_cmp key whole ≡ Some position
+
+  -- both have the same of the seller and the buyer of a contract row
+  abbrev pub AgreesOnPositions : Row → Type 0
+  AgreesOnPositions (row.Contract r) =
+      (position_in part (position_key r r.contract.counterparties.seller)
+      ≡ position_in whole (position_key r r.contract.counterparties.seller))
+      × (position_in part (position_key r r.contract.counterparties.buyer)
+      ≡ position_in whole (position_key r r.contract.counterparties.buyer))
+  AgreesOnPositions _ = Unit {0}
+
+-- A part of the positions that has those of each seller and buyer of rows serves for the rows: what it is after them, put into
+-- the whole, makes the positions after them.
+abbrev pub PartsServe : Type 0
+PartsServe = (rows : List Row) (volumes : Table ContractKey ℤ) (whole part : Table PositionKey Position)
+    → IsTable position_key_cmp whole → IsTable position_key_cmp part → IsPartOf whole part → All (AgreesOnPositions whole part) rows
+    → put_all position_key_cmp (positions_with rows volumes part) whole ≡ positions_with rows volumes whole

@@ -1,0 +1,92 @@
+-- What a Settlement Day is settled from where a store keeps something beside the tables: a Settlement Period that was not touched
+-- since the latest run of its date is as that run settled it, and others are settled from net volumes.
+use Rattle.std.specs.Prelude.{◌≡◌, ◌≤◌, ◌⊎◌, ℕ, List, map, filter, All, Option, Some, None, IsTrue, IsFalse}
+use Rattle.std.specs.FinMap.{find}
+use Rattle.std.specs.List.{AllZip}
+use Rattle.std.specs.Ordering.{eq_by_cmp}
+use Rattle.hh_rows.specs.declared.settlement_period.SettlementPeriod.{SettlementPeriod}
+use Rattle.hh_rules.specs.History.{Registered}
+use Rattle.hh_rules.specs.Positions.{position_key_cmp}
+use Rattle.hh_rules.specs.declared.positions.PositionKey.{PositionKey}
+use Rattle.hh_calc.specs.Ready.{HasNetVolumes}
+use Rattle.hh_calc.specs.Terms.{Net, PeriodTerms, Settled, settled_as}
+use Rattle.hh_runs.specs.declared.run_key.RunKey.{RunKey}
+use Rattle.hh_runs.specs.declared.summary.Summary.{Summary}
+use Rattle.hh_states.specs.Content.{Content}
+use Rattle.hh_states.specs.DaySettlement.{missing_meter, missing_price}
+use Rattle.hh_states.specs.PeriodSettlement.{accounts_on, terms_at}
+use Rattle.hh_states.specs.Runs.{run_key_cmp}
+use Rattle.hh_beside.specs.Beside.{Beside, agrees, credit_row, is_among, is_credit_of, is_result_of, latest_on}
+use Rattle.hh_beside.specs.PositionLaws.{are_known, volumes_at}
+use Rattle.hh_store.specs.declared.day_data.DayData.{DayData}
+use Rattle.hh_store.specs.declared.day_data.PeriodState.{PeriodState}
+use Rattle.hh_store.specs.declared.day_data.PeriodState.TheVariants.{Changed, Same}
+use Rattle.hh_store.specs.DayReads.{IsDayData}
+use Rattle.hh_kept_rows.specs.DayRows.{HasRowsOn}
+use Rattle.hh_kept_rows.specs.declared.day_beside.DayBeside.{DayBeside}
+
+-- what is kept of a date is this: its latest run with the rows of that, the touched Settlement Periods of the date, and its
+-- positions
+pub record IsBesideOf (content : Content) (beside : Beside) (date : ℕ) (day : DayBeside) : Type 0 where
+  pub latest : day.latest ≡ latest_on content date
+  pub results : (e : RunKey × Summary) → latest_on content date ≡ Some e
+      → day.results ≡ filter (λ r. eq_by_cmp run_key_cmp r.0.run e.0) content.results
+  pub credits : (e : RunKey × Summary) → latest_on content date ≡ Some e
+      → day.credits ≡ filter (λ c. eq_by_cmp run_key_cmp c.0.run e.0) content.credits
+  pub touched : (at : SettlementPeriod) → at.date ≡ date → is_among day.touched.items at ≡ is_among beside.touched at
+  pub positions : (key : PositionKey) → key.at.date ≡ date
+      → find position_key_cmp key day.positions ≡ find position_key_cmp key beside.positions
+
+-- a Settlement Period as a run settled it, by the rows of the run
+abbrev pub result_beside : DayBeside → RunKey → ℕ → Settled
+result_beside day run period =
+    settled_as (map (λ e. e.1) (filter (is_result_of run period) day.results))
+    (map credit_row (filter (is_credit_of run period) day.credits))
+
+module _ (tables : Registered) (beside : DayBeside) (at : SettlementPeriod) where
+  -- the latest run has this Settlement Period, settled it to this, and with the accounts of the date as they are now; the period
+  -- was not touched since
+  pub record IsSameSince (run : RunKey) (summary : Summary) (s : Settled) : Type 0 where
+    pub first : 1 ≤ at.period
+    pub last : at.period ≤ summary.periods
+    pub untouched : IsFalse (is_among beside.touched.items at)
+    pub accounts : map (λ r. r.account) s.accounts ≡ accounts_on tables at.date
+    pub settled : s ≡ result_beside beside run at.period
+
+  -- so it is of the latest run, and there is one
+  abbrev pub IsSameAs : Option (RunKey × Summary) → Settled → Type 0
+  IsSameAs None s = ⊥
+  IsSameAs (Some (run, summary)) s = IsSameSince run summary s
+
+  -- what a Settlement Period is settled from, with its accounts' positions in the place of the contract volumes in force; all of
+  -- them are known
+  pub record IsNetBeside (p : PeriodTerms) : Type 0 where
+    pub same : p ≡ record (terms_at tables at) { contracts = Net (volumes_at beside.positions at (accounts_on tables at.date)) }
+    pub known : IsTrue (are_known beside.positions at (accounts_on tables at.date))
+    pub sizes : HasNetVolumes p.contracts
+
+  -- what a Settlement Period is settled from by the contract volumes in force; the position of one of its accounts is lost
+  pub record IsByRows (p : PeriodTerms) : Type 0 where
+    pub same : p ≡ terms_at tables at
+    pub lost : IsFalse (are_known beside.positions at (accounts_on tables at.date))
+
+  -- a Settlement Period is settled from this, by the rows or by the positions, or it is as the latest run settled it
+  abbrev pub IsStateBeside : PeriodState → Type 0
+  IsStateBeside (Changed p) = IsByRows p ⊎ IsNetBeside p
+  IsStateBeside (Same s) = IsSameAs beside.latest s
+
+-- This is read of these Settlement Periods: the first of them that has no price, if there is one; the first reading that a unit
+-- lacks, if there is one; and what each is settled from or to.
+pub record IsDayBeside (tables : Registered) (beside : DayBeside) (periods : List SettlementPeriod) (day : DayData) : Type 0 where
+  pub price : day.missing_price ≡ missing_price tables periods
+  pub meter : day.missing_meter ≡ missing_meter tables periods
+  pub states : AllZip (IsStateBeside tables beside) periods day.periods.items
+
+-- What is read of Settlement Periods from the rows of their date and from what is kept beside them is what is read of them from
+-- all tables, where what is kept agrees with these.
+abbrev pub ReadByWhatIsBeside : Type 0
+ReadByWhatIsBeside = (content : Content) (beside : Beside) → IsTrue (agrees content beside)
+    → (date : ℕ) (part : Registered) (held : DayBeside)
+    → HasRowsOn date content.registered part → IsBesideOf content beside date held
+    → (periods : List SettlementPeriod) → All (λ at. at.date ≡ date) periods
+    → (day : DayData) → IsDayBeside part held periods day → IsDayData content.registered periods day

@@ -1,0 +1,32 @@
+-- What one step of a writing makes of the content, and of what stands beside it.
+use Rattle.std.specs.Prelude.{◌≡◌, List, ◌++◌}
+use Rattle.hh_tables.specs.Tables.{put_all}
+use Rattle.sqlite.specs.Effect.{Database}
+use Rattle.hh_rows.specs.declared.settings.Settings.{Settings}
+use Rattle.hh_rows.specs.declared.settlement_period.SettlementPeriod.{SettlementPeriod}
+use Rattle.hh_rules.specs.Positions.{position_key_cmp}
+use Rattle.hh_rules.specs.declared.positions.Position.{Position}
+use Rattle.hh_rules.specs.declared.positions.PositionKey.{PositionKey}
+use Rattle.hh_states.specs.Changes.{RunWrites}
+use Rattle.hh_states.specs.Content.{Content}
+use Rattle.hh_beside.specs.DayLaws.{HaveTheSame}
+use Rattle.hh_sqlrows.specs.Contents.{beside_in, content_of}
+use Rattle.hh_sqlchanges.specs.Writes.{StaysOffice, StoresRun}
+
+-- The database stays an office's with its settings and its mark, and its content becomes what this makes of it, alone.
+pub record Becomes (effect : Content → Content) (old new : Database) : Type 0 where
+  pub stays : StaysOffice old new
+  pub content : (kept : Settings) → content_of kept new.trees ≡ effect (content_of kept old.trees)
+  pub beside : beside_in new.trees ≡ beside_in old.trees
+
+-- The rows of a run are written, alone.
+pub record StoresRunAlone (w : RunWrites) (old new : Database) : Type 0 where
+  pub stores : StoresRun w old new
+  pub beside : beside_in new.trees ≡ beside_in old.trees
+
+-- The content stays, and these positions and these touched Settlement Periods stand with those beside it.
+pub record WritesBeside (changed : List (PositionKey × Position)) (periods : List SettlementPeriod) (old new : Database) : Type 0 where
+  pub stays : StaysOffice old new
+  pub content : (kept : Settings) → content_of kept new.trees ≡ content_of kept old.trees
+  pub positions : (beside_in new.trees).positions ≡ put_all position_key_cmp changed (beside_in old.trees).positions
+  pub touched : HaveTheSame (beside_in new.trees).touched (periods ++ (beside_in old.trees).touched)

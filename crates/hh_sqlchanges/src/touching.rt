@@ -1,0 +1,50 @@
+//! Which Settlement Periods the rows of an accepted file touch.
+
+ghost use Rattle.std.specs.Prelude.{◌≡◌, IfOk, filter_map};
+ghost use Rattle.std.specs.List.Sorted.{IsStrictlySortedBy};
+ghost use Rattle.hh_rows.specs.Keys.{settlement_period_cmp};
+ghost use Rattle.hh_beside.specs.DayLaws.{HaveTheSame};
+ghost use Rattle.hh_beside.specs.Keeping.{touched_by};
+
+use hh_rows::{Row, SettlementPeriod};
+use std::alloc::{AllocError, Global};
+use std::collections::BTreeSet;
+
+/// The Settlement Periods that rows in time touch, each once, in their order.
+pub fn touched_periods(alloc: Global, rows: &[Row]) -> Result<Vec<SettlementPeriod>, AllocError>
+    ensures same { IfOk result (λ found.
+        HaveTheSame found.items (filter_map touched_by rows.now)) }
+    ensures once { IfOk result (λ found. IsStrictlySortedBy settlement_period_cmp found.items) }
+{
+    let mut found = BTreeSet::new(alloc);
+    for row in rows {
+        if let Some(at) = period_of(row) {
+            found.insert(at)?;
+        }
+    }
+    periods_of(alloc, found)
+}
+
+/// The Settlement Periods of a set.
+fn periods_of(
+    alloc: Global,
+    periods: BTreeSet<SettlementPeriod>,
+) -> Result<Vec<SettlementPeriod>, AllocError>
+    ensures same { IfOk result (λ list. list.items ≡ periods.keys) }
+    ensures once { IfOk result (λ list. IsStrictlySortedBy settlement_period_cmp list.items) }
+{
+    periods.into_iter().collect(alloc)
+}
+
+/// The Settlement Period that a row in time touches, if it touches one.
+fn period_of(row: &Row) -> Option<SettlementPeriod>
+    ensures { result ≡ touched_by row.now }
+{
+    match row {
+        Row::Party(_) | Row::Unit(_) => None,
+        Row::Meter(row) => Some(row.key.at),
+        Row::Price(row) => Some(row.at),
+        Row::Contract(row) => Some(row.key.at),
+        Row::Reallocation(row) => Some(row.key.unit_period.at),
+    }
+}

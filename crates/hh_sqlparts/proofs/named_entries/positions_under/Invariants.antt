@@ -1,0 +1,20 @@
+use Rattle.std.proofs.Common.{◌≡◌, false, take}
+use Rattle.std.specs.List.{flat_map}
+use Rattle.hh_rules.specs.Positions.{position_key_cmp}
+use Rattle.sqlite.specs.Held.{state}
+use Rattle.hh_sqlrows.specs.Forms.{rows_under_keys}
+use Rattle.hh_sqlrows.specs.OfficeTables.{positions}
+use Rattle.hh_sqlparts.specs.Readings.{SelectsOnly, OfSettled}
+use Rattle.hh_sqlparts.specs.steps.Named.{entry_under}
+use Rattle.hh_sqlparts.proofs.named_entries.positions_under.Given as goal
+
+-- what the names so far select
+abbrev pub invariant-names : goal.invariant-names
+invariant-names g l =
+    let old = state g.S.Store l.fn.conn in
+    let now = state g.S.Store l.conn in
+    record {
+      reading : SelectsOnly old now;
+      mode : l.fn.conn.in_transaction ≡ false → l.conn.in_transaction ≡ false;
+      selected : OfSettled old now (l.found.items ≡ flat_map (entry_under position_key_cmp (rows_under_keys positions old.now.trees)) (take l.name-index l.names));
+    }

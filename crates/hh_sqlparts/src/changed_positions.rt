@@ -1,0 +1,93 @@
+//! The positions that rows of a load move.
+
+ghost use Rattle.std.specs.Prelude.{◌≡◌, false, IfOk, OnOk};
+ghost use Rattle.std.specs.FinMap.{put};
+ghost use Rattle.hh_tables.specs.Tables.{put_all};
+ghost use Rattle.hh_rows.specs.Keys.{contract_key_cmp};
+ghost use Rattle.hh_rules.specs.Positions.{position_key_cmp, with_contract};
+ghost use Rattle.hh_beside.specs.Keeping.{positions_with, replaced_by};
+ghost use Rattle.sqlite.specs.Held.{state};
+ghost use Rattle.hh_sqlrows.specs.Forms.{rows_under_keys};
+ghost use Rattle.hh_sqlrows.specs.OfficeTables.{contracts, positions};
+ghost use Rattle.hh_sqlparts.specs.Readings.{SelectsOnly, OfSettled};
+
+use crate::moved_positions::{select_positions_named, select_volumes_named};
+use hh_keyed_rows::RowFault;
+use hh_names::Contract;
+use hh_num::Kwh;
+use hh_rows::{ContractKey, ContractRow, Row};
+use hh_rules::{Position, PositionKey, Positions};
+use hh_tables::TreeTable;
+use sqlite::{Alter, Connection};
+use std::alloc::{AllocError, Global};
+
+/// The positions that rows of contracts move, as they are once these rows come one after the other.
+/// Rows of other kinds move none.
+pub fn select_positions_after<S: Alter>(
+    conn: &mut Connection<S>,
+    alloc: Global,
+    rows: &[Row],
+) -> Result<Vec<(PositionKey, Position)>, RowFault>
+    ensures value { let old = state S.Store conn.old in
+        let new = state S.Store conn.new in
+        OfSettled old new (IfOk result (λ written.
+        put_all position_key_cmp written.items (rows_under_keys positions old.now.trees)
+        ≡ positions_with rows.now (rows_under_keys contracts old.now.trees)
+        (rows_under_keys positions old.now.trees))) }
+    ensures reading { SelectsOnly (state S.Store conn.old) (state S.Store conn.new) }
+    ensures mode { conn.old.in_transaction ≡ false → conn.new.in_transaction ≡ false }
+{
+    let mut volumes = select_volumes_named(conn, alloc, rows)?;
+    let mut positions = select_positions_named(conn, alloc, rows)?;
+    move_by_rows(rows, &mut volumes, &mut positions)?;
+    Ok(positions.rows(alloc)?)
+}
+
+/// Moves positions by rows that come one after the other, where these volumes are in force before
+/// them.
+fn move_by_rows(
+    rows: &[Row],
+    volumes: &mut TreeTable<ContractKey, Kwh>,
+    positions: &mut Positions,
+) -> Result<(), AllocError>
+    ensures { OnOk result (positions.new ≡ positions_with rows.now volumes.old positions.old) }
+{
+    for row in rows {
+        if let Row::Contract(row) = row {
+            move_by_row(row, volumes, positions)?;
+        }
+    }
+    Ok(())
+}
+
+/// Moves the positions of a contract row's seller and buyer. The row's volume is then in force.
+fn move_by_row(
+    row: &ContractRow,
+    volumes: &mut TreeTable<ContractKey, Kwh>,
+    positions: &mut Positions,
+) -> Result<(), AllocError>
+    ensures moved { OnOk result (positions.new
+        ≡ with_contract (replaced_by row.now volumes.old) row.now positions.old) }
+    ensures in_force { OnOk result (volumes.new
+        ≡ put contract_key_cmp row.now.key row.now.contract.volume volumes.old) }
+{
+    let old = replaced_by(row, volumes);
+    positions.replace(old.as_ref(), row)?;
+    volumes.put(row.key, row.contract.volume)
+}
+
+/// The contract row that this one takes the place of, by the volume in force under its key.
+fn replaced_by(row: &ContractRow, volumes: &TreeTable<ContractKey, Kwh>) -> Option<ContractRow>
+    ensures { result ≡ replaced_by row.now volumes.now }
+{
+    match volumes.get(&row.key) {
+        Some(volume) => Some(ContractRow {
+            key: row.key,
+            contract: Contract {
+                counterparties: row.contract.counterparties,
+                volume,
+            },
+        }),
+        None => None,
+    }
+}

@@ -1,0 +1,18 @@
+use Rattle.std.proofs.Common.{◌∷◌, []}
+use Rattle.sqlite.specs.Held.{state}
+use Rattle.hh_sqlrows.specs.OfficeTables.{touched}
+use Rattle.hh_sqlrows.proofs.FormFacts.{touched_form}
+use Rattle.hh_sqlrows.proofs.OrderFacts.{touched_by}
+use Rattle.hh_sqlrows.proofs.SelectLaws.{lists_all, plain_under}
+use Rattle.hh_sqlrows.proofs.StatementTexts.{select_touched_is, select_touched_text}
+use Rattle.hh_sqlrows.proofs.touched_rows.select_touched.Goals as goal
+
+pub returns-clause-value : goal.returns-clause-value
+returns-clause-value g c stands is =
+    lists_all touched touched_form (1 ∷ 2 ∷ []) select_touched_text select_touched_is touched_by (state g.S.Store c.args.conn.now) (state g.S.Store c.select_entries.new.conn) c.select_entries.result is (c.select_entries.ensures.read stands)
+
+pub returns-clause-left : goal.returns-clause-left
+returns-clause-left g c stands is settled = c.select_entries.ensures.left stands (plain_under select_touched_text select_touched_is.plain (state g.S.Store c.args.conn.now) is) settled
+
+pub returns-clause-survives : goal.returns-clause-survives
+returns-clause-survives g c is = c.select_entries.ensures.survives (plain_under select_touched_text select_touched_is.plain (state g.S.Store c.args.conn.now) is)
