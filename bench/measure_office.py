@@ -4,7 +4,8 @@
 usage: measure_office.py [--rounds 5] [--days 10] [--bench PROGRAM] [--settle PROGRAM]
 The programs are by default crates/hh_bench/out/hh_bench and crates/hh_settle/out/hh_settle at the top of this repository.
 A script loads the day of gen_day.py, orders SF, loads the prices again with the first raised by 10 pounds, orders R1, and
-asks for its three reports. `hh_bench office` runs it over a new file and `settle script` over tables in memory, each as one
+asks for its three reports. Then it loads a file of one price, and orders R2: all prices touch each Settlement Period, one price
+touches one, and the others are handed on as R1 settled them. `hh_bench office` runs it over a new file and `settle script` over tables in memory, each as one
 process; `peer_office.py` makes the same steps over a new file, as one process too. The lines of the loads and the runs and the
 results are compared. Before and behind each part stands the load of a named pipe whose header is refused, at which a program
 waits for this script: so each part is timed by itself, and making or opening the tables is not in it.
@@ -30,7 +31,7 @@ from measure_run import LATER, dearer_prices
 from measuring import BENCH
 
 MINUTES = "60"
-PARTS = ("the day loaded", "SF", "the prices again", "R1", "three reports")
+PARTS = ("the day loaded", "SF", "the prices again", "R1", "three reports", "one price again", "R2")
 SECONDS_OF_A_DAY = 86_400
 
 
@@ -53,9 +54,16 @@ def parts_of_day(folder, number):
     date = load.split(f"{folder}/", 1)[1][:10]
     later = LATER + (number - 1) * SECONDS_OF_A_DAY
     again = dearer_prices(folder, date)
-    orders = {kind: f"run {later} {KEY} {date} {kind}\n" for kind in ("SF", "R1")}
-    prices = f"load {later} {KEY} prices {again}\n"
-    return [load, orders["SF"], prices, orders["R1"], "".join(report_lines("R1", date))]
+    orders = {kind: f"run {later} {KEY} {date} {kind}\n" for kind in ("SF", "R1", "R2")}
+    prices, price = (f"load {later} {KEY} prices {path}\n" for path in (again, one_price(folder, date, again)))
+    return [load, orders["SF"], prices, orders["R1"], "".join(report_lines("R1", date)), price, orders["R2"]]
+
+
+def one_price(folder, date, prices):
+    """A file of the first of some prices."""
+    path = folder / f"{date}-one-price.csv"
+    path.write_text("".join(pathlib.Path(prices).read_text().splitlines(keepends=True)[:2]))
+    return path
 
 
 def with_marks(parts, pipes):
@@ -168,7 +176,8 @@ def print_parts(times):
         medians = [statistics.median(taken) for taken in (file, memory, peer)]
         figures = [medians[0], min(file), max(file), medians[1], medians[2]]
         print(f"| {part} | {' | '.join(f'{figure:.1f}' for figure in figures)} | {medians[0] / medians[2]:.2f} |")
-    without = [statistics.median([sum(taken[:-1]) for taken in rounds]) for rounds in times.values()]
+    reports = PARTS.index("three reports")
+    without = [statistics.median([sum(taken) - taken[reports] for taken in rounds]) for rounds in times.values()]
     print(f"\nWithout the reports, of which the peer writes one: {without[0]:.1f} ms, {without[0] / without[2]:.2f} of the peer's.")
 
 

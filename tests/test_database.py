@@ -180,6 +180,61 @@ class ReportsAnew(Anew, test_reports.Reports):
     test_an_output_that_takes_a_part = None
 
 
+class Positions(InAFile):
+    """Contract positions that a file keeps, and the Settlement Periods that have changed since the latest run of their date."""
+
+    def touched(self, database):
+        return [period for date, period in rows_of(database, "touched") if date == TODAY]
+
+    def positions(self, database, period):
+        """What is kept of the accounts of a Settlement Period: party, side, kWh, and whether the position is lost."""
+        return [row[2:] for row in rows_of(database, "positions") if row[:2] == (TODAY, period)]
+
+    def test_what_touches_a_period(self):
+        database, told = self.loaded()
+        self.assertEqual((told, self.touched(database)), ([], list(range(1, 49))))
+        self.assertEqual(self.replies_over(database, self.order("SF")), [SETTLED])
+        self.assertEqual(self.touched(database), [])
+        late = self.load("contracts", f"C1,GENCO-P,SUPCO-C,{DAY},1,98.000", "c2.csv", moment=DEADLINE)
+        self.assertEqual(self.replies_over(database, late), [LATE])
+        self.assertEqual(self.touched(database), [])
+        self.assertEqual(self.replies_over(database, self.dearer()), [APPLIED])
+        self.assertEqual(self.touched(database), [1])
+        self.assertEqual(self.replies_over(database, self.order("R1")), [DEARER])
+        self.assertEqual(self.touched(database), [])
+
+    def test_a_unit_that_joins_a_date(self):
+        """No Settlement Period is touched, and the first lacks the reading of the unit."""
+        unit = self.load("units", "N2,GENCO,P,no,2024-01-01,", "u2.csv")
+        _, told = self.loaded(self.order("SF"), unit, self.order("R1"))
+        self.assertEqual(told, [SETTLED, APPLIED, "refused 54 MissingMeter unit N2 period 1"])
+
+    def test_positions_of_the_market(self):
+        database, _ = self.loaded()
+        self.assertEqual(self.positions(database, 1), [("GENCO", 0, 99_000, 0), ("SUPCO", 1, -99_000, 0)])
+        self.replies_over(database, self.load("contracts", f"C1,GENCO-P,SUPCO-C,{DAY},1,98.000", "c2.csv"))
+        self.assertEqual(self.positions(database, 1), [("GENCO", 0, 98_000, 0), ("SUPCO", 1, -98_000, 0)])
+
+    def test_the_greatest_positions(self):
+        """Ten thousand contracts of the greatest volume come to the greatest position that is known. With one kWh more it is
+        lost, and stays so. The Settlement Period is too large either way, as it is in memory."""
+        most = self.load("contracts", [f"R{number},GENCO-P,SUPCO-C,{DAY},2,10000.000" for number in range(10_000)], "c2.csv")
+        more, none = (
+            self.load("contracts", f"{reference},GENCO-P,SUPCO-C,{DAY},2,{volume}", name)
+            for reference, volume, name in (("R10000", "0.001", "c3.csv"), ("R0", "0", "c4.csv"))
+        )
+        order = self.order("SF")
+        database, told = self.loaded(most, order)
+        self.assertEqual(self.positions(database, 2), [("GENCO", 0, 10**11, 0), ("SUPCO", 1, -(10**11), 0)])
+        told += self.replies_over(database, more, order, none)
+        self.assertEqual(self.positions(database, 2), [("GENCO", 0, 0, 1), ("SUPCO", 1, 0, 1)])
+        refused = "refused 55 TooLarge period 2"
+        self.assertEqual(told, ["applied=10000 late=0", refused, APPLIED, refused, APPLIED])
+        status, written, _ = settle("script", "--operator-key", OPERATOR, self.file("memory", "".join(
+            f"{line}\n" for line in (*self.market(), most, order, more, order, none))))
+        self.assertEqual((status, written.decode().splitlines()[5:]), (0, told))
+
+
 class Beside(InAFile):
     """Lists of requests, drawn at random: the answers over a file are those over tables in memory."""
 

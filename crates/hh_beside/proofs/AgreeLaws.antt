@@ -9,45 +9,42 @@ use Rattle.hh_states.specs.Steps.{after_load, after_run}
 use Rattle.hh_rules.specs.declared.positions.Position.{Position}
 use Rattle.hh_rules.specs.declared.positions.PositionKey.{PositionKey}
 use Rattle.hh_tables.specs.Tables.{Table}
-use Rattle.hh_beside.specs.Beside.{Beside, agrees, are_days_kept, are_positions_right, is_among}
+use Rattle.hh_beside.specs.Beside.{Beside, agrees, are_days_accounted_for, are_positions_right, is_among}
 use Rattle.hh_rows.specs.Keys.{settlement_period_cmp}
 use Rattle.hh_rows.specs.declared.settlement_period.SettlementPeriod.{SettlementPeriod}
 use Rattle.hh_beside.specs.DayLaws.{HaveTheSame}
 use Rattle.hh_beside.specs.Keeping.{beside_of, beside_with_load, beside_with_run}
-use Rattle.hh_beside.specs.Laws.{AgreesWhatever, AreAlike, LoadsAgree, MadeAnewAgrees, RunsAgree}
-use Rattle.hh_beside.proofs.DayKept.{kept_by_the_same, kept_where_all_touched}
-use Rattle.hh_beside.proofs.DayLoads.{loads_keep_days}
-use Rattle.hh_beside.proofs.DayRuns.{runs_keep_days}
+use Rattle.hh_beside.specs.Laws.{AreAlike, LoadsAgree, MadeAnewAgrees, RunsAgree}
+use Rattle.hh_beside.proofs.DayAccountedFor.{accounted_for_by_the_same, accounted_for_where_all_touched}
+use Rattle.hh_beside.proofs.DayLoads.{accounted_for_after_loads}
+use Rattle.hh_beside.proofs.DayRuns.{accounted_for_after_runs}
 use Rattle.hh_beside.proofs.PositionLoads.{loads_keep_positions, runs_keep_positions}
 use Rattle.hh_beside.proofs.PositionMade.{made_anew_are_right}
 
 -- what is like what agrees agrees
 alike_agrees : (content : Content) (these those : Beside) → AreAlike these those → IsTrue (are_positions_right content.registered those.positions)
-    → IsTrue (are_days_kept content those.touched) → IsTrue (agrees content these)
-alike_agrees content these those alike right kept =
+    → IsTrue (are_days_accounted_for content those.touched) → IsTrue (agrees content these)
+alike_agrees content these those alike right accounted =
     and_from _ _ (subst (λ (positions : Table PositionKey Position). are_positions_right content.registered positions ≡ true) (sym alike.0) right)
-    (kept_by_the_same content these.touched those.touched alike.1 ∙ kept)
+    (accounted_for_by_the_same content these.touched those.touched alike.1 ∙ accounted)
 
 pub loads_agree : LoadsAgree
 loads_agree midnight s load beside after reached can agreed alike =
     let parts = and_parts _ _ agreed in
     alike_agrees (tables_of midnight (after_load midnight s load)) after (beside_with_load (load_writes midnight s load) (tables_of midnight s).registered beside) alike
     (loads_keep_positions midnight s load beside.positions reached can parts.0)
-    (loads_keep_days midnight s load beside.touched reached can parts.1)
+    (accounted_for_after_loads midnight s load beside.touched reached can parts.1)
 
 pub runs_agree : RunsAgree
 runs_agree midnight s moment key beside after reached can agreed alike =
     let parts = and_parts _ _ agreed in
     alike_agrees (tables_of midnight (after_run s key)) after (beside_with_run (run_writes midnight s key) beside) alike
     (runs_keep_positions midnight s key beside.positions parts.0)
-    (runs_keep_days midnight s moment key beside.touched reached can parts.1)
+    (accounted_for_after_runs midnight s moment key beside.touched reached can parts.1)
 
 pub made_anew_agrees : MadeAnewAgrees
 made_anew_agrees content made alike =
-    alike_agrees content made (beside_of content) alike (made_anew_are_right content.registered) (kept_where_all_touched content)
-
-pub agrees_whatever : AgreesWhatever
-agrees_whatever content beside settings files is_in_step = refl
+    alike_agrees content made (beside_of content) alike (made_anew_are_right content.registered) (accounted_for_where_all_touched content)
 
 -- ---- lists of Settlement Periods with more
 

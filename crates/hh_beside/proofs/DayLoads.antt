@@ -1,4 +1,4 @@
--- Days that are kept are so after a load, with what its rows in time touch.
+-- Days that are accounted for are so after a load, with what its rows in time touch.
 use Rattle.std.proofs.Common.{◌≡◌, List, ◌++◌, map, refl, sym, ap, subst, ◌∙◌, Bool, true, false}
 use Rattle.std.specs.Prelude.{◌&&◌, ◌||◌, filter_map, is_some}
 use Rattle.std.proofs.lemmas.Bool.{or_left, or_right}
@@ -17,10 +17,10 @@ use Rattle.hh_state_laws.proofs.AcceptedLaws.{rows_valued}
 use Rattle.hh_state_laws.proofs.ApartLaws.{all-weaken}
 use Rattle.hh_state_laws.proofs.ConsistentLaws.{reached_consistent}
 use Rattle.hh_state_laws.proofs.ReachLaws.{load_effect}
-use Rattle.hh_beside.specs.Beside.{are_days_kept, is_among, is_kept, is_same_period, is_still, period_of_run, terms_for}
-use Rattle.hh_beside.specs.DayLaws.{LoadsKeepDays, UntouchedStays}
+use Rattle.hh_beside.specs.Beside.{are_days_accounted_for, is_among, is_accounted_for, is_same_period, is_still, period_of_run, terms_for}
+use Rattle.hh_beside.specs.DayLaws.{AccountedForAfterLoads, UntouchedStays}
 use Rattle.hh_beside.specs.Keeping.{touched_by}
-use Rattle.hh_beside.proofs.DayKept.{among_first, among_second, days_kept, latest_kept}
+use Rattle.hh_beside.proofs.DayAccountedFor.{among_first, among_second, days_accounted_for, latest_accounted_for}
 use Rattle.hh_beside.proofs.DayRows.{IsPeriodSame, rows_stay, same_terms}
 
 pub untouched_stays : UntouchedStays
@@ -39,18 +39,18 @@ still_same at old new price terms s = λ i.
 
 -- what was touched before is touched with more, and what was so is so still
 pub touched_or_still : (touched more was is : Bool) → (touched ≡ true → more ≡ true) → (was ≡ true → is ≡ true) → (touched || was) ≡ true → (more || is) ≡ true
-touched_or_still true more was is still_touched still_so kept = or_left more is (still_touched refl)
-touched_or_still false more was is still_touched still_so kept = or_right more is (still_so kept)
+touched_or_still true more was is still_touched still_so accounted = or_left more is (still_touched refl)
+touched_or_still false more was is still_touched still_so accounted = or_right more is (still_so accounted)
 
-pub loads_keep_days : LoadsKeepDays
-loads_keep_days midnight s load touched reached can kept =
+pub accounted_for_after_loads : AccountedForAfterLoads
+accounted_for_after_loads midnight s load touched reached can accounted =
     let w : LoadWrites = load_writes midnight s load in
     let content : Content = tables_of midnight s in
     let new : List SettlementPeriod = filter_map touched_by w.rows in
     let effect : tables_of midnight (after_load midnight s load) ≡ effect_of_load w content = load_effect midnight s load reached can in
-    let stays : (run : RunKey) (at : SettlementPeriod) → is_kept content touched run at ≡ true → is_kept (effect_of_load w content) (new ++ touched) run at ≡ true =
+    let stays : (run : RunKey) (at : SettlementPeriod) → is_accounted_for content touched run at ≡ true → is_accounted_for (effect_of_load w content) (new ++ touched) run at ≡ true =
     λ run at was.
-    elim (is_among new at) as (λ b. is_among new at ≡ b → is_kept (effect_of_load w content) (new ++ touched) run at ≡ true) [
+    elim (is_among new at) as (λ b. is_among new at ≡ b → is_accounted_for (effect_of_load w content) (new ++ touched) run at ≡ true) [
       | true ↦ λ is. or_left _ _ (among_first new touched at is)
       | false ↦ λ untouched.
           let same = untouched_stays midnight s load at reached can untouched in
@@ -59,7 +59,7 @@ loads_keep_days midnight s load touched reached can kept =
           (λ so. sym (ap (λ (c : Content). is_still c.registered at (period_of_run content run at.period)) effect)
           ∙ still_same at content.registered (registered_at midnight (after_load midnight s load)) same.0 same.1 (period_of_run content run at.period) ∙ so) was
     ] refl in
-    subst (λ c. are_days_kept c (new ++ touched) ≡ true) (sym effect)
-    (days_kept (effect_of_load w content) (new ++ touched) (λ date e is.
-    all-weaken (λ at. is_kept content touched e.0 at ≡ true) (λ at. is_kept (effect_of_load w content) (new ++ touched) e.0 at ≡ true) (stays e.0) (periods_on date e.1.periods)
-    (latest_kept content touched kept date e is)))
+    subst (λ c. are_days_accounted_for c (new ++ touched) ≡ true) (sym effect)
+    (days_accounted_for (effect_of_load w content) (new ++ touched) (λ date e is.
+    all-weaken (λ at. is_accounted_for content touched e.0 at ≡ true) (λ at. is_accounted_for (effect_of_load w content) (new ++ touched) e.0 at ≡ true) (stays e.0) (periods_on date e.1.periods)
+    (latest_accounted_for content touched accounted date e is)))

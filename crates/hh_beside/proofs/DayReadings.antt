@@ -1,4 +1,4 @@
--- Each unit from which a kept Settlement Period holds a credit has a reading in it.
+-- Each unit from which a Settlement Period that is accounted for, and was not touched, holds a credit has a reading in it.
 use Rattle.std.proofs.Common.{◌≡◌, ℕ, List, [], ◌∷◌, map, sym, ap, subst, Option, Some, Ordering}
 use Rattle.std.specs.Prelude.{ℤ, is_some, IsSome}
 use Rattle.std.specs.FinMap.{put}
@@ -21,8 +21,8 @@ use Rattle.hh_state_laws.proofs.ReadyLaws.{all_made}
 use Rattle.hh_state_laws.proofs.RunRowLaws.{all_of}
 use Rattle.hh_state_laws.proofs.SettledLaws.{own_credits}
 use Rattle.hh_beside.specs.Beside.{period_of_run, terms_for}
-use Rattle.hh_beside.specs.DayLaws.{KeptHasReadings}
-use Rattle.hh_beside.proofs.DayKept.{kept_is_still}
+use Rattle.hh_beside.specs.DayLaws.{UntouchedHasReadings}
+use Rattle.hh_beside.proofs.DayAccountedFor.{untouched_is_still}
 use Rattle.hh_beside.proofs.DayTests.{tells_periods}
 
 module _ {K V : Type 0} (R : K → K → Ordering) (P : K → Type 0) where
@@ -64,10 +64,10 @@ credited_by_readings tables at accounts =
     (all_made its_reading (unit_with tables at) (λ u. Has u.unit) (units_on tables at.date)
     (all_of (λ e. (reading : Reading) → its_reading e ≡ Some reading → Has e.0) (λ e reading is. ap is_some is) (units_on tables at.date))))
 
-pub kept_has_readings : KeptHasReadings
-kept_has_readings content touched at run summary kept latest least most untouched =
+pub untouched_has_readings : UntouchedHasReadings
+untouched_has_readings content touched at run summary accounted latest least most untouched =
     let s : Settled = period_of_run content run at.period in
-    let parts = and_parts _ _ (kept_is_still content touched at run summary kept latest least most untouched) in
+    let parts = and_parts _ _ (untouched_is_still content touched at run summary accounted latest least most untouched) in
     let same : settled (terms_for (map (λ r. r.account) s.accounts) content.registered at) ≡ s = (tells_periods _ s).0 parts.1 in
     subst (λ (t : Settled). AllByRecursion (λ c. IsSome (reading_of content.registered (record { unit = c.unit; at = at }))) t.credits) same
     (credited_by_readings content.registered at (map (λ r. r.account) s.accounts))

@@ -1,4 +1,4 @@
--- Days that are kept are so after a run, which leaves no period of its date touched.
+-- Days that are accounted for are so after a run, which leaves no period of its date touched.
 use Rattle.std.proofs.Common.{◌≡◌, ℕ, List, [], ◌∷◌, ◌++◌, length, map, refl, sym, ap, subst, ◌∙◌, Bool, true, false, cond, Option, Some, None, Ordering, arith, eq-eqb, take_all}
 use Rattle.std.specs.Prelude.{ℤ, ◌==◌, ◌&&◌, ◌||◌, filter, is_none, is_some, not, option_map}
 use Rattle.std.specs.Cmp.{Equal-is, IsTotalOrder, unsigned_tied}
@@ -39,9 +39,9 @@ use Rattle.hh_state_laws.proofs.RisingLaws.{all-both, filter_map-if}
 use Rattle.hh_state_laws.proofs.RunLaws.{run_effect, with_former-append}
 use Rattle.hh_state_laws.proofs.RunReadLaws.{holds_runs_of_dates}
 use Rattle.hh_state_laws.proofs.RunRowLaws.{credits_own, results_own}
-use Rattle.hh_beside.specs.Beside.{credit_row, is_among, is_kept, is_still, latest_on, period_of_run, terms_for}
-use Rattle.hh_beside.specs.DayLaws.{RunsKeepDays}
-use Rattle.hh_beside.proofs.DayKept.{IsRunKept, days_kept, latest_kept, latest_of_date}
+use Rattle.hh_beside.specs.Beside.{credit_row, is_among, is_accounted_for, is_still, latest_on, period_of_run, terms_for}
+use Rattle.hh_beside.specs.DayLaws.{AccountedForAfterRuns}
+use Rattle.hh_beside.proofs.DayAccountedFor.{IsRunAccountedFor, days_accounted_for, latest_accounted_for, latest_of_date}
 use Rattle.hh_beside.proofs.DayLoads.{touched_or_still}
 use Rattle.hh_beside.proofs.DayPeriods.{accounts_settled, holds_periods}
 use Rattle.hh_beside.proofs.DayRows.{passing-put}
@@ -87,8 +87,8 @@ among_left date at apart (p ∷ ps) is =
     elim (eq_by_cmp settlement_period_cmp p at) as (λ b. eq_by_cmp settlement_period_cmp p at ≡ b → (b || is_among ps at) ≡ true → is_among (filter (λ q. not (q.date == date)) (p ∷ ps)) at ≡ true) [
       | true ↦ λ same _.
           let one : p ≡ at = exact_settlement_periods p at ((Equal-is (settlement_period_cmp p at)).0 same) in
-          let kept : not (p.date == date) ≡ true = ap (λ (q : SettlementPeriod). not (q.date == date)) one ∙ ap not apart in
-          ap (λ b. is_among (cond b (p ∷ left) left) at) kept ∙ or_left (eq_by_cmp settlement_period_cmp p at) (is_among left at) same
+          let other : not (p.date == date) ≡ true = ap (λ (q : SettlementPeriod). not (q.date == date)) one ∙ ap not apart in
+          ap (λ b. is_among (cond b (p ∷ left) left) at) other ∙ or_left (eq_by_cmp settlement_period_cmp p at) (is_among left at) same
       | false ↦ λ other there.
           let later : is_among left at ≡ true = among_left date at apart ps there in
           elim (not (p.date == date)) as (λ b. is_among (cond b (p ∷ left) left) at ≡ true) [ true ↦ or_right (eq_by_cmp settlement_period_cmp p at) (is_among left at) later | false ↦ later ]
@@ -155,18 +155,18 @@ module _ (midnight : Midnights) (s : State) (key : RunKey) where
             all-weaken (λ e. e.0.run ≡ key) (λ e. (eq_by_cmp run_key_cmp e.0.run run && (e.0.period == period)) ≡ false) (λ e. off e.0.run e.0.period)
             written.credits (credits_own key (settled_by (timetable_at midnight s) s.history (new_run s key)))
 
-    -- so another date stays kept
-    other_kept : (touched : List SettlementPeriod) (date : ℕ) (e : RunKey × Summary) → (key.date == date) ≡ false → e.0.date ≡ date → IsRunKept content touched e date → IsRunKept after (left touched) e date
-    other_kept touched date e apart of_date kept =
-        all-map (λ at. is_kept after (left touched) e.0 at ≡ true) (λ p. record { date = date; period = p }) (from_one_to e.1.periods)
-        (all-weaken (λ p. is_kept content touched e.0 (record { date = date; period = p }) ≡ true) (λ p. is_kept after (left touched) e.0 (record { date = date; period = p }) ≡ true)
+    -- so another date stays accounted for
+    other_accounted_for : (touched : List SettlementPeriod) (date : ℕ) (e : RunKey × Summary) → (key.date == date) ≡ false → e.0.date ≡ date → IsRunAccountedFor content touched e date → IsRunAccountedFor after (left touched) e date
+    other_accounted_for touched date e apart of_date accounted =
+        all-map (λ at. is_accounted_for after (left touched) e.0 at ≡ true) (λ p. record { date = date; period = p }) (from_one_to e.1.periods)
+        (all-weaken (λ p. is_accounted_for content touched e.0 (record { date = date; period = p }) ≡ true) (λ p. is_accounted_for after (left touched) e.0 (record { date = date; period = p }) ≡ true)
         (λ p.
         let at : SettlementPeriod = record { date = date; period = p } in
         touched_or_still (is_among touched at) (is_among (left touched) at) (is_still content.registered at (period_of_run content e.0 p)) (is_still after.registered at (period_of_run after e.0 p))
         (among_left key.date at (turned_number date key.date ∙ apart) touched)
         (λ so. ap (is_still content.registered at) (other_period e.0 p (ap (λ d. key.date == d) of_date ∙ apart)) ∙ so))
         (from_one_to e.1.periods)
-        (all-before-map (λ at. is_kept content touched e.0 at ≡ true) (λ p. record { date = date; period = p }) (from_one_to e.1.periods) kept))
+        (all-before-map (λ at. is_accounted_for content touched e.0 at ≡ true) (λ p. record { date = date; period = p }) (from_one_to e.1.periods) accounted))
 
   module _ (moment : ℤ) (reached : IsReached midnight s) (can : CanRun midnight s moment key) where
     abbrev run : Run
@@ -212,29 +212,29 @@ module _ (midnight : Midnights) (s : State) (key : RunKey) where
         (none_passes (λ at. is_none (price_of saw at)) periods complete.prices)
         (none_passes (λ at. not (is_within_limits (terms_at saw at))) periods complete.limits))))
 
-    -- so the run's date is kept
-    own_kept : (touched : List SettlementPeriod) (date : ℕ) (e : RunKey × Summary) → key.date ≡ date → latest_on after date ≡ Some e → IsRunKept after (left touched) e date
-    own_kept touched date e same latest =
+    -- so the run's date is accounted for
+    own_accounted_for : (touched : List SettlementPeriod) (date : ℕ) (e : RunKey × Summary) → key.date ≡ date → latest_on after date ≡ Some e → IsRunAccountedFor after (left touched) e date
+    own_accounted_for touched date e same latest =
         let one : shown e ≡ shown (key, new_summary midnight s key) =
         one_value (shown e) (shown (key, new_summary midnight s key)) (sym (ap (option_map shown) (ap (latest_on after) same ∙ latest)) ∙ own_shown) in
         let is_new : e ≡ (key, new_summary midnight s key) =
         λ i. (record { date = (latest_of_date after touched date e latest ∙ sym same) i; kind = (one i).0 }, (one i).1) in
-        subst (λ d. IsRunKept after (left touched) e d) same
-        (subst (λ x. IsRunKept after (left touched) x key.date) (sym is_new)
-        (all-weaken (λ at. is_still after.registered at (period_of_run after key at.period) ≡ true) (λ at. is_kept after (left touched) key at ≡ true)
+        subst (λ d. IsRunAccountedFor after (left touched) e d) same
+        (subst (λ x. IsRunAccountedFor after (left touched) x key.date) (sym is_new)
+        (all-weaken (λ at. is_still after.registered at (period_of_run after key at.period) ≡ true) (λ at. is_accounted_for after (left touched) key at ≡ true)
         (λ at. or_right (is_among (left touched) at) (is_still after.registered at (period_of_run after key at.period)))
         (periods_on key.date (period_count midnight key.date)) own_still))
       where
         one_value : {X : Type 0} (x y : X) → Some x ≡ Some y → x ≡ y
         one_value x y is = cc
 
-pub runs_keep_days : RunsKeepDays
-runs_keep_days midnight s moment key touched reached can kept =
+pub accounted_for_after_runs : AccountedForAfterRuns
+accounted_for_after_runs midnight s moment key touched reached can accounted =
     let effect = run_effect midnight s moment key can in
-    days_kept (after midnight s key) (left midnight s key touched) (λ date e latest.
-    elim (key.date == date) as (λ b. (key.date == date) ≡ b → IsRunKept (after midnight s key) (left midnight s key touched) e date) [
-      | true ↦ λ same. own_kept midnight s key moment reached can touched date e (eqb-true key.date date same) latest
+    days_accounted_for (after midnight s key) (left midnight s key touched) (λ date e latest.
+    elim (key.date == date) as (λ b. (key.date == date) ≡ b → IsRunAccountedFor (after midnight s key) (left midnight s key touched) e date) [
+      | true ↦ λ same. own_accounted_for midnight s key moment reached can touched date e (eqb-true key.date date same) latest
       | false ↦ λ apart.
           let was : latest_on (content midnight s key) date ≡ Some e = sym (other_latest midnight s key effect date apart) ∙ latest in
-          other_kept midnight s key effect touched date e apart (latest_of_date (content midnight s key) touched date e was) (latest_kept (content midnight s key) touched kept date e was)
+          other_accounted_for midnight s key effect touched date e apart (latest_of_date (content midnight s key) touched date e was) (latest_accounted_for (content midnight s key) touched accounted date e was)
     ] refl)

@@ -1,5 +1,5 @@
 pub mod AgreeLaws
-pub mod DayKept
+pub mod DayAccountedFor
 pub mod DayLoads
 pub mod DayPeriods
 pub mod DayReadings

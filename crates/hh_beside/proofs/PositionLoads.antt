@@ -24,7 +24,7 @@ use Rattle.hh_rules.specs.Entries.{contract_entry}
 use Rattle.hh_rules.specs.FileRows.{first_fault, refusal_after, timely_rows}
 use Rattle.hh_rules.specs.History.{History, Registered, entries_of, registered_in}
 use Rattle.hh_rules.specs.Lateness.{Accepted, Timetable, is_in_time, timing_of}
-use Rattle.hh_rules.specs.Positions.{position_in, with_contract}
+use Rattle.hh_rules.specs.Positions.{position_in, with_replaced}
 use Rattle.hh_rules.specs.Refusals.{contract_refusals, refusals_of, whole_standing}
 use Rattle.hh_rules.specs.declared.positions.Position.{Position}
 use Rattle.hh_rules.specs.declared.positions.PositionKey.{PositionKey}
@@ -37,7 +37,7 @@ use Rattle.hh_beside.specs.Keeping.{positions_with, replaced_by}
 use Rattle.hh_beside.specs.PositionLaws.{KnownIsNet, LoadsKeepPositions, RunsKeepPositions}
 use Rattle.hh_beside.proofs.PositionLists.{AreRight, HasBoth, are_right, right_are}
 use Rattle.hh_beside.proofs.PositionNets.{AreFixed, late_fixed, late_same, own_reference, reference_stays, timely_fixed, timely_more}
-use Rattle.hh_beside.proofs.PositionTables.{IsOf, buys-with_contract, sells-with_contract, stays-with_contract, with_contract_are, with_contract_table}
+use Rattle.hh_beside.proofs.PositionTables.{IsOf, buys-with_replaced, sells-with_replaced, stays-with_replaced, with_contract_are, with_replaced_table}
 
 -- a position that is known is its net position
 pub known_is_net : KnownIsNet
@@ -45,7 +45,7 @@ known_is_net tables positions key net right known = subst (IsOf (net_position ta
 
 -- the positions after a row that is in time or not
 abbrev positions_after : Row → Bool → Table ContractKey ℤ → Table PositionKey Position → Table PositionKey Position
-positions_after (row.Contract r) true volumes positions = with_contract (replaced_by r volumes) r positions
+positions_after (row.Contract r) true volumes positions = with_replaced (replaced_by r volumes) r positions
 positions_after (row.Contract r) false volumes positions = positions
 positions_after (row.Party r) in_time volumes positions = positions
 positions_after (row.Unit r) in_time volumes positions = positions
@@ -104,20 +104,20 @@ module _ (tables : Registered) (positions : Table PositionKey Position) (fixed :
 
     -- a row in time changes its seller's and its buyer's
     with_timely : is_moved (find bytes_cmp r.key.reference tables.references) r.contract.counterparties ≡ false → T (is_sorted contract_key_cmp tables.contracts)
-        → AreRight (with_row true (row.Contract r) tables) (with_contract (replaced_by r tables.contracts) r positions)
+        → AreRight (with_row true (row.Contract r) tables) (with_replaced (replaced_by r tables.contracts) r positions)
     with_timely same sorted =
         let old : Option ContractRow = replaced_by r tables.contracts in
-        let new : Table PositionKey Position = with_contract old r positions in
+        let new : Table PositionKey Position = with_replaced old r positions in
         record {
-          table = with_contract_table old r positions are.table;
+          table = with_replaced_table old r positions are.table;
           nets = λ key. subst (λ z. IsOf z (position_in new key)) (sym (timely_more tables fixed r same key sorted)) (with_contract_are old r positions (net_position tables) are.nets key);
           named = keys-put contract_key_total exact_contract_keys
               (λ k. (c : Counterparties) → find bytes_cmp k.reference (with_row true (row.Contract r) tables).references ≡ Some c → HasBoth new k.at c) r.key r.contract.volume tables.contracts
               (λ c is. subst (HasBoth new r.key.at) (same_Some r.contract.counterparties c (sym (own_reference tables fixed r same) ∙ is))
-              (sells-with_contract old r positions, buys-with_contract old r positions))
+              (sells-with_replaced old r positions, buys-with_replaced old r positions))
               (λ k there c is.
               let both = named_then k there c is in
-              (stays-with_contract old r positions (record { at = k.at; account = c.seller }) both.0, stays-with_contract old r positions (record { at = k.at; account = c.buyer }) both.1));
+              (stays-with_replaced old r positions (record { at = k.at; account = c.seller }) both.0, stays-with_replaced old r positions (record { at = k.at; account = c.buyer }) both.1));
         }
 
   -- so with a row of any kind

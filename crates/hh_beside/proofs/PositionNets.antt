@@ -27,7 +27,7 @@ use Rattle.hh_rules.proofs.SumFacts.{part_of, total-put-part}
 use Rattle.hh_states.specs.PeriodSettlement.{row_in_force}
 use Rattle.hh_state_laws.proofs.EffectiveLaws.{fixed_by_row}
 use Rattle.hh_state_laws.proofs.PutLaws.{keys-put_in_time, stays-put_new}
-use Rattle.hh_calc.specs.Formulas.{sold_by}
+use Rattle.hh_calc.specs.Formulas.{net_kwh_of}
 use Rattle.hh_beside.specs.Beside.{net_position}
 use Rattle.hh_beside.specs.Keeping.{replaced_by}
 use Rattle.hh_beside.proofs.PositionTables.{less_nothing, part, part-minus, some_stays}
@@ -52,7 +52,7 @@ row_by e c = record { key = e.0; contract = record { counterparties = c; volume 
 module _ (tables : Registered) (key : PositionKey) where
   -- the contract rows of the key's Settlement Period come to what all come to under the key
   sold_is_part : (es : Table ContractKey ℤ) →
-      total (λ (r : ContractRow). sold_by key.account r.contract) (filter_map (row_in_force tables) (filter (λ e. eq_by_cmp settlement_period_cmp e.0.at key.at) es))
+      total (λ (r : ContractRow). net_kwh_of key.account r.contract) (filter_map (row_in_force tables) (filter (λ e. eq_by_cmp settlement_period_cmp e.0.at key.at) es))
       ≡ total (part_of_row key) (filter_map (row_in_force tables) es)
   sold_is_part [] = refl
   sold_is_part (e ∷ es) =
@@ -61,20 +61,20 @@ module _ (tables : Registered) (key : PositionKey) where
       let rest = sold_is_part es in
       elim (find bytes_cmp e.0.reference tables.references) as (λ o.
       find bytes_cmp e.0.reference tables.references ≡ o
-      → total (λ (r : ContractRow). sold_by key.account r.contract) (filter_map (row_in_force tables) (cond (eq_by_cmp settlement_period_cmp e.0.at key.at) (e ∷ here) here))
+      → total (λ (r : ContractRow). net_kwh_of key.account r.contract) (filter_map (row_in_force tables) (cond (eq_by_cmp settlement_period_cmp e.0.at key.at) (e ∷ here) here))
       ≡ total (part_of_row key) (cons_option (option_map (row_by e) o) rows)) [
         | None ↦ λ is.
             elim (eq_by_cmp settlement_period_cmp e.0.at key.at) as (λ b.
-            total (λ (r : ContractRow). sold_by key.account r.contract) (filter_map (row_in_force tables) (cond b (e ∷ here) here)) ≡ total (part_of_row key) rows) [
-              | true ↦ ap (λ o. total (λ (r : ContractRow). sold_by key.account r.contract) (cons_option (option_map (row_by e) o) (filter_map (row_in_force tables) here))) is ∙ rest
+            total (λ (r : ContractRow). net_kwh_of key.account r.contract) (filter_map (row_in_force tables) (cond b (e ∷ here) here)) ≡ total (part_of_row key) rows) [
+              | true ↦ ap (λ o. total (λ (r : ContractRow). net_kwh_of key.account r.contract) (cons_option (option_map (row_by e) o) (filter_map (row_in_force tables) here))) is ∙ rest
               | false ↦ rest
             ]
         | Some c ↦ λ is.
             elim (eq_by_cmp settlement_period_cmp e.0.at key.at) as (λ b.
-            total (λ (r : ContractRow). sold_by key.account r.contract) (filter_map (row_in_force tables) (cond b (e ∷ here) here))
-            ≡ cond b (sold_by key.account (record { counterparties = c; volume = e.1 })) (pos 0) +ℤ total (part_of_row key) rows) [
-              | true ↦ ap (λ o. total (λ (r : ContractRow). sold_by key.account r.contract) (cons_option (option_map (row_by e) o) (filter_map (row_in_force tables) here))) is
-                  ∙ ap (λ z. sold_by key.account (record { counterparties = c; volume = e.1 }) +ℤ z) rest
+            total (λ (r : ContractRow). net_kwh_of key.account r.contract) (filter_map (row_in_force tables) (cond b (e ∷ here) here))
+            ≡ cond b (net_kwh_of key.account (record { counterparties = c; volume = e.1 })) (pos 0) +ℤ total (part_of_row key) rows) [
+              | true ↦ ap (λ o. total (λ (r : ContractRow). net_kwh_of key.account r.contract) (cons_option (option_map (row_by e) o) (filter_map (row_in_force tables) here))) is
+                  ∙ ap (λ z. net_kwh_of key.account (record { counterparties = c; volume = e.1 }) +ℤ z) rest
               | false ↦ rest ∙ sym (+ℤ_idl (total (part_of_row key) rows))
             ]
       ] refl

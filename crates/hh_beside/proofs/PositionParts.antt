@@ -1,12 +1,12 @@
 -- Positions that are changed before a table, parts of what is in force, and parts of the positions.
-use Rattle.std.proofs.Common.{◌≡◌, List, [], ◌∷◌, refl, ap, sym, ◌∙◌, true, false, cond, Option, Some, None}
-use Rattle.std.specs.Prelude.{ℤ, pos, ◌-ℤ◌, All, filter, map, option_map, unwrap_or}
+use Rattle.std.proofs.Common.{◌≡◌, List, [], ◌∷◌, refl, ap, sym, ◌∙◌, cond, Option, Some, None}
+use Rattle.std.specs.Prelude.{ℤ, pos, ◌-ℤ◌, option_map, unwrap_or}
 use Rattle.std.specs.FinMap.{find, put}
 use Rattle.std.specs.FinMap.Entries.{find-put, same_entries}
 use Rattle.std.specs.List.{AllByRecursion}
 use Rattle.std.specs.Option.{option_or}
 use Rattle.std.specs.Ordering.{eq_by_cmp}
-use Rattle.std.proofs.lemmas.List.Elements.{All-from_recursion, recursion_from_All}
+use Rattle.std.proofs.lemmas.List.Elements.{recursion_from_All}
 use Rattle.hh_tables.specs.Tables.{IsTable, Table, put_all}
 use Rattle.hh_tables.proofs.MergeLaws.{from_true, true_from}
 use Rattle.hh_tables.proofs.RowLaws.{is_sorted-put_all}
@@ -15,16 +15,14 @@ use Rattle.hh_rows.specs.declared.keys.ContractKey.{ContractKey}
 use Rattle.hh_rows.specs.declared.rows.Row.{Row}
 use Rattle.hh_rows.specs.declared.rows.Row.TheVariants as row
 use Rattle.hh_rows.proofs.KeyLaws.{contract_key_total}
-use Rattle.hh_rules.specs.FileRows.{coming_at, timely_rows}
-use Rattle.hh_rules.specs.History.{History, Registered}
-use Rattle.hh_rules.specs.Lateness.{Accepted, Timetable, accepted_at, is_in_time}
-use Rattle.hh_rules.specs.Positions.{moved, position_in, position_key, position_key_cmp, position_plus, volume_of, with_contract}
+use Rattle.hh_rules.specs.History.{Registered}
+use Rattle.hh_rules.specs.Positions.{with_moved, position_in, position_key, position_key_cmp, position_plus, volume_of, with_replaced}
 use Rattle.hh_rules.specs.RegisterView.{AgreesOn}
 use Rattle.hh_rules.specs.declared.positions.Position.{Position}
 use Rattle.hh_rules.specs.declared.positions.Position.TheVariants.{Known}
 use Rattle.hh_rules.specs.declared.positions.PositionKey.{PositionKey}
 use Rattle.hh_beside.specs.Keeping.{positions_with, replaced_by}
-use Rattle.hh_beside.specs.PositionLaws.{AgreesOnPositions, IsPartOf, MovedOnceChanged, PartsGivePositions, PartsServe}
+use Rattle.hh_beside.specs.PositionLaws.{AgreesOnPositions, ArePartOf, MovedOnceChanged, PartsGivePositions, PartsServe}
 use Rattle.hh_beside.proofs.PositionKeys.{exact_position_keys, position_key_total}
 use Rattle.hh_beside.proofs.PositionTables.{moved_table, position_in-moved}
 use Rattle.hh_beside.proofs.PositionWrites.{found_changed, one_more_changed}
@@ -35,19 +33,6 @@ moved_once_changed changed positions key volume h k =
     one_more_changed changed positions key (position_plus volume (unwrap_or seen (Known (pos 0)))) h k
     ∙ ap (λ o. put position_key_cmp key (position_plus volume (unwrap_or o (Known (pos 0)))) (put_all position_key_cmp changed positions))
     (sym (found_changed changed positions key (from_true _ h)))
-
--- what holds of each of a file's rows holds of those in time
-pub all_timely : (P : Row → Type 0) (timetable : Timetable) (moment : ℤ) (rows : List Row) → All P rows → All P (timely_rows timetable (coming_at moment rows))
-all_timely P timetable moment rows all = All-from_recursion P (timely_rows timetable (coming_at moment rows)) (each rows (recursion_from_All P rows all))
-  where
-    each : (some : List Row) → AllByRecursion P some → AllByRecursion P (timely_rows timetable (coming_at moment some))
-    each [] h = tt
-    each (r ∷ some) h =
-        let others : History = filter (is_in_time timetable) (coming_at moment some) in
-        elim (is_in_time timetable (accepted_at moment r)) as (λ b. AllByRecursion P (map (λ (a : Accepted). a.row) (cond b (accepted_at moment r ∷ others) others))) [
-          | true ↦ (h.0, each some h.1)
-          | false ↦ each some h.1
-        ]
 
 -- ---- parts of what is in force
 
@@ -92,9 +77,9 @@ by_both (row.Unit r ∷ rows) volumes others positions all = by_both rows volume
 by_both (row.Meter r ∷ rows) volumes others positions all = by_both rows volumes others positions all.1
 by_both (row.Price r ∷ rows) volumes others positions all = by_both rows volumes others positions all.1
 by_both (row.Contract r ∷ rows) volumes others positions all =
-    by_both rows (put contract_key_cmp r.key r.contract.volume volumes) (put contract_key_cmp r.key r.contract.volume others) (with_contract (replaced_by r volumes) r positions)
+    by_both rows (put contract_key_cmp r.key r.contract.volume volumes) (put contract_key_cmp r.key r.contract.volume others) (with_replaced (replaced_by r volumes) r positions)
     (all_still_one volumes others r.key r.contract.volume rows all.1)
-    ∙ ap (λ o. positions_with rows (put contract_key_cmp r.key r.contract.volume others) (with_contract (option_map (λ v. record r { contract = record r.contract { volume = v } }) o) r positions)) all.0
+    ∙ ap (λ o. positions_with rows (put contract_key_cmp r.key r.contract.volume others) (with_replaced (option_map (λ v. record r { contract = record r.contract { volume = v } }) o) r positions)) all.0
 by_both (row.Reallocation r ∷ rows) volumes others positions all = by_both rows volumes others positions all.1
 
 all_one_volume : (whole part : Registered) (rows : List Row) → AllByRecursion (AgreesOn whole part) rows → AllByRecursion (IsOneVolume part.contracts whole.contracts) rows
@@ -110,14 +95,14 @@ parts_give_positions rows whole part positions all =
 -- once a volume is added to a position that is the same in the part and in the whole
 module _ (whole part : Table PositionKey Position) (key : PositionKey) (volume : ℤ) (same : position_in part key ≡ position_in whole key) where
   -- each other that was the same is
-  same_once_moved : (q : PositionKey) → position_in part q ≡ position_in whole q → position_in (moved key volume part) q ≡ position_in (moved key volume whole) q
+  same_once_moved : (q : PositionKey) → position_in part q ≡ position_in whole q → position_in (with_moved key volume part) q ≡ position_in (with_moved key volume whole) q
   same_once_moved q one =
       position_in-moved key volume part q
       ∙ (λ i. cond (eq_by_cmp position_key_cmp q key) (position_plus volume (same i)) (one i))
       ∙ sym (position_in-moved key volume whole q)
 
   -- and those of a row that were are
-  agrees_once_moved : (r : Row) → AgreesOnPositions whole part r → AgreesOnPositions (moved key volume whole) (moved key volume part) r
+  agrees_once_moved : (r : Row) → AgreesOnPositions whole part r → AgreesOnPositions (with_moved key volume whole) (with_moved key volume part) r
   agrees_once_moved (row.Party r) agrees = tt
   agrees_once_moved (row.Unit r) agrees = tt
   agrees_once_moved (row.Meter r) agrees = tt
@@ -129,13 +114,13 @@ module _ (whole part : Table PositionKey Position) (key : PositionKey) (volume :
   agrees_once_moved (row.Reallocation r) agrees = tt
 
   all_agree_once_moved : (rows : List Row) → AllByRecursion (AgreesOnPositions whole part) rows
-      → AllByRecursion (AgreesOnPositions (moved key volume whole) (moved key volume part)) rows
+      → AllByRecursion (AgreesOnPositions (with_moved key volume whole) (with_moved key volume part)) rows
   all_agree_once_moved [] all = tt
   all_agree_once_moved (r ∷ rows) all = (agrees_once_moved r all.0, all_agree_once_moved rows all.1)
 
   -- where the part makes the whole of a table, it does so then
   makes_once_moved : (table : Table PositionKey Position) → IsTable position_key_cmp table → IsTable position_key_cmp part → put_all position_key_cmp part table ≡ whole
-      → put_all position_key_cmp (moved key volume part) table ≡ moved key volume whole
+      → put_all position_key_cmp (with_moved key volume part) table ≡ with_moved key volume whole
   makes_once_moved table h k makes =
       one_more_changed part table key (position_plus volume (position_in part key)) k h
       ∙ (λ i. put position_key_cmp key (position_plus volume (same i)) (makes i))
@@ -153,11 +138,11 @@ serves (row.Contract r ∷ rows) volumes table whole part h k makes all =
     let more : ℤ = r.contract.volume -ℤ volume_of (replaced_by r volumes) in
     let sells : PositionKey = position_key r r.contract.counterparties.seller in
     let buys : PositionKey = position_key r r.contract.counterparties.buyer in
-    let sold : Table PositionKey Position = moved sells more part in
-    let all_sold : Table PositionKey Position = moved sells more whole in
+    let sold : Table PositionKey Position = with_moved sells more part in
+    let all_sold : Table PositionKey Position = with_moved sells more whole in
     let then_same : position_in sold buys ≡ position_in all_sold buys = same_once_moved whole part sells more all.0.0 buys all.0.1 in
     let rising : IsTable position_key_cmp sold = true_from _ (moved_table sells more part (from_true _ k)) in
-    serves rows (put contract_key_cmp r.key r.contract.volume volumes) table (moved buys (pos 0 -ℤ more) all_sold) (moved buys (pos 0 -ℤ more) sold) h
+    serves rows (put contract_key_cmp r.key r.contract.volume volumes) table (with_moved buys (pos 0 -ℤ more) all_sold) (with_moved buys (pos 0 -ℤ more) sold) h
     (true_from _ (moved_table buys (pos 0 -ℤ more) sold (from_true _ rising)))
     (makes_once_moved all_sold sold buys (pos 0 -ℤ more) then_same table h rising (makes_once_moved whole part sells more all.0.0 table h k makes))
     (all_agree_once_moved all_sold sold buys (pos 0 -ℤ more) then_same rows (all_agree_once_moved whole part sells more all.0.0 rows all.1))
@@ -169,7 +154,7 @@ found_either None here same = refl
 found_either (Some p) here same = sym (same p refl)
 
 -- a part makes its whole of it
-part_makes : (whole part : Table PositionKey Position) → IsTable position_key_cmp whole → IsTable position_key_cmp part → IsPartOf whole part → put_all position_key_cmp part whole ≡ whole
+part_makes : (whole part : Table PositionKey Position) → IsTable position_key_cmp whole → IsTable position_key_cmp part → ArePartOf whole part → put_all position_key_cmp part whole ≡ whole
 part_makes whole part h k inside =
     same_entries position_key_cmp position_key_total exact_position_keys (put_all position_key_cmp part whole) whole
     (is_sorted-put_all position_key_total part whole (from_true _ h)) (from_true _ h)

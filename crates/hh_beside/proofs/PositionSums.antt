@@ -1,4 +1,4 @@
--- The net positions of a Settlement Period sum to zero, and positions that are known give them.
+-- The net volumes of a Settlement Period sum to zero, and positions that are known give them.
 use Rattle.std.proofs.Common.{◌≡◌, ◌≢◌, ℕ, ◌<◌, List, [], ◌∷◌, length, get_or, map, refl, ap, sym, subst, ◌∙◌, true, false, cond, Some, inl, inr, arith}
 use Rattle.std.specs.Prelude.{ℤ, pos, neg_ℤ, ◌+ℤ◌, Contains, filter, filter_map, is_some, option_map, IsSome, T}
 use Rattle.std.specs.Cmp.{Equal-is, eq_by_cmp_equiv, tied_itself}
@@ -37,9 +37,9 @@ use Rattle.hh_states.specs.PeriodSettlement.{accounts_on, row_in_force, rows_in_
 use Rattle.hh_states.specs.Soundness.{AreConsistent, HasCounterparties, IsPartyEffective}
 use Rattle.hh_state_laws.proofs.ConsistentLaws.{reached_consistent}
 use Rattle.hh_state_laws.proofs.ReadyLaws.{account_there, parties_rise}
-use Rattle.hh_calc.specs.Formulas.{sold_by}
+use Rattle.hh_calc.specs.Formulas.{net_kwh_of}
 use Rattle.hh_beside.specs.Beside.{net_position}
-use Rattle.hh_beside.specs.PositionLaws.{KnownAreNets, NetsSumToZero, are_known, is_known, position_at, volume_in, volumes_at}
+use Rattle.hh_beside.specs.PositionLaws.{KnownAreNets, PositionsSumToZero, are_known, is_known, position_key_at, volume_in, net_volumes_at}
 use Rattle.hh_beside.proofs.PositionLists.{right_are}
 use Rattle.hh_beside.proofs.PositionNets.{row_by}
 use Rattle.hh_beside.proofs.PositionTables.{AreOf, IsOf, some_stays}
@@ -67,7 +67,7 @@ module _ (accounts : List Account) (up : IsStrictlySortedBy account_cmp accounts
   AreAmong c = Contains accounts c.seller × Contains accounts c.buyer
 
   -- then what its seller sells its buyer buys
-  one_contract : (c : Contract) → AreAmong c.counterparties → total (λ a. sold_by a c) accounts ≡ pos 0
+  one_contract : (c : Contract) → AreAmong c.counterparties → total (λ a. net_kwh_of a c) accounts ≡ pos 0
   one_contract c (sells, buys) =
       total-plus (λ a. of_account a c.counterparties.seller c.volume) (λ a. neg_ℤ (of_account a c.counterparties.buyer c.volume)) accounts
       ∙ (λ i. once c.counterparties.seller sells c.volume i +ℤ total-neg (λ a. of_account a c.counterparties.buyer c.volume) accounts i)
@@ -75,7 +75,7 @@ module _ (accounts : List Account) (up : IsStrictlySortedBy account_cmp accounts
       ∙ +ℤ_invr c.volume
 
   -- and so it is with all contracts together
-  all_rows : (rows : List ContractRow) → AllByRecursion (λ r. AreAmong r.contract.counterparties) rows → total (λ r. total (λ a. sold_by a r.contract) accounts) rows ≡ pos 0
+  all_rows : (rows : List ContractRow) → AllByRecursion (λ r. AreAmong r.contract.counterparties) rows → total (λ r. total (λ a. net_kwh_of a r.contract) accounts) rows ≡ pos 0
   all_rows [] among = refl
   all_rows (r ∷ rows) among = λ i. one_contract r.contract among.0 i +ℤ all_rows rows among.1 i
 
@@ -107,15 +107,15 @@ module _ (tables : Registered) (at : SettlementPeriod) where
             ((effective_there own.counterparties.seller e.0.at.date date own.seller, effective_there own.counterparties.buyer e.0.at.date date own.buyer), rest)
       ] refl
 
-  zero_over : AreConsistent tables → total (λ a. net_position tables (position_at at a)) accounts_then ≡ pos 0
+  zero_over : AreConsistent tables → total (λ a. net_position tables (position_key_at at a)) accounts_then ≡ pos 0
   zero_over consistent =
-      total-swap (λ a (r : ContractRow). sold_by a r.contract) accounts_then (rows_in_force tables at)
+      total-swap (λ a (r : ContractRow). net_kwh_of a r.contract) accounts_then (rows_in_force tables at)
       ∙ all_rows accounts_then
       (parties_rise (filter (λ e. holds e.1.range at.date) tables.parties) (sorted-filter bytes_cmp (λ e. holds e.1.range at.date) tables.parties (from_true _ consistent.rising.parties)))
       (rows_in_force tables at) (rows_among tables.contracts consistent.contracts)
 
-pub nets_sum_to_zero : NetsSumToZero
-nets_sum_to_zero tables at consistent = zero_over tables at consistent
+pub positions_sum_to_zero : PositionsSumToZero
+positions_sum_to_zero tables at consistent = zero_over tables at consistent
 
 -- a position that is known gives its net volume
 volume_is : (net : ℤ) (p : Position) → T (is_known p) → IsOf net p → volume_in p ≡ net
@@ -123,21 +123,21 @@ volume_is net (Known n) known is = is
 volume_is net Lost known is = absurd known
 
 volumes_are : (nets : PositionKey → ℤ) (positions : Table PositionKey Position) (at : SettlementPeriod) → AreOf nets positions → (accounts : List Account)
-    → T (are_known positions at accounts) → volumes_at positions at accounts ≡ map (λ a. nets (position_at at a)) accounts
+    → T (are_known positions at accounts) → net_volumes_at positions at accounts ≡ map (λ a. nets (position_key_at at a)) accounts
 volumes_are nets positions at are [] known = refl
 volumes_are nets positions at are (a ∷ accounts) known =
-    let head = volume_is (nets (position_at at a)) (position_in positions (position_at at a)) (first _ _ known) (are (position_at at a)) in
+    let head = volume_is (nets (position_key_at at a)) (position_in positions (position_key_at at a)) (first _ _ known) (are (position_key_at at a)) in
     λ i. head i ∷ volumes_are nets positions at are accounts (second _ _ known) i
 
 pub known_are_nets : KnownAreNets
 known_are_nets midnight s at positions reached right known =
     let tables : Registered = (tables_of midnight s).registered in
     let accounts : List Account = accounts_on tables at.date in
-    let exact : volumes_at positions at accounts ≡ map (λ a. net_position tables (position_at at a)) accounts =
+    let exact : net_volumes_at positions at accounts ≡ map (λ a. net_position tables (position_key_at at a)) accounts =
     volumes_are (net_position tables) positions at (right_are tables positions right).nets accounts (from_true _ known) in
     record {
       exact = exact;
       zero = ap (total (λ v. v)) exact
-          ∙ total-map (λ v. v) (λ a. net_position tables (position_at at a)) accounts
+          ∙ total-map (λ v. v) (λ a. net_position tables (position_key_at at a)) accounts
           ∙ zero_over tables at (reached_consistent midnight s reached);
     }

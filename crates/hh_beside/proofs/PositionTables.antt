@@ -15,11 +15,11 @@ use Rattle.hh_names.specs.Accounts.{is_same_account}
 use Rattle.hh_rows.specs.Keys.{settlement_period_cmp}
 use Rattle.hh_rows.specs.declared.rows.ContractRow.{ContractRow}
 use Rattle.hh_rows.specs.declared.settlement_period.SettlementPeriod.{SettlementPeriod}
-use Rattle.hh_rules.specs.Positions.{moved, position_in, position_key, position_key_cmp, position_of, position_plus, volume_of, with_contract}
+use Rattle.hh_rules.specs.Positions.{with_moved, position_in, position_key, position_key_cmp, position_of, position_plus, volume_of, with_replaced}
 use Rattle.hh_rules.specs.declared.positions.Position.{Position}
 use Rattle.hh_rules.specs.declared.positions.Position.TheVariants.{Known, Lost}
 use Rattle.hh_rules.specs.declared.positions.PositionKey.{PositionKey}
-use Rattle.hh_calc.specs.Formulas.{sold_by}
+use Rattle.hh_calc.specs.Formulas.{net_kwh_of}
 use Rattle.hh_beside.proofs.PositionKeys.{exact_position_keys, one_key, position_key_total}
 
 -- a position is of a net volume: it is that volume, if it is known
@@ -46,7 +46,7 @@ unwrap_or-cond true x d o = refl
 unwrap_or-cond false x d o = refl
 
 pub position_in-moved : (key : PositionKey) (volume : ℤ) (positions : Table PositionKey Position) (q : PositionKey)
-    → position_in (moved key volume positions) q ≡ cond (eq_by_cmp position_key_cmp q key) (position_plus volume (position_in positions key)) (position_in positions q)
+    → position_in (with_moved key volume positions) q ≡ cond (eq_by_cmp position_key_cmp q key) (position_plus volume (position_in positions key)) (position_in positions q)
 position_in-moved key volume positions q =
     let new : Position = position_plus volume (position_in positions key) in
     ap (λ o. unwrap_or o (Known (pos 0))) (find-put position_key_cmp position_key_total q key new positions)
@@ -58,7 +58,7 @@ same_nets nets others positions same are q = subst (λ z. IsOf z (position_in po
 
 -- a volume that is added to one position is added to its net volume
 moved_are : (nets : PositionKey → ℤ) (key : PositionKey) (volume : ℤ) (positions : Table PositionKey Position) → AreOf nets positions
-    → AreOf (λ q. nets q +ℤ cond (eq_by_cmp position_key_cmp q key) volume (pos 0)) (moved key volume positions)
+    → AreOf (λ q. nets q +ℤ cond (eq_by_cmp position_key_cmp q key) volume (pos 0)) (with_moved key volume positions)
 moved_are nets key volume positions are q =
     subst (λ p. IsOf (nets q +ℤ cond (eq_by_cmp position_key_cmp q key) volume (pos 0)) p) (sym (position_in-moved key volume positions q))
     (elim (eq_by_cmp position_key_cmp q key) as (λ b. eq_by_cmp position_key_cmp q key ≡ b
@@ -77,7 +77,7 @@ less_nothing v = omega (arith, ints)
 -- what a volume between two accounts in a Settlement Period comes to under a key
 abbrev pub part : SettlementPeriod → Counterparties → ℤ → PositionKey → ℤ
 part at c volume key =
-    cond (eq_by_cmp settlement_period_cmp at key.at) (sold_by key.account (record { counterparties = c; volume = volume })) (pos 0)
+    cond (eq_by_cmp settlement_period_cmp at key.at) (net_kwh_of key.account (record { counterparties = c; volume = volume })) (pos 0)
 
 -- it is what it adds for the seller and takes off for the buyer
 two_moves : (net volume : ℤ) (here sells buys : Bool) →
@@ -127,17 +127,17 @@ module _ (key : PositionKey) (volume : ℤ) (positions : Table PositionKey Posit
   new_position = position_plus volume (position_in positions key)
 
   -- the positions are still a table
-  pub moved_table : T (is_sorted position_key_cmp positions) → T (is_sorted position_key_cmp (moved key volume positions))
+  pub moved_table : T (is_sorted position_key_cmp positions) → T (is_sorted position_key_cmp (with_moved key volume positions))
   moved_table = is_sorted-put position_key_cmp position_key_total key new_position positions
 
   -- those that there were are there
-  stays-moved : (q : PositionKey) → Has positions q → Has (moved key volume positions) q
+  stays-moved : (q : PositionKey) → Has positions q → Has (with_moved key volume positions) q
   stays-moved q h =
       ap is_some (find-put position_key_cmp position_key_total q key new_position positions)
       ∙ some_stays (eq_by_cmp position_key_cmp q key) new_position (find position_key_cmp q positions) h
 
   -- and the one is
-  has-moved : Has (moved key volume positions) key
+  has-moved : Has (with_moved key volume positions) key
   has-moved =
       ap is_some (find-put position_key_cmp position_key_total key key new_position positions)
       ∙ ap (λ b. is_some (cond b (Some new_position) (find position_key_cmp key positions))) ((eq_by_cmp_equiv position_key_total).refl key)
@@ -157,22 +157,22 @@ module _ (old : Option ContractRow) (new : ContractRow) (positions : Table Posit
 
   -- the part of what its volume is more is added
   pub with_contract_are : (nets : PositionKey → ℤ) → AreOf nets positions
-      → AreOf (λ q. nets q +ℤ part new.key.at new.contract.counterparties (new.contract.volume -ℤ volume_of old) q) (with_contract old new positions)
+      → AreOf (λ q. nets q +ℤ part new.key.at new.contract.counterparties (new.contract.volume -ℤ volume_of old) q) (with_replaced old new positions)
   with_contract_are nets are =
-      same_nets _ _ (with_contract old new positions) (λ q. part_is new.key.at new.contract.counterparties more (nets q) q)
-      (moved_are _ buys (pos 0 -ℤ more) (moved sells more positions) (moved_are nets sells more positions are))
+      same_nets _ _ (with_replaced old new positions) (λ q. part_is new.key.at new.contract.counterparties more (nets q) q)
+      (moved_are _ buys (pos 0 -ℤ more) (with_moved sells more positions) (moved_are nets sells more positions are))
 
   -- the positions are still a table
-  pub with_contract_table : T (is_sorted position_key_cmp positions) → T (is_sorted position_key_cmp (with_contract old new positions))
-  with_contract_table h = moved_table buys (pos 0 -ℤ more) (moved sells more positions) (moved_table sells more positions h)
+  pub with_replaced_table : T (is_sorted position_key_cmp positions) → T (is_sorted position_key_cmp (with_replaced old new positions))
+  with_replaced_table h = moved_table buys (pos 0 -ℤ more) (with_moved sells more positions) (moved_table sells more positions h)
 
   -- those that there were are there
-  pub stays-with_contract : (q : PositionKey) → Has positions q → Has (with_contract old new positions) q
-  stays-with_contract q h = stays-moved buys (pos 0 -ℤ more) (moved sells more positions) q (stays-moved sells more positions q h)
+  pub stays-with_replaced : (q : PositionKey) → Has positions q → Has (with_replaced old new positions) q
+  stays-with_replaced q h = stays-moved buys (pos 0 -ℤ more) (with_moved sells more positions) q (stays-moved sells more positions q h)
 
   -- the seller and the buyer have one
-  pub sells-with_contract : Has (with_contract old new positions) (position_key new new.contract.counterparties.seller)
-  sells-with_contract = stays-moved buys (pos 0 -ℤ more) (moved sells more positions) sells (has-moved sells more positions)
+  pub sells-with_replaced : Has (with_replaced old new positions) (position_key new new.contract.counterparties.seller)
+  sells-with_replaced = stays-moved buys (pos 0 -ℤ more) (with_moved sells more positions) sells (has-moved sells more positions)
 
-  pub buys-with_contract : Has (with_contract old new positions) (position_key new new.contract.counterparties.buyer)
-  buys-with_contract = has-moved buys (pos 0 -ℤ more) (moved sells more positions)
+  pub buys-with_replaced : Has (with_replaced old new positions) (position_key new new.contract.counterparties.buyer)
+  buys-with_replaced = has-moved buys (pos 0 -ℤ more) (with_moved sells more positions)

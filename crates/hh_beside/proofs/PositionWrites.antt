@@ -13,15 +13,14 @@ use Rattle.hh_rows.specs.Keys.{contract_key_cmp}
 use Rattle.hh_rows.specs.declared.keys.ContractKey.{ContractKey}
 use Rattle.hh_rows.specs.declared.rows.Row.{Row}
 use Rattle.hh_rows.specs.declared.rows.Row.TheVariants as row
-use Rattle.hh_rules.specs.Positions.{position_key_cmp, with_contract}
+use Rattle.hh_rules.specs.Positions.{position_key_cmp, with_replaced}
 use Rattle.hh_rules.specs.declared.positions.Position.{Position}
 use Rattle.hh_rules.specs.declared.positions.PositionKey.{PositionKey}
-use Rattle.hh_states.specs.Changes.{put_row}
 use Rattle.hh_beside.specs.Keeping.{positions_with, replaced_by}
-use Rattle.hh_beside.specs.PositionLaws.{FoundOnceChanged, OneByFound, OneMoreChanged, PositionsRowByRow, PositionsStayTable, WrittenAreAfter}
+use Rattle.hh_beside.specs.PositionLaws.{FoundOnceChanged, OneMoreChanged, PositionsStayTable, WrittenAreAfter}
 use Rattle.hh_beside.proofs.PositionKeys.{exact_position_keys, position_key_total}
 use Rattle.hh_beside.proofs.PositionLists.{not_below}
-use Rattle.hh_beside.proofs.PositionTables.{with_contract_table}
+use Rattle.hh_beside.proofs.PositionTables.{with_replaced_table}
 
 still_table : (rows : List Row) (volumes : Table ContractKey ℤ) (positions : Table PositionKey Position) → T (is_sorted position_key_cmp positions)
     → T (is_sorted position_key_cmp (positions_with rows volumes positions))
@@ -31,7 +30,7 @@ still_table (row.Unit r ∷ rows) volumes positions h = still_table rows volumes
 still_table (row.Meter r ∷ rows) volumes positions h = still_table rows volumes positions h
 still_table (row.Price r ∷ rows) volumes positions h = still_table rows volumes positions h
 still_table (row.Contract r ∷ rows) volumes positions h =
-    still_table rows (put contract_key_cmp r.key r.contract.volume volumes) (with_contract (replaced_by r volumes) r positions) (with_contract_table (replaced_by r volumes) r positions h)
+    still_table rows (put contract_key_cmp r.key r.contract.volume volumes) (with_replaced (replaced_by r volumes) r positions) (with_replaced_table (replaced_by r volumes) r positions h)
 still_table (row.Reallocation r ∷ rows) volumes positions h = still_table rows volumes positions h
 
 pub positions_stay_table : PositionsStayTable
@@ -44,21 +43,8 @@ written_are_after (row.Unit r ∷ rows) volumes positions = written_are_after ro
 written_are_after (row.Meter r ∷ rows) volumes positions = written_are_after rows volumes positions
 written_are_after (row.Price r ∷ rows) volumes positions = written_are_after rows volumes positions
 written_are_after (row.Contract r ∷ rows) volumes positions =
-    written_are_after rows (put contract_key_cmp r.key r.contract.volume volumes) (with_contract (replaced_by r volumes) r positions)
+    written_are_after rows (put contract_key_cmp r.key r.contract.volume volumes) (with_replaced (replaced_by r volumes) r positions)
 written_are_after (row.Reallocation r ∷ rows) volumes positions = written_are_after rows volumes positions
-
-pub positions_row_by_row : PositionsRowByRow
-positions_row_by_row [] more tables positions = refl
-positions_row_by_row (row.Party r ∷ rows) more tables positions = positions_row_by_row rows more (put_row (row.Party r) tables) positions
-positions_row_by_row (row.Unit r ∷ rows) more tables positions = positions_row_by_row rows more (put_row (row.Unit r) tables) positions
-positions_row_by_row (row.Meter r ∷ rows) more tables positions = positions_row_by_row rows more (put_row (row.Meter r) tables) positions
-positions_row_by_row (row.Price r ∷ rows) more tables positions = positions_row_by_row rows more (put_row (row.Price r) tables) positions
-positions_row_by_row (row.Contract r ∷ rows) more tables positions =
-    positions_row_by_row rows more (put_row (row.Contract r) tables) (with_contract (replaced_by r tables.contracts) r positions)
-positions_row_by_row (row.Reallocation r ∷ rows) more tables positions = positions_row_by_row rows more (put_row (row.Reallocation r) tables) positions
-
-pub one_by_found : OneByFound
-one_by_found positions others h k same = same_entries position_key_cmp position_key_total exact_position_keys positions others (from_true _ h) (from_true _ k) same
 
 -- what is found of changed positions, or else in the table
 pub found_changed : (changed positions : Table PositionKey Position) (key : PositionKey) → T (is_sorted position_key_cmp changed)

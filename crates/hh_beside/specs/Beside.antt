@@ -21,7 +21,7 @@ use Rattle.hh_rules.specs.declared.positions.Position.TheVariants.{Known, Lost}
 use Rattle.hh_rules.specs.declared.positions.PositionKey.{PositionKey}
 use Rattle.hh_calc.specs.declared.result.AccountRow.{AccountRow}
 use Rattle.hh_calc.specs.declared.result.CreditRow.{CreditRow}
-use Rattle.hh_calc.specs.Formulas.{sold_by}
+use Rattle.hh_calc.specs.Formulas.{net_kwh_of}
 use Rattle.hh_calc.specs.Limits.{is_within_limits}
 use Rattle.hh_calc.specs.Terms.{PeriodTerms, Settled, settled_as}
 use Rattle.hh_runs.specs.declared.run_key.RunKey.{RunKey}
@@ -96,7 +96,7 @@ is_still tables at s =
 
 -- what an account sells less what it buys in a Settlement Period, by the contracts in force, in kWh
 abbrev pub net_position : Registered → PositionKey → ℤ
-net_position tables key = total (λ r. sold_by key.account r.contract) (rows_in_force tables key.at)
+net_position tables key = total (λ r. net_kwh_of key.account r.contract) (rows_in_force tables key.at)
 
 -- a position is what the contracts in force come to, if it is known
 abbrev pub is_right : Registered → PositionKey × Position → Bool
@@ -116,21 +116,21 @@ are_positions_right tables positions =
     && (list_all (is_right tables) positions && list_all (has_positions positions) (filter_map (row_in_force tables) tables.contracts))
 
 module _ (content : Content) (touched : List SettlementPeriod) where
-  -- a Settlement Period of a run was touched, or is what it would be settled to now
-  abbrev pub is_kept : RunKey → SettlementPeriod → Bool
-  is_kept run at = is_among touched at || is_still content.registered at (period_of_run content run at.period)
+  -- a Settlement Period of a run is accounted for: it was touched, or is what it would be settled to now
+  abbrev pub is_accounted_for : RunKey → SettlementPeriod → Bool
+  is_accounted_for run at = is_among touched at || is_still content.registered at (period_of_run content run at.period)
 
-  -- each Settlement Period of a date's latest run was touched, or is what it would be settled to now
-  abbrev pub is_day_kept : ℕ → Bool
-  is_day_kept date = elim (latest_on content date) [
+  -- a date is accounted for: each Settlement Period of its latest run is, if there is one
+  abbrev pub is_day_accounted_for : ℕ → Bool
+  is_day_accounted_for date = elim (latest_on content date) [
     | None ↦ true
-    | Some run ↦ list_all (is_kept run.0) (periods_on date run.1.periods)
+    | Some run ↦ list_all (is_accounted_for run.0) (periods_on date run.1.periods)
   ]
 
-  -- so it is of each date that has a run
-  abbrev pub are_days_kept : Bool
-  are_days_kept = list_all (λ e. is_day_kept e.0.date) content.runs
+  -- each date that has a run is accounted for
+  abbrev pub are_days_accounted_for : Bool
+  are_days_accounted_for = list_all (λ e. is_day_accounted_for e.0.date) content.runs
 
 -- what is kept beside the tables agrees with them
 abbrev pub agrees : Content → Beside → Bool
-agrees content beside = are_positions_right content.registered beside.positions && are_days_kept content beside.touched
+agrees content beside = are_positions_right content.registered beside.positions && are_days_accounted_for content beside.touched

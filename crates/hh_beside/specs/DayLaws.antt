@@ -1,7 +1,7 @@
--- What a Settlement Period that is kept holds, and that the days of runs stay kept.
+-- What a Settlement Period that is accounted for holds, and that the days of runs stay accounted for.
 use Rattle.std.specs.Prelude.{◌≡◌, ◌==◌, ◌≤◌, ℤ, List, ◌++◌, map, filter, filter_map, not, Some, IsSome, IsTrue, IsFalse}
 use Rattle.std.specs.Bool.{Decides}
-use Rattle.std.specs.List.{AllByRecursion, flat_map}
+use Rattle.std.specs.List.{AllByRecursion}
 use Rattle.hh_time.specs.Days.{Midnights}
 use Rattle.hh_names.specs.declared.account.Account.{Account}
 use Rattle.hh_rows.specs.declared.settlement_period.SettlementPeriod.{SettlementPeriod}
@@ -13,13 +13,12 @@ use Rattle.hh_runs.specs.declared.run_key.RunKey.{RunKey}
 use Rattle.hh_runs.specs.declared.summary.Summary.{Summary}
 use Rattle.hh_states.specs.Changes.{load_writes}
 use Rattle.hh_states.specs.Content.{Content, tables_of}
-use Rattle.hh_states.specs.DaySettlement.{periods_on}
 use Rattle.hh_states.specs.PeriodSettlement.{accounts_on, price_of, reading_of, settled, terms_at}
 use Rattle.hh_states.specs.Runs.{periods_of, seen_by}
 use Rattle.hh_states.specs.States.{State}
 use Rattle.hh_states.specs.Steps.{CanLoad, CanRun, IsReached, Load, after_load, after_run, registered_at, timetable_at}
-use Rattle.hh_beside.specs.Beside.{are_days_kept, is_among, is_same_credit, is_same_period, is_same_row, latest_on, period_of_run, terms_for}
-use Rattle.hh_beside.specs.Keeping.{touched_by}
+use Rattle.hh_beside.specs.Beside.{are_days_accounted_for, is_among, is_same_credit, is_same_period, is_same_row, latest_on, period_of_run, terms_for}
+use Rattle.hh_beside.specs.Keeping.{periods_of_runs, touched_by}
 
 -- the tests of equal rows, credits and settled periods tell what is equal
 abbrev pub TellsRows : Type 0
@@ -31,53 +30,44 @@ TellsCredits = (c d : CreditRow) → Decides (is_same_credit c d) (c ≡ d)
 abbrev pub TellsPeriods : Type 0
 TellsPeriods = (s t : Settled) → Decides (is_same_period s t) (s ≡ t)
 
--- A Settlement Period of the latest run of a date that was not touched, whose accounts are those of the date now, holds what the
--- rows as they stand settle to, and passes no limit.
-abbrev pub KeptIsSettled : Type 0
-KeptIsSettled = (content : Content) (touched : List SettlementPeriod) (at : SettlementPeriod) (run : RunKey) (summary : Summary)
-    → IsTrue (are_days_kept content touched) → latest_on content at.date ≡ Some (run, summary)
+-- Where days are accounted for, a Settlement Period of the latest run of its date that was not touched, and whose accounts are those
+-- of the date now, holds what the rows as they stand settle to, and passes no limit.
+abbrev pub UntouchedIsSettled : Type 0
+UntouchedIsSettled = (content : Content) (touched : List SettlementPeriod) (at : SettlementPeriod) (run : RunKey) (summary : Summary)
+    → IsTrue (are_days_accounted_for content touched) → latest_on content at.date ≡ Some (run, summary)
     → 1 ≤ at.period → at.period ≤ summary.periods → IsFalse (is_among touched at)
     → map (λ r. r.account) (period_of_run content run at.period).accounts ≡ accounts_on content.registered at.date
     → (period_of_run content run at.period ≡ settled (terms_at content.registered at))
     × IsTrue (is_within_limits (terms_at content.registered at))
 
 -- whatever its accounts are, such a Settlement Period has a price
-abbrev pub KeptHasPrice : Type 0
-KeptHasPrice = (content : Content) (touched : List SettlementPeriod) (at : SettlementPeriod) (run : RunKey) (summary : Summary)
-    → IsTrue (are_days_kept content touched) → latest_on content at.date ≡ Some (run, summary)
+abbrev pub UntouchedHasPrice : Type 0
+UntouchedHasPrice = (content : Content) (touched : List SettlementPeriod) (at : SettlementPeriod) (run : RunKey) (summary : Summary)
+    → IsTrue (are_days_accounted_for content touched) → latest_on content at.date ≡ Some (run, summary)
     → 1 ≤ at.period → at.period ≤ summary.periods → IsFalse (is_among touched at)
     → IsSome (price_of content.registered at)
 
 -- and each unit from which it holds a credit has a reading
-abbrev pub KeptHasReadings : Type 0
-KeptHasReadings = (content : Content) (touched : List SettlementPeriod) (at : SettlementPeriod) (run : RunKey) (summary : Summary)
-    → IsTrue (are_days_kept content touched) → latest_on content at.date ≡ Some (run, summary)
+abbrev pub UntouchedHasReadings : Type 0
+UntouchedHasReadings = (content : Content) (touched : List SettlementPeriod) (at : SettlementPeriod) (run : RunKey) (summary : Summary)
+    → IsTrue (are_days_accounted_for content touched) → latest_on content at.date ≡ Some (run, summary)
     → 1 ≤ at.period → at.period ≤ summary.periods → IsFalse (is_among touched at)
     → AllByRecursion (λ c. IsSome (reading_of content.registered (record { unit = c.unit; at = at })))
     (period_of_run content run at.period).credits
-
--- each Settlement Period that is among these is among those
-abbrev pub AreAmong : List SettlementPeriod → List SettlementPeriod → Type 0
-AreAmong these those = (at : SettlementPeriod) → IsTrue (is_among these at) → IsTrue (is_among those at)
 
 -- a Settlement Period is among these exactly where it is among those
 abbrev pub HaveTheSame : List SettlementPeriod → List SettlementPeriod → Type 0
 HaveTheSame these those = (at : SettlementPeriod) → is_among these at ≡ is_among those at
 
--- whether days are kept depends only on which Settlement Periods were touched
-abbrev pub KeptByTheSame : Type 0
-KeptByTheSame = (content : Content) (these those : List SettlementPeriod) → HaveTheSame these those
-    → are_days_kept content these ≡ are_days_kept content those
+-- whether days are accounted for depends only on which Settlement Periods were touched
+abbrev pub AccountedForByTheSame : Type 0
+AccountedForByTheSame = (content : Content) (these those : List SettlementPeriod) → HaveTheSame these those
+    → are_days_accounted_for content these ≡ are_days_accounted_for content those
 
--- days that are kept are so where more was touched
-abbrev pub KeptByMore : Type 0
-KeptByMore = (content : Content) (these those : List SettlementPeriod) → AreAmong these those
-    → IsTrue (are_days_kept content these) → IsTrue (are_days_kept content those)
-
--- where each Settlement Period of each run was touched, days are kept
-abbrev pub KeptWhereAllTouched : Type 0
-KeptWhereAllTouched = (content : Content)
-    → IsTrue (are_days_kept content (flat_map (λ e. periods_on e.0.date e.1.periods) content.runs))
+-- where each Settlement Period of each run was touched, days are accounted for
+abbrev pub AccountedForWhereAllTouched : Type 0
+AccountedForWhereAllTouched = (content : Content)
+    → IsTrue (are_days_accounted_for content (periods_of_runs content.runs))
 
 -- the tables of a state that the machine reaches hold each Settlement Period of each run as the run settled it
 abbrev pub HoldsPeriods : Type 0
@@ -86,11 +76,12 @@ HoldsPeriods = (midnight : Midnights) (s : State) → IsReached midnight s
     period_of_run (tables_of midnight s) r.key at.period ≡ settled (terms_at (seen_by (timetable_at midnight s) s.history r) at))
     (periods_of midnight r)) s.runs
 
--- days that are kept in a state that the machine reaches are so after a run that it makes, which leaves no period of its date touched
-abbrev pub RunsKeepDays : Type 0
-RunsKeepDays = (midnight : Midnights) (s : State) (moment : ℤ) (key : RunKey) (touched : List SettlementPeriod)
-    → IsReached midnight s → CanRun midnight s moment key → IsTrue (are_days_kept (tables_of midnight s) touched)
-    → IsTrue (are_days_kept (tables_of midnight (after_run s key)) (filter (λ at. not (at.date == key.date)) touched))
+-- days that are accounted for in a state that the machine reaches are so after a run that it makes, which leaves no period of its
+-- date touched
+abbrev pub AccountedForAfterRuns : Type 0
+AccountedForAfterRuns = (midnight : Midnights) (s : State) (moment : ℤ) (key : RunKey) (touched : List SettlementPeriod)
+    → IsReached midnight s → CanRun midnight s moment key → IsTrue (are_days_accounted_for (tables_of midnight s) touched)
+    → IsTrue (are_days_accounted_for (tables_of midnight (after_run s key)) (filter (λ at. not (at.date == key.date)) touched))
 
 -- A Settlement Period that no row in time of an accepted load touches has the price that it had, and would be settled from what it
 -- would have been, whatever its accounts are.
@@ -101,9 +92,10 @@ UntouchedStays = (midnight : Midnights) (s : State) (load : Load) (at : Settleme
     × ((accounts : List Account) → terms_for accounts (registered_at midnight (after_load midnight s load)) at
     ≡ terms_for accounts (registered_at midnight s) at)
 
--- days that are kept in a state that the machine reaches are so after a load that it accepts, with what its rows in time touch
-abbrev pub LoadsKeepDays : Type 0
-LoadsKeepDays = (midnight : Midnights) (s : State) (load : Load) (touched : List SettlementPeriod) → IsReached midnight s
-    → CanLoad midnight s load → IsTrue (are_days_kept (tables_of midnight s) touched)
-    → IsTrue (are_days_kept (tables_of midnight (after_load midnight s load))
+-- days that are accounted for in a state that the machine reaches are so after a load that it accepts, with what its rows in time
+-- touch
+abbrev pub AccountedForAfterLoads : Type 0
+AccountedForAfterLoads = (midnight : Midnights) (s : State) (load : Load) (touched : List SettlementPeriod) → IsReached midnight s
+    → CanLoad midnight s load → IsTrue (are_days_accounted_for (tables_of midnight s) touched)
+    → IsTrue (are_days_accounted_for (tables_of midnight (after_load midnight s load))
     (filter_map touched_by (load_writes midnight s load).rows ++ touched))

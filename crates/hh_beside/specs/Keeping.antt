@@ -10,9 +10,11 @@ use Rattle.hh_rows.specs.declared.rows.Row.{Row}
 use Rattle.hh_rows.specs.declared.rows.Row.TheVariants as row
 use Rattle.hh_rows.specs.declared.settlement_period.SettlementPeriod.{SettlementPeriod}
 use Rattle.hh_rules.specs.History.{Registered}
-use Rattle.hh_rules.specs.Positions.{with_contract}
+use Rattle.hh_rules.specs.Positions.{with_replaced}
 use Rattle.hh_rules.specs.declared.positions.Position.{Position}
 use Rattle.hh_rules.specs.declared.positions.PositionKey.{PositionKey}
+use Rattle.hh_runs.specs.declared.run_key.RunKey.{RunKey}
+use Rattle.hh_runs.specs.declared.summary.Summary.{Summary}
 use Rattle.hh_states.specs.Changes.{LoadWrites, RunWrites}
 use Rattle.hh_states.specs.Content.{Content}
 use Rattle.hh_states.specs.DaySettlement.{periods_on}
@@ -36,7 +38,7 @@ replaced_by r volumes = option_map (λ v. record r { contract = record r.contrac
 abbrev pub positions_with : List Row → Table ContractKey ℤ → Table PositionKey Position → Table PositionKey Position
 positions_with [] volumes positions = positions
 positions_with (row.Contract r ∷ rows) volumes positions =
-    positions_with rows (put contract_key_cmp r.key r.contract.volume volumes) (with_contract (replaced_by r volumes) r positions)
+    positions_with rows (put contract_key_cmp r.key r.contract.volume volumes) (with_replaced (replaced_by r volumes) r positions)
 positions_with (_ ∷ rows) volumes positions = positions_with rows volumes positions
 
 -- after a load
@@ -53,11 +55,20 @@ beside_with_run w beside = record beside { touched = filter (λ at. not (at.date
 -- the positions by contracts in force, one after the other
 abbrev pub positions_of : List ContractRow → Table PositionKey Position → Table PositionKey Position
 positions_of [] positions = positions
-positions_of (r ∷ rows) positions = positions_of rows (with_contract None r positions)
+positions_of (r ∷ rows) positions = positions_of rows (with_replaced None r positions)
 
--- beside tables that were kept alone so far: all positions, and each Settlement Period of each run is touched
+-- the positions by all contracts in force
+abbrev pub positions_by : Registered → Table PositionKey Position
+positions_by tables = positions_of (filter_map (row_in_force tables) tables.contracts) []
+
+-- each Settlement Period of these runs
+abbrev pub periods_of_runs : Table RunKey Summary → List SettlementPeriod
+periods_of_runs runs = flat_map (λ e. periods_on e.0.date e.1.periods) runs
+
+-- beside tables that were kept alone so far: the positions by all contracts in force, and each Settlement Period of each run is
+-- touched
 abbrev pub beside_of : Content → Beside
 beside_of content = record {
-  positions = positions_of (filter_map (row_in_force content.registered) content.registered.contracts) [];
-  touched = flat_map (λ e. periods_on e.0.date e.1.periods) content.runs;
+  positions = positions_by content.registered;
+  touched = periods_of_runs content.runs;
 }

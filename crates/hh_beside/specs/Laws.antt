@@ -1,13 +1,10 @@
 -- That what is kept beside the tables goes on agreeing with them.
-use Rattle.std.specs.Prelude.{◌≡◌, ℤ, Bool, IsTrue}
-use Rattle.hh_tables.specs.Tables.{Table}
+use Rattle.std.specs.Prelude.{◌≡◌, ℤ, IsTrue}
 use Rattle.hh_time.specs.Days.{Midnights}
-use Rattle.hh_rows.specs.declared.settings.Settings.{Settings}
 use Rattle.hh_runs.specs.declared.run_key.RunKey.{RunKey}
-use Rattle.hh_states.specs.declared.file_key.FileKey.{FileKey}
 use Rattle.hh_states.specs.Changes.{load_writes, run_writes}
 use Rattle.hh_states.specs.Content.{Content, tables_of}
-use Rattle.hh_states.specs.States.{AcceptedFile, State}
+use Rattle.hh_states.specs.States.{State}
 use Rattle.hh_states.specs.Steps.{CanLoad, CanRun, IsReached, Load, after_load, after_run}
 use Rattle.hh_beside.specs.Beside.{Beside, agrees}
 use Rattle.hh_beside.specs.DayLaws.{HaveTheSame}
@@ -34,8 +31,3 @@ RunsAgree = (midnight : Midnights) (s : State) (moment : ℤ) (key : RunKey) (be
 -- what is made anew beside tables agrees with them
 abbrev pub MadeAnewAgrees : Type 0
 MadeAnewAgrees = (content : Content) (made : Beside) → AreAlike made (beside_of content) → IsTrue (agrees content made)
-
--- what agrees with tables does so whatever the settings and the files are, and whether or not it is said to
-abbrev pub AgreesWhatever : Type 0
-AgreesWhatever = (content : Content) (beside : Beside) (settings : Settings) (files : Table FileKey AcceptedFile) (is_in_step : Bool)
-    → agrees (record content { settings = settings; files = files; is_in_step = is_in_step }) beside ≡ agrees content beside

@@ -1,10 +1,8 @@
--- That the positions that are kept go on being what the contracts in force come to, and what they give a Settlement Period.
-use Rattle.std.specs.Prelude.{◌≡◌, ℤ, pos, ◌-ℤ◌, List, [], ◌∷◌, ◌++◌, map, filter_map, Bool, true, false, All, unwrap_or, Some, IsTrue}
+-- That positions go on being what the contracts in force come to, and what they give a Settlement Period.
+use Rattle.std.specs.Prelude.{◌≡◌, ℤ, pos, ◌-ℤ◌, List, [], ◌∷◌, map, Bool, true, false, All, unwrap_or, Some, IsTrue}
 use Rattle.std.specs.FinMap.{find, put}
 use Rattle.std.specs.List.{AllByRecursion, list_all}
 use Rattle.std.specs.Option.{option_or}
-use Rattle.hh_num.specs.Quantities.{net_volumes}
-use Rattle.hh_num.specs.Ranges.{IsBetween}
 use Rattle.hh_num.specs.Totals.{total}
 use Rattle.hh_tables.specs.Tables.{IsTable, Table, put_all}
 use Rattle.hh_time.specs.Days.{Midnights}
@@ -17,21 +15,22 @@ use Rattle.hh_rows.specs.declared.rows.Row.TheVariants as row
 use Rattle.hh_rows.specs.declared.settlement_period.SettlementPeriod.{SettlementPeriod}
 use Rattle.hh_rules.specs.History.{Registered}
 use Rattle.hh_rules.specs.RegisterView.{AgreesOn}
-use Rattle.hh_rules.specs.Positions.{moved, position_in, position_key, position_key_cmp, position_plus, volume_of, with_contract}
+use Rattle.hh_rules.specs.Positions.{with_moved, position_in, position_key, position_key_cmp, position_plus, volume_of, with_replaced}
 use Rattle.hh_rules.specs.declared.positions.Position.{Position}
 use Rattle.hh_rules.specs.declared.positions.Position.TheVariants.{Known, Lost}
 use Rattle.hh_rules.specs.declared.positions.PositionKey.{PositionKey}
+use Rattle.hh_calc.specs.Ready.{IsNetVolume}
 use Rattle.hh_runs.specs.declared.run_key.RunKey.{RunKey}
-use Rattle.hh_states.specs.Changes.{load_writes, put_rows}
+use Rattle.hh_states.specs.Changes.{load_writes}
 use Rattle.hh_states.specs.Content.{tables_of}
-use Rattle.hh_states.specs.PeriodSettlement.{accounts_on, row_in_force}
+use Rattle.hh_states.specs.PeriodSettlement.{accounts_on}
 use Rattle.hh_states.specs.Soundness.{AreConsistent}
 use Rattle.hh_states.specs.States.{State}
 use Rattle.hh_states.specs.Steps.{CanLoad, IsReached, Load, after_load, after_run}
 use Rattle.hh_beside.specs.Beside.{are_positions_right, net_position}
-use Rattle.hh_beside.specs.Keeping.{positions_of, positions_with, replaced_by}
+use Rattle.hh_beside.specs.Keeping.{positions_by, positions_of, positions_with, replaced_by}
 
--- a position that is known is what the contracts in force come to; an account without one is named by none of them
+-- a position that is known is what the contracts in force come to; an account without one counts as 0
 abbrev pub KnownIsNet : Type 0
 KnownIsNet = (tables : Registered) (positions : Table PositionKey Position) (key : PositionKey) (net : ℤ)
     → IsTrue (are_positions_right tables positions) → position_in positions key ≡ Known net → net ≡ net_position tables key
@@ -39,7 +38,11 @@ KnownIsNet = (tables : Registered) (positions : Table PositionKey Position) (key
 -- positions that are made anew from the contracts in force are right
 abbrev pub MadeAnewAreRight : Type 0
 MadeAnewAreRight = (tables : Registered)
-    → IsTrue (are_positions_right tables (positions_of (filter_map (row_in_force tables) tables.contracts) []))
+    → IsTrue (are_positions_right tables (positions_by tables))
+
+-- positions that are made anew from contracts are the same once they are written where there are none
+abbrev pub MadeAnewAreWritten : Type 0
+MadeAnewAreWritten = (rows : List ContractRow) → put_all position_key_cmp (positions_of rows []) [] ≡ positions_of rows []
 
 -- positions that are right in a state that the machine reaches are so after a load that it accepts
 abbrev pub LoadsKeepPositions : Type 0
@@ -57,8 +60,8 @@ RunsKeepPositions = (midnight : Midnights) (s : State) (key : RunKey) (positions
 -- ---- the net volumes of a Settlement Period
 
 -- the key of an account's position in a Settlement Period
-abbrev pub position_at : SettlementPeriod → Account → PositionKey
-position_at at account = record { at = at; account = account }
+abbrev pub position_key_at : SettlementPeriod → Account → PositionKey
+position_key_at at account = record { at = at; account = account }
 
 -- a position is known
 abbrev pub is_known : Position → Bool
@@ -70,29 +73,29 @@ abbrev pub volume_in : Position → ℤ
 volume_in (Known net) = net
 volume_in Lost = pos 0
 
--- the net volume of a position, if it is known, is one that is kept
+-- the net volume of a position, if it is known, is in range: at most 100,000,000 MWh in size
 abbrev pub IsInRange : Position → Type 0
-IsInRange (Known net) = IsBetween net_volumes.least net_volumes.most net
+IsInRange (Known net) = IsNetVolume net
 IsInRange Lost = Unit {0}
 
 module _ (positions : Table PositionKey Position) (at : SettlementPeriod) where
   -- the positions of these accounts in a Settlement Period are known
   abbrev pub are_known : List Account → Bool
-  are_known = list_all (λ a. is_known (position_in positions (position_at at a)))
+  are_known = list_all (λ a. is_known (position_in positions (position_key_at at a)))
 
   -- the net volumes of these accounts in a Settlement Period
-  abbrev pub volumes_at : List Account → List ℤ
-  volumes_at = map (λ a. volume_in (position_in positions (position_at at a)))
+  abbrev pub net_volumes_at : List Account → List ℤ
+  net_volumes_at = map (λ a. volume_in (position_in positions (position_key_at at a)))
 
 -- the net volumes of a Settlement Period's accounts are what the contracts in force come to, and sum to zero
 pub record AreNets (tables : Registered) (at : SettlementPeriod) (volumes : List ℤ) : Type 0 where
-  pub exact : volumes ≡ map (λ a. net_position tables (position_at at a)) (accounts_on tables at.date)
+  pub exact : volumes ≡ map (λ a. net_position tables (position_key_at at a)) (accounts_on tables at.date)
   pub zero : total (λ v. v) volumes ≡ pos 0
 
--- of what is registered and in force, where it is consistent, the net positions of a Settlement Period sum to zero
-abbrev pub NetsSumToZero : Type 0
-NetsSumToZero = (tables : Registered) (at : SettlementPeriod) → AreConsistent tables
-    → total (λ a. net_position tables (position_at at a)) (accounts_on tables at.date) ≡ pos 0
+-- where what is registered and in force is consistent, the net volumes of a Settlement Period's accounts sum to zero
+abbrev pub PositionsSumToZero : Type 0
+PositionsSumToZero = (tables : Registered) (at : SettlementPeriod) → AreConsistent tables
+    → total (λ a. net_position tables (position_key_at at a)) (accounts_on tables at.date) ≡ pos 0
 
 -- where the positions are right, and those of a Settlement Period's accounts are known, they give its net volumes
 abbrev pub KnownAreNets : Type 0
@@ -100,15 +103,15 @@ KnownAreNets = (midnight : Midnights) (s : State) (at : SettlementPeriod) (posit
     → IsReached midnight s → IsTrue (are_positions_right (tables_of midnight s).registered positions)
     → IsTrue (are_known positions at (accounts_on (tables_of midnight s).registered at.date))
     → AreNets (tables_of midnight s).registered at
-    (volumes_at positions at (accounts_on (tables_of midnight s).registered at.date))
+    (net_volumes_at positions at (accounts_on (tables_of midnight s).registered at.date))
 
--- net volumes from positions whose volumes are kept are such volumes
+-- net volumes from positions whose volumes are in range are so
 abbrev pub VolumesInRange : Type 0
 VolumesInRange = (at : SettlementPeriod) (positions : Table PositionKey Position) (accounts : List Account)
     → AllByRecursion (λ e. IsInRange e.1) positions
-    → AllByRecursion (IsBetween net_volumes.least net_volumes.most) (volumes_at positions at accounts)
+    → AllByRecursion IsNetVolume (net_volumes_at positions at accounts)
 
--- positions whose volumes are kept are such after any rows
+-- positions whose volumes are in range are so after any rows
 abbrev pub PositionsStayInRange : Type 0
 PositionsStayInRange = (rows : List Row) (volumes : Table ContractKey ℤ) (positions : Table PositionKey Position)
     → AllByRecursion (λ e. IsInRange e.1) positions → AllByRecursion (λ e. IsInRange e.1) (positions_with rows volumes positions)
@@ -127,8 +130,8 @@ positions_written (row.Contract r ∷ rows) volumes positions =
     let sells : PositionKey = position_key r r.contract.counterparties.seller in
     let buys : PositionKey = position_key r r.contract.counterparties.buyer in
     (sells, position_plus more (position_in positions sells))
-    ∷ (buys, position_plus (pos 0 -ℤ more) (position_in (moved sells more positions) buys))
-    ∷ positions_written rows (put contract_key_cmp r.key r.contract.volume volumes) (with_contract (replaced_by r volumes) r positions)
+    ∷ (buys, position_plus (pos 0 -ℤ more) (position_in (with_moved sells more positions) buys))
+    ∷ positions_written rows (put contract_key_cmp r.key r.contract.volume volumes) (with_replaced (replaced_by r volumes) r positions)
 positions_written (_ ∷ rows) volumes positions = positions_written rows volumes positions
 
 -- the positions after rows are a table
@@ -140,17 +143,6 @@ PositionsStayTable = (rows : List Row) (volumes : Table ContractKey ℤ) (positi
 abbrev pub WrittenAreAfter : Type 0
 WrittenAreAfter = (rows : List Row) (volumes : Table ContractKey ℤ) (positions : Table PositionKey Position)
     → put_all position_key_cmp (positions_written rows volumes positions) positions ≡ positions_with rows volumes positions
-
--- the positions after rows and more rows are those after the more, by the volumes that the rows left in force
-abbrev pub PositionsRowByRow : Type 0
-PositionsRowByRow = (rows more : List Row) (tables : Registered) (positions : Table PositionKey Position)
-    → positions_with (rows ++ more) tables.contracts positions
-    ≡ positions_with more (put_rows rows tables).contracts (positions_with rows tables.contracts positions)
-
--- two tables in which the same is found under each key are one
-abbrev pub OneByFound : Type 0
-OneByFound = (positions others : Table PositionKey Position) → IsTable position_key_cmp positions → IsTable position_key_cmp others
-    → ((key : PositionKey) → find position_key_cmp key positions ≡ find position_key_cmp key others) → positions ≡ others
 
 -- what is found once changed positions are put into a table: the changed position, or else that of the table
 abbrev pub FoundOnceChanged : Type 0
@@ -174,7 +166,7 @@ MovedOnceChanged = (changed positions : Table PositionKey Position) (key : Posit
     (position_plus volume
     (unwrap_or (option_or (find position_key_cmp key changed) (find position_key_cmp key positions)) (Known (pos 0))))
     changed) positions
-    ≡ moved key volume (put_all position_key_cmp changed positions)
+    ≡ with_moved key volume (put_all position_key_cmp changed positions)
 
 -- a part of what is registered and in force that has what rows are judged by gives the positions after them
 abbrev pub PartsGivePositions : Type 0
@@ -184,8 +176,8 @@ PartsGivePositions = (rows : List Row) (whole part : Registered) (positions : Ta
 
 module _ (whole part : Table PositionKey Position) where
   -- what is found in the part is found in the whole
-  abbrev pub IsPartOf : Type 0
-  IsPartOf = (key : PositionKey) (position : Position) → find position_key_cmp key part ≡ Some position
+  abbrev pub ArePartOf : Type 0
+  ArePartOf = (key : PositionKey) (position : Position) → find position_key_cmp key part ≡ Some position
       → find position_key_cmp key whole ≡ Some position
 
   -- both have the same of the seller and the buyer of a contract row
@@ -201,5 +193,5 @@ module _ (whole part : Table PositionKey Position) where
 -- the whole, makes the positions after them.
 abbrev pub PartsServe : Type 0
 PartsServe = (rows : List Row) (volumes : Table ContractKey ℤ) (whole part : Table PositionKey Position)
-    → IsTable position_key_cmp whole → IsTable position_key_cmp part → IsPartOf whole part → All (AgreesOnPositions whole part) rows
+    → IsTable position_key_cmp whole → IsTable position_key_cmp part → ArePartOf whole part → All (AgreesOnPositions whole part) rows
     → put_all position_key_cmp (positions_with rows volumes part) whole ≡ positions_with rows volumes whole

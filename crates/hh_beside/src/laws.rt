@@ -1,6 +1,6 @@
 //! Laws on what is kept beside the tables, each the contract of a function that does nothing.
 
-ghost use Rattle.hh_beside.specs.Laws.{AgreesWhatever, LoadsAgree, MadeAnewAgrees, RunsAgree};
+ghost use Rattle.hh_beside.specs.Laws.{LoadsAgree, MadeAnewAgrees, RunsAgree};
 
 /// That what is kept beside the tables agrees with them after a load, where it did so before: in each
 /// state that the machine reaches, and for each load that it accepts there (profile).
@@ -17,10 +17,4 @@ pub fn runs_agree()
 /// That what is made anew beside tables agrees with them (profile).
 pub fn made_anew_agrees()
     ensures { MadeAnewAgrees }
-{}
-
-/// That it agrees with tables whatever the settings and the files are, and whether or not the tables say
-/// that it does (profile).
-pub fn agrees_whatever()
-    ensures { AgreesWhatever }
 {}

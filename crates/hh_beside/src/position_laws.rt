@@ -6,23 +6,22 @@ ghost use Rattle.hh_beside.specs.PositionLaws.{
   KnownIsNet,
   LoadsKeepPositions,
   MadeAnewAreRight,
+  MadeAnewAreWritten,
   MadeAnewInRange,
   MovedOnceChanged,
-  NetsSumToZero,
-  OneByFound,
   OneMoreChanged,
   PartsGivePositions,
   PartsServe,
-  PositionsRowByRow,
   PositionsStayInRange,
   PositionsStayTable,
+  PositionsSumToZero,
   RunsKeepPositions,
   VolumesInRange,
   WrittenAreAfter,
 };
 
-/// That a position that is known is what the contracts in force come to, and that none of them names an
-/// account that has no position (profile).
+/// That a position that is known is what the contracts in force come to; an account without one counts
+/// as 0 (profile).
 #[tactic(auto, using(crate::proofs::PositionLoads::known_is_net))]
 pub fn known_is_net()
     ensures { KnownIsNet }
@@ -33,6 +32,13 @@ pub fn known_is_net()
 #[tactic(auto, using(crate::proofs::PositionMade::made_anew_are_right))]
 pub fn made_anew_are_right()
     ensures { MadeAnewAreRight }
+{}
+
+/// That positions that are made anew from contracts are the same once they are written where there are
+/// none (profile).
+#[tactic(auto, using(crate::proofs::PositionMade::made_anew_are_written))]
+pub fn made_anew_are_written()
+    ensures { MadeAnewAreWritten }
 {}
 
 /// That positions that are right stay so with what an accepted file writes: in each state that the
@@ -48,21 +54,20 @@ pub fn runs_keep_positions()
     ensures { RunsKeepPositions }
 {}
 
-/// That the net positions of all accounts of a Settlement Period sum to zero, where what is registered
+/// That the net volumes of all accounts of a Settlement Period sum to zero, where what is registered
 /// and in force is consistent (profile).
-#[tactic(auto, using(crate::proofs::PositionSums::nets_sum_to_zero))]
-pub fn nets_sum_to_zero()
-    ensures { NetsSumToZero }
+#[tactic(auto, using(crate::proofs::PositionSums::positions_sum_to_zero))]
+pub fn positions_sum_to_zero()
+    ensures { PositionsSumToZero }
 {}
 
-/// That the positions of a Settlement Period's accounts, where all are known, give their net positions,
+/// That the positions of a Settlement Period's accounts, where all are known, give their net volumes,
 /// which sum to zero: in each state that the machine reaches, for positions that are right (profile).
 pub fn known_are_nets()
     ensures { KnownAreNets }
 {}
 
-/// That net volumes from positions whose volumes are at most 100,000,000 MWh in size are no greater
-/// (profile).
+/// That net volumes from positions whose volumes are at most 100,000,000 MWh in size are so (profile).
 #[tactic(auto, using(crate::proofs::PositionRanges::volumes_in_range))]
 pub fn volumes_in_range()
     ensures { VolumesInRange }
@@ -90,19 +95,6 @@ pub fn positions_stay_table()
 #[tactic(auto, using(crate::proofs::PositionWrites::written_are_after))]
 pub fn written_are_after()
     ensures { WrittenAreAfter }
-{}
-
-/// That the positions after rows and more rows are those after the more, by the volumes that the rows
-/// left in force (profile).
-#[tactic(auto, using(crate::proofs::PositionWrites::positions_row_by_row))]
-pub fn positions_row_by_row()
-    ensures { PositionsRowByRow }
-{}
-
-/// That two tables of positions in which the same is found under each key are one (profile).
-#[tactic(auto, using(crate::proofs::PositionWrites::one_by_found))]
-pub fn one_by_found()
-    ensures { OneByFound }
 {}
 
 /// That once changed positions are put into a table, a changed position is found, or else that of the

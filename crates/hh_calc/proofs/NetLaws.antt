@@ -18,10 +18,10 @@ use Rattle.hh_names.specs.Accounts.{account_cmp, is_same_account}
 use Rattle.hh_names.proofs.AccountLaws.{account_total}
 use Rattle.hh_calc.specs.declared.result.Figures.{Figures}
 use Rattle.hh_calc.specs.declared.sums.AccountSums.{AccountSums}
-use Rattle.hh_calc.specs.Formulas.{all_figures, contracted, figures, figures_from, net_by, net_entry_of, net_kwh, net_of, netted, netted_contracts, of_account, period_sums, residual, sold_by, ticks_per_kwh}
+use Rattle.hh_calc.specs.Formulas.{all_figures, contracted, figures, figures_from, net_by, net_entry_of, net_kwh, net_of, netted, netted_contracts, of_account, period_sums, residual, net_kwh_of, ticks_per_kwh}
 use Rattle.hh_calc.specs.Limits.{are_all_within, are_within, greatest_cash, greatest_energy, is_account_within, is_at_most, is_within_limits}
 use Rattle.hh_calc.specs.Ready.{AreAccountsInOrder, AreContractsReady, AreInOrder, AreNetsReady, IsContractNamed, IsNetVolume, IsReady}
-use Rattle.hh_calc.specs.Terms.{Contracts, Net, PeriodTerms, Rows}
+use Rattle.hh_calc.specs.Terms.{ContractTerms, Net, PeriodTerms, Rows}
 use Rattle.hh_calc.proofs.OrderLaws.{rises}
 use Rattle.hh_calc.proofs.SpreadLaws.{counts_once}
 use Rattle.hh_calc.proofs.SumLaws.{length-beside}
@@ -46,8 +46,8 @@ map-alike f g [] alike = refl
 map-alike f g (x ∷ xs) alike = λ i. alike 0 x (omega arith) i ∷ map-alike f g xs (λ k d lt. alike (suc k) d (omega arith)) i
 
 -- what a contract is for an account in ticks is what it is in kWh
-sold_ticks : (a : Account) (c : Contract) → sold_by a c *ℤ ticks_per_kwh ≡ net_of a c
-sold_ticks a c = by (is_same_account c.counterparties.seller a) (is_same_account c.counterparties.buyer a)
+net_ticks : (a : Account) (c : Contract) → net_kwh_of a c *ℤ ticks_per_kwh ≡ net_of a c
+net_ticks a c = by (is_same_account c.counterparties.seller a) (is_same_account c.counterparties.buyer a)
   where
     by : (s b : Bool) → (cond s c.volume (pos 0) -ℤ cond b c.volume (pos 0)) *ℤ ticks_per_kwh ≡ cond s (contracted c) (pos 0) -ℤ cond b (contracted c) (pos 0)
     by true true = omega (arith, ints)
@@ -109,7 +109,7 @@ module _ (accounts : List Account) (up : AreAccountsInOrder accounts) where
       (k, inside, get_or-default accounts k e.0 d.0 inside ∙ sym (ap (λ (x : Account × ℤ). x.0) stands))
 
   -- and so do the accounts' net contracts
-  pub contracts_sum : (contracts : Contracts) → AreContractsReady accounts contracts → total (net_by accounts contracts) accounts ≡ pos 0
+  pub contracts_sum : (contracts : ContractTerms) → AreContractsReady accounts contracts → total (net_by accounts contracts) accounts ≡ pos 0
   contracts_sum (Rows rows) named = total-swap net_of accounts rows ∙ all_contracts contracted rows named
   contracts_sum (Net nets) ready =
       total-swap net_entry_of accounts (zip accounts nets)
@@ -120,10 +120,10 @@ module _ (accounts : List Account) (up : AreAccountsInOrder accounts) where
 
   -- the accounts' net volumes by rows sum to zero
   pub nets_sum : (rows : List Contract) → All (IsContractNamed accounts) rows → total (net_kwh rows) accounts ≡ pos 0
-  nets_sum rows named = total-swap sold_by accounts rows ∙ all_contracts (λ c. c.volume) rows named
+  nets_sum rows named = total-swap net_kwh_of accounts rows ∙ all_contracts (λ c. c.volume) rows named
 
   -- an account has the same net contracts by rows and by net volumes
-  nets_alike : (contracts : Contracts) (k : ℕ) (d : Account) → k < length accounts
+  nets_alike : (contracts : ContractTerms) (k : ℕ) (d : Account) → k < length accounts
       → net_by accounts (netted_contracts accounts contracts) (get_or accounts k d) ≡ net_by accounts contracts (get_or accounts k d)
   nets_alike (Net nets) k d inside = refl
   nets_alike (Rows rows) k d inside =
@@ -131,8 +131,8 @@ module _ (accounts : List Account) (up : AreAccountsInOrder accounts) where
       ap (total (net_entry_of a)) (zip-map (net_kwh rows) accounts)
       ∙ total-map (net_entry_of a) (λ b. (b, net_kwh rows b)) accounts
       ∙ own (λ b. net_kwh rows b *ℤ ticks_per_kwh) k d inside
-      ∙ sym (total-ticks (sold_by a) rows)
-      ∙ total-same (λ c. sold_by a c *ℤ ticks_per_kwh) (net_of a) rows (sold_ticks a)
+      ∙ sym (total-ticks (net_kwh_of a) rows)
+      ∙ total-same (λ c. net_kwh_of a c *ℤ ticks_per_kwh) (net_of a) rows (net_ticks a)
     where
       zip-map : {X Y : Type 0} (f : X → Y) (xs : List X) → zip xs (map f xs) ≡ map (λ x. (x, f x)) xs
       zip-map f [] = refl

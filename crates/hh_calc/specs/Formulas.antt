@@ -13,7 +13,7 @@ use Rattle.hh_calc.specs.declared.data.Subsidiary.{Subsidiary}
 use Rattle.hh_calc.specs.declared.result.CreditRow.{CreditRow}
 use Rattle.hh_calc.specs.declared.result.Figures.{Figures}
 use Rattle.hh_calc.specs.declared.sums.AccountSums.{AccountSums}
-use Rattle.hh_calc.specs.Terms.{BmUnit, Contracts, Net, PeriodTerms, Rows}
+use Rattle.hh_calc.specs.Terms.{BmUnit, ContractTerms, Net, PeriodTerms, Rows}
 
 -- ticks to the kWh
 abbrev pub ticks_per_kwh : ℤ
@@ -89,7 +89,7 @@ module _ (a : Account) where
   net_entry_of e = of_account e.0 (e.1 *ℤ ticks_per_kwh)
 
 -- what an account sells by a period's contracts less what it buys, in ticks
-abbrev pub net_by : List Account → Contracts → Account → ℤ
+abbrev pub net_by : List Account → ContractTerms → Account → ℤ
 net_by accounts (Rows rows) a = total (net_of a) rows
 net_by accounts (Net nets) a = total (net_entry_of a) (zip accounts nets)
 
@@ -158,17 +158,17 @@ module _ (p : PeriodTerms) where
 -- ---- net volumes in the place of rows
 
 -- what an account sells by a contract less what it buys, in kWh
-abbrev pub sold_by : Account → Contract → ℤ
-sold_by a c =
+abbrev pub net_kwh_of : Account → Contract → ℤ
+net_kwh_of a c =
     (if is_same_account c.counterparties.seller a then c.volume else pos 0)
     -ℤ (if is_same_account c.counterparties.buyer a then c.volume else pos 0)
 
 -- what an account sells by these contracts less what it buys, in kWh
 abbrev pub net_kwh : List Contract → Account → ℤ
-net_kwh rows a = total (sold_by a) rows
+net_kwh rows a = total (net_kwh_of a) rows
 
 -- the accounts' net volumes in the place of rows
-abbrev pub netted_contracts : List Account → Contracts → Contracts
+abbrev pub netted_contracts : List Account → ContractTerms → ContractTerms
 netted_contracts accounts (Rows rows) = Net (map (net_kwh rows) accounts)
 netted_contracts accounts (Net nets) = Net nets
 

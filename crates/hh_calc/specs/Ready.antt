@@ -8,7 +8,7 @@ use Rattle.hh_names.specs.declared.account.Account.{Account}
 use Rattle.hh_names.specs.declared.values.Contract.{Contract}
 use Rattle.hh_names.specs.Accounts.{account_cmp}
 use Rattle.hh_calc.specs.declared.data.Subsidiary.{Subsidiary}
-use Rattle.hh_calc.specs.Terms.{BmUnit, Contracts, Net, PeriodTerms, Rows}
+use Rattle.hh_calc.specs.Terms.{BmUnit, ContractTerms, Net, PeriodTerms, Rows}
 
 -- the most subsidiaries that a unit may have
 abbrev pub most_subsidiaries : ℕ
@@ -28,8 +28,8 @@ pub record AreNetsReady (accounts : List Account) (nets : List ℤ) : Type 0 whe
   pub even : total (λ kwh. kwh) nets ≡ pos 0
   pub sizes : All IsNetVolume nets
 
--- each net volume is one that is kept
-abbrev pub HasNetVolumes : Contracts → Type 0
+-- each net volume is at most 100,000,000 MWh in size
+abbrev pub HasNetVolumes : ContractTerms → Type 0
 HasNetVolumes (Rows rows) = Unit {0}
 HasNetVolumes (Net nets) = All IsNetVolume nets
 
@@ -55,7 +55,7 @@ module _ (accounts : List Account) where
   IsContractNamed c = IsNamed c.counterparties.seller × IsNamed c.counterparties.buyer
 
   -- the seller and the buyer of each row are some of these; net volumes stand one for each of these, and come to zero
-  abbrev pub AreContractsReady : Contracts → Type 0
+  abbrev pub AreContractsReady : ContractTerms → Type 0
   AreContractsReady (Rows rows) = All IsContractNamed rows
   AreContractsReady (Net nets) = AreNetsReady accounts nets
 

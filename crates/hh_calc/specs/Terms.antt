@@ -22,12 +22,12 @@ bm_unit unit lead interconnector reading subsidiaries =
     record { unit = unit; lead = lead; interconnector = interconnector; reading = reading; subsidiaries = subsidiaries }
 
 -- the contracts of a period: the volumes in force, or in account order what each account sells by them less what it buys, in kWh
-pub data Contracts : Type 0 where
-  Rows : List Contract → Contracts
-  Net : List ℤ → Contracts
+pub data ContractTerms : Type 0 where
+  Rows : List Contract → ContractTerms
+  Net : List ℤ → ContractTerms
 
 -- the contracts that the code holds
-abbrev pub contracts_given : given.Contracts → Contracts
+abbrev pub contracts_given : given.Contracts → ContractTerms
 contracts_given (given.TheVariants.Rows rows) = Rows rows.items
 contracts_given (given.TheVariants.Net nets) = Net nets.items
 
@@ -35,10 +35,10 @@ contracts_given (given.TheVariants.Net nets) = Net nets.items
 pub record PeriodTerms : Type 0 where
   pub accounts : List Account
   pub units : List BmUnit
-  pub contracts : Contracts
+  pub contracts : ContractTerms
   pub price : ℤ
 
-abbrev pub period_terms : List Account → List BmUnit → Contracts → ℤ → PeriodTerms
+abbrev pub period_terms : List Account → List BmUnit → ContractTerms → ℤ → PeriodTerms
 period_terms accounts units contracts price = record { accounts = accounts; units = units; contracts = contracts; price = price }
 
 -- a settled period

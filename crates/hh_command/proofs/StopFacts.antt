@@ -96,11 +96,11 @@ unread_off host file device found left (Ok x) n is runs = let bad : script.Off n
 unread_off host file device found left (Err script.File) n is runs = let bad : script.Off n ≡ script.File = ap stop_in is in cc bad
 unread_off host file device found left (Err script.Output) n is runs = let bad : script.Off n ≡ script.Output = ap stop_in is in cc bad
 unread_off host file device found left (Err (script.Refused fault)) n is runs = let bad : script.Off n ≡ script.Refused fault = ap stop_in is in cc bad
-unread_off host file device found left (Err (script.Off m)) n is (inr (held, unread), leaves, kept) =
+unread_off host file device found left (Err (script.Off m)) n is (inr (held, unread, takes), kept) =
     let same : script.Off n ≡ script.Off m = ap stop_in is in
     let number : m ≡ n = cc same in
     subst (λ k. IsUnread host file (script.Off k)) number unread
-unread_off host file device found left (Err (script.Off m)) n is (inl (fault, none), leaves, kept) = cc none
+unread_off host file device found left (Err (script.Off m)) n is (inl ((fault, none), leaves), kept) = cc none
 
 ends_off : (host : HostView) (file : Text) (device : DeviceChange) (places : Places) (path : Text) (n : ℕ)
     → EndsScript host device file places path (Err (at.Script (script.Off n))) → IsUnread host file (script.Off n)

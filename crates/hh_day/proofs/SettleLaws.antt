@@ -22,7 +22,7 @@ use Rattle.hh_states.specs.Sums.{CreditsEachOnce}
 use Rattle.hh_states.specs.Readiness.{ArePeriodsConsistent, AreTermsConsistent}
 use Rattle.hh_store.specs.DayReads.{ArePeriodsOf, IsPeriodOf}
 use Rattle.hh_store.specs.declared.day_data.PeriodState.{PeriodState}
-use Rattle.hh_store.specs.declared.day_data.PeriodState.TheVariants.{Changed, Same}
+use Rattle.hh_store.specs.declared.day_data.PeriodState.TheVariants.{Changed}
 use Rattle.hh_day.specs.NewRuns.{SettledInOneWay}
 use Rattle.hh_day.specs.steps.PeriodSteps.{SettlesPeriod}
 
@@ -84,11 +84,6 @@ settles_beyond alike at p beyond tables (inl is_of) consistent =
     sym (ap (λ b. kept_where b (settled_at tables at)) (sym (ap is_within_limits is_of) ∙ beyond))
 settles_beyond alike at p beyond tables (inr netted) consistent =
     sym (ap (λ b. kept_where b (settled_at tables at)) (sym (ap is_within_limits netted.same ∙ (alike (terms_at tables at) consistent.ready.0).1) ∙ beyond))
-
--- a period that is handed on is what it is settled to, within the limits
-pub settles_same : (at : SettlementPeriod) (s : Settled) → SettlesPeriod at (Same s) (Some (at, s))
-settles_same at s tables is_of consistent =
-    ap (λ x. Some (at, x)) is_of.0 ∙ sym (ap (λ b. kept_where b (settled_at tables at)) is_of.1)
 
 -- a period of which there is a settlement is within the limits, and that is its settlement
 kept : (b : Bool) (x y : SettlementPeriod × Settled) → Some x ≡ kept_where b y → (b ≡ true) × (x ≡ y)

@@ -17,7 +17,7 @@ type Both = (Option<i64>, Option<i64>);
 /// 10,000 MWh, the greatest volume that a row has, in kWh.
 const MOST: i64 = 10_000_000;
 
-/// 100,000,000 MWh, the greatest position that is kept, in kWh.
+/// 100,000,000 MWh, the greatest position that is known, in kWh.
 const GREATEST: i64 = 100_000_000_000;
 
 fn key(period: u8, account: &[u8]) -> Option<PositionKey> {

@@ -1,5 +1,5 @@
 -- What a script comes to over a database.
-use Rattle.std.proofs.Common.{◌≡◌, ◌∙◌, ℕ, List, refl, ap, inr, subst, sym, Result, Ok, Err}
+use Rattle.std.proofs.Common.{◌≡◌, ◌∙◌, ℕ, List, ap, inr, subst, sym, Result, Ok, Err}
 use Rattle.std.specs.Prelude.{⊤, IsTrue}
 use Rattle.sqlite.specs.Effect.{Database}
 use Rattle.jiff.specs.Words.{plain_zone}
@@ -7,6 +7,7 @@ use Rattle.hh_devices.specs.DeviceChanges.{DeviceChange}
 use Rattle.hh_time.specs.Zone.{midnight_in}
 use Rattle.hh_states.specs.Content.{Content}
 use Rattle.hh_keyed_rows.specs.Values.{version}
+use Rattle.hh_sqlstore.specs.Leaving.{IsTakenOver}
 use Rattle.hh_sqlstore.specs.Holds.{Holds}
 use Rattle.hh_host.specs.Views.{HostView}
 use Rattle.hh_script.specs.Steps.{Step}
@@ -18,7 +19,7 @@ use Rattle.hh_session.proofs.GivingUpLaws.{script_then}
 use Rattle.hh_database.specs.declared.stop.DatabaseStop.{DatabaseStop}
 use Rattle.hh_database.specs.declared.stop.DatabaseStop.TheVariants as database
 use Rattle.hh_database.specs.Running.{CutsOver, WritesOver}
-use Rattle.hh_kept_office.specs.Places.{Connected, LeavesConnected}
+use Rattle.hh_kept_office.specs.Places.{Connected, LeavesConnected, TakesConnected}
 use Rattle.hh_kept_office.specs.Scripts.{RunsFile}
 use Rattle.hh_kept_office.specs.steps.Scripts.{RunsFileOver, stop_of}
 
@@ -46,21 +47,21 @@ module _ (fails others : Type 0) (implies : fails → others) (host : HostView) 
 module _ (host : HostView) (device : DeviceChange) (file : List ℕ) (found taken left : Connected) (content : Content) where
   module _ (holds : IsTrue taken.is_open → Holds version content found.committed)
       (same : (held : Content) → Holds version held found.committed → IsTrue taken.is_open → content ≡ held)
-      (leaves : LeavesConnected found taken) (sure : IsTrue left.is_open → IsTrue taken.is_open) where
-    leaves_both : LeavesConnected taken left → LeavesConnected found left
-    leaves_both more up =
+      (takes : TakesConnected found taken) (sure : IsTrue left.is_open → IsTrue taken.is_open) where
+    takes_both : LeavesConnected taken left → TakesConnected found left
+    takes_both more up =
         let (taken_up, now, committed) = more up in
-        let (found_up, before_now, before_committed) = leaves taken_up in
-        (found_up, now ∙ before_now, committed ∙ before_committed)
+        let (found_up, taken_now, taken_committed) = takes taken_up in
+        (found_up, subst (IsTakenOver found.now) (sym now) taken_now, subst (IsTakenOver found.committed) (sym committed) taken_committed)
 
     pub runs_file : (result : Result Unit ScriptStop) → RunsFileOver host device file content taken left result → RunsFile host device file found left result
     runs_file (Ok x) (steps, is, writes) =
         (steps, is, λ held holding up. subst (WritesOver host ⊤ device left.committed steps) (same held holding (sure up)) (writes up))
     runs_file (Err script.Output) (steps, is, cuts) =
         (steps, is, λ held holding up. subst (CutsOver host ⊤ device left.committed steps) (same held holding (sure up)) (cuts up))
-    runs_file (Err script.File) (unread, more, silent) = (inr (λ up. (content, holds (sure up)), unread), leaves_both more, silent)
-    runs_file (Err (script.Off line)) (unread, more, silent) = (inr (λ up. (content, holds (sure up)), unread), leaves_both more, silent)
-    runs_file (Err (script.Refused fault)) (unread, more, silent) = (inr (λ up. (content, holds (sure up)), unread), leaves_both more, silent)
+    runs_file (Err script.File) (unread, more, silent) = (inr (λ up. (content, holds (sure up)), unread, takes_both more), silent)
+    runs_file (Err (script.Off line)) (unread, more, silent) = (inr (λ up. (content, holds (sure up)), unread, takes_both more), silent)
+    runs_file (Err (script.Refused fault)) (unread, more, silent) = (inr (λ up. (content, holds (sure up)), unread, takes_both more), silent)
 
 -- the output failed while a script was run over tables
 pub cut_over : (host : HostView) (device : DeviceChange) (file : List ℕ) (content : Content) (taken left : Connected) (why : ScriptStop) (stop : DatabaseStop)

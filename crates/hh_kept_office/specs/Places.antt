@@ -5,6 +5,7 @@ use Rattle.sqlite_trees.specs.declared.store.Store.{Ghosts}
 use Rattle.sqlite.specs.Held.{Held, state}
 use Rattle.sqlite.specs.State.{State}
 use Rattle.hh_store.specs.declared.store_fault.StoreFault.{StoreFault}
+use Rattle.hh_sqlstore.specs.Leaving.{IsTakenOver}
 
 -- a database as a connection has it: whether that is open, as its transaction sees it, and as the last commit left it; the latter two say
 -- nothing where it is shut
@@ -24,6 +25,11 @@ shown_by ghosts connection = connected (state ghosts connection)
 -- a connection that is open afterwards was so before, and has what it had
 abbrev pub LeavesConnected : Connected → Connected → Type 0
 LeavesConnected old new = IsTrue new.is_open → IsTrue old.is_open × (new.now ≡ old.now) × (new.committed ≡ old.committed)
+
+-- a connection that is open afterwards was so before, and has what it had, or positions are kept there from now on
+abbrev pub TakesConnected : Connected → Connected → Type 0
+TakesConnected old new =
+    IsTrue new.is_open → IsTrue old.is_open × IsTakenOver old.now new.now × IsTakenOver old.committed new.committed
 
 -- the paths of a host, and the databases there
 pub record Places : Type 1 where

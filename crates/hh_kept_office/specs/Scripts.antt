@@ -15,7 +15,7 @@ use Rattle.hh_session.specs.Script.{IsScript, IsUnread}
 use Rattle.hh_database.specs.Running.{CutsOver, WritesOver}
 use Rattle.hh_kept_office.specs.declared.scripts.ScriptPathStop.{ScriptPathStop}
 use Rattle.hh_kept_office.specs.declared.scripts.ScriptPathStop.TheVariants.{NoFile, Script, Unopened}
-use Rattle.hh_kept_office.specs.Places.{Connected, LeavesConnected, Places}
+use Rattle.hh_kept_office.specs.Places.{Connected, LeavesConnected, Places, TakesConnected}
 
 -- how a script ends at a path
 abbrev pub script_at : Result Unit ScriptStop → Result Unit ScriptPathStop
@@ -33,16 +33,17 @@ module _ (host : HostView) (device : DeviceChange) (file : List ℕ) where
   IsOfNoOffice why = (fault : StoreFault) × (why ≡ script.Refused (store_fault fault))
 
   -- The script was run over the office in a database that was opened so and left so: from each state whose tables the database held, if the
-  -- connection is open in the end. Or the output failed. Or nothing was run, nothing was written, and the database has what it had: its
-  -- tables were not taken over, or they were, and the script cannot be had.
+  -- connection is open in the end. Or the output failed. Or nothing was run and nothing was written: the tables were not taken over, and the
+  -- database has what it had; or they were, and the script cannot be had.
   abbrev pub RunsFile : Connected → Connected → Result Unit ScriptStop → Type 0
   RunsFile found left (Ok x) = (steps : List Step) × IsScript host file steps
       × ((content : Content) → Holds version content found.committed → IsTrue left.is_open → WritesOver host ⊤ device left.committed steps content)
   RunsFile found left (Err script.Output) = (steps : List Step) × IsScript host file steps
       × ((content : Content) → Holds version content found.committed → IsTrue left.is_open → CutsOver host ⊤ device left.committed steps content)
   RunsFile found left (Err why) =
-      (IsOfNoOffice why ⊎ ((IsTrue left.is_open → HoldsOffice found.committed) × IsUnread host file why))
-      × LeavesConnected found left × (device.new ≡ device.old)
+      ((IsOfNoOffice why × LeavesConnected found left)
+      ⊎ ((IsTrue left.is_open → HoldsOffice found.committed) × IsUnread host file why × TakesConnected found left))
+      × (device.new ≡ device.old)
 
   -- A script was to be run at a path: nothing was opened; or nothing was found there; or something was, it was opened, and the script was run.
   abbrev pub EndsScript : Places → List ℕ → Result Unit ScriptPathStop → Type 0

@@ -14,7 +14,7 @@ use Rattle.hh_rules.specs.Positions.{position_in}
 use Rattle.hh_rules.specs.declared.positions.Position.{Position}
 use Rattle.hh_rules.specs.declared.positions.Position.TheVariants.{Known, Lost}
 use Rattle.hh_rules.specs.declared.positions.PositionKey.{PositionKey}
-use Rattle.hh_calc.specs.Formulas.{net_kwh, sold_by}
+use Rattle.hh_calc.specs.Formulas.{net_kwh, net_kwh_of}
 use Rattle.hh_calc.specs.Terms.{Net, PeriodTerms, Settled, settled_as}
 use Rattle.hh_runs.specs.declared.run_key.RunKey.{RunKey}
 use Rattle.hh_runs.specs.declared.summary.Summary.{Summary}
@@ -25,8 +25,8 @@ use Rattle.hh_store.specs.declared.day_data.PeriodState.{PeriodState}
 use Rattle.hh_store.specs.declared.day_data.PeriodState.TheVariants.{Changed, Same}
 use Rattle.hh_store.specs.DayReads.{ArePeriodsOf, IsNetted, IsPeriodOf, IsStateOf}
 use Rattle.hh_beside.specs.Beside.{Beside, agrees, are_positions_right, credit_row, is_credit_of, is_result_of, latest_on, period_of_run}
-use Rattle.hh_beside.specs.PositionLaws.{are_known, is_known, position_at, volume_in, volumes_at}
-use Rattle.hh_beside.proofs.DayKept.{kept_is_settled}
+use Rattle.hh_beside.specs.PositionLaws.{are_known, is_known, position_key_at, volume_in, net_volumes_at}
+use Rattle.hh_beside.proofs.DayAccountedFor.{untouched_is_settled}
 use Rattle.hh_beside.proofs.PositionLoads.{known_is_net}
 use Rattle.hh_kept_rows.specs.DayBeside.{IsBesideOf, IsNetBeside, IsSameAs, IsStateBeside, ReadByWhatIsBeside, result_beside}
 use Rattle.hh_kept_rows.specs.DayRows.{HasRowsOn}
@@ -50,17 +50,17 @@ module _ (content : Content) (beside : Beside) (agree : agrees content beside �
   same_accounts = ap (λ (p : PeriodTerms). p.accounts) same_terms
 
   -- an account's position that is known is what it sells less what it buys
-  net_of_account : (a : Account) → is_known (position_in held.positions (position_at at a)) ≡ true
-      → volume_in (position_in held.positions (position_at at a)) ≡ net_kwh (map (λ (r : ContractRow). r.contract) (rows_in_force whole at)) a
+  net_of_account : (a : Account) → is_known (position_in held.positions (position_key_at at a)) ≡ true
+      → volume_in (position_in held.positions (position_key_at at a)) ≡ net_kwh (map (λ (r : ContractRow). r.contract) (rows_in_force whole at)) a
   net_of_account a known =
-      let key : PositionKey = position_at at a in
+      let key : PositionKey = position_key_at at a in
       let found : position_in held.positions key ≡ position_in beside.positions key = ap (λ o. unwrap_or o (Known (pos 0))) (is.positions key on) in
       let right : are_positions_right whole beside.positions ≡ true = (and_parts _ _ agree).0 in
       known_is_net whole beside.positions key (volume_in (position_in held.positions key)) right (sym found ∙ known_volume (position_in held.positions key) known)
-      ∙ sym (total-map (sold_by a) (λ (r : ContractRow). r.contract) (rows_in_force whole at))
+      ∙ sym (total-map (net_kwh_of a) (λ (r : ContractRow). r.contract) (rows_in_force whole at))
 
   nets_of_accounts : (accounts : List Account) → are_known held.positions at accounts ≡ true
-      → volumes_at held.positions at accounts ≡ map (net_kwh (map (λ (r : ContractRow). r.contract) (rows_in_force whole at))) accounts
+      → net_volumes_at held.positions at accounts ≡ map (net_kwh (map (λ (r : ContractRow). r.contract) (rows_in_force whole at))) accounts
   nets_of_accounts [] known = refl
   nets_of_accounts (a ∷ accounts) known =
       let parts = and_parts _ _ known in
@@ -69,7 +69,7 @@ module _ (content : Content) (beside : Beside) (agree : agrees content beside �
   is_netted : (p : PeriodTerms) → IsNetBeside part held at p → IsNetted (terms_at whole at) p
   is_netted p net = record {
     same = net.same
-        ∙ ap (λ (t : PeriodTerms). record t { contracts = Net (volumes_at held.positions at t.accounts) }) same_terms
+        ∙ ap (λ (t : PeriodTerms). record t { contracts = Net (net_volumes_at held.positions at t.accounts) }) same_terms
         ∙ ap (λ nets. record (terms_at whole at) { contracts = Net nets })
         (nets_of_accounts (accounts_on whole at.date) (subst (λ l. are_known held.positions at l ≡ true) same_accounts net.known));
     sizes = net.sizes;
@@ -89,7 +89,7 @@ module _ (content : Content) (beside : Beside) (agree : agrees content beside �
   is_settled (Some (run, summary)) s latest same =
       let on_date : latest_on content date ≡ Some (run, summary) = ap (latest_on content) (sym on) ∙ latest in
       let s_is : s ≡ period_of_run content run at.period = same.settled ∙ same_period run summary on_date at.period in
-      let settled = kept_is_settled content beside.touched at run summary (and_parts _ _ agree).1 latest same.first same.last (sym (is.touched at on) ∙ same.untouched)
+      let settled = untouched_is_settled content beside.touched at run summary (and_parts _ _ agree).1 latest same.first same.last (sym (is.touched at on) ∙ same.untouched)
       (ap (λ (t : Settled). map (λ r. r.account) t.accounts) (sym s_is) ∙ same.accounts ∙ same_accounts) in
       (s_is ∙ settled.0, settled.1)
 

@@ -4,7 +4,7 @@ use Rattle.std.specs.Prelude.{ℤ, T, ◌&&◌, filter}
 use Rattle.std.specs.Cmp.{IsTotalOrder, nat_cmp_total, on_total, then_total, unsigned_tied}
 use Rattle.std.specs.FinMap.{is_sorted}
 use Rattle.std.specs.List.Sorted.{IsNonDecreasingBy, IsPartitionPoint}
-use Rattle.std.specs.Ordering.{eq_by_cmp, is_eq, is_le, is_lt, nat_cmp, ordering_index, ordering_reverse, ordering_then}
+use Rattle.std.specs.Ordering.{eq_by_cmp, is_eq, is_le, is_lt, nat_cmp, on, ordering_index, ordering_reverse, ordering_then, then_cmp}
 use Rattle.std.specs.declared.cmp.Ordering.TheVariants.{Less, Equal, Greater}
 use Rattle.std.proofs.lemmas.List.Sorted.{searchable_from_sorted}
 use Rattle.hh_tables.proofs.OrderLaws.{rises}
@@ -17,8 +17,11 @@ use Rattle.hh_states.specs.declared.run_keys.ResultKey.{ResultKey}
 use Rattle.hh_states.specs.Runs.{run_key_cmp}
 use Rattle.hh_states.proofs.KeyLaws.{run_key_total}
 use Rattle.hh_beside.specs.Beside.{is_credit_of, is_result_of}
-use Rattle.hh_kept_rows.specs.steps.RunRanges.{run_period_cmp}
 use Rattle.hh_kept_rows.proofs.RangeLaws.{between}
+
+-- Settlement Periods of runs in the order of the runs, then of the periods
+abbrev run_period_cmp : RunKey × ℕ → RunKey × ℕ → Ordering
+run_period_cmp = then_cmp (on (λ m. m.0) run_key_cmp) (on (λ m. m.1) nat_cmp)
 
 pub run_period_total : IsTotalOrder run_period_cmp
 run_period_total = then_total (on_total (λ (m : RunKey × ℕ). m.0) run_key_total) (on_total (λ (m : RunKey × ℕ). m.1) nat_cmp_total)

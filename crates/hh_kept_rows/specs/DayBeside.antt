@@ -1,5 +1,6 @@
--- What a Settlement Day is settled from where a store keeps something beside the tables: a Settlement Period that was not touched
--- since the latest run of its date is as that run settled it, and others are settled from net volumes.
+-- What a Settlement Day is settled from where a store keeps something beside the tables. A Settlement Period may be told as the
+-- latest run of its date settled it, if it was not touched since and the date's accounts are those of the run. Any other is settled
+-- from net volumes if the positions of all its accounts are known, and from its rows if one of them is lost.
 use Rattle.std.specs.Prelude.{◌≡◌, ◌≤◌, ◌⊎◌, ℕ, List, map, filter, All, Option, Some, None, IsTrue, IsFalse}
 use Rattle.std.specs.FinMap.{find}
 use Rattle.std.specs.List.{AllZip}
@@ -17,7 +18,7 @@ use Rattle.hh_states.specs.DaySettlement.{missing_meter, missing_price}
 use Rattle.hh_states.specs.PeriodSettlement.{accounts_on, terms_at}
 use Rattle.hh_states.specs.Runs.{run_key_cmp}
 use Rattle.hh_beside.specs.Beside.{Beside, agrees, credit_row, is_among, is_credit_of, is_result_of, latest_on}
-use Rattle.hh_beside.specs.PositionLaws.{are_known, volumes_at}
+use Rattle.hh_beside.specs.PositionLaws.{are_known, net_volumes_at}
 use Rattle.hh_store.specs.declared.day_data.DayData.{DayData}
 use Rattle.hh_store.specs.declared.day_data.PeriodState.{PeriodState}
 use Rattle.hh_store.specs.declared.day_data.PeriodState.TheVariants.{Changed, Same}
@@ -61,7 +62,7 @@ module _ (tables : Registered) (beside : DayBeside) (at : SettlementPeriod) wher
   -- what a Settlement Period is settled from, with its accounts' positions in the place of the contract volumes in force; all of
   -- them are known
   pub record IsNetBeside (p : PeriodTerms) : Type 0 where
-    pub same : p ≡ record (terms_at tables at) { contracts = Net (volumes_at beside.positions at (accounts_on tables at.date)) }
+    pub same : p ≡ record (terms_at tables at) { contracts = Net (net_volumes_at beside.positions at (accounts_on tables at.date)) }
     pub known : IsTrue (are_known beside.positions at (accounts_on tables at.date))
     pub sizes : HasNetVolumes p.contracts
 

@@ -3,4 +3,3 @@ pub mod DayRolls
 pub mod KeptContracts
 pub mod KeptReallocations
 pub mod Parts
-pub mod RunRanges

@@ -81,8 +81,8 @@ fn names(counterparties: &Counterparties, account: &Account) -> bool
 
 /// Rows by their Settlement Periods, 1 to 50; those of one period keep their order.
 fn in_periods(alloc: Global, rows: &[ContractRow]) -> Result<Vec<ContractRow>, AllocError>
-    ensures { IfOk result (λ sorted.
-        sorted.items ≡ flat_map (λ period. filter (is_in_period period) rows.now) (from_one_to 50)) }
+    ensures { IfOk result (λ sorted. sorted.items
+        ≡ flat_map (λ period. filter (is_in_period period) rows.now) (from_one_to 50)) }
 {
     let mut sorted = Vec::with_capacity(alloc, rows.len())?;
     for before in 0..50 {

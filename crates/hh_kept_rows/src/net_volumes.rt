@@ -4,7 +4,7 @@ ghost use Rattle.std.specs.Prelude.{◌≡◌, true, false, All, None, Ok, IfOk,
 ghost use Rattle.hh_calc.specs.Ready.{IsNetVolume};
 ghost use Rattle.hh_rules.specs.Positions.{position_in};
 ghost use Rattle.hh_rules.specs.declared.positions.Position.TheVariants.{Known, Lost};
-ghost use Rattle.hh_beside.specs.PositionLaws.{are_known, position_at, volumes_at};
+ghost use Rattle.hh_beside.specs.PositionLaws.{are_known, position_key_at, net_volumes_at};
 
 use hh_names::Account;
 use hh_num::NetKwh;
@@ -22,7 +22,7 @@ pub(crate) fn nets_at(
     at: &SettlementPeriod,
 ) -> Result<Option<Vec<NetKwh>>, AllocError>
     ensures volumes { IfOk result (λ o. IfSome o (λ nets.
-        nets.items ≡ volumes_at positions.now at.now accounts.now)) }
+        nets.items ≡ net_volumes_at positions.now at.now accounts.now)) }
     ensures known { IfOk result (λ o. IfSome o (λ nets.
         are_known positions.now at.now accounts.now ≡ true)) }
     ensures sizes { IfOk result (λ o. IfSome o (λ nets. All IsNetVolume nets.items)) }
@@ -44,7 +44,7 @@ fn position_at(
     account: &Account,
     at: &SettlementPeriod,
 ) -> Position
-    ensures { result ≡ position_in positions.now (position_at at.now account.now) }
+    ensures { result ≡ position_in positions.now (position_key_at at.now account.now) }
 {
     let key = PositionKey {
         at: *at,

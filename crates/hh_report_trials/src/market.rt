@@ -13,10 +13,10 @@ use std::alloc::{AllocError, Global};
 pub const OPERATOR: &[u8] = b"op-settle001";
 
 /// When the files come, 2024-06-29T22:26:40Z.
-const LOADED_AT: i64 = 1_719_700_000;
+pub const LOADED_AT: i64 = 1_719_700_000;
 
 /// When the run is ordered, 2024-07-02T23:00:00Z.
-const ORDERED_AT: i64 = 1_719_961_200;
+pub const ORDERED_AT: i64 = 1_719_961_200;
 
 /// The kinds of the market's files and their names, in the order in which they come.
 const FILES: [(FileKind, &[u8]); 5] = [
@@ -27,7 +27,8 @@ const FILES: [(FileKind, &[u8]); 5] = [
     (FileKind::Prices, b"f5.csv"),
 ];
 
-const PARTIES: &str =
+/// The file of the parties.
+pub const PARTIES: &str =
     "party,from,to,key\nGENCO,2024-01-01,,genco0001\nSUPCO,2024-01-01,,supco0001\n";
 
 const UNITS: &str =
@@ -100,25 +101,25 @@ fn asked(alloc: Global, action: Action) -> Result<Request, AllocError> {
     })
 }
 
-/// The request that a file of this kind and name be loaded.
-fn load_of(alloc: Global, kind: FileKind, name: FileName) -> Result<Request, AllocError> {
-    let body = Bytes::new(text_of(alloc, kind)?.into_bytes());
-    asked(alloc, Action::Load(Upload { kind, name, body }))
-}
-
-/// Whether an office has loaded a file of this kind and name.
-fn is_loaded<T: Tables>(
+/// Whether an office has loaded a file that comes at a moment.
+pub fn is_loaded<T: Tables>(
     alloc: Global,
     office: &mut Office<'_, T>,
-    kind: FileKind,
-    name: FileName,
+    moment: i64,
+    upload: Upload,
 ) -> Result<bool, AllocError> {
-    let request = load_of(alloc, kind, name)?;
-    Ok(matches!(office.handle(LOADED_AT, &request), Reply::Loaded(_)))
+    let request = asked(alloc, Action::Load(upload))?;
+    Ok(matches!(office.handle(moment, &request), Reply::Loaded(_)))
+}
+
+/// The market's file of a kind, under this name.
+fn upload_of(alloc: Global, kind: FileKind, name: FileName) -> Result<Upload, AllocError> {
+    let body = Bytes::new(text_of(alloc, kind)?.into_bytes());
+    Ok(Upload { kind, name, body })
 }
 
 /// Whether an office has made a run.
-fn is_run<T: Tables>(
+pub fn is_run<T: Tables>(
     alloc: Global,
     office: &mut Office<'_, T>,
     run: &RunKey,
@@ -128,12 +129,13 @@ fn is_run<T: Tables>(
 }
 
 /// How many of the market's files a new office has loaded, up to the first that it refuses.
-fn loaded<T: Tables>(alloc: Global, office: &mut Office<'_, T>) -> Result<usize, AllocError> {
+pub fn loaded<T: Tables>(alloc: Global, office: &mut Office<'_, T>) -> Result<usize, AllocError> {
     for (index, (kind, name)) in FILES.iter().enumerate() {
         let Some(name) = FileName::read(name) else {
             return Ok(index);
         };
-        if !is_loaded(alloc, office, *kind, name)? {
+        let upload = upload_of(alloc, *kind, name)?;
+        if !is_loaded(alloc, office, LOADED_AT, upload)? {
             return Ok(index);
         }
     }

@@ -18,7 +18,7 @@ use Rattle.hh_rows.specs.declared.rows.ContractRow.{ContractRow}
 use Rattle.hh_rows.specs.declared.settlement_period.SettlementPeriod.{SettlementPeriod}
 use Rattle.hh_rows.proofs.KeyLaws.{exact_settlement_periods, settlement_period_total}
 use Rattle.hh_rules.specs.PositionLaws.{LostStaysLost, MovesBothAccounts, MovesNoOther, buyer_key, seller_key}
-use Rattle.hh_rules.specs.Positions.{moved, position_in, position_key_cmp, position_plus, volume_of, with_contract}
+use Rattle.hh_rules.specs.Positions.{with_moved, position_in, position_key_cmp, position_plus, volume_of, with_replaced}
 use Rattle.hh_rules.specs.declared.positions.Position.{Position}
 use Rattle.hh_rules.specs.declared.positions.Position.TheVariants.{Known, Lost}
 use Rattle.hh_rules.specs.declared.positions.PositionKey.{PositionKey}
@@ -65,7 +65,7 @@ module _ (positions : Table PositionKey Position) where
   beside k q p apart = ap (λ o. unwrap_or o (Known (pos 0))) (found_beside k q p apart)
 
   -- what is lost stays lost where a volume is added
-  stays_lost : (k q : PositionKey) (volume : ℤ) → position_in positions q ≡ Lost → position_in (moved k volume positions) q ≡ Lost
+  stays_lost : (k q : PositionKey) (volume : ℤ) → position_in positions q ≡ Lost → position_in (with_moved k volume positions) q ≡ Lost
   stays_lost k q volume lost =
       in_put k q (position_plus volume (position_in positions k))
       ∙ elim (is_same q k) as (λ b. is_same q k ≡ b → cond b (position_plus volume (position_in positions k)) (position_in positions q) ≡ Lost) [
@@ -76,7 +76,7 @@ module _ (positions : Table PositionKey Position) where
 pub moves_no_other : MovesNoOther
 moves_no_other old new positions key apart beyond =
     let more : ℤ = new.contract.volume -ℤ volume_of old in
-    let sold : Table PositionKey Position = moved (seller_key new) more positions in
+    let sold : Table PositionKey Position = with_moved (seller_key new) more positions in
     found_beside sold (buyer_key new) key (position_plus (pos 0 -ℤ more) (position_in sold (buyer_key new))) beyond
     ∙ found_beside positions (seller_key new) key (position_plus more (position_in positions (seller_key new))) apart
 
@@ -95,7 +95,7 @@ moves_both_accounts old new positions apart =
 pub lost_stays_lost : LostStaysLost
 lost_stays_lost old new positions key lost =
     let more : ℤ = new.contract.volume -ℤ volume_of old in
-    stays_lost (moved (seller_key new) more positions) (buyer_key new) key (pos 0 -ℤ more) (stays_lost positions (seller_key new) key more lost)
+    stays_lost (with_moved (seller_key new) more positions) (buyer_key new) key (pos 0 -ℤ more) (stays_lost positions (seller_key new) key more lost)
 
 -- a number that a machine's word holds
 abbrev word : ℤ → ℤ
@@ -126,14 +126,14 @@ module _ (old : Option ContractRow) (new : ContractRow) (positions : Table Posit
     (before_is : before ≡ position_in positions seller) (sold_is : sold ≡ position_plus (word (word units -ℤ word held)) before)
     (beside_is : beside ≡ position_in (put position_key_cmp seller sold positions) buyer)
     (bought_is : bought ≡ position_plus (word (pos 0 -ℤ word (word units -ℤ word held))) beside) where
-  pub puts_moved : put position_key_cmp buyer bought (put position_key_cmp seller sold positions) ≡ with_contract old new positions
+  pub puts_moved : put position_key_cmp buyer bought (put position_key_cmp seller sold positions) ≡ with_replaced old new positions
   puts_moved =
       let more : ℤ = new.contract.volume -ℤ volume_of old in
       let grown = grows new.contract.volume (volume_of old) units held is held_is within held_within in
       let fallen = falls new.contract.volume (volume_of old) units held is held_is within held_within in
       let first : sold ≡ position_plus more (position_in positions (seller_key new)) =
       sold_is ∙ (λ i. position_plus (grown i) (before_is i)) ∙ ap (λ k. position_plus more (position_in positions k)) seller_is in
-      let second : bought ≡ position_plus (pos 0 -ℤ more) (position_in (moved (seller_key new) more positions) (buyer_key new)) =
+      let second : bought ≡ position_plus (pos 0 -ℤ more) (position_in (with_moved (seller_key new) more positions) (buyer_key new)) =
       bought_is ∙ (λ i. position_plus (fallen i) (beside_is i))
       ∙ (λ i. position_plus (pos 0 -ℤ more) (position_in (put position_key_cmp (seller_is i) (first i) positions) (buyer_is i))) in
       λ i. put position_key_cmp (buyer_is i) (second i) (put position_key_cmp (seller_is i) (first i) positions)

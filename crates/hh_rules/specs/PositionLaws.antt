@@ -3,7 +3,7 @@ use Rattle.std.specs.Prelude.{◌≡◌, ◌≢◌, ◌<◌, ◌↔◌, ℤ, ◌
 use Rattle.std.specs.FinMap.{find}
 use Rattle.hh_tables.specs.Tables.{Table}
 use Rattle.hh_rows.specs.declared.rows.ContractRow.{ContractRow}
-use Rattle.hh_rules.specs.Positions.{position_in, position_key, position_key_cmp, position_plus, volume_of, with_contract}
+use Rattle.hh_rules.specs.Positions.{position_in, position_key, position_key_cmp, position_plus, volume_of, with_replaced}
 use Rattle.hh_rules.specs.declared.positions.Position.{Position}
 use Rattle.hh_rules.specs.declared.positions.Position.TheVariants.{Known, Lost}
 use Rattle.hh_rules.specs.declared.positions.PositionKey.{PositionKey}
@@ -19,15 +19,15 @@ buyer_key row = position_key row row.contract.counterparties.buyer
 abbrev pub MovesNoOther : Type 0
 MovesNoOther = (old : Option ContractRow) (new : ContractRow) (positions : Table PositionKey Position) (key : PositionKey)
     → key ≢ seller_key new → key ≢ buyer_key new
-    → find position_key_cmp key (with_contract old new positions) ≡ find position_key_cmp key positions
+    → find position_key_cmp key (with_replaced old new positions) ≡ find position_key_cmp key positions
 
 -- what the volume grows by is added to the seller's position, and taken off the buyer's
 abbrev pub MovesBothAccounts : Type 0
 MovesBothAccounts = (old : Option ContractRow) (new : ContractRow) (positions : Table PositionKey Position)
     → new.contract.counterparties.seller ≢ new.contract.counterparties.buyer
-    → (position_in (with_contract old new positions) (seller_key new)
+    → (position_in (with_replaced old new positions) (seller_key new)
     ≡ position_plus (new.contract.volume -ℤ volume_of old) (position_in positions (seller_key new)))
-    × (position_in (with_contract old new positions) (buyer_key new)
+    × (position_in (with_replaced old new positions) (buyer_key new)
     ≡ position_plus (volume_of old -ℤ new.contract.volume) (position_in positions (buyer_key new)))
 
 -- a known position is lost exactly where its sum with a volume passes 100,000,000 MWh in size
@@ -37,4 +37,4 @@ KnownUntilTooLarge = (net volume : ℤ) → (position_plus volume (Known net) �
 -- a lost position stays lost
 abbrev pub LostStaysLost : Type 0
 LostStaysLost = (old : Option ContractRow) (new : ContractRow) (positions : Table PositionKey Position) (key : PositionKey)
-    → position_in positions key ≡ Lost → position_in (with_contract old new positions) key ≡ Lost
+    → position_in positions key ≡ Lost → position_in (with_replaced old new positions) key ≡ Lost

@@ -18,7 +18,7 @@ use Rattle.hh_rules.specs.declared.positions.PositionKey.{PositionKey}
 abbrev pub position_key_cmp : PositionKey → PositionKey → Ordering
 position_key_cmp = then_cmp (on (λ k. k.at) settlement_period_cmp) (on (λ k. k.account) account_cmp)
 
--- a net volume, where it is one that is kept
+-- a net volume as a position: lost where it is greater than 100,000,000 MWh in size
 abbrev pub position_of : ℤ → Position
 position_of net = if is_between net_volumes.least net_volumes.most net then Known net else Lost
 
@@ -32,8 +32,8 @@ abbrev pub position_in : Table PositionKey Position → PositionKey → Position
 position_in positions key = unwrap_or (find position_key_cmp key positions) (Known (pos 0))
 
 -- the positions after a volume is added to that of one account
-abbrev pub moved : PositionKey → ℤ → Table PositionKey Position → Table PositionKey Position
-moved key volume positions = put position_key_cmp key (position_plus volume (position_in positions key)) positions
+abbrev pub with_moved : PositionKey → ℤ → Table PositionKey Position → Table PositionKey Position
+with_moved key volume positions = put position_key_cmp key (position_plus volume (position_in positions key)) positions
 
 -- the volume of a contract row; no row has none
 abbrev pub volume_of : Option ContractRow → ℤ
@@ -49,8 +49,8 @@ TakesPlaceOf new old = (old.key ≡ new.key) × (old.contract.counterparties ≡
 
 -- The positions after a contract row comes in the place of another of its key, if there is one: the old volume is taken off and
 -- the new one put on, for the seller and against the buyer.
-abbrev pub with_contract : Option ContractRow → ContractRow → Table PositionKey Position → Table PositionKey Position
-with_contract old new positions =
+abbrev pub with_replaced : Option ContractRow → ContractRow → Table PositionKey Position → Table PositionKey Position
+with_replaced old new positions =
     let more : ℤ = new.contract.volume -ℤ volume_of old in
-    moved (position_key new new.contract.counterparties.buyer) (pos 0 -ℤ more)
-    (moved (position_key new new.contract.counterparties.seller) more positions)
+    with_moved (position_key new new.contract.counterparties.buyer) (pos 0 -ℤ more)
+    (with_moved (position_key new new.contract.counterparties.seller) more positions)

@@ -4,7 +4,7 @@ ghost use Rattle.std.specs.Prelude.{◌≡◌, pos, neg_ℤ, [], option_copied, 
 ghost use Rattle.std.specs.FinMap.{put};
 ghost use Rattle.hh_num.specs.Ranges.{IsBetween};
 ghost use Rattle.hh_rules.specs.PositionLaws.{KnownUntilTooLarge, LostStaysLost, MovesBothAccounts, MovesNoOther};
-ghost use Rattle.hh_rules.specs.Positions.{position_in, position_key, position_key_cmp, position_plus, volume_of, with_contract, TakesPlaceOf};
+ghost use Rattle.hh_rules.specs.Positions.{position_in, position_key, position_key_cmp, position_plus, volume_of, with_replaced, TakesPlaceOf};
 ghost use Rattle.hh_rules.specs.steps.Positions.{IsMove};
 
 use hh_names::Account;
@@ -106,7 +106,7 @@ impl Positions {
     ) -> Result<(), AllocError>
         requires { IfSome (option_copied old) (TakesPlaceOf new.now) }
         ensures ok { OnOk result
-            (self.new ≡ with_contract (option_copied old.entry) new.now self.old) }
+            (self.new ≡ with_replaced (option_copied old.entry) new.now self.old) }
         ensures err { OnErr result (self.new ≡ self.old) }
     {
         let more = new.contract.volume.units() - volume_of(old);

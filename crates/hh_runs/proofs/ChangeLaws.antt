@@ -13,7 +13,7 @@ use Rattle.hh_tables.proofs.RowLaws.{equal, is_sorted-put_all}
 use Rattle.hh_names.specs.declared.account.Account.{Account}
 use Rattle.hh_names.specs.Accounts.{account_cmp}
 use Rattle.hh_names.proofs.AccountLaws.{account_total, exact_accounts}
-use Rattle.hh_runs.specs.DayNets.{DayNets, is_changed, with_change}
+use Rattle.hh_runs.specs.DayNets.{DayNets, is_difference, with_change}
 use Rattle.hh_runs.specs.Postings.{entry_of}
 use Rattle.hh_runs.specs.steps.Postings.{posting_for}
 
@@ -57,10 +57,10 @@ pub changes_in_order : (old new nets : DayNets) → put_all account_cmp (map (wi
 changes_in_order old new nets = put_all-by_key account_total exact_accounts (λ a. (with_change old new (a, pos 0)).1) nets
 
 -- the postings of changes are the changes that are not 0
-pub postings_are : (changes : List (Account × ℤ)) → map entry_of (filter_map posting_for changes) ≡ filter is_changed changes
+pub postings_are : (changes : List (Account × ℤ)) → map entry_of (filter_map posting_for changes) ≡ filter is_difference changes
 postings_are [] = refl
-postings_are (e ∷ es) = elim (is_changed e) as (λ b.
-    map entry_of (cons_option (if b then Some (record { account = e.0; pence = e.1 }) else None) (filter_map posting_for es)) ≡ cond b (e ∷ filter is_changed es) (filter is_changed es)) [
+postings_are (e ∷ es) = elim (is_difference e) as (λ b.
+    map entry_of (cons_option (if b then Some (record { account = e.0; pence = e.1 }) else None) (filter_map posting_for es)) ≡ cond b (e ∷ filter is_difference es) (filter is_difference es)) [
       | true ↦ ap (λ t. e ∷ t) (postings_are es)
       | false ↦ postings_are es
     ]

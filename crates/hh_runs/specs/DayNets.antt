@@ -28,9 +28,9 @@ abbrev pub with_change : DayNets → DayNets → Account × ℤ → Account × �
 with_change old new e = (e.0, net_change old new e.0)
 
 -- whether a change is another than 0
-abbrev pub is_changed : Account × ℤ → Bool
-is_changed e = not (int_eq e.1 (pos 0))
+abbrev pub is_difference : Account × ℤ → Bool
+is_difference e = not (int_eq e.1 (pos 0))
 
 -- the accounts of either settlement in their order, each with its new net less its old, where that is not 0
 abbrev pub differences : DayNets → DayNets → DayNets
-differences old new = filter is_changed (in_key_order account_cmp (map (with_change old new) (new ++ old)))
+differences old new = filter is_difference (in_key_order account_cmp (map (with_change old new) (new ++ old)))

@@ -11,4 +11,4 @@ pub use beside_writing::write_beside_anew;
 pub use load_writing::write_load;
 pub use own_accounts::rows_of_their_accounts;
 pub use run_writing::write_run;
-pub use touching::touched_periods;
+pub use touching::periods_touched_by;

@@ -11,7 +11,7 @@ use std::alloc::{AllocError, Global};
 use std::collections::BTreeSet;
 
 /// The Settlement Periods that rows in time touch, each once, in their order.
-pub fn touched_periods(alloc: Global, rows: &[Row]) -> Result<Vec<SettlementPeriod>, AllocError>
+pub fn periods_touched_by(alloc: Global, rows: &[Row]) -> Result<Vec<SettlementPeriod>, AllocError>
     ensures same { IfOk result (λ found.
         HaveTheSame found.items (filter_map touched_by rows.now)) }
     ensures once { IfOk result (λ found. IsStrictlySortedBy settlement_period_cmp found.items) }

@@ -1,10 +1,10 @@
 -- One reading of an office after the other: they leave together what each leaves, and what one finds stands for both.
-use Rattle.std.proofs.Common.{◌≡◌, ◌∙◌, ◌⊎◌, inl, inr, IsTrue, OnOk, Ok, Err, Result, sym, subst}
+use Rattle.std.proofs.Common.{◌≡◌, ◌∙◌, IsTrue, sym, subst}
 use Rattle.sqlite.specs.Effect.{Database}
-use Rattle.sqlite.specs.State.{HasCleanDisk, State}
+use Rattle.sqlite.specs.State.{State}
 use Rattle.hh_sqlrows.specs.Office.{IsOffice}
-use Rattle.hh_sqlrows.specs.Reads.{CommitsNothingOf, IsHonest, LeavesOffice, OfOffice, StaysOpen, Stood}
-use Rattle.hh_sqlparts.specs.Readings.{ReadsSafely, SelectsOnly, OfSettled}
+use Rattle.hh_sqlrows.specs.Reads.{LeavesOffice, OfOffice, Stood}
+use Rattle.hh_sqlparts.specs.Readings.{SelectsOnly, OfSettled}
 
 -- a statement that selects rows is a reading
 pub reading_of_statement : (old new : State) → Stood old new → LeavesOffice old new → SelectsOnly old new
@@ -44,35 +44,3 @@ module _ (old mid new : State) (first : SelectsOnly old mid) (last : SelectsOnly
   pub found_last_of_office : (P : Database → Type 0) → OfOffice mid new (P mid.now) → OfSettled old new (P old.now)
   found_last_of_office P found stands is settled =
       subst P (between stands is settled).0 (found stands (is_office_between stands is settled))
-
--- ---- by a disk that has returned what was written
-
-or_never : {A : Type 0} → A ⊎ ⊥ → A
-or_never (inl a) = a
-or_never (inr none) = absurd none
-
--- a statement that selects rows reads safely
-pub safe_statement : {X E : Type 0} (old new : State) (result : Result X E) → StaysOpen old new result → IsHonest old new → CommitsNothingOf old new → ReadsSafely old new result
-safe_statement old new result stays honest survives = record {
-  honest = honest;
-  stays = stays;
-  crash = λ is settled clean db may. or_never ((survives is).crash clean db may);
-}
-
--- what is made of its answer is read as safely
-pub safe_answer : {X Y E F : Type 0} (old new : State) (result : Result X E) (given : Result Y F) → (OnOk result (IsTrue new.is_open) → OnOk given (IsTrue new.is_open))
-    → ReadsSafely old new result → ReadsSafely old new given
-safe_answer old new result given passes safe = record { honest = safe.honest; stays = λ clean. passes (safe.stays clean); crash = safe.crash }
-
--- one safe reading after another, which was answered
-pub safe_then : {X E Y F : Type 0} (old mid new : State) (x : X) (given : Result Y F) → SelectsOnly old mid → ReadsSafely {X = X} {E = E} old mid (Ok x) → ReadsSafely mid new given
-    → ReadsSafely old new given
-safe_then old mid new x given left first last = record {
-  honest = λ clean. first.honest (last.honest clean);
-  stays = last.stays;
-  crash = λ is settled clean db may.
-      let open_between = first.stays (last.honest clean) in
-      let here = left.left open_between is settled in
-      first.crash is settled (last.honest clean) db
-      (last.crash (subst IsOffice (sym here.0) is) (here.0 ∙ settled ∙ sym here.1) clean db may);
-}

@@ -4,7 +4,7 @@ ghost use Rattle.std.specs.Prelude.{◌≡◌, false, IfOk, OnOk};
 ghost use Rattle.std.specs.FinMap.{put};
 ghost use Rattle.hh_tables.specs.Tables.{put_all};
 ghost use Rattle.hh_rows.specs.Keys.{contract_key_cmp};
-ghost use Rattle.hh_rules.specs.Positions.{position_key_cmp, with_contract};
+ghost use Rattle.hh_rules.specs.Positions.{position_key_cmp, with_replaced};
 ghost use Rattle.hh_beside.specs.Keeping.{positions_with, replaced_by};
 ghost use Rattle.sqlite.specs.Held.{state};
 ghost use Rattle.hh_sqlrows.specs.Forms.{rows_under_keys};
@@ -67,7 +67,7 @@ fn move_by_row(
     positions: &mut Positions,
 ) -> Result<(), AllocError>
     ensures moved { OnOk result (positions.new
-        ≡ with_contract (replaced_by row.now volumes.old) row.now positions.old) }
+        ≡ with_replaced (replaced_by row.now volumes.old) row.now positions.old) }
     ensures in_force { OnOk result (volumes.new
         ≡ put contract_key_cmp row.now.key row.now.contract.volume volumes.old) }
 {

@@ -27,7 +27,3 @@ pub periods_listed : {E : Type 0} (date : ℕ) (rows found : List (SettlementPer
 periods_listed date rows found (Ok periods) is h =
     h ∙ ap (map (λ (e : SettlementPeriod × NoColumns). e.0)) (is ∙ (λ i. filter (λ e. unsigned_tied e.0.date date i) rows)) ∙ keys_kept (λ at. at.date == date) rows
 periods_listed date rows found (Err e) is h = tt
-
--- where rows are taken out, the periods that are left are those that do not pass the test
-pub periods_left : (test : SettlementPeriod → Bool) (old new : Database) → Removes touched test old new → touched_periods new.trees ≡ filter (λ at. not (test at)) (touched_periods old.trees)
-periods_left test old new removes = ap (map (λ (e : SettlementPeriod × NoColumns). e.0)) removes.rows ∙ keys_kept (λ at. not (test at)) _

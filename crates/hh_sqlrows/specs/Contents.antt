@@ -1,5 +1,5 @@
 -- The content that the tables of an office's database have, and what is kept beside it.
-use Rattle.std.specs.Prelude.{ℕ, ℤ, List, filter, map, Bool, true, Option}
+use Rattle.std.specs.Prelude.{ℕ, ℤ, List, filter, map, Bool, true, false, ◌||◌, not, Option, unwrap_or}
 use Rattle.std.specs.FinMap.{find}
 use Rattle.std.specs.Ordering.{is_eq}
 use Rattle.sqlite_trees.specs.Tree.{Trees}
@@ -13,7 +13,7 @@ use Rattle.hh_states.specs.Runs.{run_key_cmp}
 use Rattle.hh_states.specs.declared.run_keys.PostingKey.{PostingKey}
 use Rattle.hh_states.specs.declared.run_keys.ResultKey.{ResultKey}
 use Rattle.hh_states.specs.Content.{Content}
-use Rattle.hh_beside.specs.Beside.{Beside}
+use Rattle.hh_beside.specs.Beside.{Beside, agrees}
 use Rattle.hh_keyed_rows.specs.declared.amounts.AccountAmounts.{AccountAmounts}
 use Rattle.hh_keyed_rows.specs.Values.{account_row_of}
 use Rattle.hh_sqlrows.specs.Forms.{rows_under_keys}
@@ -71,3 +71,12 @@ beside_in trees = record { positions = rows_under_keys positions trees; touched 
 -- the mark, which says whether anything is kept beside the content
 abbrev pub mark_in : Trees → Option Bool
 mark_in trees = find one_row_cmp (record {}) (rows_under_keys marks trees)
+
+module _ (settings : Settings) (trees : Trees) where
+  -- What is kept beside the content agrees with it. Where the mark doesn't say that anything is kept, nothing differs.
+  unfoldable pub is_in_step_in : Bool
+  is_in_step_in = not (unwrap_or (mark_in trees) false) || agrees (content_of settings trees) (beside_in trees)
+
+  -- the content with these settings, and whether what is kept beside it agrees with it
+  abbrev pub stored_content : Content
+  stored_content = record (content_of settings trees) { is_in_step = is_in_step_in }

@@ -1,5 +1,5 @@
 -- Tables that a transaction has changed, or tried to change, and their content.
-use Rattle.std.proofs.Common.{◌≡◌, ◌∙◌, ℕ, ℤ, false, IsTrue, Option, None, ap, refl, subst, sym}
+use Rattle.std.proofs.Common.{◌≡◌, ◌∙◌, ℕ, ℤ, true, false, IsTrue, Option, Some, None, ap, refl, subst, sym}
 use Rattle.std.specs.Global.{Vec}
 use Rattle.std.specs.FinMap.{find}
 use Rattle.sqlite_trees.specs.declared.store.Store.{Ghosts}
@@ -10,14 +10,15 @@ use Rattle.hh_rows.specs.declared.settings.Settings.{Settings}
 use Rattle.hh_keyed_rows.specs.Values.{version}
 use Rattle.hh_states.specs.Content.{Content}
 use Rattle.hh_states.specs.declared.run_keys.PostingKey.{PostingKey}
-use Rattle.hh_sqlrows.specs.Contents.{content_of}
+use Rattle.hh_sqlrows.specs.Contents.{mark_in, stored_content}
 use Rattle.hh_sqlrows.specs.Office.{IsOffice}
 use Rattle.hh_sqlrows.specs.OfficeTables.{one_row_cmp}
 use Rattle.hh_sqlchanges.specs.Writes.{StaysOffice}
 use Rattle.hh_sqlparts.specs.Readings.{SelectsOnly}
+use Rattle.hh_sqlparts.proofs.ReadingLaws.{reading_then}
 use Rattle.hh_sqlstore.specs.Holds.{Holds}
 use Rattle.hh_sqlstore.specs.Stores.{IsIdle, Stored, content_in}
-use Rattle.hh_sqlstore.specs.steps.Changed.{IsChangedBy}
+use Rattle.hh_sqlstore.specs.steps.Changed.{ChangesNothing, IsChangedBy}
 use Rattle.hh_sqlstore.specs.steps.Made.{IsUndone}
 
 -- what is undone was but read
@@ -27,8 +28,15 @@ reading_of_undone old new clean undone = record {
   left = λ stands office settled. let kept = undone (clean stands) stands in (kept.1, kept.2);
 }
 
+-- what changed nothing was but read
+pub reading_of_nothing : (old new : State) → (IsTrue new.is_open → HasCleanDisk new) → ChangesNothing old new → SelectsOnly old new
+reading_of_nothing old new clean nothing = record {
+  stood = λ stands. (nothing (clean stands)).stood stands;
+  left = λ stands. (nothing (clean stands)).left stands;
+}
+
 -- the tables of an office that stays one, with its settings, hold their content
-pub still_holds : (kept : Settings) (old new : Database) → StaysOffice old new → Holds version (content_of kept old.trees) old → Holds version (content_of kept new.trees) new
+pub still_holds : (kept : Settings) (old new : Database) → StaysOffice old new → Holds version (stored_content kept old.trees) old → Holds version (stored_content kept new.trees) new
 still_holds kept old new stays holds = record {
   of_version = refl;
   is_office = stays.is_office;
@@ -56,8 +64,10 @@ module _ {S : Type 0} (g : Ghosts S) (t : Stored S) {posted : Option (Vec (Posti
       subst (λ (db : Database). Change db is.committed) settled (subst (Change was.now) (changed stands).settled ((changed stands).changed office))
 
   -- the content is the one that the change makes
-  pub content_changed : IsTrue is.is_open → (f : Content → Content) → ((old new : Database) → Change old new → content_of t.settings new.trees ≡ f (content_of t.settings old.trees)) → content_in g after ≡ f (content_in g t)
-  content_changed stands f makes = makes was.committed is.committed (committed stands)
+  pub content_changed : IsTrue is.is_open → (f : Content → Content)
+      → (mark_in was.committed.trees ≡ Some true → Change was.committed is.committed → stored_content t.settings is.committed.trees ≡ f (stored_content t.settings was.committed.trees))
+      → content_in g after ≡ f (content_in g t)
+  content_changed stands f makes = makes (idle.marked (changed stands).was_open) (committed stands)
 
   -- they are idle as before, with no postings at hand
   pub idle_changed : ((old new : Database) → Change old new → StaysOffice old new) → connection.in_transaction ≡ false → IsIdle g after None
@@ -65,5 +75,25 @@ module _ {S : Type 0} (g : Ghosts S) (t : Stored S) {posted : Option (Vec (Posti
     autocommit = mode;
     settled = λ stands. (changed stands).settled;
     holds = λ stands. still_holds t.settings was.committed is.committed (stays _ _ (committed stands)) (idle.holds (changed stands).was_open);
+    marked = λ stands. ap (find one_row_cmp (record {})) (stays _ _ (committed stands)).mark ∙ idle.marked (changed stands).was_open;
     at_hand = λ stands. tt;
   }
+
+-- ---- one change and what it makes of what is kept beside the content
+
+-- a change is the same as one that follows of it
+pub changed_so : {Change Other : Database → Database → Type 0} (old new : State) → (IsOffice old.now → Change old.now new.now → Other old.now new.now) → IsChangedBy Change old new → IsChangedBy Other old new
+changed_so old new follows changed = record {
+  was_open = changed.was_open;
+  is_open = changed.is_open;
+  settled = changed.settled;
+  changed = λ office. follows office (changed.changed office);
+}
+
+-- what is undone changes nothing
+pub nothing_of_undone : (old new : State) → IsUndone old new → ChangesNothing old new
+nothing_of_undone old new undone clean = reading_of_undone old new (λ stands. clean) undone
+
+-- nor does it after a reading, by a disk that has returned what was written
+pub nothing_after : (old mid new : State) → SelectsOnly old mid → IsUndone mid new → ChangesNothing old new
+nothing_after old mid new reading undone clean = reading_then old mid new reading (reading_of_undone mid new (λ stands. clean) undone)

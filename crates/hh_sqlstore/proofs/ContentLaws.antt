@@ -8,7 +8,7 @@ use Rattle.sqlite.specs.State.{HasCleanDisk}
 use Rattle.hh_rules.specs.History.{Registered}
 use Rattle.hh_states.specs.Content.{Content}
 use Rattle.hh_keyed_rows.specs.Values.{version}
-use Rattle.hh_sqlrows.specs.Contents.{content_of, registered_of}
+use Rattle.hh_sqlrows.specs.Contents.{registered_of, stored_content}
 use Rattle.hh_sqlstore.specs.Holds.{Holds}
 
 unshut : (is_open is_clean : Bool) → (is_clean ≡ false → is_open ≡ false) → IsTrue is_open → doubt is_clean ≡ 0
@@ -30,14 +30,14 @@ same_content a b s g f r t c p i =
     let e : ◌≡◌ {A = Content} (record { settings = a.settings; registered = a.registered; files = a.files; runs = a.runs; results = a.results; credits = a.credits; postings = a.postings; is_in_step = a.is_in_step }) b = rw (s, g, f, r, t, c, p, i) in e
 
 module _ (content : Content) (db : Database) (holds : Holds version content db) where
-  pub content_is : content ≡ content_of content.settings db.trees
+  pub content_is : content ≡ stored_content content.settings db.trees
   content_is =
       let alike = holds.alike in
       let registered = same_registered content.registered (registered_of db.trees) alike.parties alike.units alike.references alike.meters holds.prices alike.contracts alike.reallocations in
-      same_content content (content_of content.settings db.trees) refl registered alike.files alike.runs alike.results alike.credits alike.postings holds.in_step
+      same_content content (stored_content content.settings db.trees) refl registered alike.files alike.runs alike.results alike.credits alike.postings holds.in_step
 
   -- it holds the content that it has with the settings that stand in it
-  pub holds_its_own : Holds version (content_of content.settings db.trees) db
+  pub holds_its_own : Holds version (stored_content content.settings db.trees) db
   holds_its_own = record {
     of_version = refl;
     is_office = holds.is_office;

@@ -1,5 +1,5 @@
 -- Tables whose connection has read something, and their content.
-use Rattle.std.proofs.Common.{◌≡◌, ◌∙◌, ℕ, ℤ, false, IsTrue, Option, ap, subst, sym}
+use Rattle.std.proofs.Common.{◌≡◌, ◌∙◌, ℕ, ℤ, true, false, IsTrue, Option, Some, ap, subst, sym}
 use Rattle.std.specs.Prelude.{IfSome}
 use Rattle.std.specs.Global.{Vec}
 use Rattle.sqlite_trees.specs.declared.store.Store.{Ghosts}
@@ -9,7 +9,7 @@ use Rattle.sqlite.specs.Held.{Held, state}
 use Rattle.sqlite.specs.State.{State}
 use Rattle.hh_states.specs.declared.run_keys.PostingKey.{PostingKey}
 use Rattle.hh_keyed_rows.specs.Values.{version}
-use Rattle.hh_sqlrows.specs.Contents.{content_of}
+use Rattle.hh_sqlrows.specs.Contents.{mark_in, stored_content}
 use Rattle.hh_sqlrows.specs.Forms.{rows_under_keys}
 use Rattle.hh_sqlrows.specs.Office.{IsOffice}
 use Rattle.hh_sqlrows.specs.OfficeTables.{postings}
@@ -35,7 +35,7 @@ module _ {S : Type 0} (g : Ghosts S) (t : Stored S) {posted : Option (Vec (Posti
 
   -- the content is what it was
   pub same_content : IsTrue is.is_open → content_in g after ≡ content_in g t
-  same_content stands = ap (λ (db : Database). content_of t.settings db.trees) (left stands).1
+  same_content stands = ap (λ (db : Database). stored_content t.settings db.trees) (left stands).1
 
   -- what holds of what there was holds of what was committed
   pub of_committed : (P : Trees → Type 0) → OfSettled was is (P was.now.trees) → IsTrue is.is_open → P was.committed.trees
@@ -55,6 +55,7 @@ module _ {S : Type 0} (g : Ghosts S) (t : Stored S) {posted : Option (Vec (Posti
     autocommit = mode;
     settled = λ stands. (left stands).0 ∙ idle.settled (reading.stood stands) ∙ sym (left stands).1;
     holds = λ stands.
-        subst (λ (db : Database). Holds version (content_of t.settings db.trees) db) (sym (left stands).1) (idle.holds (reading.stood stands));
+        subst (λ (db : Database). Holds version (stored_content t.settings db.trees) db) (sym (left stands).1) (idle.holds (reading.stood stands));
+    marked = λ stands. subst (λ (db : Database). mark_in db.trees ≡ Some true) (sym (left stands).1) (idle.marked (reading.stood stands));
     at_hand = same_posted kept all;
   }

@@ -1,6 +1,9 @@
+pub mod AdoptLaws
+pub mod BesideLaws
 pub mod ChangeLaws
 pub mod ContentLaws
 pub mod IdleLaws
+pub mod KeepingLaws
 pub mod NewLaws
 pub mod ReadLaws
 pub mod ReportLaws

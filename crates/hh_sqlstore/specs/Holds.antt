@@ -1,5 +1,5 @@
 -- What a database of an office holds, by the version of its tables.
-use Rattle.std.specs.Prelude.{◌≡◌, ℕ, [], ◌∷◌, true, false, map, Some}
+use Rattle.std.specs.Prelude.{◌≡◌, ℕ, [], ◌∷◌, true, map, Some}
 use Rattle.std.specs.FinMap.{find}
 use Rattle.sqlite_trees.specs.Tree.{Trees}
 use Rattle.sqlite.specs.Effect.{Database}
@@ -10,8 +10,8 @@ use Rattle.hh_sqlrows.specs.Forms.{rows_under_keys}
 use Rattle.hh_sqlrows.specs.Making.{AreEmpty}
 use Rattle.hh_sqlrows.specs.Office.{IsOffice}
 use Rattle.hh_sqlrows.specs.OfficeSchema.{positions_table, touched_table}
-use Rattle.hh_sqlrows.specs.OfficeTables.{contracts, credits, files, marks, meters, one_row_cmp, parties, period_prices, postings, reallocations, references, results, runs, settings, units}
-use Rattle.hh_sqlrows.specs.Contents.{result_of}
+use Rattle.hh_sqlrows.specs.OfficeTables.{contracts, credits, files, meters, one_row_cmp, parties, period_prices, postings, reallocations, references, results, runs, settings, units}
+use Rattle.hh_sqlrows.specs.Contents.{is_in_step_in, mark_in, result_of}
 
 -- the settings stand in their table
 abbrev pub HasSettings : Settings → Trees → Type 0
@@ -31,18 +31,19 @@ pub record HoldsAlike (content : Content) (trees : Trees) : Type 0 where
   pub credits : content.credits ≡ rows_under_keys credits trees
   pub postings : content.postings ≡ rows_under_keys postings trees
 
--- The tables of this version hold the content; nothing is kept beside it that could differ. There is one version so far: versions may differ in their tables, in the
--- row of the settings, which names the version, and in how prices are kept.
+-- The tables of this version hold the content, and what is kept beside them agrees with them if the content says so. There is one
+-- version so far: versions may differ in their tables, in the row of the settings, which names the version, and in how prices are kept.
 pub record Holds (number : ℕ) (content : Content) (db : Database) : Type 0 where
   pub of_version : number ≡ version
   pub is_office : IsOffice db
   pub settings : HasSettings content.settings db.trees
   pub prices : content.registered.prices ≡ rows_under_keys period_prices db.trees
   pub alike : HoldsAlike content db.trees
-  pub in_step : content.is_in_step ≡ true
+  pub in_step : content.is_in_step ≡ is_in_step_in content.settings db.trees
 
--- The database was just made: nothing has been accepted, no positions are kept, and no Settlement Period was touched.
+-- The database was just made: nothing has been accepted; positions are kept, of which there are none, and no Settlement Period was
+-- touched.
 pub record IsNewOffice (kept : Settings) (db : Database) : Type 0 where
   pub holds : Holds version (empty_content kept) db
-  pub mark : find one_row_cmp (record {}) (rows_under_keys marks db.trees) ≡ Some false
+  pub mark : mark_in db.trees ≡ Some true
   pub beside : AreEmpty (positions_table ∷ touched_table ∷ []) db.trees

@@ -1,5 +1,5 @@
 -- The tables of an office in a database: a connection, the settings that it holds, and how often it has refused.
-use Rattle.std.specs.Prelude.{◌≡◌, ℕ, ℤ, false, List, Option, IfSome, IsTrue, refl}
+use Rattle.std.specs.Prelude.{◌≡◌, ℕ, ℤ, true, false, List, Option, Some, IfSome, IsTrue, refl}
 use Rattle.std.specs.Coded.{Coded, code_by, coded×, coded_ℕ, coded_list}
 use Rattle.std.specs.Global.{Vec}
 use Rattle.sqlite_trees.specs.declared.store.Store.{Ghosts}
@@ -9,7 +9,7 @@ use Rattle.hh_rows.specs.declared.settings.Settings.{Settings}
 use Rattle.hh_states.specs.Content.{Content}
 use Rattle.hh_states.specs.declared.run_keys.PostingKey.{PostingKey}
 use Rattle.hh_keyed_rows.specs.Values.{version}
-use Rattle.hh_sqlrows.specs.Contents.{content_of}
+use Rattle.hh_sqlrows.specs.Contents.{mark_in, stored_content}
 use Rattle.hh_sqlrows.specs.Forms.{rows_under_keys}
 use Rattle.hh_sqlrows.specs.OfficeTables.{postings}
 use Rattle.hh_sqlstore.specs.Holds.{Holds}
@@ -31,14 +31,15 @@ abbrev pub ArePosted : State → Option (Vec (PostingKey × ℤ)) → Type 0
 ArePosted now posted = IsTrue now.is_open → IfSome posted (λ rows. rows.items ≡ rows_under_keys postings now.now.trees)
 
 module _ {S : Type 0} (g : Ghosts S) (t : Stored S) where
-  -- what the last commit left
+  -- what the last commit left, and whether what is kept beside it agrees with it
   abbrev pub content_in : Content
-  content_in = content_of t.settings (state g t.connection).committed.trees
+  content_in = stored_content t.settings (state g t.connection).committed.trees
 
-  -- No transaction is under way, and while they stand, what there is now is what was committed, and it holds their content. These
-  -- postings are at hand.
+  -- No transaction is under way, and while they stand, what there is now is what was committed, it holds their content, and its mark
+  -- says that positions are kept. These postings are at hand.
   pub record IsIdle (posted : Option (Vec (PostingKey × ℤ))) : Type 0 where
     pub autocommit : t.connection.in_transaction ≡ false
     pub settled : IsTrue (state g t.connection).is_open → (state g t.connection).now ≡ (state g t.connection).committed
     pub holds : IsTrue (state g t.connection).is_open → Holds version content_in (state g t.connection).committed
+    pub marked : IsTrue (state g t.connection).is_open → mark_in (state g t.connection).committed.trees ≡ Some true
     pub at_hand : ArePosted (state g t.connection) posted

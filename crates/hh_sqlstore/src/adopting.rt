@@ -1,13 +1,16 @@
 //! Taking over an office's database.
 
-ghost use Rattle.std.specs.Prelude.{◌≡◌, ◌≢◌, false, Err, IfOk, IsTrue, OnOk};
+ghost use Rattle.std.specs.Prelude.{◌≡◌, ◌≢◌, false, Err, IfOk, IsTrue, OnErr, OnOk};
 ghost use Rattle.sqlite.specs.Held.{state};
 ghost use Rattle.hh_sqlrows.specs.OfficeSchema.{office};
 ghost use Rattle.hh_sqlrows.specs.Reads.{IsHonest, StaysOpen};
 ghost use Rattle.hh_keyed_rows.specs.declared.row_fault.RowFault.TheVariants.{Store};
-ghost use Rattle.hh_sqlstore.specs.Leaving.{AddsNothing, LeavesDatabase};
-ghost use Rattle.hh_sqlstore.specs.steps.Adopted.{IsAdoptedFrom};
+ghost use Rattle.hh_sqlstore.specs.Leaving.{LeavesDatabase, MayKeepBeside};
+ghost use Rattle.hh_sqlstore.specs.steps.Adopted.{AddsNothing, IsAdoptedFrom};
+ghost use Rattle.hh_sqlstore.specs.steps.Kept.{IsMarked};
+ghost use Rattle.sqlite.specs.State.{HasCleanDisk};
 
+use crate::keeping::see_positions_kept;
 use crate::rising::{Rising, has_office};
 use hh_keyed_rows::RowFault;
 use hh_rows::Settings;
@@ -42,4 +45,28 @@ pub(crate) fn settings_of_office<S: Rising>(
         Ok(None) => Err(RowFault::Store),
         Err(fault) => Err(fault),
     }
+}
+
+/// Takes over the office's database whose connection this is: its settings, and positions that are kept there,
+/// which are made where none were.
+pub(crate) fn take_over<S: Rising>(
+    connection: &mut Connection<S>,
+    alloc: Global,
+) -> Result<Settings, RowFault>
+    ensures adopted { let old = state S.Store connection.old in
+        let new = state S.Store connection.new in
+        HasCleanDisk new → IfOk result (λ settings.
+        IsAdoptedFrom settings old × IsMarked old new) }
+    ensures undone { let old = state S.Store connection.old in
+        let new = state S.Store connection.new in
+        HasCleanDisk new → OnErr result (LeavesDatabase old new) }
+    ensures crash { let old = state S.Store connection.old in
+        let new = state S.Store connection.new in
+        MayKeepBeside old new }
+    ensures autocommit { OnOk result (connection.new.in_transaction ≡ false) }
+    ensures foreign { (state S.Store connection.old).now.schema ≢ office → result ≡ Err Store }
+{
+    let settings = settings_of_office(connection, alloc)?;
+    see_positions_kept(connection, alloc)?;
+    Ok(settings)
 }

@@ -1,20 +1,23 @@
 //! Changes of an office's database, each in one transaction.
 
-ghost use Rattle.std.specs.Prelude.{◌≡◌, [], false, OnErr, OnOk, IsTrue};
+ghost use Rattle.std.specs.Prelude.{◌≡◌, false, OnErr, OnOk, IsTrue};
 ghost use Rattle.sqlite.specs.Held.{state};
 ghost use Rattle.sqlite.specs.State.{HasCleanDisk};
+ghost use Rattle.hh_sqlrows.specs.Office.{IsOffice};
 ghost use Rattle.hh_sqlchanges.specs.Writes.{ChangesByLoad, ChangesByRun};
-ghost use Rattle.hh_sqlstore.specs.steps.Changed.{IsChangedBy};
+ghost use Rattle.hh_sqlstore.specs.steps.Changed.{ChangesNothing, IsChangedBy, KeepsLoad, KeepsRun};
 ghost use Rattle.hh_sqlstore.specs.steps.Made.{IsUndone};
 
 use hh_keyed_rows::RowFault;
-use hh_sqlchanges::{write_load, write_run};
+use hh_rows::SettlementPeriod;
+use hh_rules::{Position, PositionKey};
+use hh_sqlchanges::{periods_touched_by, write_load, write_run};
+use hh_sqlparts::select_positions_after;
 use hh_store::{LoadChange, RunChange};
 use sqlite::{Alter, Connection};
 use std::alloc::Global;
 
-/// Writes what an accepted file changes, whole or not at all. No positions and no touched Settlement Periods are
-/// kept yet.
+/// Writes what an accepted file changes, whole or not at all: the positions that it moves are read first.
 pub(crate) fn keep_load<S: Alter>(
     connection: &mut Connection<S>,
     alloc: Global,
@@ -23,16 +26,44 @@ pub(crate) fn keep_load<S: Alter>(
     requires autocommit { connection.old.in_transaction ≡ false }
     requires settled { let old = state S.Store connection.old in
         IsTrue old.is_open → old.now ≡ old.committed }
+    requires office { let old = state S.Store connection.old in
+        IsTrue old.is_open → IsOffice old.now }
     ensures made { let old = state S.Store connection.old in
         let new = state S.Store connection.new in
-        HasCleanDisk new → OnOk result (IsChangedBy (ChangesByLoad change.now [] []) old new) }
+        HasCleanDisk new → OnOk result (IsChangedBy (KeepsLoad change.now) old new) }
+    ensures undone { let old = state S.Store connection.old in
+        let new = state S.Store connection.new in
+        OnErr result (ChangesNothing old new) }
+    ensures autocommit { connection.new.in_transaction ≡ false }
+{
+    let positions = select_positions_after(connection, alloc, change.rows())?;
+    let touched = periods_touched_by(alloc, change.rows())?;
+    commit_load(connection, alloc, change, &positions, &touched)
+}
+
+/// Writes an accepted file, and beside it these positions and touched Settlement Periods, whole or not at
+/// all.
+fn commit_load<S: Alter>(
+    connection: &mut Connection<S>,
+    alloc: Global,
+    change: &LoadChange,
+    positions: &[(PositionKey, Position)],
+    touched: &[SettlementPeriod],
+) -> Result<(), RowFault>
+    requires autocommit { connection.old.in_transaction ≡ false }
+    requires settled { let old = state S.Store connection.old in
+        IsTrue old.is_open → old.now ≡ old.committed }
+    ensures made { let old = state S.Store connection.old in
+        let new = state S.Store connection.new in
+        HasCleanDisk new → OnOk result
+        (IsChangedBy (ChangesByLoad change.now positions.now touched.now) old new) }
     ensures undone { let old = state S.Store connection.old in
         let new = state S.Store connection.new in
         OnErr result (IsUndone old new) }
     ensures autocommit { connection.new.in_transaction ≡ false }
 {
     let mut tx = connection.transaction();
-    write_load(&mut tx, alloc, change, &[], &[])?;
+    write_load(&mut tx, alloc, change, positions, touched)?;
     match tx.commit() {
         Ok(()) => Ok(()),
         Err(error) => Err(RowFault::from(error)),
@@ -41,6 +72,26 @@ pub(crate) fn keep_load<S: Alter>(
 
 /// Writes what a new run changes, whole or not at all.
 pub(crate) fn keep_run<S: Alter>(
+    connection: &mut Connection<S>,
+    alloc: Global,
+    change: &RunChange,
+) -> Result<(), RowFault>
+    requires autocommit { connection.old.in_transaction ≡ false }
+    requires settled { let old = state S.Store connection.old in
+        IsTrue old.is_open → old.now ≡ old.committed }
+    ensures made { let old = state S.Store connection.old in
+        let new = state S.Store connection.new in
+        HasCleanDisk new → OnOk result (IsChangedBy (KeepsRun change.now) old new) }
+    ensures undone { let old = state S.Store connection.old in
+        let new = state S.Store connection.new in
+        OnErr result (ChangesNothing old new) }
+    ensures autocommit { connection.new.in_transaction ≡ false }
+{
+    commit_run(connection, alloc, change)
+}
+
+/// Writes a new run, whole or not at all.
+fn commit_run<S: Alter>(
     connection: &mut Connection<S>,
     alloc: Global,
     change: &RunChange,

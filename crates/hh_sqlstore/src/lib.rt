@@ -4,6 +4,7 @@
 mod adopting;
 mod changing;
 mod faults;
+mod keeping;
 mod making;
 mod office_tables;
 mod parts;

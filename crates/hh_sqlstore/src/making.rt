@@ -17,7 +17,7 @@ use hh_sqlrows::{insert_mark, insert_settings, make_tables};
 use sqlite::{Alter, Connection, Transaction};
 use std::alloc::Global;
 
-/// Makes the tables of an office, and writes its settings and that no positions are kept.
+/// Makes the tables of an office, and writes its settings and that positions are kept.
 fn write_new_office<S: Alter>(
     tx: &mut Transaction<'_, S>,
     alloc: Global,
@@ -39,7 +39,7 @@ fn write_new_office<S: Alter>(
 {
     make_tables(tx)?;
     insert_settings(tx, alloc, settings)?;
-    insert_mark(tx, alloc, false)?;
+    insert_mark(tx, alloc, true)?;
     Ok(())
 }
 

@@ -1,21 +1,23 @@
 //! What is read of a part of what is registered and in force.
 
-ghost use Rattle.std.specs.Prelude.{◌≡◌, false, IfOk};
+ghost use Rattle.std.specs.Prelude.{◌≡◌, false, IfOk, IsTrue};
 ghost use Rattle.sqlite.specs.Held.{state};
 ghost use Rattle.hh_rules.specs.RegisterView.{ServesFor};
 ghost use Rattle.hh_states.specs.DaySettlement.{periods_on};
 ghost use Rattle.hh_states.specs.Reads.{contracts_of};
 ghost use Rattle.hh_store.specs.DayReads.{IsDayData};
 ghost use Rattle.hh_kept_rows.specs.Parts.{whole_of};
-ghost use Rattle.hh_sqlrows.specs.Contents.{registered_of};
+ghost use Rattle.hh_rows.specs.declared.settings.Settings.{Settings};
+ghost use Rattle.hh_beside.specs.Beside.{agrees};
+ghost use Rattle.hh_sqlrows.specs.Contents.{beside_in, content_of, registered_of};
 ghost use Rattle.hh_sqlparts.specs.Readings.{SelectsOnly, OfSettled};
 
-use hh_kept_rows::{contracts_by_their_rows, parts_of_parts, read_by_its_rows};
+use hh_kept_rows::{contracts_by_their_rows, parts_of_parts, read_by_what_is_beside};
 use hh_keyed_rows::RowFault;
 use hh_names::Account;
 use hh_rows::{ContractRow, LeadMinutes, Row};
 use hh_rules::Register;
-use hh_sqlparts::{select_contracts_of_day, select_day, select_named};
+use hh_sqlparts::{select_contracts_of_day, select_day, select_day_beside, select_named};
 use hh_store::{DayData, StoreFault};
 use hh_time::{Day, SettlementDate};
 use sqlite::{Alter, Connection};
@@ -63,7 +65,8 @@ pub(crate) fn contracts_of_account<S: Alter>(
     Ok(part.contracts(alloc, account, date)?)
 }
 
-/// What the Settlement Periods of a day are settled from, and what is missing for it.
+/// What the Settlement Periods of a day are settled from, or to where they are as the latest run of the date
+/// settled them; and what is missing for it.
 pub(crate) fn data_of_day<S: Alter>(
     conn: &mut Connection<S>,
     alloc: Global,
@@ -71,13 +74,17 @@ pub(crate) fn data_of_day<S: Alter>(
 ) -> Result<DayData, RowFault>
     ensures value { let old = state S.Store conn.old in
         let new = state S.Store conn.new in
-        OfSettled old new (IfOk result (IsDayData (registered_of old.now.trees)
+        OfSettled old new ((settings : Settings)
+        → IsTrue (agrees (content_of settings old.now.trees) (beside_in old.now.trees))
+        → IfOk result (IsDayData (registered_of old.now.trees)
         (periods_on day.now.date day.now.count))) }
     ensures reading { SelectsOnly (state S.Store conn.old) (state S.Store conn.new) }
     ensures mode { conn.old.in_transaction ≡ false → conn.new.in_transaction ≡ false }
 {
-    // Does nothing, but carries a law for the proof: the rows of the date are enough.
-    read_by_its_rows();
+    // Does nothing, but carries a law for the proof: the rows of the date and what is kept beside them are
+    // enough.
+    read_by_what_is_beside();
     let part = select_day(conn, alloc, day.date)?;
-    Ok(part.day_data(alloc, day)?)
+    let beside = select_day_beside(conn, alloc, day.date)?;
+    Ok(part.day_data_beside(alloc, day, &beside)?)
 }

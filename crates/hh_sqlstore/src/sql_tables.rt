@@ -11,11 +11,11 @@ ghost use Rattle.hh_sqlrows.specs.Making.{nothing};
 ghost use Rattle.hh_sqlrows.specs.OfficeSchema.{office};
 ghost use Rattle.hh_store.specs.declared.store_fault.StoreFault.TheVariants.{Store};
 ghost use Rattle.hh_sqlstore.specs.Holds.{Holds, IsNewOffice};
-ghost use Rattle.hh_sqlstore.specs.Leaving.{AddsNothing, LeavesDatabase};
+ghost use Rattle.hh_sqlstore.specs.Leaving.{LeavesDatabase, MayKeepBeside, TakesOver};
 ghost use Rattle.hh_sqlstore.specs.Making.{MayMake};
 ghost use Rattle.hh_sqlstore.specs.Stores.{content_in};
 
-use crate::adopting::settings_of_office;
+use crate::adopting::take_over;
 use crate::making::make_office;
 use crate::rising::Rising;
 use hh_num::Pence;
@@ -124,13 +124,16 @@ impl<S: Alter> SqlTables<S> {
 }
 
 impl<S: Rising> SqlTables<S> {
-    /// The tables of the office whose database this is. What it holds stays.
+    /// The tables of the office whose database this is. What it holds stays. Where no positions are kept in
+    /// it, they are from now on: they are made from the contracts in force, and each Settlement Period of each
+    /// run counts as touched, in one transaction.
     ///
     /// # Errors
     ///
     /// `Memory` where memory was refused, `Store` where a transaction is under way, where the database
-    /// has other tables than an office, tables of another version or settings off their grammar, or where
-    /// it refuses for another cause. The connection comes back.
+    /// has other tables than an office, tables of another version, settings off their grammar, no mark that
+    /// says whether positions are kept, or positions although none are kept, or where it refuses for another
+    /// cause. The connection comes back, and what it had stays.
     pub fn adopt(
         alloc: Global,
         mut connection: Connection<S>,
@@ -145,15 +148,15 @@ impl<S: Rising> SqlTables<S> {
             → content_in S.Store tables ≡ content) }
         ensures unrefused { IfOk result (λ tables. tables.refusals ≡ 0) }
         ensures left { MatchResult result
-            (λ tables. LeavesDatabase (state S.Store connection) (state S.Store tables.connection))
+            (λ tables. TakesOver (state S.Store connection) (state S.Store tables.connection))
             (λ e. LeavesDatabase (state S.Store connection) (state S.Store e.1)) }
         ensures crash { MatchResult result
-            (λ tables. AddsNothing (state S.Store connection) (state S.Store tables.connection))
-            (λ e. AddsNothing (state S.Store connection) (state S.Store e.1)) }
+            (λ tables. MayKeepBeside (state S.Store connection) (state S.Store tables.connection))
+            (λ e. MayKeepBeside (state S.Store connection) (state S.Store e.1)) }
         ensures foreign { (state S.Store connection).now.schema ≢ office
             → MatchResult result (λ _. ⊥) (λ e. e.0 ≡ Store) }
     {
-        match settings_of_office(&mut connection, alloc) {
+        match take_over(&mut connection, alloc) {
             Ok(settings) => Ok(SqlTables {
                 alloc,
                 connection,

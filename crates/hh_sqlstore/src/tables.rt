@@ -9,6 +9,7 @@ use crate::parts::{contracts_of_account, data_of_day, register_of};
 use crate::reporting::{write_balances, write_day_report, write_export};
 use crate::rows::{is_key_known, postings_to_account, results_of_run, runs_of_date};
 use crate::sql_tables::SqlTables;
+use hh_beside::{loads_agree, runs_agree};
 use hh_calc::AccountRow;
 use hh_devices::Sink;
 use hh_names::{Account, Counterparties, FileName, PartyId, PeriodNumber, Reference, UnitId};
@@ -18,6 +19,7 @@ use hh_rules::Register;
 use hh_runs::{RunKey, RunKind, Summary};
 use hh_sqlchanges::rows_of_their_accounts;
 use hh_sqlrows::{select_file, select_party, select_reference, select_unit};
+use hh_state_laws::{load_effect, run_effect};
 use hh_states::FileKey;
 use hh_store::{DayData, KeptFile, LoadChange, OutputFault, RunChange, StoreFault, Tables};
 use hh_time::{Day, SettlementDate};
@@ -143,6 +145,10 @@ impl<S: Alter> Tables for SqlTables<S> {
     }
 
     fn apply_load(&mut self, change: LoadChange) -> Result<(), StoreFault> {
+        // Do nothing, but carry laws for the proof: the load makes the machine's tables, and what is kept
+        // beside them agrees with these.
+        load_effect();
+        loads_agree();
         self.posted = None;
         match keep_load(&mut self.connection, self.alloc, &change) {
             Ok(made) => Ok(made),
@@ -151,8 +157,11 @@ impl<S: Alter> Tables for SqlTables<S> {
     }
 
     fn apply_run(&mut self, change: RunChange) -> Result<(), StoreFault> {
-        // Does nothing, but carries a law for the proof: each row of a run is of the account of its key.
+        // Do nothing, but carry laws for the proof: each row of a run is of the account of its key, the run
+        // makes the machine's tables, and what is kept beside them agrees with these.
         rows_of_their_accounts();
+        run_effect();
+        runs_agree();
         self.posted = None;
         match keep_run(&mut self.connection, self.alloc, &change) {
             Ok(made) => Ok(made),

@@ -23,7 +23,7 @@ use Rattle.hh_calc.specs.Formulas.{figures, residual_shares}
 use Rattle.hh_calc.specs.Settled.{paid_by}
 use Rattle.hh_calc.specs.Terms.{PeriodTerms, Settled}
 use Rattle.hh_calc.proofs.SpreadLaws.{total-IsPermutation, total-flat_map}
-use Rattle.hh_runs.specs.DayNets.{DayNets, day_net_of, differences, is_changed, net_change}
+use Rattle.hh_runs.specs.DayNets.{DayNets, day_net_of, differences, is_difference, net_change}
 use Rattle.hh_runs.specs.declared.run_key.RunKey.{RunKey}
 use Rattle.hh_states.specs.declared.run_keys.PostingKey.{PostingKey}
 use Rattle.hh_states.specs.Content.{all_postings, posting_entries, posting_key_cmp, runs_with_former}
@@ -199,7 +199,7 @@ module _ (old new : DayNets) (old_distinct : NoneAlike (have_one_key account_cmp
   differences_sum =
       let found = all-split (λ e. is_some (find account_cmp e.0 every) ≡ true) new old have_changes in
       sym (taken_over account_total (differences old new) every (differences_distinct old new) (changes_distinct old new)
-      (all-filter (λ e. is_some (find account_cmp e.0 every) ≡ true) is_changed every (keys_found account_total every)))
+      (all-filter (λ e. is_some (find account_cmp e.0 every) ≡ true) is_difference every (keys_found account_total every)))
       ∙ total-same (λ e. day_net_of (differences old new) e.0) (λ e. day_net_of new e.0 -ℤ day_net_of old e.0) every (λ e. day_net_of-differences old new e.0)
       ∙ total-plus (λ e. day_net_of new e.0) (λ e. neg_ℤ (day_net_of old e.0)) every
       ∙ (λ i. taken_over account_total new every new_distinct (changes_distinct old new) found.0 i

@@ -27,7 +27,7 @@ use Rattle.hh_rules.specs.Lateness.{Timetable}
 use Rattle.hh_rules.specs.Refusals.{most_parties}
 use Rattle.hh_calc.specs.Limits.{greatest_cash}
 use Rattle.hh_calc.specs.Terms.{Settled}
-use Rattle.hh_runs.specs.DayNets.{DayNets, is_changed, with_change}
+use Rattle.hh_runs.specs.DayNets.{DayNets, is_difference, with_change}
 use Rattle.hh_states.specs.Amounts.{IsSummaryWithin, SummariesWithin, most_accounts, most_periods}
 use Rattle.hh_states.specs.Content.{runs_with_former}
 use Rattle.hh_states.specs.DaySettlement.{day_net, settled_at}
@@ -161,7 +161,7 @@ module _ (timetable : Timetable) (history : History) where
   postings_known former run =
       let old : DayNets = nets_of timetable history former in
       let new : DayNets = nets_of timetable history (Some run) in
-      all-filter (λ e. Contains known e.0) is_changed (in_key_order account_cmp (map (with_change old new) (new ++ old)))
+      all-filter (λ e. Contains known e.0) is_difference (in_key_order account_cmp (map (with_change old new) (new ++ old)))
       (keys_in_order account_cmp (Contains known) (map (with_change old new) (new ++ old))
       (all-map (λ (e : Account × ℤ). Contains known e.0) (with_change old new) (new ++ old)
       (all-append (λ e. Contains known e.0) new old (nets_known (Some run)) (nets_known former))))

@@ -22,7 +22,7 @@ use Rattle.hh_names.proofs.AccountLaws.{account_total, exact_accounts}
 use Rattle.hh_rules.specs.Lateness.{Timetable}
 use Rattle.hh_calc.specs.Formulas.{of_account}
 use Rattle.hh_calc.proofs.SpreadLaws.{total-IsPermutation, total-flat_map}
-use Rattle.hh_runs.specs.DayNets.{DayNets, day_net_of, differences, is_changed, net_change, with_change}
+use Rattle.hh_runs.specs.DayNets.{DayNets, day_net_of, differences, is_difference, net_change, with_change}
 use Rattle.hh_states.specs.declared.run_keys.PostingKey.{PostingKey}
 use Rattle.hh_states.specs.Content.{all_postings, posting_entries, posting_key_cmp, runs_with_former}
 use Rattle.hh_states.specs.Runs.{Run, last_of, latest_run, nets_of, postings_after, run_key_cmp, runs_of_date, with_former}
@@ -63,7 +63,7 @@ module _ (old new : DayNets) where
 
   -- nor is there a second difference of an account
   pub differences_distinct : NoneAlike (have_one_key account_cmp) (differences old new)
-  differences_distinct = distinct-filter (have_one_key account_cmp) is_changed (in_key_order account_cmp changes) changes_distinct
+  differences_distinct = distinct-filter (have_one_key account_cmp) is_difference (in_key_order account_cmp changes) changes_distinct
 
   -- what differs for an account is its new net less its old
   pub day_net_of-differences : (a : Account) → day_net_of (differences old new) a ≡ net_change old new a

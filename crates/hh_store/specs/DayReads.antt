@@ -22,7 +22,7 @@ is_changed (Same s) = false
 abbrev pub count_changed : List PeriodState → ℕ
 count_changed periods = length (filter is_changed periods)
 
--- the same with the accounts' net volumes in the place of the contract volumes in force; each is one that is kept
+-- the same with the accounts' net volumes in the place of the contract volumes in force; each is at most 100,000,000 MWh in size
 pub record IsNetted (terms p : PeriodTerms) : Type 0 where
   pub same : p ≡ netted terms
   pub sizes : HasNetVolumes p.contracts

@@ -7,7 +7,7 @@ use Rattle.hh_names.specs.Accounts.{is_same_account}
 use Rattle.hh_calc.specs.declared.result.CreditRow.{CreditRow}
 use Rattle.hh_calc.specs.declared.sums.AccountSums.{AccountSums}
 use Rattle.hh_calc.specs.Formulas.{balancing_of, credited_of, net_by, net_entry_of, net_of, of_account, unit_credits, weight_of}
-use Rattle.hh_calc.specs.Terms.{BmUnit, Contracts}
+use Rattle.hh_calc.specs.Terms.{BmUnit, ContractTerms}
 
 abbrev pub no_sums : AccountSums
 no_sums = record { credited = pos 0; balancing = pos 0; contracts = pos 0; weight = 0 }
@@ -93,7 +93,7 @@ with_nets entries a held = record {
 }
 
 -- an account's sums after the contracts of a period are added
-abbrev pub with_net_by : List Account → Contracts → Account → AccountSums → AccountSums
+abbrev pub with_net_by : List Account → ContractTerms → Account → AccountSums → AccountSums
 with_net_by accounts contracts a held = record {
   credited = held.credited;
   balancing = held.balancing;

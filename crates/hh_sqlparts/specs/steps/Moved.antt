@@ -8,7 +8,7 @@ use Rattle.hh_rows.specs.declared.rows.Row.TheVariants as row
 use Rattle.hh_rules.specs.Positions.{position_key, position_key_cmp}
 use Rattle.hh_rules.specs.declared.positions.Position.{Position}
 use Rattle.hh_rules.specs.declared.positions.PositionKey.{PositionKey}
-use Rattle.hh_beside.specs.PositionLaws.{AgreesOnPositions, IsPartOf}
+use Rattle.hh_beside.specs.PositionLaws.{AgreesOnPositions, ArePartOf}
 
 -- the key of the position of a contract's seller; a row of another kind has none
 abbrev pub seller_of : Row → Option PositionKey
@@ -29,5 +29,5 @@ pub record HasBoth (r : ContractRow) (old new : BTreeSet PositionKey) : Type 0 w
 -- a part of the positions that has those of each seller and buyer of rows
 pub record ServesPositions (rows : List Row) (whole part : Table PositionKey Position) : Type 0 where
   pub rising : IsTable position_key_cmp part
-  pub inside : IsPartOf whole part
+  pub inside : ArePartOf whole part
   pub agrees : All (AgreesOnPositions whole part) rows

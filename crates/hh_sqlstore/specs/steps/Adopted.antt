@@ -1,6 +1,6 @@
 -- An office's database that is taken over, in the state of its connection.
-use Rattle.std.specs.Prelude.{◌≡◌}
-use Rattle.sqlite.specs.State.{State}
+use Rattle.std.specs.Prelude.{◌≡◌, IsTrue}
+use Rattle.sqlite.specs.State.{State, Survives}
 use Rattle.hh_rows.specs.declared.settings.Settings.{Settings}
 use Rattle.hh_sqlrows.specs.Office.{IsOffice}
 use Rattle.hh_sqlstore.specs.Holds.{HasSettings}
@@ -10,3 +10,7 @@ pub record IsAdoptedFrom (kept : Settings) (s : State) : Type 0 where
   pub settled : s.now ≡ s.committed
   pub is_office : IsOffice s.now
   pub settings : HasSettings kept s.now.trees
+
+-- a crash leaves nothing that it would not have left of the open connection before
+abbrev pub AddsNothing : State → State → Type 0
+AddsNothing old new = IsTrue old.is_open → Survives old new (λ _. ⊥)

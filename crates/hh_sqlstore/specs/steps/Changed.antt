@@ -1,8 +1,14 @@
 -- A database that a transaction has changed, in the state of its connection.
 use Rattle.std.specs.Prelude.{◌≡◌, IsTrue}
 use Rattle.sqlite.specs.Effect.{Database}
-use Rattle.sqlite.specs.State.{State}
+use Rattle.sqlite.specs.State.{HasCleanDisk, State}
+use Rattle.hh_states.specs.Changes.{LoadWrites, RunWrites}
+use Rattle.hh_beside.specs.Keeping.{beside_with_load, beside_with_run}
+use Rattle.hh_beside.specs.Laws.{AreAlike}
+use Rattle.hh_sqlrows.specs.Contents.{beside_in, registered_of}
 use Rattle.hh_sqlrows.specs.Office.{IsOffice}
+use Rattle.hh_sqlchanges.specs.Writes.{StoresLoad, StoresRun}
+use Rattle.hh_sqlparts.specs.Readings.{SelectsOnly}
 
 -- the connection was open and is; what there is was committed, and an office, all of which was committed, was changed so
 pub record IsChangedBy (Change : Database → Database → Type 0) (old new : State) : Type 0 where
@@ -10,3 +16,16 @@ pub record IsChangedBy (Change : Database → Database → Type 0) (old new : St
   pub is_open : IsTrue new.is_open
   pub settled : new.now ≡ new.committed
   pub changed : IsOffice old.now → Change old.now new.now
+
+-- a load is written, and what it changes of what is kept beside the content
+abbrev pub KeepsLoad : LoadWrites → Database → Database → Type 0
+KeepsLoad w old new =
+    StoresLoad w old new × AreAlike (beside_in new.trees) (beside_with_load w (registered_of old.trees) (beside_in old.trees))
+
+-- a run is written, and what it changes of what is kept beside the content
+abbrev pub KeepsRun : RunWrites → Database → Database → Type 0
+KeepsRun w old new = StoresRun w old new × AreAlike (beside_in new.trees) (beside_with_run w (beside_in old.trees))
+
+-- nothing was changed, where the disk has returned what was written
+abbrev pub ChangesNothing : State → State → Type 0
+ChangesNothing old new = HasCleanDisk new → SelectsOnly old new

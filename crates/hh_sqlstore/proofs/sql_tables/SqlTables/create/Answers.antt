@@ -11,6 +11,7 @@ invariant_of-result g c =
       autocommit = c.in-Ok.ensures.autocommit;
       settled = λ stands. (c.in-Ok.ensures.made (clean_while_open g.S.Store c.make_office.new.connection g.met.S.Store.shut_if_dirty stands)).settled;
       holds = λ stands. holds_its_own _ _ (c.in-Ok.ensures.made (clean_while_open g.S.Store c.make_office.new.connection g.met.S.Store.shut_if_dirty stands)).is_new.holds;
+      marked = λ stands. (c.in-Ok.ensures.made (clean_while_open g.S.Store c.make_office.new.connection g.met.S.Store.shut_if_dirty stands)).is_new.mark;
       at_hand = λ stands. tt;
     }
 

@@ -1,10 +1,13 @@
-use Rattle.std.proofs.Common.{◌≡◌, [], IsTrue, None, subst}
+use Rattle.std.proofs.Common.{◌≡◌, IsTrue, None, ap, subst, sym}
 use Rattle.sqlite.specs.Held.{state}
-use Rattle.hh_states.specs.Changes.{effect_of_load}
-use Rattle.hh_sqlrows.specs.Contents.{content_of}
-use Rattle.hh_sqlchanges.specs.Writes.{ChangesByLoad}
+use Rattle.hh_states.specs.Changes.{IsLoadFrom, effect_of_load}
+use Rattle.hh_sqlrows.specs.Contents.{stored_content}
+use Rattle.hh_sqlrows.specs.OfficeTables.{one_row_cmp}
+use Rattle.std.specs.FinMap.{find}
+use Rattle.hh_sqlstore.specs.steps.Changed.{KeepsLoad}
+use Rattle.hh_sqlstore.proofs.BesideLaws.{load_kept}
 use Rattle.hh_sqlstore.specs.Stores.{Stored, content_in}
-use Rattle.hh_sqlstore.proofs.ChangeLaws.{content_changed, idle_changed, reading_of_undone}
+use Rattle.hh_sqlstore.proofs.ChangeLaws.{content_changed, idle_changed, reading_of_nothing}
 use Rattle.hh_sqlstore.proofs.ContentLaws.{clean_while_open}
 use Rattle.hh_sqlstore.proofs.IdleLaws.{idle_with, same_content}
 use Rattle.hh_sqlstore.proofs.tables.SqlTablesTables.apply_load.Goals as goal
@@ -12,14 +15,16 @@ use Rattle.hh_sqlstore.proofs.tables.SqlTablesTables.apply_load.Goals as goal
 pub invariant_of-self : goal.invariant_of-self
 invariant_of-self g c =
     let clean = clean_while_open g.S.Store c.keep_load.new.connection g.met.S.Store.shut_if_dirty in
-    idle_changed g.S.Store _ c.self.invariant c.keep_load.new.connection c.self.inside.refusals (ChangesByLoad c.args.change [] []) (λ stands. c.in-Ok.ensures.made (clean stands)) (λ old new written. written.stores.stays) c.in-Ok.ensures.autocommit
+    idle_changed g.S.Store _ c.self.invariant c.keep_load.new.connection c.self.inside.refusals (KeepsLoad c.args.change) (λ stands. c.in-Ok.ensures.made (clean stands)) (λ old new written. written.0.stays) c.in-Ok.ensures.autocommit
 
 pub returns-in-Ok-clause-ok : goal.returns-in-Ok-clause-ok
 returns-in-Ok-clause-ok g c stands midnight from =
     let clean = clean_while_open g.S.Store c.keep_load.new.connection g.met.S.Store.shut_if_dirty in
     let new = (state g.S.Store c.keep_load.new.connection).committed.trees in
-    subst (λ (t : Stored _). content_of c.self.inside.settings new ≡ effect_of_load c.args.change (content_in g.S.Store t)) c.self.view_is
-    (content_changed g.S.Store _ c.self.invariant c.keep_load.new.connection c.self.inside.refusals (ChangesByLoad c.args.change [] []) (λ stands. c.in-Ok.ensures.made (clean stands)) stands (effect_of_load c.args.change) (λ old new written. written.stores.content c.self.inside.settings))
+    subst (λ (t : Stored _). stored_content c.self.inside.settings new ≡ effect_of_load c.args.change (content_in g.S.Store t)) c.self.view_is
+    (content_changed g.S.Store _ c.self.invariant c.keep_load.new.connection c.self.inside.refusals (KeepsLoad c.args.change) (λ stands. c.in-Ok.ensures.made (clean stands)) stands (effect_of_load c.args.change) (λ marked written.
+    load_kept c.self.inside.settings _ _ marked (ap (find one_row_cmp (record {})) written.0.stays.mark) c.load_effect.ensures c.loads_agree.ensures midnight c.args.change
+    (subst (λ (t : Stored _). IsLoadFrom midnight (content_in g.S.Store t) c.args.change) (sym c.self.view_is) from) written))
 
 pub returns-in-Ok-clause-stood : goal.returns-in-Ok-clause-stood
 returns-in-Ok-clause-stood g c stands =
@@ -29,16 +34,16 @@ returns-in-Ok-clause-stood g c stands =
 pub invariant_of-self-in-Err : goal.invariant_of-self-in-Err
 invariant_of-self-in-Err g c =
     let clean = clean_while_open g.S.Store c.keep_load.new.connection g.met.S.Store.shut_if_dirty in
-    idle_with g.S.Store _ c.self.invariant c.keep_load.new.connection c.refuse.new.refusals (reading_of_undone _ _ clean c.in-Err.ensures.undone) None (λ stands office settled stood. tt) c.in-Err.ensures.autocommit
+    idle_with g.S.Store _ c.self.invariant c.keep_load.new.connection c.refuse.new.refusals (reading_of_nothing _ _ clean c.in-Err.ensures.undone) None (λ stands office settled stood. tt) c.in-Err.ensures.autocommit
 
 pub returns-clause-err : goal.returns-clause-err
 returns-clause-err g c stands =
     let clean = clean_while_open g.S.Store c.keep_load.new.connection g.met.S.Store.shut_if_dirty in
     let new = (state g.S.Store c.keep_load.new.connection).committed.trees in
-    subst (λ (t : Stored _). content_of c.self.inside.settings new ≡ content_in g.S.Store t) c.self.view_is
-    (same_content g.S.Store _ c.self.invariant c.keep_load.new.connection c.refuse.new.refusals (reading_of_undone _ _ clean c.in-Err.ensures.undone) stands)
+    subst (λ (t : Stored _). stored_content c.self.inside.settings new ≡ content_in g.S.Store t) c.self.view_is
+    (same_content g.S.Store _ c.self.invariant c.keep_load.new.connection c.refuse.new.refusals (reading_of_nothing _ _ clean c.in-Err.ensures.undone) stands)
 
 pub returns-clause-stood : goal.returns-clause-stood
 returns-clause-stood g c stands =
     let clean = clean_while_open g.S.Store c.keep_load.new.connection g.met.S.Store.shut_if_dirty in
-    subst (λ (t : Stored _). IsTrue (state g.S.Store t.connection).is_open) c.self.view_is (c.in-Err.ensures.undone (clean stands) stands).0
+    subst (λ (t : Stored _). IsTrue (state g.S.Store t.connection).is_open) c.self.view_is ((c.in-Err.ensures.undone (clean stands)).stood stands)

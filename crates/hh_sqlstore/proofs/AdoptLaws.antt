@@ -1,0 +1,73 @@
+-- The database of an office that is taken over has the settings and the content that it had.
+use Rattle.std.proofs.Common.{◌≡◌, ◌∙◌, inl, inr, true, Option, Some, refl, ap, subst, sym}
+use Rattle.std.specs.FinMap.{find}
+use Rattle.sqlite.specs.Effect.{Database}
+use Rattle.sqlite.specs.State.{State}
+use Rattle.hh_rows.specs.declared.settings.Settings.{Settings}
+use Rattle.hh_states.specs.Content.{Content}
+use Rattle.hh_keyed_rows.specs.Values.{version}
+use Rattle.hh_sqlrows.specs.Contents.{mark_in, stored_content}
+use Rattle.hh_sqlrows.specs.Office.{IsOffice}
+use Rattle.hh_sqlrows.specs.OfficeTables.{one_row_cmp}
+use Rattle.hh_sqlstore.specs.Holds.{HasSettings, Holds}
+use Rattle.hh_sqlstore.specs.Leaving.{IsTakenOver}
+use Rattle.hh_sqlstore.specs.steps.Adopted.{IsAdoptedFrom}
+use Rattle.hh_sqlstore.specs.steps.Kept.{IsMarked}
+use Rattle.hh_sqlstore.proofs.ContentLaws.{content_is}
+
+module _ (old new : Database) where
+  taken_content : IsTakenOver old new → (kept : Settings) → stored_content kept new.trees ≡ stored_content kept old.trees
+  taken_content (inl same) kept = ap (λ (db : Database). stored_content kept db.trees) same
+  taken_content (inr keeps) kept = keeps.content kept
+
+  taken_settings : IsTakenOver old new → (kept : Settings) → HasSettings kept old.trees → HasSettings kept new.trees
+  taken_settings (inl same) kept has = subst (λ (db : Database). HasSettings kept db.trees) (sym same) has
+  taken_settings (inr keeps) kept has = ap (find one_row_cmp (record {})) keeps.settings ∙ has
+
+  taken_office : IsTakenOver old new → IsOffice old → IsOffice new
+  taken_office (inl same) is = subst IsOffice (sym same) is
+  taken_office (inr keeps) is = keeps.is_office
+
+-- an office's database holds the content that it has with its settings
+holds_content : (kept : Settings) (db : Database) → IsOffice db → HasSettings kept db.trees → Holds version (stored_content kept db.trees) db
+holds_content kept db is has = record {
+  of_version = refl;
+  is_office = is;
+  settings = has;
+  prices = refl;
+  alike = record { parties = refl; units = refl; references = refl; meters = refl; contracts = refl; reallocations = refl; files = refl; runs = refl; results = refl; credits = refl; postings = refl };
+  in_step = refl;
+}
+
+module _ (kept : Settings) (old new : State) (adopted : IsAdoptedFrom kept old) (marked : IsMarked old new) where
+  office_committed : IsOffice old.committed
+  office_committed = subst IsOffice adopted.settled adopted.is_office
+
+  settings_committed : HasSettings kept old.committed.trees
+  settings_committed = subst (λ (db : Database). HasSettings kept db.trees) adopted.settled adopted.settings
+
+  pub committed_taken : IsTakenOver old.committed new.committed
+  committed_taken = subst (λ (db : Database). IsTakenOver db new.committed) adopted.settled (subst (IsTakenOver old.now) marked.settled marked.taken)
+
+  pub mark_committed : mark_in new.committed.trees ≡ Some true
+  mark_committed = subst (λ (db : Database). mark_in db.trees ≡ Some true) marked.settled marked.marked
+
+  pub holds_after : Holds version (stored_content kept new.committed.trees) new.committed
+  holds_after =
+      holds_content kept new.committed (taken_office old.committed new.committed committed_taken office_committed)
+      (taken_settings old.committed new.committed committed_taken kept settings_committed)
+
+  -- it held that content before
+  pub held_before : Holds version (stored_content kept new.committed.trees) old.committed
+  held_before =
+      subst (λ (content : Content). Holds version content old.committed) (sym (taken_content old.committed new.committed committed_taken kept))
+      (holds_content kept old.committed office_committed settings_committed)
+
+  -- and no other
+  pub content_before : (content : Content) → Holds version content old.committed → stored_content kept new.committed.trees ≡ content
+  content_before content holds =
+      let same : ◌≡◌ {A = Option Settings} (Some kept) (Some content.settings) = sym settings_committed ∙ holds.settings in
+      let is : kept ≡ content.settings = cc same in
+      taken_content old.committed new.committed committed_taken kept
+      ∙ ap (λ k. stored_content k old.committed.trees) is
+      ∙ sym (content_is content old.committed holds)

@@ -1,0 +1,12 @@
+use Rattle.sqlite.specs.Held.{state}
+use Rattle.hh_sqlstore.proofs.KeepingLaws.{may_keep_after, no_more}
+use Rattle.hh_sqlstore.proofs.adopting.take_over.Goals as goal
+
+pub returns-clause-crash : goal.returns-clause-crash
+returns-clause-crash g c =
+    let old = state g.S.Store c.args.connection.now in
+    let mid = state g.S.Store c.settings_of_office.new.connection in
+    let new = state g.S.Store c.see_positions_kept.new.connection in
+    let read = c.in_ok-settings.ensures in
+    may_keep_after old mid new (no_more old mid read.crash) (λ stands clean. let up = read.stays clean in (up, (read.left up).2)) c.see_positions_kept.ensures.honest
+    c.see_positions_kept.ensures.crash

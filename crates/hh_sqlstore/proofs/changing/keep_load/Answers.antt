@@ -1,0 +1,35 @@
+use Rattle.std.proofs.Common.{subst, sym}
+use Rattle.std.proofs.lemmas.Result.{on_err_weaker, on_ok_weaker}
+use Rattle.sqlite.specs.Effect.{Database}
+use Rattle.sqlite.specs.Held.{state}
+use Rattle.hh_sqlrows.specs.Contents.{registered_of}
+use Rattle.hh_sqlrows.specs.Office.{IsOffice}
+use Rattle.hh_sqlchanges.specs.Writes.{ChangesByLoad}
+use Rattle.hh_sqlchanges.proofs.BesideLaws.{alike_after_load}
+use Rattle.hh_sqlstore.proofs.ChangeLaws.{nothing_after}
+use Rattle.hh_sqlstore.proofs.changing.keep_load.Goals as goal
+
+pub returns-clause-made : goal.returns-clause-made
+returns-clause-made g c clean =
+    let old = state g.S.Store c.args.connection.now in
+    let new = state g.S.Store c.commit_load.new.connection in
+    let reading = c.in_ok-positions.ensures.reading in
+    let w = c.args.change.now in
+    on_ok_weaker c.commit_load.result (λ changed.
+    let was_settled = c.requires.settled (reading.stood changed.was_open) in
+    record {
+      was_open = reading.stood changed.was_open;
+      is_open = changed.is_open;
+      settled = changed.settled;
+      changed = λ office.
+          let kept = reading.left changed.was_open office was_settled in
+          let written = subst (λ (db : Database). ChangesByLoad w c.in_ok-positions.positions.items c.in_ok-touched.touched.items db new.now) kept.0
+          (rw c.deref-2.ensures.value at (rw c.deref.ensures.value at (changed.changed (subst IsOffice (sym kept.0) office)))) in
+          (written.stores, alike_after_load w (registered_of old.now.trees) _ _ old.now new.now written (rw c.rows.ensures at (c.in_ok-positions.ensures.value changed.was_open office was_settled)) (rw c.rows-2.ensures at c.in_ok-touched.ensures.same));
+    }) (c.commit_load.ensures.made clean)
+
+pub returns-clause-undone : goal.returns-clause-undone
+returns-clause-undone g c =
+    on_err_weaker c.commit_load.result
+    (nothing_after (state g.S.Store c.args.connection.now) (state g.S.Store c.select_positions_after.new.conn) (state g.S.Store c.commit_load.new.connection) c.in_ok-positions.ensures.reading)
+    c.commit_load.ensures.undone

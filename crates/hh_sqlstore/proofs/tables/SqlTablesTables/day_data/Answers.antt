@@ -1,0 +1,22 @@
+use Rattle.std.proofs.Common.{◌∙◌, IsTrue, subst, sym}
+use Rattle.sqlite.specs.Held.{state}
+use Rattle.hh_rows.specs.declared.settings.Settings.{Settings}
+use Rattle.hh_states.specs.DaySettlement.{periods_on}
+use Rattle.hh_store.specs.DayReads.{IsDayData}
+use Rattle.hh_beside.specs.Beside.{agrees}
+use Rattle.hh_sqlrows.specs.Contents.{beside_in, content_of, registered_of}
+use Rattle.hh_sqlstore.specs.Stores.{Stored, content_in}
+use Rattle.hh_sqlstore.proofs.BesideLaws.{step_is}
+use Rattle.hh_sqlstore.proofs.IdleLaws.{of_committed}
+use Rattle.hh_sqlstore.proofs.tables.SqlTablesTables.day_data.Goals as goal
+
+pub returns-in-Ok-clause-value : goal.returns-in-Ok-clause-value
+returns-in-Ok-clause-value g c stands =
+    let periods = periods_on c.args.day.now.date c.args.day.now.count in
+    let kept = c.self.inside.settings in
+    let trees = (state g.S.Store c.self.inside.connection).committed.trees in
+    let reading = c.in-Ok.ensures.reading in
+    let answer = of_committed g.S.Store _ c.self.invariant c.data_of_day.new.conn c.self.inside.refusals reading
+    (λ trees. (settings : Settings) → IsTrue (agrees (content_of settings trees) (beside_in trees)) → IsDayData (registered_of trees) periods c.in-Ok.data) c.in-Ok.ensures.value stands in
+    subst (λ (t : Stored _). IsTrue (content_in g.S.Store t).is_in_step → IsDayData (content_in g.S.Store t).registered periods c.in-Ok.data) c.self.view_is
+    (λ step. answer kept (sym (step_is kept trees (c.self.invariant.marked (reading.stood stands))) ∙ step))

@@ -1,0 +1,13 @@
+-- Positions that are kept in an office's database, in the state of its connection.
+use Rattle.std.specs.Prelude.{◌≡◌, true, Some, IsTrue}
+use Rattle.sqlite.specs.State.{State}
+use Rattle.hh_sqlrows.specs.Contents.{mark_in}
+use Rattle.hh_sqlstore.specs.Leaving.{IsTakenOver}
+
+-- the connection was open and is; what there is was committed, and positions are kept there, as they were or from now on
+pub record IsMarked (old new : State) : Type 0 where
+  pub was_open : IsTrue old.is_open
+  pub is_open : IsTrue new.is_open
+  pub settled : new.now ≡ new.committed
+  pub marked : mark_in new.now.trees ≡ Some true
+  pub taken : IsTakenOver old.now new.now

@@ -1,0 +1,611 @@
+"""A random list of requests over both stores. An office in memory settles each Settlement Period of a run anew, and one in a
+database file settles those that have changed. Each reply is the same, byte by byte, and so are the reports of each run and
+the balances. The file is opened anew for each part of the list. A second file is turned into one of the version before, in
+which no positions are kept, between some parts. What is kept beside the tables is found again from the contracts in force and
+from the rows that were accepted."""
+import collections
+import datetime
+import itertools
+import pathlib
+import random
+import re
+import socket
+import subprocess
+import tempfile
+import unittest
+
+import test_week
+from programs import SETTLE, need, settle
+from test_commands import day_number
+from test_database import changed_by, content_of, rows_of
+from test_desk import OPERATOR, text_of
+from test_serving import request
+from test_week import is_late, periods
+
+SEED = 13
+COUNT, PER_CALL = 2_000, 100
+KINDS = ("SF", "R1", "R2", "R3", "RF", "DF")
+# With days on which clocks change, of 46 and 50 periods.
+DATES = ("2024-03-30", "2024-03-31", "2024-04-01", "2024-07-01", "2024-07-02", "2024-10-26", "2024-10-27", "2024-10-28")
+EVER = (0, len(DATES) - 1)
+# A range is from one date's place to another's.
+FIRST_PARTIES = {"ALFA": EVER, "BETA": EVER, "GAMMA": EVER, "DELTA": (3, 4), "ECHO": (0, 2)}
+PARTIES = (*FIRST_PARTIES, "FOXTROT", "GOLF", "HOTEL")
+ACCOUNTS = [f"{party}-{side}" for party in PARTIES for side in "PC"]
+# A unit has the name of its lead account.
+FIRST_UNITS = {"ALFA-P": EVER, "BETA-C": EVER, "GAMMA-P": EVER, "DELTA-C": (3, 4)}
+INTERCONNECTOR = "GAMMA-P"
+# Sellers and buyers whose references are fixed from the beginning.
+PAIRS = (("ALFA-P", "BETA-C"), ("BETA-P", "GAMMA-C"), ("GAMMA-P", "ALFA-C"), ("ALFA-C", "BETA-P"))
+# The column of a row's date, by kind; its period comes next.
+PLACES = {"meters": 1, "prices": 0, "contracts": 3, "reallocations": 2}
+# Before these parts of the list the second file becomes one of the version before.
+TURNED = (0, 4, 6, 11)
+# How many files of each kind are accepted whose rows all come in time, at least.
+LEAST = {"parties": 20, "units": 20, "meters": 150, "prices": 100, "contracts": 100, "reallocations": 50}
+WITHOUT_POSITIONS = ("DELETE FROM positions", "DELETE FROM touched", "UPDATE marks SET positions = 0")
+BESIDE = ("refs", "contracts", "positions", "touched", "marks")
+BEGINS = re.compile(rb"applied=|run |refused |fault |HTTP/1\.1 |DAY REPORT |date,kind,|account,moved_pence\n")
+
+
+def start(at):
+    """The second at which a date begins."""
+    return test_week.midnight(datetime.date.fromisoformat(DATES[at]))
+
+
+def before(at):
+    """A moment at which no notification of a date is late."""
+    return start(at) - 90_000
+
+
+def after(at):
+    """A moment at which a date is over."""
+    return start(at) + 90_000
+
+
+def all_periods(at):
+    return range(1, periods(DATES[at]) + 1)
+
+
+def ordered(at, kind, moment):
+    """The line that orders a run."""
+    return f"run {moment} {OPERATOR} {DATES[at]} {KINDS[kind]}"
+
+
+class Requests:
+    """Draws a list of requests: lines of a script, and what clients send as bytes. It keeps in mind what is registered, read
+    and run, so that most requests are in order."""
+
+    def __init__(self, folder, seed):
+        self.folder, self.draw = folder, random.Random(seed)
+        self.files, self.loads = 0, []
+        self.ranges, self.read, self.priced = {}, set(), set()
+        self.latest = [-1] * len(DATES)
+        self.changing = [self.draw.sample(all_periods(at), 6) for at in range(len(DATES))]
+        self.rows = {
+            "meters": self.meter_rows,
+            "prices": self.price_rows,
+            "contracts": self.contract_rows,
+            "reallocations": self.reallocation_rows,
+        }
+        self.makers = {
+            self.change: 53,
+            self.register: 7,
+            self.load_again: 7,
+            self.load_another: 4,
+            self.load_nothing: 1,
+            self.order: 13,
+            self.pass_a_limit: 0.7,
+            self.report: 7,
+            self.visit: 2,
+        }
+
+    def draw_all(self):
+        made = self.first()
+        while len(made) < COUNT:
+            (make,) = self.draw.choices(list(self.makers), self.makers.values())
+            made += make(self.draw.randrange(len(DATES)))
+        return made[:COUNT]
+
+    def chance(self, percent):
+        return self.draw.randrange(100) < percent
+
+    def load(self, kind, rows, moment=0, name=None, key=OPERATOR):
+        """The line that loads a new file, in a folder of its own."""
+        self.files += 1
+        path = self.folder / str(self.files) / (name or f"{self.files}.csv")
+        path.parent.mkdir(parents=True)
+        path.write_bytes(text_of(kind, rows))
+        return f"load {moment} {key} {kind} {path}"
+
+    def moment(self, at):
+        """When a notification comes: mostly before its date, else at the deadline of a period, or after the date."""
+        if self.chance(70):
+            return before(at)
+        return self.draw.choice((start(at) + 1800 * self.draw.randrange(48) - 3600, after(at)))
+
+    # Registrations
+
+    def registered(self, at):
+        return [name for name, (first, last) in self.ranges.items() if first <= at <= last]
+
+    def units(self, at):
+        return [name for name in self.registered(at) if "-" in name]
+
+    def accounts(self, at):
+        return [f"{name}-{side}" for name in self.registered(at) if "-" not in name for side in "PC"]
+
+    def row_of(self, name, first, last, marks=("no", "yes")):
+        """The row of a party, or of a unit."""
+        if "-" not in name:
+            return f"{name},{DATES[first]},{DATES[last]},{name.lower()}0000{self.draw.randint(1, 2)}"
+        return f"{name},{name[:-2]},{name[-1]},{marks[name == INTERCONNECTOR]},{DATES[first]},{DATES[last]}"
+
+    def range_for(self, name):
+        """A range that holds the one that a party or unit has, or now and then a smaller one."""
+        place = self.draw.randrange(len(DATES))
+        first, last = self.ranges.get(name, (place, place))
+        if self.chance(10) and first < last:
+            return first + 1, last
+        return max(first - self.draw.choice((0, 0, 1)), EVER[0]), min(last + self.draw.choice((0, 0, 1)), EVER[1])
+
+    def is_in_order(self, name, first, last):
+        """Whether a party or unit may have this range."""
+        old = self.ranges.get(name, (first, last))
+        around = self.ranges.get(name[:-2], (1, 0)) if "-" in name else EVER
+        return around[0] <= first <= old[0] and old[1] <= last <= around[1]
+
+    def register_as(self, name, first, last):
+        line = self.load("units" if "-" in name else "parties", [self.row_of(name, first, last)])
+        if self.is_in_order(name, first, last):
+            self.ranges[name] = first, last
+            self.loads.append(line)
+        return line
+
+    def register(self, _):
+        """A party or a unit that joins, widens or stays as it was, or a row that is refused."""
+        name = self.draw.choice((*PARTIES, *ACCOUNTS))
+        if name in FIRST_UNITS and self.chance(20):
+            return [self.load("units", [self.row_of(name, *self.ranges[name], marks=("yes", "no"))])]
+        return [self.register_as(name, *self.range_for(name))]
+
+    def first(self):
+        """The first parties and units, and contracts for each period."""
+        made = []
+        for kind, names in (("parties", FIRST_PARTIES), ("units", FIRST_UNITS)):
+            self.ranges |= names
+            made.append(self.load(kind, [self.row_of(name, *places) for name, places in names.items()]))
+        for at in range(len(DATES)):
+            rows = [self.contract(at, period, *pair) for pair in PAIRS for period in all_periods(at)]
+            made.append(self.load("contracts", rows, before(at)))
+        return made
+
+    # Rows
+
+    def energy(self, most):
+        kwh = self.draw.randint(-most, most)
+        return f"{'-' if kwh < 0 else ''}{abs(kwh) // 1000}.{abs(kwh) % 1000:03}"
+
+    def meter(self, at, period, unit):
+        multiplier, balancing = self.draw.choice(("1", "0.9950000", "1.0123457")), self.draw.choice((0, 0, "1.250", "-0.5"))
+        return f"{unit},{DATES[at]},{period},{self.energy(90_000)},{multiplier},{balancing}"
+
+    def price(self, at, period):
+        return f"{DATES[at]},{period},{self.draw.randint(-20, 200)}.{self.draw.randrange(10**5):05}"
+
+    def contract(self, at, period, seller, buyer):
+        return f"{seller}_{buyer},{seller},{buyer},{DATES[at]},{period},{self.energy(50_000)}"
+
+    def reallocation(self, at, period, unit, account):
+        percent = self.draw.choice(("0", "2.50000", "12.5", "33.33333", "70"))
+        return f"{unit},{account},{DATES[at]},{period},{percent},{self.draw.choice((0, 0, self.energy(2000)))}"
+
+    # Rows that change a date. Between two runs of it they are of some periods alone.
+
+    def some_periods(self, at):
+        """Now and then one that the date doesn't have."""
+        count = self.draw.randint(1, 3)
+        return [self.draw.choice(self.changing[at]) if self.draw.randrange(60) else periods(DATES[at]) + 1 for _ in range(count)]
+
+    def unit_on(self, at):
+        return self.draw.choice(ACCOUNTS if self.chance(3) else self.units(at))
+
+    def account_on(self, at):
+        return self.draw.choice(ACCOUNTS if self.chance(2) else self.accounts(at))
+
+    def pair_on(self, at):
+        return self.draw.choice(PAIRS) if self.chance(60) else (self.account_on(at), self.account_on(at))
+
+    def meter_rows(self, at):
+        return [self.meter(at, period, self.unit_on(at)) for period in self.some_periods(at)]
+
+    def price_rows(self, at):
+        return [self.price(at, period) for period in self.some_periods(at)]
+
+    def contract_rows(self, at):
+        """In some files a row takes the place of the first, or sells what its reference buys."""
+        sold = [(period, *self.pair_on(at)) for period in self.some_periods(at)]
+        rows = [self.contract(at, *words) for words in (*sold, *(sold[:1] if self.chance(25) else ()))]
+        if self.chance(3):
+            rows.append("{0}_{1},{1},{0},{2},1,5".format(*self.draw.choice(PAIRS), DATES[at]))
+        return rows
+
+    def reallocation_rows(self, at):
+        """Mostly of two units, of which more than everything is given away at times."""
+        units = [self.draw.choice(("ALFA-P", "BETA-C")) if self.chance(60) else self.unit_on(at) for _ in range(3)]
+        return [self.reallocation(at, period, unit, self.account_on(at)) for period, unit in zip(self.some_periods(at), units)]
+
+    # Loads
+
+    def change(self, at):
+        (kind,) = self.draw.choices(list(self.rows), (14, 9, 18, 12))
+        line = self.load(kind, self.rows[kind](at), self.moment(at), key="alfa00001" if self.chance(2) else OPERATOR)
+        self.loads.append(line)
+        return [line]
+
+    def load_again(self, at):
+        """A load that was asked for before, at another moment."""
+        what, _, *words = self.draw.choice(self.loads or self.change(at)).split(" ")
+        return [" ".join((what, str(self.moment(at)), *words))]
+
+    def load_another(self, at):
+        """Another file under a name that was shown before."""
+        *_, kind, path = self.draw.choice(self.loads or self.change(at)).split(" ")
+        kind = kind if kind in self.rows else "prices"
+        return [self.load(kind, self.rows[kind](at), self.moment(at), pathlib.Path(path).name)]
+
+    def load_nothing(self, _):
+        return [f"load 0 {OPERATOR} prices {self.folder}/none.csv"]
+
+    # Runs
+
+    def unread(self, at):
+        return [unit for unit in self.units(at) if (unit, at) not in self.read]
+
+    def is_ready(self, at):
+        return at in self.priced and not self.unread(at)
+
+    def complete(self, at):
+        """What is missing for a run: the prices of the date, or the readings of units."""
+        if at not in self.priced:
+            self.priced.add(at)
+            return [self.load("prices", [self.price(at, period) for period in all_periods(at)])]
+        units = self.unread(at)
+        self.read |= {(unit, at) for unit in units}
+        return [self.load("meters", [self.meter(at, period, unit) for unit in units for period in all_periods(at)])]
+
+    def next_kind(self, at):
+        """The next kind of run. Behind SF one may be left out."""
+        return min(self.latest[at] + (2 if self.latest[at] >= 0 and self.chance(15) else 1), len(KINDS) - 1)
+
+    def run(self, at, kind):
+        """A run. Where it is made other periods change from now on."""
+        latest = self.latest[at]
+        if self.is_ready(at) and kind > latest and (kind == 0 or latest >= 0):
+            self.latest[at] = kind
+            self.changing[at] = self.draw.sample(all_periods(at), self.draw.randint(2, 12))
+        return ordered(at, kind, after(at))
+
+    def order(self, at):
+        """The next run of a date, or what is missing for it; one before the day is over; or one that is there or out of order."""
+        if self.chance(10):
+            return [ordered(at, self.next_kind(at), start(at) + 1800 * periods(DATES[at]) - 1)]
+        if self.chance(50):
+            return [self.run(at, self.draw.randint(0, max(self.latest[at], 1)))]
+        if not self.is_ready(at) and self.chance(70):
+            return self.complete(at)
+        made = [self.run(at, self.next_kind(at))]
+        return [*made, *self.order_behind(at)] if self.chance(20) else made
+
+    def order_behind(self, at):
+        """A run right behind another, perhaps with a party that joins between them, which touches nothing."""
+        absent = [name for name in PARTIES if name not in self.registered(at)]
+        if not absent or self.chance(40):
+            return [self.run(at, self.next_kind(at))]
+        name = self.draw.choice(absent)
+        first, last = self.ranges.get(name, (at, at))
+        return [self.register_as(name, min(first, at), max(last, at)), self.run(at, self.next_kind(at))]
+
+    def pass_a_limit(self, at):
+        """Where a date can be run: contracts and a price that make a charge too large, a run, and a price that mends it."""
+        if not self.is_ready(at) or self.latest[at] == len(KINDS) - 1:
+            return []
+        period = self.draw.choice(all_periods(at))
+        rows = [f"LARGE-{number},ALFA-P,BETA-P,{DATES[at]},{period},10000.000" for number in range(11)]
+        return [
+            self.load("contracts", rows, before(at)),
+            self.load("prices", [f"{DATES[at]},{period},99999.99999"]),
+            ordered(at, self.next_kind(at), after(at)),
+            self.load("prices", [self.price(at, period)]),
+        ]
+
+    # What is asked for
+
+    def report(self, at):
+        key = OPERATOR if self.chance(95) else "alfa00001"
+        if self.chance(20):
+            return [f"report {key} balances"]
+        kind = self.draw.randint(0, max(self.latest[at], 1))
+        return [f"report {key} {self.draw.choice(('day', 'csv'))} {DATES[at]} {KINDS[kind]}"]
+
+    def visit(self, at):
+        """Some clients, with an enquiry each."""
+        return [self.enquiry(self.draw.choice(ACCOUNTS), DATES[at]) for _ in range(5)]
+
+    def enquiry(self, account, date):
+        form = self.draw.choice(("/accounts/{0}/{1}", "/balances/{0}", "/contracts/{0}/{1}", "/runs/{1}"))
+        key = self.draw.choice((OPERATOR, OPERATOR, f"{account[:-2].lower()}00001", "alfa00001"))
+        return request("GET", form.format(account, date), key)
+
+
+# The reports of each run that there may be, and the balances.
+REPORTS = [f"report {OPERATOR} {form} {date} {kind}" for date in DATES for kind in KINDS for form in ("day", "csv")]
+REPORTS += [f"report {OPERATOR} balances"]
+
+
+def replied(port, data):
+    """The reply to a client that sends this."""
+    with socket.create_connection(("127.0.0.1", port), timeout=30) as client:
+        client.sendall(data)
+        return b"".join(iter(lambda: client.recv(65_536), b""))
+
+
+def cut(lines):
+    """The replies, each with all its lines."""
+    replies = []
+    for line in lines:
+        if BEGINS.match(line) or not replies:
+            replies.append([])
+        replies[-1].append(line)
+    return [b"".join(reply) for reply in replies]
+
+
+def told(script, requests, *words):
+    """The reply to each of these requests, by one call of `settle script`. Clients are served by lines that serve."""
+    groups = [list(group) for _, group in itertools.groupby(requests, type)]
+    visits = [group for group in groups if isinstance(group[0], bytes)]
+    lines = [line for group in groups for line in (group if isinstance(group[0], str) else [f"serve 0 0 {len(group)}"])]
+    script.write_text("".join(f"{line}\n" for line in lines))
+    call = [SETTLE, "script", *map(str, words), str(script)]
+    with subprocess.Popen(call, stdin=subprocess.DEVNULL, stdout=subprocess.PIPE, stderr=subprocess.PIPE) as program:
+        try:
+            found = [*heard(program.stdout, iter(visits))]
+        except BaseException:
+            program.kill()
+            raise
+        wrong = program.stderr.read()
+    if program.returncode or wrong:
+        raise AssertionError((program.returncode, wrong))
+    return cut(found)
+
+
+def heard(output, visits):
+    """The lines that a script writes, and in the place of one that tells a port what its clients are replied."""
+    for line in output:
+        if line.startswith(b"listening "):
+            yield from (replied(int(line.rpartition(b":")[2]), data) for data in next(visits))
+        else:
+            yield line
+
+
+def first_of(rows):
+    """Some of the rows that are wrong: all would be too many to read."""
+    return sorted(rows)[:5]
+
+
+def nets_of(references, contracts):
+    """What each account sells less what it buys in each Settlement Period by these rows, in kWh, where that isn't 0."""
+    ends = {reference: (tuple(row[:2]), tuple(row[2:])) for reference, *row in references}
+    nets = collections.Counter()
+    for reference, day, period, kwh in contracts:
+        seller, buyer = ends[reference]
+        nets[(day, period, *seller)] += kwh
+        nets[(day, period, *buyer)] -= kwh
+    return {key: kwh for key, kwh in nets.items() if kwh}
+
+
+class OfficeInFile:
+    """An office in a database file that was asked the list part by part, and what its file held behind each part."""
+
+    def __init__(self, room, parts, turned=()):
+        self.database = room / "office.db"
+        room.mkdir()
+        made = settle("init", "--db", str(self.database), "--operator-key", OPERATOR)
+        if made != (0, b"ready\n", b""):
+            raise AssertionError(made)
+        self.replies, self.kept = [], []
+        for number, part in enumerate(parts):
+            if number in turned:
+                changed_by(self.database, *WITHOUT_POSITIONS)
+            self.replies += told(room / "script", part, "--db", self.database)
+            self.kept.append({table: rows_of(self.database, table) for table in BESIDE})
+
+
+class Outcome:
+    """What replies say of the requests that were asked: what was accepted, refused and run, and which Settlement Periods were
+    touched since the latest run of their date."""
+
+    def __init__(self):
+        self.files, self.ranges, self.runs, self.touched = set(), {}, collections.defaultdict(dict), set()
+        self.counts, self.later = collections.Counter(), []
+
+    def take(self, asked, reply):
+        """A request and its reply."""
+        if isinstance(asked, bytes):
+            self.counts["enquiry", int(reply.split()[1])] += 1
+            return
+        what, *words = asked.split(" ")
+        refused = re.match(rb"refused ([0-9]+) |fault ", reply)
+        if refused:
+            self.counts[what, int(refused[1] or 0)] += 1
+        elif what == "load":
+            self.load(int(words[0]), words[2], pathlib.Path(words[3]), int(reply.rpartition(b"=")[2]))
+        elif what == "run":
+            self.run(words[2], words[3], int(reply.split()[6]))
+        else:
+            self.counts["report", "told"] += 1
+
+    def load(self, moment, kind, path, late):
+        """A file that was accepted: by its rows in time, where it is new."""
+        if (kind, path.name) in self.files:
+            self.counts["load", "again"] += 1
+            return
+        self.files.add((kind, path.name))
+        self.counts[kind, "late" if late else "in time"] += 1
+        for row in test_week.rows_of(path):
+            if kind not in PLACES:
+                self.register(kind, row)
+            elif not is_late(kind, row, moment):
+                date, period = row[PLACES[kind] :][:2]
+                self.touched.add((day_number(date), int(period)))
+
+    def register(self, kind, row):
+        """A party or a unit, which joins, widens or stays as it was."""
+        dates = row[1:3] if kind == "parties" else row[4:6]
+        old = self.ranges.get(row[0])
+        self.counts[kind, "joined" if old is None else "widened" if old != dates else "stayed"] += 1
+        self.ranges[row[0]] = dates
+
+    def run(self, date, kind, accounts):
+        """A run that was made, or that was there."""
+        runs = self.runs[date]
+        if kind in runs:
+            self.counts["run", "again"] += 1
+            return
+        since = self.touched_on(date)
+        if runs:
+            self.later.append((date, len(since), accounts - list(runs.values())[-1]))
+        self.counts["run", "made"] += 1
+        runs[kind] = accounts
+        self.touched -= since
+
+    def touched_on(self, *dates):
+        days = {day_number(date) for date in dates}
+        return {at for at in self.touched if at[0] in days}
+
+
+class BothStores(unittest.TestCase):
+    """What is told over tables in memory, over a file, and over one that was turned into one of the version before."""
+
+    @classmethod
+    def setUpClass(cls):
+        need(SETTLE)
+        folder = tempfile.TemporaryDirectory()
+        cls.addClassCleanup(folder.cleanup)
+        room = pathlib.Path(folder.name)
+        asked = Requests(room / "files", SEED).draw_all()
+        cls.parts = [*(asked[place : place + PER_CALL] for place in range(0, COUNT, PER_CALL)), REPORTS]
+        cls.requests = [*asked, *REPORTS]
+        cls.in_memory = told(room / "script", cls.requests, "--operator-key", OPERATOR)
+        cls.in_file = OfficeInFile(room / "new", cls.parts)
+        cls.of_before = OfficeInFile(room / "before", cls.parts, TURNED)
+
+    def outcomes(self):
+        """What came of the requests, behind each part."""
+        outcome, pairs = Outcome(), zip(self.requests, self.in_memory, strict=True)
+        for part in self.parts:
+            for asked, reply in itertools.islice(pairs, len(part)):
+                outcome.take(asked, reply)
+            yield outcome
+
+    def outcome(self):
+        *_, last = self.outcomes()
+        return last
+
+    def compare(self, replies):
+        """Names the first request that has another reply, and the first line of it that is another."""
+        for number, (asked, wanted, found) in enumerate(zip(self.requests, self.in_memory, replies), 1):
+            if found != wanted:
+                pairs = itertools.zip_longest(wanted.splitlines(), found.splitlines())
+                told = next(pair for pair in pairs if pair[0] != pair[1])
+                self.fail(f"request {number}, {asked}: {told[0]} in memory, {told[1]} over the file")
+        self.assertEqual(len(replies), len(self.requests))
+
+    def test_replies_over_a_file(self):
+        """Of the list, and of the reports behind it."""
+        self.compare(self.in_file.replies)
+
+    def test_replies_over_a_file_of_the_version_before(self):
+        self.compare(self.of_before.replies)
+
+    def test_loads_and_enquiries_of_the_list(self):
+        """Files of each kind are accepted, in time, late and again, and others are refused for each cause that a row may have
+        but too many."""
+        self.assertEqual(len(self.requests) - len(REPORTS), COUNT)
+        counts = self.outcome().counts
+        for kind, least in LEAST.items():
+            self.assertGreaterEqual(counts[kind, "in time"], least, kind)
+        for kind in ("contracts", "reallocations"):
+            self.assertGreaterEqual(counts[kind, "late"], 30, kind)
+        for kind in ("parties", "units"):
+            self.assertGreaterEqual(counts[kind, "widened"], 10, kind)
+        self.assertGreaterEqual(counts["load", "again"], 50)
+        refused = {cause: count for (what, cause), count in counts.items() if what == "load" and cause != "again"}
+        self.assertEqual(set(refused), {0, 20, 30, 31, 33, 34, 35, 36, 37, 38, 39, 40, 60})
+        self.assertGreaterEqual(sum(refused.values()), 200)
+        self.assertGreaterEqual(counts["enquiry", 200], 50)
+        self.assertGreaterEqual(counts["enquiry", 403] + counts["enquiry", 404], 20)
+
+    def test_runs_of_the_list(self):
+        """Of each date some Settlement Periods change between two runs and others don't. Between some runs nothing is touched,
+        and between some accounts join. Runs are told again, and refused for each cause."""
+        outcome = self.outcome()
+        counts, later = outcome.counts, outcome.later
+        self.assertEqual({date for date, touched, _ in later if 0 < touched < periods(date)}, set(DATES))
+        self.assertGreaterEqual(sum(0 < touched < periods(date) for date, touched, _ in later), 15)
+        self.assertGreaterEqual(sum(touched == periods(date) for date, touched, _ in later), 3)
+        self.assertGreaterEqual(sum(not touched for _, touched, _ in later), 5)
+        self.assertGreaterEqual(sum(joined > 0 for _, _, joined in later), 8)
+        self.assertGreaterEqual(sum(joined > 0 and not touched for _, touched, joined in later), 2)
+        self.assertGreaterEqual(counts["run", "made"], 40)
+        self.assertGreaterEqual(counts["run", "again"], 40)
+        for cause in range(50, 56):
+            self.assertGreaterEqual(counts["run", cause], 2, cause)
+        self.assertGreaterEqual(counts["report", "told"], 2 * counts["run", "made"] + 50)
+
+    def test_units_that_join(self):
+        """Of some dates a later run has more units than the one before."""
+        units = collections.defaultdict(lambda: collections.defaultdict(set))
+        for day, kind, _, unit, *_ in rows_of(self.in_file.database, "credits"):
+            units[day][kind].add(unit)
+        runs = [[units[day][kind] for kind in sorted(units[day])] for day in units]
+        self.assertGreaterEqual(sum(one < other for sets in runs for one, other in itertools.pairwise(sets)), 5)
+
+    def test_positions(self):
+        """Behind each part they are what the contracts in force come to, where that isn't 0."""
+        for office in (self.in_file, self.of_before):
+            for number, kept in enumerate(office.kept):
+                wanted = nets_of(kept["refs"], kept["contracts"])
+                found = {(tuple(key), kwh) for *key, kwh, lost in kept["positions"] if kwh or lost}
+                self.assertEqual(first_of(found ^ set(wanted.items())), [], (office.database, number))
+                self.assertEqual({lost for *_, lost in kept["positions"]}, {0})
+                self.assertEqual(kept["marks"], [(1, 1)])
+            self.assertGreater(len(found), 1000)
+
+    def test_touched_periods(self):
+        """Of each date that has a run, behind each part: over the file those of rows in time since its latest run, and no
+        other; over the file of the version before these, and perhaps others, since there all count as touched once."""
+        left = 0
+        for number, outcome in enumerate(self.outcomes()):
+            dates = [date for date, runs in outcome.runs.items() if runs]
+            wanted, days = outcome.touched_on(*dates), {day_number(date) for date in dates}
+            found = {at for at in self.in_file.kept[number]["touched"] if at[0] in days}
+            self.assertEqual(first_of(found ^ wanted), [], number)
+            self.assertEqual(first_of(wanted - set(self.of_before.kept[number]["touched"])), [], number)
+            left += sum(map(periods, dates)) - len(wanted)
+        self.assertGreater(left, 1000)
+
+    def test_rows_of_both_files(self):
+        """All tables have the same rows, but for what is kept beside them. Each account is credited the sum of its credits."""
+        contents = [content_of(office.database) for office in (self.in_file, self.of_before)]
+        for table in contents[0]:
+            if table not in ("positions", "touched"):
+                self.assertEqual(first_of(set(contents[0][table]) ^ set(contents[1][table])), [], table)
+        credited = collections.Counter()
+        for day, kind, period, _, party, side, ticks in contents[0]["credits"]:
+            credited[day, kind, period, party, side] += ticks
+        self.assertEqual(first_of(row for row in contents[0]["results"] if row[5] != credited[row[:5]]), [])
+
+
+if __name__ == "__main__":
+    unittest.main()
