@@ -384,7 +384,7 @@ class Scripts(AtAFile):
                 self.assertEqual(b"".join(written + told for _, written, told in found), wanted[1])
             contents.append(content_of(self.database))
         self.assertEqual(*contents)
-        self.assertEqual({table for table, rows in contents[0].items() if not rows}, {"reallocations", "positions", "touched"})
+        self.assertEqual({table for table, rows in contents[0].items() if not rows}, {"reallocations", "touched"})
 
     def test_the_tables_stay(self):
         """A script goes on where a command or another script ended."""

@@ -352,7 +352,7 @@ class Kept(InAFile):
         self.assertEqual(self.replies_over(database, made=(OPERATOR, "45")), [])
         content = content_of(database)
         self.assertEqual(content.pop("settings"), [(1, 1, 45, OPERATOR)])
-        self.assertEqual(content.pop("marks"), [(1, 0)])
+        self.assertEqual(content.pop("marks"), [(1, 1)])
         self.assertEqual(content, dict.fromkeys(content, []))
 
     def test_the_market(self):
@@ -370,7 +370,9 @@ class Kept(InAFile):
             "refs": [("C1", "GENCO", 0, "SUPCO", 1)],
             "contracts": [("C1", TODAY, 1, 99_000)],
             "reallocations": [("G1", "SUPCO", 1, TODAY, 1, 1_250_000, -500)],
-            "marks": [(1, 0)],
+            "positions": [(TODAY, 1, "GENCO", 0, 99_000, 0), (TODAY, 1, "SUPCO", 1, -99_000, 0)],
+            "touched": [(TODAY, period) for period in range(1, 49)],
+            "marks": [(1, 1)],
         }
         content = content_of(database)
         files = {(kind, name): (body, applied, late) for kind, name, body, applied, late in content.pop("files")}
@@ -523,7 +525,8 @@ class Bad(InAFile):
                 self.assertEqual(rows_of(database, "meters"), before)
 
     def test_settings_that_are_none(self):
-        """Another version, minutes off their range, keys off their grammar, no settings."""
+        """Another version, minutes off their range, keys off their grammar, no settings; no mark, one off its range, and one that
+        says that no positions are kept where there are some."""
         database, _ = self.loaded()
         data = database.read_bytes()
         for statement in (
@@ -535,6 +538,9 @@ class Bad(InAFile):
             "UPDATE settings SET operator_key = 'genco0001000'",
             "UPDATE settings SET operator_key = 'op-settle_001'",
             "DELETE FROM settings",
+            "DELETE FROM marks",
+            "UPDATE marks SET positions = 2",
+            "UPDATE marks SET positions = 0",
         ):
             with self.subTest(statement):
                 database.write_bytes(data)

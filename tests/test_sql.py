@@ -41,7 +41,7 @@ class Questions(unittest.TestCase):
     def test_the_tables(self):
         self.assertEqual(len(self.statements), 16)
         listed = TABLE.findall(PAGE)
-        self.assertEqual(len(listed), 13)
+        self.assertEqual(len(listed), len(self.statements))
         for table, key, others in listed:
             with self.subTest(table):
                 columns = self.connection.execute(f"PRAGMA table_info({table})").fetchall()

@@ -243,27 +243,12 @@ fn write_office<S: Alter>(tx: &mut Transaction<'_, S>, alloc: Global) -> Result<
     replace_file(tx, alloc, &given(file_key())?, &file)
 }
 
-/// Whether what the transaction has written is read in it.
-fn is_read_inside<S: Alter>(
-    tx: &mut Transaction<'_, S>,
-    alloc: Global,
-    key: &PositionKey,
-) -> Result<bool, RowFault> {
-    let row = given(contract_row())?;
-    let volume = select_contract_inside(tx, alloc, &row.key)?;
-    let position = select_position_inside(tx, alloc, key)?;
-    Ok(volume == Some(row.contract.volume) && position == known(7))
-}
-
 /// Positions, one of which is put twice, touched Settlement Periods, of which those of one date are taken
 /// out again, and that positions are not kept.
 fn write_beside<S: Alter>(tx: &mut Transaction<'_, S>, alloc: Global) -> Result<(), RowFault> {
     let (key, lost) = (given(position_key())?, given(lost_key())?);
     let rows = [(key, given(known(7))?), (lost, Position::Lost)];
     replace_positions(tx, alloc, &rows)?;
-    if !is_read_inside(tx, alloc, &key)? {
-        return Err(RowFault::Store);
-    }
     replace_position(tx, alloc, &key, &given(known(-99_000))?)?;
     let (at, next) = (given(third())?, given(next_third())?);
     touch_periods(tx, alloc, &[at, next, at])?;

@@ -1,14 +1,10 @@
 -- The Settlement Periods that were touched, as the keys of rows that have nothing else.
-use Rattle.std.proofs.Common.{◌≡◌, ◌==◌, ℕ, List, [], ◌∷◌, map, filter, cond, Bool, true, false, not, is_eq, Ok, Err, Result, IfOk, Vec, refl, ap, ◌∙◌}
+use Rattle.std.proofs.Common.{◌≡◌, ◌==◌, ℕ, List, [], ◌∷◌, map, filter, cond, Bool, true, false, is_eq, Ok, Err, Result, IfOk, Vec, refl, ap, ◌∙◌}
 use Rattle.std.specs.Cmp.{unsigned_tied}
 use Rattle.std.specs.Ordering.{nat_cmp}
 use Rattle.std.specs.declared.alloc.Global.{Global}
-use Rattle.sqlite.specs.Effect.{Database}
 use Rattle.hh_rows.specs.declared.settlement_period.SettlementPeriod.{SettlementPeriod}
 use Rattle.hh_keyed_rows.specs.declared.no_columns.NoColumns.{NoColumns}
-use Rattle.hh_sqlrows.specs.Contents.{touched_periods}
-use Rattle.hh_sqlrows.specs.Forms.{Removes}
-use Rattle.hh_sqlrows.specs.OfficeTables.{touched}
 
 -- the keys of the entries whose keys pass a test are the keys that do
 keys_kept : {K V : Type 0} (p : K → Bool) (es : List (K × V)) → map (λ e. e.0) (filter (λ e. p e.0) es) ≡ filter p (map (λ e. e.0) es)

@@ -11,7 +11,7 @@ ghost use Rattle.hh_sqlrows.specs.OfficeTables.{contracts};
 ghost use Rattle.hh_sqlrows.specs.Reads.{CommitsNothingOf, IsHonest, LeavesOffice, OfOffice, StaysOpen, Stood};
 ghost use Rattle.hh_sqlrows.specs.Statements.{CommitsNothing, Inside, KeepsCommit, StaysInside};
 
-use crate::statement::{select_by, select_entries, select_first, select_first_inside, write_entry};
+use crate::statement::{select_by, select_entries, select_first, write_entry};
 use hh_keyed_rows::RowFault;
 use hh_num::Kwh;
 use hh_rows::{ContractKey, ContractRow};
@@ -68,29 +68,6 @@ pub fn select_contract<S: Alter>(
     ensures survives { CommitsNothingOf (state S.Store conn.old) (state S.Store conn.new) }
 {
     select_first(conn, alloc, CONTRACT, key)
-}
-
-/// The volume of a contract, in a transaction: as what was written in it has left it.
-pub fn select_contract_inside<S: Alter>(
-    tx: &mut Transaction<'_, S>,
-    alloc: Global,
-    key: &ContractKey,
-) -> Result<Option<Kwh>, RowFault>
-    ensures same_reference { tx.new.conn.ghost_name ≡ tx.old.conn.ghost_name }
-    ensures value { let old = state S.Store tx.old.conn.now in
-        let new = state S.Store tx.new.conn.now in
-        Inside old new (IsOffice old.now → IfOk result (λ found.
-        found ≡ find contract_key_cmp key.now (rows_under_keys contracts old.now.trees))) }
-    ensures same { let old = state S.Store tx.old.conn.now in
-        let new = state S.Store tx.new.conn.now in
-        Inside old new (IsOffice old.now → OnOk result (new.now ≡ old.now)) }
-    ensures inside { StaysInside (state S.Store tx.old.conn.now)
-        (state S.Store tx.new.conn.now) result }
-    ensures left { KeepsCommit (state S.Store tx.old.conn.now) (state S.Store tx.new.conn.now) }
-    ensures survives { CommitsNothing (state S.Store tx.old.conn.now)
-        (state S.Store tx.new.conn.now) }
-{
-    select_first_inside(tx, alloc, CONTRACT, key)
 }
 
 /// The volumes of the contracts of a date, by reference, then by period.

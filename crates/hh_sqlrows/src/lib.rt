@@ -22,10 +22,7 @@ mod taker;
 mod touched_rows;
 mod unit_rows;
 
-pub use contract_rows::{
-    replace_contract, select_contract, select_contract_inside, select_contracts,
-    select_contracts_on,
-};
+pub use contract_rows::{replace_contract, select_contract, select_contracts, select_contracts_on};
 pub use credit_rows::{insert_credit, insert_credits, select_credits_of};
 pub use file_rows::{replace_file, select_file};
 pub use make::{make_table, make_tables};
@@ -33,8 +30,7 @@ pub use meter_rows::{replace_meter, select_meter, select_meters_on};
 pub use office_rows::{insert_mark, insert_settings, replace_mark, select_mark, select_settings};
 pub use party_rows::{give_parties, replace_party, select_parties, select_party};
 pub use position_rows::{
-    replace_position, replace_positions, select_position, select_position_inside, select_positions,
-    select_positions_on,
+    replace_position, replace_positions, select_position, select_positions, select_positions_on,
 };
 pub use posting_rows::{give_postings, insert_posting, insert_postings, select_postings};
 pub use price_rows::{replace_price, select_price, select_prices_on};

@@ -11,7 +11,7 @@ ghost use Rattle.hh_sqlrows.specs.OfficeTables.{positions};
 ghost use Rattle.hh_sqlrows.specs.Reads.{CommitsNothingOf, IsHonest, LeavesOffice, OfOffice, StaysOpen, Stood};
 ghost use Rattle.hh_sqlrows.specs.Statements.{CommitsNothing, Inside, KeepsCommit, StaysInside};
 
-use crate::statement::{select_by, select_entries, select_first, select_first_inside, write_entry};
+use crate::statement::{select_by, select_entries, select_first, write_entry};
 use hh_keyed_rows::RowFault;
 use hh_rules::{Position, PositionKey};
 use hh_time::SettlementDate;
@@ -90,30 +90,6 @@ pub fn select_position<S: Alter>(
     ensures survives { CommitsNothingOf (state S.Store conn.old) (state S.Store conn.new) }
 {
     select_first(conn, alloc, POSITION, key)
-}
-
-/// The position of an account in a Settlement Period, in a transaction: as what was written in it has left
-/// it.
-pub fn select_position_inside<S: Alter>(
-    tx: &mut Transaction<'_, S>,
-    alloc: Global,
-    key: &PositionKey,
-) -> Result<Option<Position>, RowFault>
-    ensures same_reference { tx.new.conn.ghost_name ≡ tx.old.conn.ghost_name }
-    ensures value { let old = state S.Store tx.old.conn.now in
-        let new = state S.Store tx.new.conn.now in
-        Inside old new (IsOffice old.now → IfOk result (λ found.
-        found ≡ find position_key_cmp key.now (rows_under_keys positions old.now.trees))) }
-    ensures same { let old = state S.Store tx.old.conn.now in
-        let new = state S.Store tx.new.conn.now in
-        Inside old new (IsOffice old.now → OnOk result (new.now ≡ old.now)) }
-    ensures inside { StaysInside (state S.Store tx.old.conn.now)
-        (state S.Store tx.new.conn.now) result }
-    ensures left { KeepsCommit (state S.Store tx.old.conn.now) (state S.Store tx.new.conn.now) }
-    ensures survives { CommitsNothing (state S.Store tx.old.conn.now)
-        (state S.Store tx.new.conn.now) }
-{
-    select_first_inside(tx, alloc, POSITION, key)
 }
 
 /// The positions of a date, by period, then by account.

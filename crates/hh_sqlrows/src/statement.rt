@@ -188,60 +188,6 @@ pub(crate) fn select_first<S: Alter, K: Columned + Drop, V: Columned + Drop>(
     }
 }
 
-/// The keys and the values that a text selects by parameters, in a transaction.
-fn select_inside<S: Alter, K: Columned + Drop, V: Columned + Drop>(
-    tx: &mut Transaction<'_, S>,
-    alloc: Global,
-    text: &str,
-    params: &[ValueRef<'_>],
-) -> Result<Vec<(K, V)>, RowFault>
-    ensures same_reference { tx.new.conn.ghost_name ≡ tx.old.conn.ghost_name }
-    ensures read { let old = state S.Store tx.old.conn.now in
-        let new = state S.Store tx.new.conn.now in
-        Inside old new (IfOk result (λ found.
-        IsRead K.codec V.codec text.now (bound params.now) old new found.items)) }
-    ensures same { let old = state S.Store tx.old.conn.now in
-        let new = state S.Store tx.new.conn.now in
-        Inside old new (IsPlainOf old text.now → OnOk result (new.now ≡ old.now)) }
-    ensures inside { StaysInside (state S.Store tx.old.conn.now)
-        (state S.Store tx.new.conn.now) result }
-    ensures left { KeepsCommit (state S.Store tx.old.conn.now) (state S.Store tx.new.conn.now) }
-    ensures survives { CommitsNothing (state S.Store tx.old.conn.now)
-        (state S.Store tx.new.conn.now) }
-{
-    match tx.query_all(text, params) {
-        Ok(rows) => read_entries(alloc, rows.as_slice()),
-        Err(error) => Err(RowFault::from(error)),
-    }
-}
-
-/// The value of the first row that a text selects by its key, in a transaction.
-pub(crate) fn select_first_inside<S: Alter, K: Columned + Drop, V: Columned + Drop>(
-    tx: &mut Transaction<'_, S>,
-    alloc: Global,
-    text: &str,
-    key: &K,
-) -> Result<Option<V>, RowFault>
-    ensures same_reference { tx.new.conn.ghost_name ≡ tx.old.conn.ghost_name }
-    ensures found { let old = state S.Store tx.old.conn.now in
-        let new = state S.Store tx.new.conn.now in
-        Inside old new (IfOk result (λ value.
-        IsFirst K.codec V.codec text.now (K.codec.write key.now) old new value)) }
-    ensures same { let old = state S.Store tx.old.conn.now in
-        let new = state S.Store tx.new.conn.now in
-        Inside old new (IsPlainOf old text.now → OnOk result (new.now ≡ old.now)) }
-    ensures inside { StaysInside (state S.Store tx.old.conn.now)
-        (state S.Store tx.new.conn.now) result }
-    ensures left { KeepsCommit (state S.Store tx.old.conn.now) (state S.Store tx.new.conn.now) }
-    ensures survives { CommitsNothing (state S.Store tx.old.conn.now)
-        (state S.Store tx.new.conn.now) }
-{
-    let mut params = Vec::new(alloc);
-    key.to_columns(&mut params)?;
-    let found = select_inside(tx, alloc, text, params.as_slice())?;
-    Ok(value_of_first::<K, V>(found))
-}
-
 /// The value of the first entry.
 fn value_of_first<K: Drop, V: Drop>(found: Vec<(K, V)>) -> Option<V>
     ensures { result ≡ option_map (λ e. e.1) (slice_get found.items 0) }
