@@ -541,7 +541,7 @@ class BothStores(unittest.TestCase):
             self.assertGreaterEqual(counts[kind, "widened"], 10, kind)
         self.assertGreaterEqual(counts["load", "again"], 50)
         refused = {cause: count for (what, cause), count in counts.items() if what == "load" and cause != "again"}
-        self.assertEqual(set(refused), {0, 20, 30, 31, 33, 34, 35, 36, 37, 38, 39, 40, 60})
+        self.assertEqual(set(refused), {0, 14, 20, 30, 31, 33, 34, 35, 36, 37, 38, 39, 40, 60})
         self.assertGreaterEqual(sum(refused.values()), 200)
         self.assertGreaterEqual(counts["enquiry", 200], 50)
         self.assertGreaterEqual(counts["enquiry", 403] + counts["enquiry", 404], 20)
