@@ -265,6 +265,9 @@ fn hold<S: Alter>(
     connection: &mut Connection<S>,
     held: &[(PositionKey, Position); 2],
 ) -> Result<(), RowFault> {
+    if !connection.is_autocommit() {
+        return Err(RowFault::Store);
+    }
     let mut tx = connection.transaction();
     replace_positions(&mut tx, alloc, held)?;
     match tx.commit() {
