@@ -18,7 +18,8 @@ import unittest.mock
 import test_desk
 import test_reports
 from programs import BENCH, HOME, as_nobody, need, settle
-from test_desk import DAY, DEADLINE, DEARER, EARLY, END, LOADED, MARKET, NEXT_END, OPERATOR, SETTLED, START, Desk, text_of
+from test_desk import APPLIED, DAY, DEADLINE, DEARER, EARLY, END, LATE, LOADED, MARKET, NEXT_END, OPERATOR, SETTLED, START
+from test_desk import Desk, text_of
 from test_reports import BALANCES, DAY_REPORT, RESULTS, balances, report
 
 STORE = "refused 91 Store"
