@@ -611,6 +611,59 @@ class Clients(Served):
             self.assertEqual(self.read(stalled), b"")
         self.assertEqual(self.rest(), [])
 
+    def send_on(self, client, piece, count):
+        """Sends a piece over and over, each by itself, so often or until it is taken no more. How often it was sent."""
+        client.setsockopt(socket.IPPROTO_TCP, socket.TCP_NODELAY, 1)
+        for sent in range(count):
+            try:
+                client.sendall(piece)
+            except OSError:
+                return sent
+            time.sleep(0.0003)
+        return count
+
+    def test_one_that_sends_byte_by_byte(self):
+        """A client is read 4,096 times in all. One whose body comes a byte at a time is given up then, without a reply, and
+        isn't read on; the next is answered."""
+        self.serve(2)
+        with self.connect() as slow:
+            slow.sendall(request("POST", "/files/prices/slow.csv", OPERATOR, headers=["Content-Length: 1048576"]))
+            sent = self.send_on(slow, b"x", 100_000)
+            self.assertTrue(4_095 <= sent < 8_000, sent)
+            try:
+                self.assertEqual(self.read(slow), b"")
+            except ConnectionResetError:
+                pass
+        self.assertEqual(self.ask(request("GET", "/balances/SUPCO-C", SUPCO)), reply(200, MOVED))
+        self.assertEqual(self.rest(), [])
+
+    def test_one_that_sends_on_byte_by_byte(self):
+        """What is read of it behind its reply is among the 4,096 reads."""
+        self.serve(2)
+        with self.connect() as client:
+            client.sendall(request("POST", "/files/prices/slow.csv", OPERATOR, headers=["Content-Length: 1048577"]))
+            self.assertEqual(self.read(client), TOO_LARGE)
+            sent = self.send_on(client, b"x", 100_000)
+            self.assertTrue(4_095 <= sent < 8_000, sent)
+        self.assertEqual(self.ask(request("GET", "/balances/SUPCO-C", SUPCO)), reply(200, MOVED))
+        self.assertEqual(self.rest(), [])
+
+    def test_a_file_in_little_pieces(self):
+        """The largest file comes in 3,496 pieces of 300 bytes, and each of its rows is loaded, which stand all over it: empty
+        lines are behind each."""
+        rows = [f"C{number},GENCO-P,SUPCO-C,{DAY},1,0" for number in range(1_000)]
+        body = b"".join(line.ljust(1_000, b"\n") for line in text_of("contracts", rows).splitlines())
+        body = body.ljust(1_048_576, b"\n")
+        asked = request("POST", "/files/contracts/little.csv", OPERATOR, body)
+        self.serve(1, moment=EARLY, before=self.market())
+        with self.connect() as client:
+            client.setsockopt(socket.IPPROTO_TCP, socket.TCP_NODELAY, 1)
+            for start in range(0, len(asked), 300):
+                client.sendall(asked[start : start + 300])
+                time.sleep(0.0001)
+            self.assertEqual(self.read(client), reply(200, '{"applied":1000,"late":0}'))
+        self.assertEqual(self.rest(), [])
+
     def test_closing_is_quick(self):
         """A client that closes when it has its reply lets the next be answered at once: no silence is awaited."""
         self.serve(20)

@@ -1,11 +1,11 @@
-//! What no clause says: that a connection of the loopback is had, and what goes over it; and that what went out over one in memory is
-//! kept.
+//! What no clause says: that a connection of the loopback is had, and what goes over it; that what went out over one in memory is
+//! kept; and a reader that is read as often as it may be.
 
-use hh_devices::{Sink, Source};
+use hh_devices::{DeviceFailed, Sink, Source, StreamSource};
 use hh_sockets::*;
 use std::cell::RefCell;
 use std::io;
-use std::io::Write;
+use std::io::{Cursor, Write};
 use std::net::{Ipv4Addr, TcpStream};
 use std::test::Fail;
 
@@ -73,5 +73,18 @@ fn connections_in_memory_come_in_their_order(rt: HostRuntime) -> Result<(), Fail
     assert_eq!(&rt; kept.len(), 2);
     assert_eq!(&rt; kept[0].taken(), b"hello".as_slice());
     assert_eq!(&rt; kept[1].taken(), b"bye".as_slice());
+    Ok(())
+}
+
+#[test]
+fn a_counted_reader_fails_once_its_reads_are_made(rt: HostRuntime) -> Result<(), Fail> {
+    let hello = Cursor::new(b"hello".as_slice());
+    let mut source = StreamSource::new(CountedReader::new(hello, 2));
+    let mut piece = [0u8; 2];
+    for wanted in [Ok(2), Ok(2), Err(DeviceFailed), Err(DeviceFailed)] {
+        assert_eq!(rt; source.read(&mut piece), wanted);
+    }
+    assert_eq!(rt; source.failures(), 2);
+    assert_eq!(rt; source.into_inner().reads_left(), 0);
     Ok(())
 }

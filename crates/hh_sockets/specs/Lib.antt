@@ -1,3 +1,4 @@
 pub mod Arrivals
+pub mod CountedReader
 pub mod Memory
 pub mod Ports

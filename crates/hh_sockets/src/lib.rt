@@ -1,10 +1,12 @@
 //! Connections that are awaited on ports of this machine's loopback.
 #![tactic(auto)]
 
+mod counted_reader;
 mod loopback;
 mod memory;
 mod runtime;
 
+pub use counted_reader::CountedReader;
 pub use loopback::{Connection, Listener, Loopback, Received, SocketFailed};
 pub use memory::{MemoryListener, MemoryLoopback, MemoryPort};
 pub use runtime::{RuntimeListener, RuntimeLoopback};
