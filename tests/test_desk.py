@@ -734,6 +734,26 @@ class Texts(Desk):
         ):
             self.assertEqual(self.after_market(self.load("meters", data)), [wanted])
 
+    def test_marks_and_quotes(self):
+        """A file of readings may begin with one byte order mark, and a field may stand in quotes. What a quote opens and
+        none closes is one field, to the end of the file."""
+        header, mark = text_of("meters", []), "\ufeff".encode()
+        rest = f",{DAY},1,1,1,0\n".encode()
+        for data, wanted in (
+            (mark + header + b"G1" + rest, APPLIED),
+            (mark * 2 + header + b"G1" + rest, "refused 12 BadHeader"),
+            (mark + b"\n" + mark + header + b"G1" + rest, "refused 12 BadHeader"),
+            (header + mark + b"G1" + rest, "refused 14 BadField row 1 column 1"),
+            (header + b'"G1"' + rest, APPLIED),
+            (header + b'"G2"' + rest, "refused 31 UnknownUnit row 1"),
+            (header + b'"G1' + rest, "refused 13 BadRecord row 1"),
+            (header + b'"G1' + rest + b"G1" + rest, "refused 13 BadRecord row 1"),
+            (header + b"G1" + rest + b'"G1' + rest, "refused 13 BadRecord row 2"),
+            (header + b"G1" + rest.replace(b"0\n", b'"0\n'), "refused 14 BadField row 1 column 6"),
+        ):
+            with self.subTest(data):
+                self.assertEqual(self.after_market(self.load("meters", data)), [wanted])
+
     def test_bytes_that_are_no_text(self):
         header = text_of("meters", [])
         rest = f",{DAY},1,1,1,0\n".encode()

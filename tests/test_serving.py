@@ -299,11 +299,13 @@ class Replies(Served):
         changed = rows.replace(b"1.000", b"2.000")
         bad = text_of("contracts", [f"C3,GENCO-P,SUPCO-C,{DAY},2,1.000", f"C4,GENCO-P,GENCO-P,{DAY},2,1.000"])
         field = text_of("contracts", [f"C5,GENCO-P,SUPCO-C,{DAY},2,1.0000"])
-        self.serve(7, f"load 0 {OPERATOR} contracts {self.path('c2.csv', rows)}", moment=EARLY)
+        self.serve(8, f"load 0 {OPERATOR} contracts {self.path('c2.csv', rows)}", moment=EARLY)
         loaded = reply(200, '{"applied":1,"late":0}')
+        self.assertEqual(len(loaded), 112)
         path = "/files/contracts/c2.csv"
         self.assertEqual(self.ask(request("POST", path, OPERATOR, rows)), loaded)
         self.assertEqual(self.ask(request("POST", path, OPERATOR, rows)), loaded)
+        self.assertEqual(self.ask(request("POST", path, OPERATOR, rows, headers=["Expect: 100-continue"])), loaded)
         self.assertEqual(self.ask(request("POST", path, OPERATOR, changed)), reply(409, refusal(20, "FileChanged")))
         self.assertEqual(self.ask(request("POST", path, GENCO, rows)), reply(403, refusal(60, "Forbidden")))
         same = refusal(35, "SameAccount", behind=',"row":2')
@@ -460,6 +462,7 @@ class Refusals(Served):
             (b"POST /files/meters/a.csv", b"", self.LENGTH),
             (b"POST /files/meters/a.csv", b"Expect: 100-continue\r\n", self.LENGTH),
             (b"POST /files/meters/a.csv", b"Content-Length: 0\r\n", self.ASKED),
+            (b"POST /files/meters/a.csv", b"Content-Length: 0\r\nExpect: 100-continue\r\n", self.ASKED),
         )
         self.compare([(self.sent(start, lines), wanted) for start, lines, wanted in cases])
 
