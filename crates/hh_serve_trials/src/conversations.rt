@@ -26,6 +26,31 @@ pub const LOADED: &[u8] =
     b"HTTP/1.1 200 OK\r\nContent-Type: application/json\r\nContent-Length: 22\r\n\
     Connection: close\r\n\r\n{\"applied\":2,\"late\":0}";
 
+/// The operator sends the file of a contract between them.
+pub const CONTRACT: &[u8] = b"POST /files/contracts/c1.csv HTTP/1.1\r\nHost: localhost\r\n\
+    x-office-key: op-settle001\r\nContent-Length: 78\r\n\r\n\
+    reference,seller,buyer,date,period,mwh\nC1,GENCO-P,SUPCO-C,2024-07-01,1,98.000\n";
+
+/// The reply, also to one that comes again.
+pub const CONTRACTED: &[u8] =
+    b"HTTP/1.1 200 OK\r\nContent-Type: application/json\r\nContent-Length: 22\r\n\
+    Connection: close\r\n\r\n{\"applied\":1,\"late\":0}";
+
+/// The seller asks for its contracts.
+pub const CONTRACTS: &[u8] =
+    b"GET /contracts/GENCO-P/2024-07-01 HTTP/1.1\r\nHost: localhost\r\nx-office-key: genco0001\r\n\r\n";
+
+/// The reply as long as that file was not loaded.
+pub const NO_CONTRACT: &[u8] =
+    b"HTTP/1.1 200 OK\r\nContent-Type: application/json\r\nContent-Length: 56\r\n\
+    Connection: close\r\n\r\n{\"account\":\"GENCO-P\",\"contracts\":[],\"date\":\"2024-07-01\"}";
+
+/// The reply once it is.
+pub const ONE_CONTRACT: &[u8] =
+    b"HTTP/1.1 200 OK\r\nContent-Type: application/json\r\nContent-Length: 141\r\n\
+    Connection: close\r\n\r\n{\"account\":\"GENCO-P\",\"contracts\":[{\"counterparty\":\"SUPCO-C\",\
+    \"mwh\":\"98.000\",\"period\":1,\"reference\":\"C1\",\"role\":\"seller\"}],\"date\":\"2024-07-01\"}";
+
 /// One of them asks for the balance of its own account.
 pub const BALANCE: &[u8] =
     b"GET /balances/SUPCO-C HTTP/1.1\r\nHost: localhost\r\nx-office-key: supco0001\r\n\r\n";

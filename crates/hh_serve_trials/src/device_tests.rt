@@ -46,12 +46,47 @@ fn requests_in_pieces_get_their_replies_in_time(rt: HostRuntime) -> Result<(), F
     Ok(())
 }
 
-/// Whether a file that is cut behind so many bytes is refused, one whose read fails there is told, and nothing is done for
-/// either. Nothing goes out where nothing came.
-fn is_left(alloc: Global, piece: usize, read_fails: usize) -> bool {
+/// A request to an office in some state: what brings the office there, the request, and an enquiry that tells whether it
+/// was handled, as it is answered where it wasn't and where it was.
+#[derive(Clone, Copy)]
+struct Scene<'a> {
+    before: Conversation<'a>,
+    request: Conversation<'a>,
+    left: Conversation<'a>,
+    done: Conversation<'a>,
+}
+
+/// Two files that are loaded, and an enquiry.
+fn scenes() -> [Scene<'static>; 3] {
+    [
+        Scene {
+            before: Conversation::of(BALANCE, FORBIDDEN),
+            request: Conversation::of(LOAD, LOADED),
+            left: Conversation::of(BALANCE, FORBIDDEN),
+            done: Conversation::of(BALANCE, BALANCED),
+        },
+        Scene {
+            before: Conversation::of(LOAD, LOADED),
+            request: Conversation::of(CONTRACT, CONTRACTED),
+            left: Conversation::of(CONTRACTS, NO_CONTRACT),
+            done: Conversation::of(CONTRACTS, ONE_CONTRACT),
+        },
+        Scene {
+            before: Conversation::of(LOAD, LOADED),
+            request: Conversation::of(BALANCE, BALANCED),
+            left: Conversation::of(BALANCE, BALANCED),
+            done: Conversation::of(BALANCE, BALANCED),
+        },
+    ]
+}
+
+/// Whether a request that is cut behind so many bytes is refused, one whose read fails there is told, and nothing is done
+/// for either. Nothing goes out where nothing came.
+fn is_left(alloc: Global, scene: &Scene<'_>, piece: usize, read_fails: usize) -> bool {
+    let sends = scene.request.sends;
     let cut = Conversation {
         piece,
-        ..Conversation::refused(LOAD.get(..read_fails).unwrap_or_default(), BAD_REQUEST)
+        ..Conversation::refused(sends.get(..read_fails).unwrap_or_default(), BAD_REQUEST)
     };
     let closed = Conversation {
         served: Ok(Served::Closed),
@@ -62,55 +97,54 @@ fn is_left(alloc: Global, piece: usize, read_fails: usize) -> bool {
         read_fails,
         served: Err(ServeFault::Read),
         failed_reads: 1,
-        ..Conversation::of(LOAD, b"")
+        ..Conversation::of(sends, b"")
     };
     let first = if read_fails == 0 { closed } else { cut };
-    all_come(
-        alloc,
-        &[first, failing, Conversation::of(BALANCE, FORBIDDEN)],
-    )
+    all_come(alloc, &[scene.before, first, failing, scene.left])
 }
 
 #[test]
 fn nothing_is_done_for_a_request_that_is_cut_or_whose_read_fails(
     rt: HostRuntime,
 ) -> Result<(), Fail> {
-    for count in 0..LOAD.len() {
-        for piece in [1, 7, WHOLE] {
-            assert!(rt; is_left(rt.alloc(), piece, count));
+    for scene in &scenes() {
+        for count in 0..scene.request.sends.len() {
+            for piece in [1, 7, WHOLE] {
+                assert!(rt; is_left(rt.alloc(), scene, piece, count));
+            }
         }
     }
     Ok(())
 }
 
-/// Whether a file is loaded by a client with so much room, a write to which fails behind so many bytes: that is told, a
-/// beginning of the reply went out, and the file gets the same reply when it comes again.
-fn is_loaded(alloc: Global, room: usize, write_fails: usize) -> bool {
+/// Whether a request is handled of a client with so much room, a write to which fails behind so many bytes: that is told, a
+/// beginning of the reply went out, and the request gets the same reply when it comes again, which changes nothing.
+fn is_handled(alloc: Global, scene: &Scene<'_>, room: usize, write_fails: usize) -> bool {
+    let reply = scene.request.gets;
     let failing = Conversation {
         piece: 7,
         write_fails,
         room,
         served: Err(ServeFault::Write),
         failed_writes: 1,
-        ..Conversation::of(
-            LOAD,
-            LOADED.get(..room.min(write_fails)).unwrap_or_default(),
-        )
+        gets: reply.get(..room.min(write_fails)).unwrap_or_default(),
+        ..scene.request
     };
-    let again = Conversation::of(LOAD, LOADED);
     all_come(
         alloc,
-        &[failing, again, Conversation::of(BALANCE, BALANCED)],
+        &[scene.before, failing, scene.done, scene.request, scene.done],
     )
 }
 
 #[test]
-fn a_failed_write_is_told_and_the_file_may_come_again(rt: HostRuntime) -> Result<(), Fail> {
-    for count in 0..LOADED.len() {
-        assert!(rt; is_loaded(rt.alloc(), WHOLE, count));
+fn a_failed_write_is_told_and_the_request_may_come_again(rt: HostRuntime) -> Result<(), Fail> {
+    for scene in &scenes() {
+        for count in 0..scene.request.gets.len() {
+            assert!(rt; is_handled(rt.alloc(), scene, WHOLE, count));
 
-        // One with no more room takes nothing.
-        assert!(rt; is_loaded(rt.alloc(), count, WHOLE));
+            // One with no more room takes nothing.
+            assert!(rt; is_handled(rt.alloc(), scene, count, WHOLE));
+        }
     }
     Ok(())
 }
