@@ -33,6 +33,14 @@ def need(program):
         raise AssertionError(f"no program at {program}: ./check builds it, and so does ./settle for hh_settle")
 
 
+def refusing_library(folder):
+    """Builds what refuses memory, `failing_malloc.c`, in a folder. Gives its path."""
+    library = str(pathlib.Path(folder) / "failing_malloc.so")
+    source = str(HOME / "tests" / "failing_malloc.c")
+    subprocess.run(["cc", "-shared", "-fPIC", "-O1", "-o", library, source], check=True)
+    return library
+
+
 def settle(*words, **how):
     """The status of `settle` with these words, and what it wrote on standard output and error."""
     made = subprocess.run([SETTLE, *words], stdin=subprocess.DEVNULL, capture_output=True, **how)

@@ -18,7 +18,7 @@ import tempfile
 import unittest
 
 from openapi import Description
-from programs import BENCH, CONTRACTS, HOME, METER, SETTLE, need
+from programs import BENCH, CONTRACTS, HOME, METER, SETTLE, need, refusing_library
 from test_http import LISTENING, PATIENCE, parts_of
 from test_serving import refusal, reply, request
 
@@ -250,9 +250,7 @@ class Refused(unittest.TestCase):
         room = tempfile.TemporaryDirectory()
         cls.addClassCleanup(room.cleanup)
         cls.room = pathlib.Path(room.name)
-        cls.preloaded, cls.note = str(cls.room / "failing_malloc.so"), cls.room / "refused"
-        source = str(HOME / "tests" / "failing_malloc.c")
-        subprocess.run(["cc", "-shared", "-fPIC", "-O1", "-o", cls.preloaded, source], check=True)
+        cls.preloaded, cls.note = refusing_library(cls.room), cls.room / "refused"
 
     def run_once(self, call, fail_at):
         """The status of a call, what it wrote, and the lines that it told, without nanoseconds."""

@@ -1,9 +1,29 @@
 //! The program `hh_bench`.
 #![tactic(auto)]
 
-use hh_office_measures::run;
+use hh_measures::{MeasureStop, tell, words_of};
+use hh_mutations::{is_mutations, mutate};
+use hh_office_measures::measure_office;
+use hh_refused_memory::{is_refuse, refuse};
 use std::process::ExitCode;
 
+/// The exit status is 0 where all was done and told, 2 for words that form no command, and 1 for everything else, with a
+/// line on standard error.
 fn main(rt: HostRuntime) -> ExitCode {
-    ExitCode::from(run(&rt))
+    match done(&rt) {
+        Ok(()) => ExitCode::SUCCESS,
+        Err(stop) => ExitCode::from(tell(&rt, stop)),
+    }
+}
+
+/// Does what the program's words ask for.
+fn done(rt: &HostRuntime) -> Result<(), MeasureStop> {
+    let words = words_of(rt)?;
+    if is_mutations(&words) {
+        mutate(rt, &words)
+    } else if is_refuse(&words) {
+        refuse(rt, &words)
+    } else {
+        measure_office(rt, &words)
+    }
 }

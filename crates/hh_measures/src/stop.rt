@@ -8,7 +8,7 @@ use std::io;
 use std::io::{Eprint, ErrorKind};
 
 const USAGE: &str =
-    "usage: hh_bench settle TIMES | read KIND FILE TIMES | load KIND FILE [KIND FILE ..] | office DB SCRIPT [OPERATOR-KEY LEAD-MINUTES]";
+    "usage: hh_bench settle TIMES | read KIND FILE TIMES | load KIND FILE [KIND FILE ..] | office DB SCRIPT [OPERATOR-KEY LEAD-MINUTES] | mutate KIND FIRST COUNT FILE [FILE ..] | mutated KIND NUMBER FILE [FILE ..] | refuse WAY HOW STORE MOMENT FILE [MOMENT FILE ..]";
 
 /// Why the program ends before it is done.
 #[derive(Clone, Copy, Debug, PartialEq, Eq)]
@@ -23,6 +23,8 @@ pub enum MeasureStop {
     Input,
     /// Standard output or standard error cannot be written.
     Output,
+    /// A promise doesn't hold of an input or a call that was tried.
+    Broken,
 }
 
 impl MeasureStop {
@@ -71,6 +73,7 @@ pub fn tell<R: Eprint>(rt: &R, stop: MeasureStop) -> u8
         MeasureStop::NotReady => eprintln!(rt; "fault period"),
         MeasureStop::Input => eprintln!(rt; "fault input"),
         MeasureStop::Output => eprintln!(rt; "fault output"),
+        MeasureStop::Broken => eprintln!(rt; "fault promise"),
     };
     if stop == MeasureStop::Words { 2 } else { 1 }
 }

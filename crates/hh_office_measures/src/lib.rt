@@ -8,34 +8,20 @@
 //! standard error, and then those of all the rest.
 #![tactic(auto)]
 
-ghost use Rattle.std.specs.Prelude.{◌≤◌};
-
 mod files;
 mod office;
 mod words;
 
-use hh_measures::{MeasureStop, measure, tell, words_of};
+use hh_measures::{MeasureStop, measure};
 use office::run_office;
 use words::{is_office, paths_in, settings_in};
 
-/// Does what the program's words ask for, and gives its exit status: 0 where all was done and told, 2
-/// for words that form no command, and 1 for everything else, with a line on standard error.
-pub fn run(rt: &HostRuntime) -> u8
-    ensures status { result ≤ 2 }
-{
-    match done(rt) {
-        Ok(()) => 0,
-        Err(stop) => tell(rt, stop),
+/// Does what the program's words ask for, its own name in front: of this command, or of those of `hh_measures`.
+pub fn measure_office(rt: &HostRuntime, words: &[String]) -> Result<(), MeasureStop> {
+    if !is_office(words) {
+        return measure(rt, words);
     }
-}
-
-/// Does what the program's words ask for.
-fn done(rt: &HostRuntime) -> Result<(), MeasureStop> {
-    let words = words_of(rt)?;
-    if !is_office(&words) {
-        return measure(rt, &words);
-    }
-    let settings = settings_in(&words)?;
-    let paths = paths_in(&words)?;
+    let settings = settings_in(words)?;
+    let paths = paths_in(words)?;
     run_office(rt, paths, settings)
 }

@@ -1,0 +1,31 @@
+//! What inputs and questions are answered.
+
+use hh_names::Refusal;
+
+/// What an input or a question came to.
+#[derive(Clone, Copy, Debug, PartialEq, Eq)]
+pub(crate) enum Answer {
+    /// It was read, or answered.
+    Answered,
+    /// Nothing was asked.
+    Closed,
+    /// A line of a script is off its form.
+    Off,
+    /// It was refused.
+    Refused(Refusal),
+}
+
+/// A number below which the number of each answer is.
+pub(crate) const ANSWERS: usize = 100;
+
+impl Answer {
+    /// The number by which answers are counted: that of a refusal, or a smaller one than any refusal has.
+    pub(crate) fn number(self) -> u8 {
+        match self {
+            Answer::Answered => 0,
+            Answer::Closed => 1,
+            Answer::Off => 2,
+            Answer::Refused(refusal) => refusal.number(),
+        }
+    }
+}

@@ -1,0 +1,26 @@
+//! What scripts may be answered.
+
+use crate::answer::Answer;
+use hh_script::{ScriptFault, read_script};
+use std::alloc::Global;
+
+/// What the bytes of a script come to, if they come to it twice and may come to it.
+pub(crate) fn script_answer(alloc: Global, bytes: &[u8]) -> Option<Answer> {
+    let read = read_script(alloc, bytes);
+    if read != read_script(alloc, bytes) {
+        return None;
+    }
+    match read {
+        Ok(lines) if lines.len() <= most_lines(bytes) => Some(Answer::Answered),
+        Err(ScriptFault::Off { line }) if (1..=most_lines(bytes)).contains(&line) => {
+            Some(Answer::Off)
+        }
+        _ => None,
+    }
+}
+
+/// How many lines bytes have at most: one for each that is ended, and the last.
+fn most_lines(bytes: &[u8]) -> usize {
+    let ends = bytes.iter().filter(|byte| **byte == b'\n').count();
+    ends.saturating_add(1)
+}
