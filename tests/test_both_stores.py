@@ -100,12 +100,12 @@ class Requests:
             self.visit: 2,
         }
 
-    def draw_all(self):
+    def draw_all(self, count):
         made = self.first()
-        while len(made) < COUNT:
+        while len(made) < count:
             (make,) = self.draw.choices(list(self.makers), self.makers.values())
             made += make(self.draw.randrange(len(DATES)))
-        return made[:COUNT]
+        return made[:count]
 
     def chance(self, percent):
         return self.draw.randrange(100) < percent
@@ -493,7 +493,7 @@ class BothStores(unittest.TestCase):
         folder = tempfile.TemporaryDirectory()
         cls.addClassCleanup(folder.cleanup)
         room = pathlib.Path(folder.name)
-        asked = Requests(room / "files", SEED).draw_all()
+        asked = Requests(room / "files", SEED).draw_all(COUNT)
         cls.parts = [*(asked[place : place + PER_CALL] for place in range(0, COUNT, PER_CALL)), REPORTS]
         cls.requests = [*asked, *REPORTS]
         cls.in_memory = told(room / "script", cls.requests, "--operator-key", OPERATOR)

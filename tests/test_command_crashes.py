@@ -1,5 +1,6 @@
 """Commands on an office in a database file that come at once, that are killed, or whose disk is full or memory refused:
-the file is whole."""
+the file is whole. Services that are killed at random moments are in test_kill.py."""
+import contextlib
 import itertools
 import os
 import resource
@@ -11,12 +12,14 @@ import subprocess
 import time
 import unittest
 
-from programs import HOME
+from killing import connect, replied
+from programs import HOME, settle
 from test_command_faults import EXISTS, NO_FILE, PATIENCE, STORE, Faults
-from test_commands import answer
+from test_commands import answer, words_of
 from test_database import TODAY, content_of, rows_of
-from test_desk import APPLIED, DAY, EARLY, END, LOADED, MARKET, OPERATOR, SETTLED, text_of
+from test_desk import APPLIED, DAY, DEARER, EARLY, END, LOADED, MARKET, OPERATOR, SETTLED, text_of
 from test_reports import BALANCES, DAY_REPORT, balances
+from test_serving import reply, request
 
 NO_MEMORY = answer("refused 90 Memory")
 MOST_CALLS, MOST_ALLOCATIONS = 5000, 1_000_000
@@ -178,66 +181,126 @@ class Killed(Ended):
                 self.assertEqual(list(self.room.glob("new.db*")), [])
         self.init()
 
-    def test_one_that_serves(self):
-        """A service is ended by a signal. What it has answered stays."""
+    def kill_serving(self):
+        """A service makes a run and is killed."""
         serving = self.start("serve", "--port=0", f"--at={END}")
         port = int(serving.stdout.readline().decode().rpartition(":")[2])
-        with socket.create_connection(("127.0.0.1", port), timeout=PATIENCE) as client:
-            client.sendall(f"POST /runs/{DAY}/SF HTTP/1.1\r\nHost: a\r\nx-office-key: {OPERATOR}\r\n\r\n".encode())
-            got = b"".join(iter(lambda: client.recv(65_536), b""))
+        got = replied(connect(port), request("POST", f"/runs/{DAY}/SF", OPERATOR))
         self.assertTrue(got.startswith(b"HTTP/1.1 200 OK\r\n"), got)
         serving.kill()
         serving.communicate(timeout=PATIENCE)
+
+    def test_one_that_serves(self):
+        """A service is ended by a signal. What it has answered stays."""
+        self.kill_serving()
         self.answers(balances(), "account,moved_pence\nGENCO-P,38\nGENCO-C,0\nSUPCO-P,0\nSUPCO-C,-38")
         self.assertEqual(rows_of(self.database, "runs"), [(TODAY, 0, 48, 4, 5050, 2)])
+
+    def test_the_log_of_one_that_was_killed(self):
+        """It has what was answered, and the file has it once another command has ended. `sqlite3` reads both."""
+        self.kill_serving()
+        without, beside = self.room / "without.db", self.room / "beside.db"
+        for copy in (without, beside):
+            shutil.copy(self.database, copy)
+        shutil.copy(f"{self.database}-wal", f"{beside}-wal")
+        self.assertEqual(rows_of(without, "runs"), [])
+        with contextlib.closing(sqlite3.connect(f"file:{beside}?mode=ro", uri=True)) as connection:
+            self.assertEqual(len(connection.execute("SELECT * FROM runs").fetchall()), 1)
+        self.assertEqual(self.command("report", "--key", OPERATOR, "balances"), (0, BALANCES.encode(), b""))
+        shutil.copy(self.database, without)
+        self.assertEqual(len(rows_of(without, "runs")), 1)
 
 
 @unittest.skipUnless(shutil.which("cc"), "no C compiler `cc` is on the path, so no call was cut off")
 class KilledAtEachCall(Ended):
-    """A command is killed at each of its calls that change a file, in the midst of what it writes."""
+    """A command, or a service, is killed at each of its calls that change a file, in the midst of what it writes."""
 
     def setUp(self):
         super().setUp()
         self.preloaded = self.compiled("killing_calls.c")
 
-    def killed(self, number, name, *words):
-        """What a command comes to that is killed at the call of this number, where it makes so many."""
-        environment = dict(os.environ, KILL_AT=str(number), LD_PRELOAD=self.preloaded)
-        return self.command(name, *words, env=environment, timeout=PATIENCE)
+    def environment(self, number):
+        """That of a program which is killed at the call of this number, where it makes so many, and never where it is 0."""
+        return dict(os.environ, KILL_AT=str(number), LD_PRELOAD=self.preloaded)
 
-    def kill_each(self, wanted, name, *words):
-        """Kills a command at each call in turn: the office is as before it or as after it, and it is asked once more."""
-        self.fresh(f"{name}0")
-        contents = [content_of(self.database)]
-        self.assertEqual(self.command(name, *words), answer(wanted))
-        contents.append(content_of(self.database))
-        self.assertNotEqual(*contents)
+    def killed(self, number, name, *words):
+        """What a command comes to that is killed so."""
+        return self.command(name, *words, env=self.environment(number), timeout=PATIENCE)
+
+    def served(self, number, sent):
+        """What a service comes to that is killed so, with what its one client got."""
+        serving = self.start("serve", "--port=0", "--count=1", f"--at={END}", env=self.environment(number))
+        told, got = serving.stdout.readline().decode(), b""
+        if told:
+            got = replied(connect(int(told.rpartition(":")[2])), sent)
+        _, wrong = serving.communicate(timeout=PATIENCE)
+        return serving.returncode, got, wrong
+
+    def kill_each(self, name, ask, replies, contents):
+        """Kills what asks an office at each call in turn. What is left is the content behind all replies that came, or behind one
+        more, and all is asked again. `ask` takes the number of a call. Each content but the first is that behind a reply."""
+        beginnings = [b"".join(replies[:count]) for count in range(len(contents))]
+        whole = (0, beginnings[-1], b"")
         found = set()
         for number in range(1, MOST_CALLS):
             self.fresh(f"{name}{number}")
-            made = self.killed(number, name, *words)
-            if made == answer(wanted):
-                self.assertEqual(found, {0, 1}, "both were found")
+            made = ask(number)
+            if made == whole:
+                self.assertEqual(found, set(range(len(contents))), "each was found")
                 return
             with self.subTest(f"{name} killed at call {number}"):
                 self.assertEqual((made[0], made[2]), (-signal.SIGKILL, b""))
-                self.assertIn(made[1], (b"", answer(wanted)[1]))
+                self.assertIn(made[1], beginnings)
+                came = beginnings.index(made[1])
                 left = contents.index(self.read_copy(f"{name}{number}"))
-                self.assertLessEqual(bool(made[1]), left)
+                self.assertIn(left, (came, came + 1))
                 found.add(left)
                 self.assertEqual(self.command("report", "--key", OPERATOR, "balances")[::2], (0, b""))
                 self.is_sound()
-                self.assertIn(content_of(self.database), contents[bool(made[1]) :])
-                self.assertEqual(self.command(name, *words), answer(wanted))
+                self.assertIn(content_of(self.database), contents[came : came + 2])
+                self.assertEqual(ask(0), whole)
                 self.is_sound()
-                self.assertEqual(content_of(self.database), contents[1])
+                self.assertEqual(content_of(self.database), contents[-1])
         self.fail("it was always killed")
 
+    def kill_one(self, name, ask, told):
+        """Kills what asks for one thing, which changes the office and is told so."""
+        self.fresh(f"{name}0")
+        contents = [content_of(self.database)]
+        self.assertEqual(ask(0), (0, told, b""))
+        contents.append(content_of(self.database))
+        self.assertNotEqual(*contents)
+        self.kill_each(name, ask, [told], contents)
+
     def test_a_load(self):
-        self.kill_each(APPLIED, "load", *self.commands["load"])
+        self.kill_one("load", lambda number: self.killed(number, "load", *self.commands["load"]), answer(APPLIED)[1])
 
     def test_a_run(self):
-        self.kill_each(SETTLED, "run", *self.commands["run"])
+        self.kill_one("run", lambda number: self.killed(number, "run", *self.commands["run"]), answer(SETTLED)[1])
+
+    def test_a_service_that_loads(self):
+        sent = request("POST", "/files/prices/p2.csv", OPERATOR, text_of("prices", [f"{DAY},1,60.00000"]))
+        self.kill_one("load", lambda number: self.served(number, sent), reply(200, '{"applied":1,"late":0}'))
+
+    def test_a_service_that_runs(self):
+        body = f'{{"accounts":4,"date":"{DAY}","kind":"SF","periods":48,"postings":2,"residual_pence":5050}}'
+        sent = request("POST", f"/runs/{DAY}/SF", OPERATOR)
+        self.kill_one("run", lambda number: self.served(number, sent), reply(200, body))
+
+    def test_a_script(self):
+        """Each line is there whole or not at all, and so are those before it. One MWh more is sold: GENCO-P has half a megawatt
+        hour too little, and SUPCO-C has 1.51 too much. At 60 pounds 9,060 pence less 3,000 are missing."""
+        sold = self.load("contracts", f"C2,GENCO-P,SUPCO-C,{DAY},1,1.000", "c2.csv")
+        lines = [self.order("SF"), self.dearer(), self.order("R1"), sold, self.order("R2")]
+        told = [SETTLED, APPLIED, DEARER, APPLIED, f"run {DAY} R2 periods 48 accounts 4 residual 6060 postings 2"]
+        replies = [answer(text)[1] for text in told]
+        self.fresh("lines")
+        contents = [content_of(self.database)]
+        for line, wanted in zip(lines, replies):
+            self.assertEqual(settle(*words_of(line, self.database)), (0, wanted, b""))
+            contents.append(content_of(self.database))
+        script = self.file("lines.script", "".join(f"{line}\n" for line in lines))
+        self.kill_each("script", lambda number: self.killed(number, "script", script), replies, contents)
 
     def test_a_new_office(self):
         """Where it is not whole a command is refused, and nothing but the new office is ever taken over."""

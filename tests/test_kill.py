@@ -1,0 +1,89 @@
+"""Services of the built `settle` that are killed under load: the short run of `tests/kill`; and that it finds a service which
+loses what it has answered, or keeps a part of what it hasn't."""
+import contextlib
+import importlib.machinery
+import importlib.util
+import io
+import pathlib
+import re
+import sys
+import tempfile
+import unittest
+import unittest.mock
+
+import killing
+from programs import HOME, SETTLE, need
+
+SHORT = 30
+UNDER_WAY = {"in an enquiry", *(f"in a {what} that is {there}" for what in ("load", "run") for there in ("there", "not there"))}
+PLACES = {*UNDER_WAY, "before it listened", "between requests"}
+STAND_IN = str(HOME / "tests" / "stand_in_settle.py")
+
+
+def command():
+    """The command `tests/kill`, as a module."""
+    loader = importlib.machinery.SourceFileLoader("kill", str(HOME / "tests" / "kill"))
+    module = importlib.util.module_from_spec(importlib.util.spec_from_loader("kill", loader))
+    loader.exec_module(module)
+    return module
+
+
+class Kill(unittest.TestCase):
+    def test_what_a_kill_leaves(self):
+        need(SETTLE)
+        with tempfile.TemporaryDirectory() as room:
+            found = list(killing.try_all(0, SHORT, room))
+        self.assertEqual([one.wrong for one in found], [""] * len(found), [one.seed for one in found])
+        self.assertEqual(sum(one.kills for one in found), SHORT)
+        met = sum((one.met for one in found), killing.collections.Counter())
+        self.assertLessEqual(set(met), PLACES)
+        self.assertEqual(met.total(), SHORT)
+        self.assertGreater(sum(met[place] for place in UNDER_WAY), 0)
+
+
+class Told(unittest.TestCase):
+    """What `tests/kill` tells of services that stand in."""
+
+    def setUp(self):
+        self.enterContext(unittest.mock.patch.multiple(killing, PROGRAM=[sys.executable, "-S", STAND_IN], KILLS=4))
+        self.room = pathlib.Path(self.enterContext(tempfile.TemporaryDirectory()))
+
+    def told(self, fault, *words):
+        """The status of the command, and its lines."""
+        written = io.StringIO()
+        with (
+            contextlib.redirect_stdout(written),
+            unittest.mock.patch("programs.need"),
+            unittest.mock.patch("tempfile.tempdir", str(self.room)),
+            unittest.mock.patch.dict("os.environ", STAND_IN_FAULT=fault),
+        ):
+            status = command().main(words)
+        return status, written.getvalue().splitlines()
+
+    def test_nothing_is_wrong(self):
+        status, lines = self.told("", "--rounds", "6", "--seed", "5")
+        self.assertEqual((status, lines[-1]), (0, "6 passed, 0 failed"))
+        self.assertEqual({re.match(r"seed (\d+): \d+ requests; killed \d ", line)[1] for line in lines[:2]}, {"5", "6"})
+        self.assertEqual(list(self.room.iterdir()), [])
+
+    def is_found(self, fault):
+        """It is told with the seed, and the files stay."""
+        status, lines = self.told(fault, "--rounds", "16", "--seed", "3")
+        self.assertEqual(status, 1)
+        self.assertRegex(lines[-1], r"\A\d+ passed, [1-4] failed\Z")
+        place = next(place for place, line in enumerate(lines) if ": kill " in line)
+        seed = re.match(r"seed (\d+): kill \d+: the rows are not those of the office beside it: ", lines[place])[1]
+        (folder,) = self.room.glob(f"*/{seed}")
+        self.assertTrue((folder / "killed" / "office.db").exists())
+        wanted = [f"    {folder} has the files", f"    tests/kill --seed {seed} --rounds 4"]
+        self.assertEqual(lines[place + 1 : place + 3], wanted)
+
+    def test_a_reply_that_is_lost(self):
+        self.is_found("early")
+
+    def test_a_load_that_is_there_in_part(self):
+        self.is_found("half")
+
+
+if __name__ == "__main__":
+    unittest.main()
