@@ -283,9 +283,9 @@ class KilledAtEachCall(Ended):
         self.kill_one("load", lambda number: self.served(number, sent), reply(200, '{"applied":1,"late":0}'))
 
     def test_a_service_that_runs(self):
-        body = f'{{"accounts":4,"date":"{DAY}","kind":"SF","periods":48,"postings":2,"residual_pence":5050}}'
+        told = f'{{"accounts":4,"date":"{DAY}","kind":"SF","periods":48,"postings":2,"residual_pence":5050}}'
         sent = request("POST", f"/runs/{DAY}/SF", OPERATOR)
-        self.kill_one("run", lambda number: self.served(number, sent), reply(200, body))
+        self.kill_one("run", lambda number: self.served(number, sent), reply(200, told))
 
     def test_a_script(self):
         """Each line is there whole or not at all, and so are those before it. One MWh more is sold: GENCO-P has half a megawatt

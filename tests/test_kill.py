@@ -14,7 +14,7 @@ import unittest.mock
 import killing
 from programs import HOME, SETTLE, need
 
-SHORT = 30
+SHORT = 40
 UNDER_WAY = {"in an enquiry", *(f"in a {what} that is {there}" for what in ("load", "run") for there in ("there", "not there"))}
 PLACES = {*UNDER_WAY, "before it listened", "between requests"}
 STAND_IN = str(HOME / "tests" / "stand_in_settle.py")
@@ -45,7 +45,7 @@ class Told(unittest.TestCase):
     """What `tests/kill` tells of services that stand in."""
 
     def setUp(self):
-        self.enterContext(unittest.mock.patch.multiple(killing, PROGRAM=[sys.executable, "-S", STAND_IN], KILLS=4))
+        self.enterContext(unittest.mock.patch.multiple(killing, PROGRAM=[sys.executable, "-S", STAND_IN], KILLS=8))
         self.room = pathlib.Path(self.enterContext(tempfile.TemporaryDirectory()))
 
     def told(self, fault, *words):
@@ -61,21 +61,21 @@ class Told(unittest.TestCase):
         return status, written.getvalue().splitlines()
 
     def test_nothing_is_wrong(self):
-        status, lines = self.told("", "--rounds", "6", "--seed", "5")
-        self.assertEqual((status, lines[-1]), (0, "6 passed, 0 failed"))
+        status, lines = self.told("", "--rounds", "10", "--seed", "5")
+        self.assertEqual((status, lines[-1]), (0, "10 passed, 0 failed"))
         self.assertEqual({re.match(r"seed (\d+): \d+ requests; killed \d ", line)[1] for line in lines[:2]}, {"5", "6"})
         self.assertEqual(list(self.room.iterdir()), [])
 
     def is_found(self, fault):
         """It is told with the seed, and the files stay."""
-        status, lines = self.told(fault, "--rounds", "16", "--seed", "3")
+        status, lines = self.told(fault, "--rounds", "32", "--seed", "3")
         self.assertEqual(status, 1)
         self.assertRegex(lines[-1], r"\A\d+ passed, [1-4] failed\Z")
         place = next(place for place, line in enumerate(lines) if ": kill " in line)
         seed = re.match(r"seed (\d+): kill \d+: the rows are not those of the office beside it: ", lines[place])[1]
         (folder,) = self.room.glob(f"*/{seed}")
         self.assertTrue((folder / "killed" / "office.db").exists())
-        wanted = [f"    {folder} has the files", f"    tests/kill --seed {seed} --rounds 4"]
+        wanted = [f"    {folder} has the files", f"    tests/kill --seed {seed} --rounds 8"]
         self.assertEqual(lines[place + 1 : place + 3], wanted)
 
     def test_a_reply_that_is_lost(self):
