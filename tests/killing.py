@@ -33,7 +33,7 @@ MOST_ROOM = 200_000
 # The weight of runs among the requests that are drawn.
 RUNS = 50
 PATIENCE = 60
-# How long a service is taken to open the file, and a request to be answered, before it was seen.
+# How many seconds a service is taken to open the file, and a request to be answered, before that was seen.
 OPENING, ANSWERING = 0.05, 0.005
 
 
@@ -220,7 +220,8 @@ class Office:
 
     def __init__(self, folder):
         folder.mkdir(parents=True)
-        self.database, self.answering = folder / "office.db", ANSWERING
+        self.database = folder / "office.db"
+        self.answering = collections.defaultdict(lambda: ANSWERING)
         self.told("init", "--operator-key", OPERATOR)
 
     def told(self, name, *words):
@@ -236,11 +237,17 @@ class Office:
         if not requests:
             return []
         with Service(self.database, moment, *([] if is_killed else [f"--count={len(requests)}"])) as service:
-            port, began = service.port(), time.monotonic()
-            replies = [replied(connect(port), sent) for sent in requests]
-            self.answering = (time.monotonic() - began) / len(requests)
+            port = service.port()
+            replies = [self.replied(port, sent) for sent in requests]
             service.kill() if is_killed else service.ends()
         return replies
+
+    def replied(self, port, sent):
+        """The reply to a client. How long it takes is kept in mind, by what is asked for."""
+        began = time.monotonic()
+        reply = replied(connect(port), sent)
+        self.answering[kind_of(sent)] += (time.monotonic() - began - self.answering[kind_of(sent)]) / 4
+        return reply
 
     def content(self):
         """All rows in a copy of the file and its log, which is sound. What was left stays as it is."""
@@ -290,10 +297,17 @@ class Trial:
                 self.found.met["before it listened" if not service.kill() else "between requests"] += 1
                 return []
             began = time.monotonic()
-            clients = Clients(requests, service.port(), self.draw.randrange(len(requests)))
+            clients = Clients(requests, service.port(), self.awaited(requests))
             self.opening = time.monotonic() - began
             self.ask_and_kill(service, clients)
         return clients.replies
+
+    def awaited(self, requests):
+        """The place of a request, for a load as often as for a run and for an enquiry."""
+        places = collections.defaultdict(list)
+        for place, sent in enumerate(requests):
+            places[kind_of(sent)].append(place)
+        return self.draw.choice(self.draw.choice([places[kind] for kind in sorted(places)]))
 
     def most(self):
         """The disk of some services has little room."""
@@ -302,13 +316,14 @@ class Trial:
         return self.killed.database.stat().st_size + self.draw.randrange(MOST_ROOM)
 
     def ask_and_kill(self, service, clients):
-        """Some clients ask. The service is killed a little after one of the requests has come."""
+        """Some clients ask. The service is killed a little after one of the requests has come, by how long such a one takes."""
         count = self.draw.randint(1, MOST_CLIENTS)
         with concurrent.futures.ThreadPoolExecutor(count) as pool:
             asking = [pool.submit(clients.ask) for _ in range(count)]
             if not clients.has_come.wait(PATIENCE):
                 raise Wrong(f"{len(clients.replies)} requests have come in {PATIENCE} seconds")
-            time.sleep(self.draw.expovariate(2 / self.killed.answering))
+            lasting = self.killed.answering[kind_of(clients.requests[clients.awaited])]
+            time.sleep(self.draw.expovariate(1 / lasting))
             service.kill()
         for done in asking:
             done.result()
