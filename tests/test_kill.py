@@ -46,7 +46,9 @@ class Told(unittest.TestCase):
     """What `tests/kill` tells of services that stand in."""
 
     def setUp(self):
-        self.enterContext(unittest.mock.patch.multiple(killing, PROGRAM=[sys.executable, "-S", STAND_IN], KILLS=8))
+        # One that stands in knows no answer where its disk is full, so each has room.
+        changed = {"PROGRAM": [sys.executable, "-S", STAND_IN], "KILLS": 8, "FULL_ONE_OF": sys.maxsize}
+        self.enterContext(unittest.mock.patch.multiple(killing, **changed))
         self.room = pathlib.Path(self.enterContext(tempfile.TemporaryDirectory()))
 
     def told(self, fault, *words):
