@@ -6,8 +6,7 @@
 
 #[cfg(test)]
 mod change_tests;
-#[cfg(test)]
-mod market;
+pub mod market;
 #[cfg(test)]
 mod outputs;
 #[cfg(test)]

@@ -19,7 +19,7 @@ pub const LOADED_AT: i64 = 1_719_700_000;
 pub const ORDERED_AT: i64 = 1_719_961_200;
 
 /// The kinds of the market's files and their names, in the order in which they come.
-const FILES: [(FileKind, &[u8]); 5] = [
+pub const FILES: [(FileKind, &[u8]); 5] = [
     (FileKind::Parties, b"f1.csv"),
     (FileKind::Units, b"f2.csv"),
     (FileKind::Contracts, b"f3.csv"),
@@ -94,7 +94,7 @@ fn text_of(alloc: Global, kind: FileKind) -> Result<String, AllocError> {
 }
 
 /// What the operator asks.
-fn asked(alloc: Global, action: Action) -> Result<Request, AllocError> {
+pub fn asked(alloc: Global, action: Action) -> Result<Request, AllocError> {
     Ok(Request {
         key: Bytes::new(OPERATOR.to_vec(alloc)?),
         action,
@@ -113,7 +113,7 @@ pub fn is_loaded<T: Tables>(
 }
 
 /// The market's file of a kind, under this name.
-fn upload_of(alloc: Global, kind: FileKind, name: FileName) -> Result<Upload, AllocError> {
+pub fn upload_of(alloc: Global, kind: FileKind, name: FileName) -> Result<Upload, AllocError> {
     let body = Bytes::new(text_of(alloc, kind)?.into_bytes());
     Ok(Upload { kind, name, body })
 }
