@@ -293,6 +293,24 @@ class Runs(Desk):
         none, back = "refused 51 NoInitialRun", "refused 50 RunOrder"
         self.assertEqual(self.after_market(*lines), [none, SETTLED, final, back, back])
 
+    def test_kinds_that_are_left_out(self):
+        """RF posts what has changed since SF, which is the latest run before it, and DF what has since RF."""
+        lines = [self.order("SF"), self.dearer(), self.order("RF"), self.order("DF"), f"report {OPERATOR} balances"]
+        wanted = [SETTLED, APPLIED, DEARER.replace(" R1 ", " RF "), DEARER.replace(" R1 ", " DF ").replace("postings 2", "postings 0")]
+        moved = ["account,moved_pence", "GENCO-P,45", "GENCO-C,0", "SUPCO-P,0", "SUPCO-C,-45"]
+        self.assertEqual(self.after_market(*lines), [*wanted, *moved])
+
+    def test_a_price_that_stands_twice(self):
+        """The last row counts, and both are counted as applied."""
+        twice = self.load("prices", [f"{DAY},1,40.00000", f"{DAY},1,60.00000"], "p2.csv")
+        dearer = DEARER.replace(" R1 ", " SF ")
+        self.assertEqual(self.after_market(twice, self.order("SF")), ["applied=2 late=0", dearer])
+
+    def test_a_moment_in_milliseconds(self):
+        """A minute before the day begins: too early in seconds, and in milliseconds far behind the day's end."""
+        lines = [self.order("SF", START - 60), self.order("SF", (START - 60) * 1000)]
+        self.assertEqual(self.after_market(*lines), ["refused 52 DayNotOver", SETTLED])
+
     def test_the_end_of_the_day(self):
         """A day is over at its last second's end."""
         lines = [self.order("SF", moment) for moment in (END - 1, -(2**63), END)]
@@ -460,6 +478,21 @@ class Deadlines(Desk):
         lines = [self.contract(1, -(2**63)), self.contract(2, 2**63 - 1), self.contract(3, -1)]
         self.assertEqual(self.after_market(*lines), [APPLIED, LATE, APPLIED])
 
+    def test_moments_in_milliseconds(self):
+        """As seconds they are behind each deadline. The name is taken then, and so are the seller and buyer of a new
+        reference; readings and prices count."""
+        rows = [f"C9,GENCO-P,SUPCO-C,{DAY},1,1.000", "C9,GENCO-P,SUPCO-C,2099-12-31,48,1.000"]
+        lines = [
+            self.load("contracts", rows, "c.csv", EARLY * 1000),
+            self.load("reallocations", realloc("SUPCO-P", 60), "r.csv", EARLY * 1000),
+            self.load("contracts", rows, "c.csv"),
+            self.load("contracts", f"C9,SUPCO-C,GENCO-P,{DAY},1,1.000", "e.csv"),
+            self.load("contracts", rows, "d.csv"),
+            self.load("prices", f"{DAY},1,60.00000", "p2.csv", EARLY * 1000),
+        ]
+        late = "applied=0 late=2"
+        self.assertEqual(self.after_market(*lines), [late, LATE, late, "refused 36 ReferenceMoved row 1", "applied=2 late=0", APPLIED])
+
     def test_readings_and_prices_are_never_late(self):
         after = START + 400 * 86_400
         lines = [
@@ -547,6 +580,24 @@ class Repeats(Desk):
     def test_each_kind_has_its_own_names(self):
         lines = [self.load(kind, [], "same.csv") for kind in HEADERS]
         self.assertEqual(self.replies(*lines), ["applied=0 late=0"] * 6)
+
+    def test_folders_have_one_space_of_names(self):
+        """Each file is in a folder of its own."""
+        dates = DAY, "2024-07-02"
+        lines = [self.load("prices", f"{date},1,50", "prices.csv") for date in dates]
+        lines += [self.load("prices", f"{date},1,50", f"prices-{date}.csv") for date in dates]
+        self.assertEqual(self.after_market(*lines), [APPLIED, "refused 20 FileChanged", APPLIED, APPLIED])
+
+    def test_the_same_bytes_under_another_name(self):
+        """They are another file: 60 percent give way to 10, and are in force again when their bytes come as a third."""
+        lines = [
+            self.load("reallocations", realloc("SUPCO-P", 60), "a"),
+            self.load("reallocations", realloc("SUPCO-P", 10), "b"),
+            self.load("reallocations", realloc("SUPCO-P", 60), "c"),
+            self.load("reallocations", realloc("SUPCO-C", "40.00001"), "d"),
+            self.load("reallocations", realloc("SUPCO-C", 40), "e"),
+        ]
+        self.assertEqual(self.after_market(*lines), [APPLIED] * 3 + ["refused 38 OverHundred row 1", APPLIED])
 
     def test_a_refused_file_is_judged_anew(self):
         units = self.load(*MARKET[1], name="u.csv")
@@ -668,6 +719,18 @@ class Whole(Desk):
     def test_rows_see_the_rows_before_them(self):
         rows = [f"C2,GENCO-P,SUPCO-C,{DAY},1,1.000", f"C2,SUPCO-C,GENCO-P,{DAY},2,1.000"]
         self.assertEqual(self.after_market(self.load("contracts", rows)), ["refused 36 ReferenceMoved row 2"])
+
+    def test_a_key_that_stands_twice(self):
+        """The last row counts, and both are counted, as applied or as late."""
+        twice = [realloc("SUPCO-P", 60), realloc("SUPCO-P", 10)]
+        lines = [
+            self.load("reallocations", twice, "a"),
+            self.load("reallocations", realloc("SUPCO-C", "90.00001"), "b"),
+            self.load("reallocations", realloc("SUPCO-C", 90), "c"),
+            self.load("reallocations", twice, "d", DEADLINE),
+        ]
+        wanted = ["applied=2 late=0", "refused 38 OverHundred row 1", APPLIED, "applied=0 late=2"]
+        self.assertEqual(self.after_market(*lines), wanted)
 
     def test_texts_are_read_before_rows_are_judged(self):
         rows = [f"C2,GENCO-P,GENCO-P,{DAY},1,1.000", f"C3,GENCO-P,SUPCO-C,{DAY},1,1.0000"]
@@ -1057,6 +1120,16 @@ class ExampleMarket(Desk):
         for lead in (0, 60):
             self.check("day.script", lead, others)
         self.check("day.script", 1440, {line: reply for line, reply in others.items() if line != 11})
+
+    def test_line_3_in_milliseconds(self):
+        """All contracts of the plain day are late, and so they stay when the same file comes in time."""
+        parties, units, contracts = (HOME / self.FOLDER / "plain.script").read_text().splitlines()[:3]
+        far = contracts.replace(" 1719568800 ", " 1719568800000 ")
+        self.assertNotEqual(far, contracts)
+        script = self.file("far", "\n".join([parties, units, far, contracts]))
+        status, written, told = settle("script", "--operator-key", self.KEY, script, cwd=HOME)
+        self.assertEqual((status, told), (0, b""))
+        self.assertEqual(written.decode().splitlines()[2:], ["applied=0 late=126"] * 2)
 
     def test_the_wrong_order(self):
         unknown = "refused 30 UnknownParty row 1"

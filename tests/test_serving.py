@@ -206,6 +206,18 @@ class Replies(Served):
                 self.assertEqual(self.ask(request("GET", "/balances/GENCO-P", shown)), wanted, shown)
         self.assertEqual(self.rest(), [])
 
+    def test_a_key_of_two_parties(self):
+        """It opens the accounts of both, and no other's."""
+        rows = [f"{party},2024-01-01,,{key}" for party, key in (("ONE", "shared001"), ("OTHER", "shared001"), ("THIRD", "third0001"))]
+        accounts = [f"{party}-{side}" for party in ("ONE", "OTHER", "THIRD") for side in "PC"]
+        forbidden = reply(403, refusal(60, "Forbidden"))
+        self.serve(2 * len(accounts), before=[self.load("parties", rows)])
+        for key, opened in (("shared001", accounts[:4]), ("third0001", accounts[4:])):
+            for account in accounts:
+                wanted = reply(200, f'{{"account":"{account}","moved_pence":0}}') if account in opened else forbidden
+                self.assertEqual(self.ask(request("GET", f"/balances/{account}", key)), wanted, (key, account))
+        self.assertEqual(self.rest(), [])
+
     def test_a_party_that_has_joined(self):
         """Its own account by the run after it joined; 63 by the one before."""
         readings = [f"N1,{DAY},1,10.000,1.0000000,0"] + [f"N1,{DAY},{period},0,1,0" for period in IDLE]
