@@ -110,6 +110,16 @@ class Documents(unittest.TestCase):
         self.assertEqual(sums, {str(period): 0 for period in range(1, 49)})
 
 
+    def test_the_lines_of_a_script_that_were_refused(self):
+        """The guide's lines for a shell find them among what is printed."""
+        blocks = BLOCK.findall((HOME / "docs/guide.md").read_text(encoding="utf-8"))
+        lines, printed = next((one, two) for one, two in zip(blocks, blocks[1:]) if "| grep " in one)
+        made = subprocess.run(["sh", "-e", "-c", lines], cwd=self.room, capture_output=True, text=True)
+        self.assertEqual((made.returncode, made.stdout, made.stderr), (0, printed, ""))
+        day = next(after for words, after in commands_of((HOME / "docs/guide.md").read_text(encoding="utf-8")) if words.endswith("day.script"))
+        self.assertEqual(printed, "".join(line for line in day.splitlines(True) if line.startswith(("refused ", "fault "))))
+
+
 class Found(unittest.TestCase):
     def test_how_commands_are_found(self):
         text = "a\n```\nsettle period a 'b c' 1\n```\nb\n```sh\nx\ny\n```\n```\n./settle period METER\n```\n```\nrt ci\n```\n"
