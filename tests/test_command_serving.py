@@ -7,9 +7,9 @@ import unittest
 
 import test_serving
 from programs import SETTLE
-from test_commands import FIRST, AtAFile, date_in, results_of
+from test_commands import FIRST, AtAFile, date_in, midnight, results_of
 from test_database import content_of, rows_of
-from test_desk import DAY, END, NEXT_END, OPERATOR, text_of
+from test_desk import DAY, END, MARKET, NEXT_END, OPERATOR, text_of
 from test_reports import RESULTS, report
 from test_serving import reply, request
 
@@ -126,6 +126,40 @@ class Kept(Serving, test_serving.Served):
             self.assertEqual(self.ask(request("POST", f"/files/contracts/{days}.csv", OPERATOR, rows)), reply(200, body))
         got = self.ask(request("POST", f"/runs/{date_in(2)}/SF", OPERATOR)).partition(b"\r\n\r\n")[2]
         self.assertEqual(json.loads(got), {"name": "DayNotOver", "refused": 52})
+
+    def test_the_moment_of_a_turn(self):
+        """Two clients connect before a deadline. The one whose turn comes at once sends its contract when the deadline has
+        passed, and is in time. The other sends its own at once, and is late, since its turn comes then."""
+        start, lead, deadline = deadline_ahead()
+        date, period = next((date, 1 + (start - midnight(date)) // 1800) for date in map(date_in, (1, 0, -1)) if midnight(date) <= start)
+        self.init("--lead-minutes", lead)
+        self.answers(self.load(*MARKET[0]), "applied=2 late=0")
+        self.begin("--count=2")
+        first, second = (
+            request("POST", f"/files/contracts/{name}", OPERATOR, text_of("contracts", [f"{name},GENCO-P,SUPCO-C,{date},{period},1.000"]))
+            for name in ("FIRST", "SECOND")
+        )
+        time.sleep(max(0, deadline - 4 - time.time()))
+        with self.connect() as early, self.connect() as waits:
+            early.sendall(first[:20])
+            waits.sendall(second)
+            self.assertLess(time.time(), deadline - 1, "this machine was too slow for the test")
+            time.sleep(deadline + 1 - time.time())
+            early.sendall(first[20:])
+            self.assertEqual(self.read(early), reply(200, '{"applied":1,"late":0}'))
+            self.assertEqual(self.read(waits), reply(200, '{"applied":0,"late":1}'))
+        self.assertEqual(self.program.communicate(timeout=60), (b"", b""))
+
+
+def deadline_ahead():
+    """When a Settlement Period begins, and a lead in minutes by which its deadline is seven seconds ahead, or up to a
+    minute more; and this deadline."""
+    now = time.time()
+    start = (int(now) // 1800 + 1) * 1800
+    if start - now < 7:
+        start += 1800
+    lead = int(start - now - 7) // 60
+    return start, lead, start - 60 * lead
 
 
 if __name__ == "__main__":

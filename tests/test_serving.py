@@ -584,6 +584,14 @@ class Clients(Served):
         self.assertEqual(self.ask(request("GET", "/balances/SUPCO-C", SUPCO)), reply(200, MOVED))
         self.assertEqual(self.rest(), [])
 
+    def test_one_that_only_connects(self):
+        """It is one of those that are served, and gets no reply."""
+        self.serve(3)
+        for _ in range(2):
+            self.assertEqual(self.ask(end=True), b"")
+        self.assertEqual(self.ask(request("GET", "/balances/SUPCO-C", SUPCO)), reply(200, MOVED))
+        self.assertEqual(self.rest(), [])
+
     def test_one_that_never_reads_nor_closes(self):
         """The next is answered all the same."""
         self.serve(2)
