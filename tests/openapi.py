@@ -50,6 +50,11 @@ class Lines:
             while self.indent() > indent:
                 folded.append(self.left.pop()[1])
             return " ".join(folded)
+        if text == "|":
+            kept = []
+            while self.indent() > indent:
+                kept.append(self.left.pop()[1])
+            return "".join(f"{line}\n" for line in kept)
         if text:
             return flow(text)
         if self.indent() <= indent:
@@ -63,6 +68,15 @@ def flow(text):
         inner = text.removeprefix("[").removesuffix("]")
         return [scalar(item.strip()) for item in inner.split(",")] if inner else []
     return scalar(text)
+
+
+def shows(example, whole):
+    """Whether a value is what an example shows. A list of an example may have the first items alone."""
+    if isinstance(example, dict):
+        return isinstance(whole, dict) and example.keys() == whole.keys() and all(shows(example[name], whole[name]) for name in example)
+    if isinstance(example, list):
+        return isinstance(whole, list) and len(example) <= len(whole) and all(map(shows, example, whole))
+    return type(example) is type(whole) and example == whole
 
 
 def scalar(text):
@@ -99,6 +113,29 @@ class Description:
         """The name of each part of an operation's path that varies, with its schema."""
         parts = (self.resolved(part) for part in operation["parameters"])
         return {part["name"]: self.resolved(part["schema"]) for part in parts if part["in"] == "path"}
+
+    def example_request(self, path, operation):
+        """The target of an operation's example, and the text that is sent to it; None where none is."""
+        parts = (self.resolved(part) for part in operation["parameters"])
+        target = path.format(**{part["name"]: part["example"] for part in parts if part["in"] == "path"})
+        contents = operation.get("requestBody", {}).get("content", {})
+        return target, next((content["example"] for content in contents.values()), None)
+
+    def example_reply(self, response):
+        """What the one content of a response shows as its example."""
+        (content,) = self.resolved(response)["content"].values()
+        return content["example"]
+
+    def examples(self):
+        """Each example with the schema that it is of, and where it stands."""
+        for _, path, operation in self.operations():
+            for part in map(self.resolved, operation["parameters"]):
+                yield f"{path} {part['name']}", part["schema"], part["example"]
+            for content in operation.get("requestBody", {}).get("content", {}).values():
+                yield f"{path} request", content["schema"], content["example"]
+            for status, response in operation["responses"].items():
+                (content,) = self.resolved(response)["content"].values()
+                yield f"{path} {status}", content["schema"], content["example"]
 
     def key_header(self):
         """The header that shows a key."""

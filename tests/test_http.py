@@ -11,7 +11,7 @@ import subprocess
 import sys
 import unittest
 
-from openapi import Description
+from openapi import Description, shows
 from programs import HOME, SETTLE, need
 from test_desk import DAY, HEADERS, Desk
 
@@ -108,6 +108,10 @@ class Exchange:
         head, _, body = answer.partition(b"\r\n\r\n")
         return body + b" " + head.split(b" ")[1] + b"\n"
 
+    def status(self):
+        """The status that the page shows."""
+        return self.printed.split()[1 if self.shown == "whole" else -1]
+
     def differs(self, printed):
         """Whether something else is printed than the page has; `..` there stands for what is left out."""
         printed = printed.decode().replace("\r\n", "\n").rstrip("\n")
@@ -115,6 +119,12 @@ class Exchange:
         if not dots:
             return printed != first
         return not (printed.startswith(first) and printed.endswith(last) and len(printed) > len(first) + len(last))
+
+
+def body_on_page(exchange):
+    """The body that the page shows of a reply."""
+    printed = exchange.printed.rstrip("\n")
+    return printed.rpartition("\n\n")[2] if exchange.shown == "whole" else printed.rpartition(" ")[0]
 
 
 def blocks_of_page():
@@ -134,6 +144,56 @@ def parts_of(answer):
     head, _, body = answer.decode().partition("\r\n\r\n")
     first, *lines = head.split("\r\n")
     return int(first.split(" ")[1]), dict(line.split(": ", 1) for line in lines), body
+
+
+class Examples(unittest.TestCase):
+    """The examples of docs/openapi.yaml, beside its schemas and docs/http.md. No program is asked."""
+
+    def setUp(self):
+        self.description = Description()
+
+    def test_each_operation_has_an_identifier(self):
+        found = [operation["operationId"] for _, _, operation in self.description.operations()]
+        self.assertEqual(len(found), len(set(found)))
+        for name in found:
+            self.assertRegex(name, r"\A[a-z]+[A-Z][a-z]+\Z")
+
+    def test_they_are_of_their_schemas(self):
+        for at, schema, example in self.description.examples():
+            with self.subTest(at):
+                self.assertEqual(self.description.differences(schema, example, at), [])
+
+    def test_requests_and_replies_stand_on_the_page(self):
+        """Each operation's are those of a command there, and of a list as many items are shown as there."""
+        for method, path, operation in self.description.operations():
+            with self.subTest(path):
+                target, sent = self.description.example_request(path, operation)
+                wanted = self.as_shown(self.description.example_reply(operation["responses"]["200"]))
+                found = [exchange for exchange in exchanges() if (exchange.method, exchange.target) == (method, target)]
+                self.assertIn(wanted, [body_on_page(exchange) for exchange in found])
+                if sent is not None:
+                    self.assertEqual(sent.encode(), found[0].body())
+
+    def as_shown(self, example):
+        """An example as a body on the page, where `,..` stands for the items of a list that are left out."""
+        return json.dumps(example, sort_keys=True, separators=(",", ":")).replace("}]", "},..]")
+
+    def test_refusals_stand_on_the_page(self):
+        """But for 503, which no command there brings about."""
+        shown = {(exchange.status(), body_on_page(exchange)) for exchange in exchanges()}
+        for _, path, operation in self.description.operations():
+            for status, response in operation["responses"].items():
+                with self.subTest(f"{path} {status}"):
+                    example = self.description.example_reply(response)
+                    if status == "503":
+                        self.assertEqual(example, {"name": "Memory", "refused": 90})
+                    elif status != "200":
+                        self.assertIn((status, self.as_shown(example)), shown)
+
+    def test_what_an_example_shows(self):
+        self.assertTrue(shows({"a": [1, {"b": "x"}]}, {"a": [1, {"b": "x"}, 3]}))
+        for whole in ({"a": [1]}, {"a": [1, {"b": "y"}]}, {"a": [1, {"b": "x"}], "c": 1}, {"a": ["1", {"b": "x"}]}):
+            self.assertFalse(shows({"a": [1, {"b": "x"}]}, whole))
 
 
 class ThePage(Desk):
@@ -183,8 +243,8 @@ class ThePage(Desk):
 
     def test_the_replies_are_as_openapi_says(self):
         description = Description()
-        shown = set()
-        for exchange, answer in self.replies_to_bytes():
+        shown, answers = set(), self.replies_to_bytes()
+        for exchange, answer in answers:
             with self.subTest(exchange.command):
                 status, headers, body = parts_of(answer)
                 self.assertEqual(description.faults(exchange.method, exchange.target, status, headers, body), [])
@@ -192,8 +252,18 @@ class ThePage(Desk):
                 if exchange.method != "HEAD":
                     self.assertEqual(int(headers["Content-Length"]), len(body))
         self.every_refusal_is_shown(description)
+        self.examples_are_replies(description, answers)
         for method, path, operation in description.operations():
             self.assertIn((method, path, 200), shown)
+
+    def examples_are_replies(self, description, answers):
+        """Each operation's example is the first reply with status 200 to its request, but for the rest of a list."""
+        for method, path, operation in description.operations():
+            target, _ = description.example_request(path, operation)
+            asked = [parts_of(answer) for exchange, answer in answers if (exchange.method, exchange.target) == (method, target)]
+            bodies = [json.loads(body) for status, _, body in asked if status == 200]
+            with self.subTest(target):
+                self.assertTrue(shows(description.example_reply(operation["responses"]["200"]), bodies[0]), bodies[0])
 
     def every_refusal_is_shown(self, description):
         """But for 90 and 91, which no command brings about."""
