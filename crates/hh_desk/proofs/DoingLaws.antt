@@ -20,7 +20,7 @@ use Rattle.hh_office.specs.Views.{OfficeView, midnight_of}
 use Rattle.hh_host.specs.Views.{HostView}
 use Rattle.hh_script.specs.Steps.{LoadStep, RunStep}
 use Rattle.hh_desk.specs.declared.told.Told.TheVariants.{Replied}
-use Rattle.hh_desk.specs.Doing.{LoadDoes, MakesRun, RunDoes, RunsLoad, StandsNow, request_for, request_of}
+use Rattle.hh_desk.specs.Doing.{LoadDoes, OrdersRun, RunDoes, RunsLoad, StandsNow, request_for, request_of}
 use Rattle.hh_desk.specs.GivingUp.{CountsMore}
 use Rattle.hh_desk.proofs.GivingUpLaws.{reply_where}
 
@@ -89,7 +89,7 @@ module _ (old new : OfficeView) (counted counts : ℕ) (run : RunStep) (request 
     (stands, ap (λ (o : OfficeView). o.zone) comes.1),
   )
 
-  pub run_answered : HandleStep old new run.moment request given → StandsAfter old new run.moment request given → MakesRun (CountsMore counted counts) old new run (Replied given)
+  pub run_answered : HandleStep old new run.moment request given → StandsAfter old new run.moment request given → OrdersRun (CountsMore counted counts) old new run (Replied given)
   run_answered steps after s stands =
       let transition : Transition = step (midnight_of old) s run.moment request in
       made_by s transition.state transition.reply (is_given_up given) stands refl

@@ -1,3 +1,4 @@
+mod CrashLaws
 mod DoingLaws
 pub mod GivingUpLaws
 pub mod ServedLaws

@@ -68,8 +68,8 @@ module _ (fails : Type 0) (old new : OfficeView) where
   RunsLoad host load told = (s : State) → Stands old s → (t : State) × LoadDoes host fails (midnight_of old) s load told t × StandsNow old new t
 
   -- what a run comes to in each state that the office stood for
-  abbrev pub MakesRun : RunStep → Told → Type 0
-  MakesRun run told = (s : State) → Stands old s → (t : State) × RunDoes fails (midnight_of old) s run told t × StandsNow old new t
+  abbrev pub OrdersRun : RunStep → Told → Type 0
+  OrdersRun run told = (s : State) → Stands old s → (t : State) × RunDoes fails (midnight_of old) s run told t × StandsNow old new t
 
 -- what is refused leaves the office as it is
 abbrev pub LeavesRefused : OfficeView → OfficeView → Told → Type 0

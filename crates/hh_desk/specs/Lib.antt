@@ -1,3 +1,4 @@
+pub mod Crashes
 pub mod Doing
 pub mod GivingUp
 pub mod Lines

@@ -4,7 +4,8 @@ ghost use Rattle.std.specs.Prelude.{◌≡◌, ℕ, List, Some, None, take, IfOk
 ghost use Rattle.hh_office.specs.Views.{IsSure};
 ghost use Rattle.hh_serve.specs.Serves.{CountsUp};
 ghost use Rattle.hh_script.specs.Steps.{load_of, run_of};
-ghost use Rattle.hh_desk.specs.Doing.{LeavesRefused, MakesRun, RunsLoad, request_for, request_of};
+ghost use Rattle.hh_desk.specs.Crashes.{LoadLeaves, RunLeaves};
+ghost use Rattle.hh_desk.specs.Doing.{LeavesRefused, OrdersRun, RunsLoad, request_for, request_of};
 ghost use Rattle.hh_desk.specs.GivingUp.{HasRefused};
 
 use crate::told::Told;
@@ -26,12 +27,15 @@ const MOST_READ: usize = MOST_BYTES + 1;
 /// it is.
 pub fn make_run<T: Tables>(alloc: Global, office: &mut Office<'_, T>, line: &RunLine<'_>) -> Told
     ensures runs { IsSure T.is_open office.new
-        → MakesRun (HasRefused T.refusals office.old office.new)
+        → OrdersRun (HasRefused T.refusals office.old office.new)
         office.old.seen office.new.seen (run_of line.now) result }
     ensures untouched { IsSure T.is_open office.new
         → LeavesRefused office.old.seen office.new.seen result }
     ensures refusals_up { IsSure T.is_open office.new → CountsUp T.refusals office.old office.new }
     ensures sure { IsSure T.is_open office.new → IsSure T.is_open office.old }
+    ensures left { RunLeaves T.is_honest T.is_open T.may_leave T.holds
+        office.old office.new (run_of line.now) result }
+    ensures honest { T.is_honest office.new.tables → T.is_honest office.old.tables }
 {
     match run_request(alloc, line) {
         Ok(request) => Told::Replied(office.handle(line.moment, &request)),
@@ -66,6 +70,9 @@ pub fn load_file<T: Tables, H: Host>(
         → LeavesRefused office.old.seen office.new.seen result }
     ensures refusals_up { IsSure T.is_open office.new → CountsUp T.refusals office.old office.new }
     ensures sure { IsSure T.is_open office.new → IsSure T.is_open office.old }
+    ensures left { LoadLeaves T.is_honest T.is_open T.may_leave T.holds
+        office.old office.new (H.view host.now) (load_of load.now) result }
+    ensures honest { T.is_honest office.new.tables → T.is_honest office.old.tables }
 {
     match read_request(alloc, host, load) {
         Ok(request) => Told::Replied(office.handle(load.moment, &request)),

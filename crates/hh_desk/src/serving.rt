@@ -17,8 +17,8 @@ use hh_wire::Routes;
 use std::alloc::Global;
 
 /// Awaits so many connections of a listener, and serves each that comes once, one after the other (profile):
-/// its request is handled at the moment that the clock tells when it has come. What fails in a connection
-/// ends it alone; so does a clock that tells no moment, before anything is read.
+/// its request is handled at the moment that the clock tells when its turn has come, before anything of it
+/// is read. What fails in a connection ends it alone; so does a clock that tells no moment.
 pub fn serve_each<T: Tables, L: Listener, C: Clock>(
     alloc: Global,
     office: &mut Office<'_, T>,

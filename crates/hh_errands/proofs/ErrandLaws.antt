@@ -11,7 +11,7 @@ use Rattle.hh_host.specs.Views.{HostView}
 use Rattle.hh_script.specs.Reports.{ReportStep}
 use Rattle.hh_script.specs.Steps.{LoadStep, RunStep}
 use Rattle.hh_desk.specs.declared.told.Told.{Told}
-use Rattle.hh_desk.specs.Doing.{MakesRun, RunsLoad, StandsNow}
+use Rattle.hh_desk.specs.Doing.{OrdersRun, RunsLoad, StandsNow}
 use Rattle.hh_desk.specs.Lines.{listening_line}
 use Rattle.hh_errands.specs.declared.errand.ErrandStop.{ErrandStop}
 use Rattle.hh_errands.specs.declared.errand.ErrandStop.TheVariants as stop
@@ -39,7 +39,7 @@ module _ (host : HostView) (fails : Type 0) (old new : OfficeView) (device : Dev
   load_ends load told (Err stop.NoSocket) runs (is, same) = λ s stands. let (t, does, now) = runs s stands in (t, (told, does, sym is), same, now)
 
   -- a run that is told
-  pub run_ends : (run : RunStep) (told : Told) (result : Result Unit ErrandStop) → MakesRun fails old new run told → TellsOutcome device told result
+  pub run_ends : (run : RunStep) (told : Told) (result : Result Unit ErrandStop) → OrdersRun fails old new run told → TellsOutcome device told result
       → EndsErrand host fails old new device (Run run) result
   run_ends run told (Ok x) runs (text, is, went) = λ s stands. let (t, does, now) = runs s stands in (text, t, (told, does, sym is), went, now)
   run_ends run told (Err stop.Output) runs (text, is, went) = λ s stands. let (t, does, now) = runs s stands in (text, t, (told, does, sym is), went, now)

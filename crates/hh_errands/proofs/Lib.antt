@@ -1,3 +1,4 @@
+mod CrashLaws
 mod ErrandLaws
 pub mod MoreLaws
 mod ReportLaws

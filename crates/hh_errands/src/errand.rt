@@ -6,6 +6,7 @@ ghost use Rattle.hh_devices.specs.Devices.{Failed};
 ghost use Rattle.hh_office.specs.Views.{IsSure};
 ghost use Rattle.hh_serve.specs.Serves.{CountsUp};
 ghost use Rattle.hh_desk.specs.GivingUp.{HasRefused};
+ghost use Rattle.hh_errands.specs.Crashes.{ErrandLeaves};
 ghost use Rattle.hh_errands.specs.Errands.{EndsErrand, IsReport, errand_of};
 
 use crate::reporting::write_report;
@@ -24,7 +25,7 @@ use std::alloc::Global;
 #[derive(Clone, Copy, Debug, PartialEq, Eq)]
 pub struct Serving {
     /// The moment of each request that comes, in seconds since 1970-01-01T00:00:00Z; where none is given,
-    /// the host's clock tells it when the connection has come.
+    /// the host's clock tells it when the turn of the connection has come.
     pub at: Option<i64>,
     /// The port; for 0 the machine chooses a free one.
     pub port: u16,
@@ -95,6 +96,8 @@ pub fn run_errand<T: Tables, H: Host, O: Sink>(
         → IsReport (errand_of errand.now) ⊎ (out.new ≡ out.old)) }
     ensures refusals_up { IsSure T.is_open office.new → CountsUp T.refusals office.old office.new }
     ensures sure { IsSure T.is_open office.new → IsSure T.is_open office.old }
+    ensures left { ErrandLeaves T.is_honest T.is_open T.may_leave T.holds
+        office.old office.new (H.view host.now) (errand_of errand.now) result }
 {
     match errand {
         Errand::Load(load) => {

@@ -3,10 +3,12 @@
 ghost use Rattle.std.specs.Prelude.{◌≡◌, IsErrOf, OnOk};
 ghost use Rattle.hh_devices.specs.DeviceChanges.{change};
 ghost use Rattle.hh_devices.specs.Devices.{Failed};
+ghost use Rattle.hh_store.specs.Crashes.{AddsNothing};
 ghost use Rattle.hh_office.specs.Views.{IsSure};
 ghost use Rattle.hh_serve.specs.Serves.{CountsUp};
 ghost use Rattle.hh_script.specs.Reports.{report_of};
 ghost use Rattle.hh_desk.specs.GivingUp.{HasRefused};
+ghost use Rattle.hh_errands.specs.Crashes.{IfWritten};
 ghost use Rattle.hh_errands.specs.steps.Reporting.{EndsReport};
 
 use crate::errand::ErrandStop;
@@ -43,6 +45,8 @@ pub(crate) fn write_report<T: Tables, O: Sink>(
         → Failed (O.failures out.old) (O.failures out.new) }
     ensures refusals_up { IsSure T.is_open office.new → CountsUp T.refusals office.old office.new }
     ensures sure { IsSure T.is_open office.new → IsSure T.is_open office.old }
+    ensures crash { AddsNothing T.is_honest T.is_open T.may_leave
+        office.old.tables office.new.tables (IfWritten result) }
 {
     office.report(line.key, &line.report, out)?;
     Ok(())

@@ -1,4 +1,5 @@
 pub mod AnyLaws
+mod CrashLaws
 mod KeptLaws
 mod PathLaws
 mod ScriptLaws

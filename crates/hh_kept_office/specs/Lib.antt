@@ -1,3 +1,4 @@
+pub mod Crashes
 pub mod Kept
 pub mod Paths
 pub mod Places

@@ -10,7 +10,9 @@ ghost use Rattle.hh_sqlrows.specs.OfficeSchema.{office};
 ghost use Rattle.hh_errands.specs.Errands.{IsReport, errand_of};
 ghost use Rattle.hh_sqlstore.specs.Stores.{content_in};
 ghost use Rattle.hh_desk.specs.GivingUp.{CountsMore};
+ghost use Rattle.hh_kept_office.specs.Crashes.{KeptLeaves};
 ghost use Rattle.hh_kept_office.specs.Kept.{EndsKept, LeavesKept};
+ghost use Rattle.hh_kept_office.specs.steps.Crashes.{ConnectionLeaves};
 
 use crate::over::run_over;
 use hh_database::AfterUse;
@@ -47,6 +49,8 @@ pub fn run_errand_in_database<S: Rising, H: Host, O: Sink>(
         → IsReport (errand_of errand.now) ⊎ (out.new ≡ out.old)) }
     ensures foreign { (state S.Store connection).now.schema ≢ office
         → result.0 ≡ Err (ErrandStop.Refused (plain_fault Store)) }
+    ensures left { KeptLeaves (H.view host.now) (state S.Store connection)
+        (state S.Store result.1.connection) (errand_of errand.now) result.0 }
 {
     match SqlTables::adopt(alloc, connection) {
         Ok(tables) => run_over_database(alloc, tables, host, errand, out),
@@ -79,6 +83,8 @@ fn run_over_database<S: Rising, H: Host, O: Sink>(
         → IsReport (errand_of errand.now) ⊎ (out.new ≡ out.old)) }
     ensures sure { IsTrue (state S.Store result.1.connection).is_open
         → IsTrue (state S.Store tables.connection).is_open }
+    ensures left { ConnectionLeaves S.Store (H.view host.now) tables.connection
+        result.1.connection (content_in S.Store tables) (errand_of errand.now) result.0 }
 {
     let (ended, tables) = run_over(alloc, tables, host, errand, out);
     (ended, AfterUse::of(tables))

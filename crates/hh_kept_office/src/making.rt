@@ -9,6 +9,7 @@ ghost use Rattle.hh_names.specs.Faults.{plain_fault};
 ghost use Rattle.hh_sqlrows.specs.Making.{nothing};
 ghost use Rattle.hh_sqlstore.specs.Holds.{IsNewOffice};
 ghost use Rattle.hh_sqlstore.specs.Leaving.{LeavesDatabase};
+ghost use Rattle.hh_sqlstore.specs.Making.{MayMake};
 ghost use Rattle.hh_kept_office.specs.Kept.{ready_line};
 
 use hh_devices::{Sink, write_whole};
@@ -47,6 +48,7 @@ pub fn make_office_in_database<S: Alter, O: Sink>(
     ensures untouched { IfErr result.0 (λ stop. stop ≢ ErrandStop.Output → out.new ≡ out.old) }
     ensures foreign { (state S.Store connection).now.schema ≢ nothing
         → result.0 ≡ Err (ErrandStop.Refused (plain_fault Store)) }
+    ensures crash { MayMake settings (state S.Store connection) (state S.Store result.1) }
 {
     match SqlTables::create(alloc, connection, settings) {
         Ok(tables) => {

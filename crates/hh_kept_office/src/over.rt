@@ -6,6 +6,7 @@ ghost use Rattle.hh_devices.specs.Devices.{Failed};
 ghost use Rattle.hh_desk.specs.GivingUp.{CountsMore};
 ghost use Rattle.hh_errands.specs.Errands.{IsReport, errand_of};
 ghost use Rattle.hh_kept_office.specs.Kept.{EndsOver};
+ghost use Rattle.hh_kept_office.specs.steps.Crashes.{OverLeaves};
 
 use hh_devices::Sink;
 use hh_errands::{Errand, ErrandStop, run_errand};
@@ -34,7 +35,11 @@ pub(crate) fn run_over<T: Tables, H: Host, O: Sink>(
     ensures untouched { IfErr result.0 (λ stop. stop ≢ ErrandStop.Output
         → IsReport (errand_of errand.now) ⊎ (out.new ≡ out.old)) }
     ensures sure { IsTrue (T.is_open result.1) → IsTrue (T.is_open tables) }
+    ensures left { OverLeaves T.is_honest T.is_open T.may_leave T.holds (H.view host.now)
+        tables result.1 (T.content tables) (errand_of errand.now) result.0 }
 {
+    // Does nothing, but carries a law for the proof: what a crash leaves of the tables holds their content.
+    tables.shows_left();
     let mut office = Office::new(alloc, tables, london());
     let ended = run_errand(alloc, &mut office, host, errand, out);
     (ended, office.into_tables())

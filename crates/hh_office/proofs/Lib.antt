@@ -1,4 +1,5 @@
 pub mod AmountLaws
+pub mod CrashLaws
 pub mod EnquiryLaws
 pub mod HandleLaws
 pub mod ListLaws

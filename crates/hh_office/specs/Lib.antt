@@ -1,3 +1,4 @@
+pub mod Crashes
 pub mod Enquiries
 pub mod Machine
 pub mod PartyViews

@@ -1,6 +1,7 @@
 //! Who may ask for what.
 
-ghost use Rattle.std.specs.Prelude.{◌≡◌, ◌||◌, IfOk};
+ghost use Rattle.std.specs.Prelude.{◌≡◌, ◌||◌, IfOk, OnOk};
+ghost use Rattle.hh_store.specs.Crashes.{AddsNothing};
 ghost use Rattle.hh_store.specs.Reached.{AreReached};
 ghost use Rattle.hh_store.specs.StoreFaults.{CountsRefusal};
 ghost use Rattle.hh_office.specs.Machine.{is_holder, is_operator, is_party_key, may};
@@ -19,6 +20,8 @@ impl<'z, T: Tables> Office<'z, T> {
             → IfOk result (λ allowed. TellsTruly self.old.seen allowed
             (λ midnight s. may midnight s request.now.key request.now.action)) }
         ensures same { IsSure T.is_open self.new → self.new.seen ≡ self.old.seen }
+        ensures crash { AddsNothing T.is_honest T.is_open T.may_leave
+            self.old.tables self.new.tables (OnOk result) }
         ensures refusals_counted { IsSure T.is_open self.new → AreReached self.old.seen.content
             → CountsRefusal result (T.refusals self.old.tables) (T.refusals self.new.tables) }
         ensures sure { IsSure T.is_open self.new → IsSure T.is_open self.old }
@@ -39,6 +42,8 @@ impl<'z, T: Tables> Office<'z, T> {
             → IfOk result (λ told. TellsTruly self.old.seen told
             (λ midnight s. is_operator midnight s key.now || is_holder midnight s account.now key.now)) }
         ensures same { IsSure T.is_open self.new → self.new.seen ≡ self.old.seen }
+        ensures crash { AddsNothing T.is_honest T.is_open T.may_leave
+            self.old.tables self.new.tables (OnOk result) }
         ensures refusals_counted { IsSure T.is_open self.new → AreReached self.old.seen.content
             → CountsRefusal result (T.refusals self.old.tables) (T.refusals self.new.tables) }
         ensures sure { IsSure T.is_open self.new → IsSure T.is_open self.old }
@@ -52,6 +57,8 @@ impl<'z, T: Tables> Office<'z, T> {
             → IfOk result (λ told. TellsTruly self.old.seen told
             (λ midnight s. is_party_key midnight s key.now)) }
         ensures same { IsSure T.is_open self.new → self.new.seen ≡ self.old.seen }
+        ensures crash { AddsNothing T.is_honest T.is_open T.may_leave
+            self.old.tables self.new.tables (OnOk result) }
         ensures refusals_counted { IsSure T.is_open self.new → AreReached self.old.seen.content
             → CountsRefusal result (T.refusals self.old.tables) (T.refusals self.new.tables) }
         ensures sure { IsSure T.is_open self.new → IsSure T.is_open self.old }
@@ -65,6 +72,8 @@ impl<'z, T: Tables> Office<'z, T> {
             → IfOk result (λ told. TellsTruly self.old.seen told
             (λ midnight s. is_operator midnight s key.now)) }
         ensures same { IsSure T.is_open self.new → self.new.seen ≡ self.old.seen }
+        ensures crash { AddsNothing T.is_honest T.is_open T.may_leave
+            self.old.tables self.new.tables (OnOk result) }
         ensures refusals_counted { IsSure T.is_open self.new → AreReached self.old.seen.content
             → CountsRefusal result (T.refusals self.old.tables) (T.refusals self.new.tables) }
         ensures sure { IsSure T.is_open self.new → IsSure T.is_open self.old }
@@ -79,6 +88,8 @@ impl<'z, T: Tables> Office<'z, T> {
             → IfOk result (λ told. TellsTruly self.old.seen told
             (λ midnight s. is_holder midnight s account.now key.now)) }
         ensures same { IsSure T.is_open self.new → self.new.seen ≡ self.old.seen }
+        ensures crash { AddsNothing T.is_honest T.is_open T.may_leave
+            self.old.tables self.new.tables (OnOk result) }
         ensures refusals_counted { IsSure T.is_open self.new → AreReached self.old.seen.content
             → CountsRefusal result (T.refusals self.old.tables) (T.refusals self.new.tables) }
         ensures sure { IsSure T.is_open self.new → IsSure T.is_open self.old }

@@ -1,13 +1,15 @@
 //! What is asked of accounts, contracts and runs.
 
-ghost use Rattle.std.specs.Prelude.{◌≡◌, ℕ, map, IfOk, Some, SomeIff};
+ghost use Rattle.std.specs.Prelude.{◌≡◌, ℕ, map, IfOk, Some, SomeIff, OnOk};
 ghost use Rattle.hh_num.specs.Quantities.{amounts_of_cash};
 ghost use Rattle.hh_num.specs.Ranges.{IsBetween};
 ghost use Rattle.hh_num.specs.Totals.{total};
 ghost use Rattle.hh_runs.specs.DayNets.{day_cash};
 ghost use Rattle.hh_states.specs.Reads.{results_in, runs_in};
+ghost use Rattle.hh_store.specs.Crashes.{AddsNothing};
 ghost use Rattle.hh_store.specs.Reached.{AreReached};
 ghost use Rattle.hh_store.specs.StoreFaults.{CountsRefusal};
+ghost use Rattle.hh_office.specs.Crashes.{IfReplied};
 ghost use Rattle.hh_office.specs.Refusals.{CountsReply, StandsForSome};
 ghost use Rattle.hh_office.specs.Enquiries.{account_reply, balance_reply, contracts_reply, net_of_rows, reply_by_rows, rows_of_account, runs_reply};
 ghost use Rattle.hh_office.specs.steps.Promises.{RepliesAs, TellsInEachState, reply_of};
@@ -39,6 +41,8 @@ impl<'z, T: Tables> Office<'z, T> {
             account_reply midnight s account.now date) }
         ensures same { IsSure T.is_open self.new → self.new.seen ≡ self.old.seen }
         ensures sure { IsSure T.is_open self.new → IsSure T.is_open self.old }
+        ensures crash { AddsNothing T.is_honest T.is_open T.may_leave
+            self.old.tables self.new.tables (IfReplied (reply_of result)) }
         ensures refusals_counted { IsSure T.is_open self.new → StandsForSome self.old.seen
             → CountsReply (reply_of result)
             (T.refusals self.old.tables) (T.refusals self.new.tables) }
@@ -65,6 +69,8 @@ impl<'z, T: Tables> Office<'z, T> {
             account_reply midnight s account.now date) }
         ensures same { IsSure T.is_open self.new → self.new.seen ≡ self.old.seen }
         ensures sure { IsSure T.is_open self.new → IsSure T.is_open self.old }
+        ensures crash { AddsNothing T.is_honest T.is_open T.may_leave
+            self.old.tables self.new.tables (IfReplied (reply_of result)) }
         ensures refusals_counted { IsSure T.is_open self.new → StandsForSome self.old.seen
             → CountsReply (reply_of result)
             (T.refusals self.old.tables) (T.refusals self.new.tables) }
@@ -83,6 +89,8 @@ impl<'z, T: Tables> Office<'z, T> {
         ensures value { IsSure T.is_open self.new → IfOk result (λ latest.
             latest ≡ latest_key date (runs_in self.old.seen.content date)) }
         ensures same { IsSure T.is_open self.new → self.new.seen ≡ self.old.seen }
+        ensures crash { AddsNothing T.is_honest T.is_open T.may_leave
+            self.old.tables self.new.tables (OnOk result) }
         ensures refusals_counted { IsSure T.is_open self.new → AreReached self.old.seen.content
             → CountsRefusal result (T.refusals self.old.tables) (T.refusals self.new.tables) }
         ensures sure { IsSure T.is_open self.new → IsSure T.is_open self.old }
@@ -99,6 +107,8 @@ impl<'z, T: Tables> Office<'z, T> {
         ensures value { IsSure T.is_open self.new
             → IfOk result (λ rows. rows.items ≡ results_in self.old.seen.content run.now) }
         ensures same { IsSure T.is_open self.new → self.new.seen ≡ self.old.seen }
+        ensures crash { AddsNothing T.is_honest T.is_open T.may_leave
+            self.old.tables self.new.tables (OnOk result) }
         ensures refusals_counted { IsSure T.is_open self.new → AreReached self.old.seen.content
             → CountsRefusal result (T.refusals self.old.tables) (T.refusals self.new.tables) }
         ensures sure { IsSure T.is_open self.new → IsSure T.is_open self.old }
@@ -113,6 +123,8 @@ impl<'z, T: Tables> Office<'z, T> {
             balance_reply midnight s account.now) }
         ensures same { IsSure T.is_open self.new → self.new.seen ≡ self.old.seen }
         ensures sure { IsSure T.is_open self.new → IsSure T.is_open self.old }
+        ensures crash { AddsNothing T.is_honest T.is_open T.may_leave
+            self.old.tables self.new.tables (IfReplied (reply_of result)) }
         ensures refusals_counted { IsSure T.is_open self.new → AreReached self.old.seen.content
             → CountsReply (reply_of result)
             (T.refusals self.old.tables) (T.refusals self.new.tables) }
@@ -142,6 +154,8 @@ impl<'z, T: Tables> Office<'z, T> {
             contracts_reply midnight s account.now date) }
         ensures same { IsSure T.is_open self.new → self.new.seen ≡ self.old.seen }
         ensures sure { IsSure T.is_open self.new → IsSure T.is_open self.old }
+        ensures crash { AddsNothing T.is_honest T.is_open T.may_leave
+            self.old.tables self.new.tables (IfReplied (reply_of result)) }
         ensures refusals_counted { IsSure T.is_open self.new → AreReached self.old.seen.content
             → CountsReply (reply_of result)
             (T.refusals self.old.tables) (T.refusals self.new.tables) }
@@ -157,6 +171,8 @@ impl<'z, T: Tables> Office<'z, T> {
             runs_reply midnight s date) }
         ensures same { IsSure T.is_open self.new → self.new.seen ≡ self.old.seen }
         ensures sure { IsSure T.is_open self.new → IsSure T.is_open self.old }
+        ensures crash { AddsNothing T.is_honest T.is_open T.may_leave
+            self.old.tables self.new.tables (IfReplied (reply_of result)) }
         ensures refusals_counted { IsSure T.is_open self.new → AreReached self.old.seen.content
             → CountsReply (reply_of result)
             (T.refusals self.old.tables) (T.refusals self.new.tables) }

@@ -4,8 +4,11 @@ ghost use Rattle.std.specs.Prelude.{◌≡◌, ◌≤◌, length, None, IfOk, On
 ghost use Rattle.hh_rules.specs.RegisterView.{ServesFor};
 ghost use Rattle.hh_rows.specs.RowKinds.{most_rows};
 ghost use Rattle.hh_states.specs.Reads.{file_in, whole_register};
+ghost use Rattle.hh_store.specs.Crashes.{AddsNothing, AddsOnly};
 ghost use Rattle.hh_store.specs.Reached.{AreReached};
 ghost use Rattle.hh_store.specs.StoreFaults.{CountsRefusal};
+ghost use Rattle.hh_office.specs.Crashes.{IfReplied, MadeInEachState};
+ghost use Rattle.hh_office.specs.steps.Crashes.{IsAcceptedContent, IfTold, IsLoadedContent};
 ghost use Rattle.hh_office.specs.steps.Loads.{Accepts, NamesItsFile, Judges, WritesLoad, writes_of};
 ghost use Rattle.hh_office.specs.Refusals.{CountsReply, StandsForSome};
 ghost use Rattle.hh_office.specs.steps.Refusals.{CountsAnswer};
@@ -33,6 +36,9 @@ impl<'z, T: Tables> Office<'z, T> {
         ensures untouched { IsSure T.is_open self.new
             → RefusalLeaves self.old.seen self.new.seen (reply_of result) }
         ensures sure { IsSure T.is_open self.new → IsSure T.is_open self.old }
+        ensures crash { AddsOnly T.is_honest T.is_open T.may_leave T.holds
+            self.old.tables self.new.tables (IfReplied (reply_of result))
+            (MadeInEachState self.old.seen (λ midnight s. load midnight s moment upload.now)) }
         ensures refusals_counted { IsSure T.is_open self.new → StandsForSome self.old.seen
             → CountsReply (reply_of result)
             (T.refusals self.old.tables) (T.refusals self.new.tables) }
@@ -53,6 +59,8 @@ impl<'z, T: Tables> Office<'z, T> {
         ensures value { IsSure T.is_open self.new → IfOk result (λ found.
             found ≡ file_in self.old.seen.content upload.now.kind upload.now.name) }
         ensures same { IsSure T.is_open self.new → self.new.seen ≡ self.old.seen }
+        ensures crash { AddsNothing T.is_honest T.is_open T.may_leave
+            self.old.tables self.new.tables (OnOk result) }
         ensures refusals_counted { IsSure T.is_open self.new → AreReached self.old.seen.content
             → CountsRefusal result (T.refusals self.old.tables) (T.refusals self.new.tables) }
         ensures sure { IsSure T.is_open self.new → IsSure T.is_open self.old }
@@ -70,6 +78,9 @@ impl<'z, T: Tables> Office<'z, T> {
         ensures untouched { IsSure T.is_open self.new
             → RefusalLeaves self.old.seen self.new.seen (reply_of result) }
         ensures sure { IsSure T.is_open self.new → IsSure T.is_open self.old }
+        ensures crash { AddsOnly T.is_honest T.is_open T.may_leave T.holds
+            self.old.tables self.new.tables (IfReplied (reply_of result))
+            (MadeInEachState self.old.seen (λ midnight s. load_new midnight s moment upload.now)) }
         ensures refusals_counted { IsSure T.is_open self.new → StandsForSome self.old.seen
             → CountsReply (reply_of result)
             (T.refusals self.old.tables) (T.refusals self.new.tables) }
@@ -88,6 +99,8 @@ impl<'z, T: Tables> Office<'z, T> {
         ensures few { IfOk result (λ judged. length judged.rows ≤ most_rows) }
         ensures same { IsSure T.is_open self.new → self.new.seen ≡ self.old.seen }
         ensures sure { IsSure T.is_open self.new → IsSure T.is_open self.old }
+        ensures crash { AddsNothing T.is_honest T.is_open T.may_leave
+            self.old.tables self.new.tables (IfTold result) }
         ensures refusals_counted { IsSure T.is_open self.new → StandsForSome self.old.seen
             → CountsAnswer result (T.refusals self.old.tables) (T.refusals self.new.tables) }
     {
@@ -101,6 +114,8 @@ impl<'z, T: Tables> Office<'z, T> {
         ensures serves { IsSure T.is_open self.new
             → IfOk result (ServesFor rows.now (whole_register self.old.seen.content)) }
         ensures same { IsSure T.is_open self.new → self.new.seen ≡ self.old.seen }
+        ensures crash { AddsNothing T.is_honest T.is_open T.may_leave
+            self.old.tables self.new.tables (OnOk result) }
         ensures refusals_counted { IsSure T.is_open self.new → AreReached self.old.seen.content
             → CountsRefusal result (T.refusals self.old.tables) (T.refusals self.new.tables) }
         ensures sure { IsSure T.is_open self.new → IsSure T.is_open self.old }
@@ -116,6 +131,9 @@ impl<'z, T: Tables> Office<'z, T> {
         ensures untouched { IsSure T.is_open self.new
             → RefusalLeaves self.old.seen self.new.seen (reply_of result) }
         ensures sure { IsSure T.is_open self.new → IsSure T.is_open self.old }
+        ensures crash { AddsOnly T.is_honest T.is_open T.may_leave T.holds
+            self.old.tables self.new.tables (IfReplied (reply_of result))
+            (IsAcceptedContent self.old.seen (writes_of upload.now judged)) }
         ensures refusals_counted { IsSure T.is_open self.new → AreReached self.old.seen.content
             → CountsReply (reply_of result)
             (T.refusals self.old.tables) (T.refusals self.new.tables) }
@@ -132,6 +150,9 @@ impl<'z, T: Tables> Office<'z, T> {
             → OnOk result (WritesLoad self.old.seen self.new.seen change) }
         ensures same { IsSure T.is_open self.new → OnErr result (self.new.seen ≡ self.old.seen) }
         ensures sure { IsSure T.is_open self.new → IsSure T.is_open self.old }
+        ensures crash { AddsOnly T.is_honest T.is_open T.may_leave T.holds
+            self.old.tables self.new.tables (OnOk result)
+            (IsLoadedContent self.old.seen change) }
         ensures refusals_counted { IsSure T.is_open self.new → AreReached self.old.seen.content
             → CountsRefusal result (T.refusals self.old.tables) (T.refusals self.new.tables) }
     {

@@ -1,6 +1,8 @@
 //! The office: requests in, replies out, tables kept.
 
 ghost use Rattle.std.specs.Prelude.{◌≡◌, IfOk, OnErr};
+ghost use Rattle.hh_store.specs.Crashes.{AddsOnly, LeavesContent};
+ghost use Rattle.hh_office.specs.Crashes.{CrashAfterAll, CrashStep, IfReplied, MadeInEachState};
 ghost use Rattle.hh_office.specs.steps.Loads.{NamesItsFile};
 ghost use Rattle.hh_office.specs.Machine.{step};
 ghost use Rattle.hh_office.specs.PartyViews.{ForbidsOthers, ShowsByView};
@@ -87,6 +89,11 @@ impl<'z, T: Tables> Office<'z, T> {
         ensures foreign { IsSure T.is_open self.new
             → ForbidsOthers self.old.seen request.now result }
         ensures sure { IsSure T.is_open self.new → IsSure T.is_open self.old }
+        ensures crash { AddsOnly T.is_honest T.is_open T.may_leave T.holds
+            self.old.tables self.new.tables (IfReplied result)
+            (MadeInEachState self.old.seen (λ midnight s. step midnight s moment request.now)) }
+        ensures left { CrashStep T.is_honest T.is_open T.may_leave T.holds
+            self.old self.new moment request.now result }
         ensures refusals_counted { IsSure T.is_open self.new → StandsForSome self.old.seen
             → CountsReply result (T.refusals self.old.tables) (T.refusals self.new.tables) }
     {
@@ -102,10 +109,38 @@ impl<'z, T: Tables> Office<'z, T> {
         is_named(request);
         accepted_files_in_range();
         keys_never_meet();
+        self.shows_left();
+        let reply = self.reply_to(moment, request);
+        self.shows_left();
+        reply
+    }
+
+    /// Answers a request that comes at a moment, as `handle` does.
+    fn reply_to(&mut self, moment: i64, request: &Request) -> Reply
+        ensures step { IsSure T.is_open self.new
+            → HandleStep self.old.seen self.new.seen moment request.now result }
+        ensures untouched { IsSure T.is_open self.new
+            → RefusalLeaves self.old.seen self.new.seen result }
+        ensures sure { IsSure T.is_open self.new → IsSure T.is_open self.old }
+        ensures crash { AddsOnly T.is_honest T.is_open T.may_leave T.holds
+            self.old.tables self.new.tables (IfReplied result)
+            (MadeInEachState self.old.seen (λ midnight s. step midnight s moment request.now)) }
+        ensures refusals_counted { IsSure T.is_open self.new → StandsForSome self.old.seen
+            → CountsReply result (T.refusals self.old.tables) (T.refusals self.new.tables) }
+    {
         match self.act(moment, request) {
             Ok(reply) => reply,
             Err(fault) => Reply::Refused(fault),
         }
+    }
+
+    /// That what a crash leaves of tables that stand holds what contracts see: does nothing, but carries this
+    /// for a proof.
+    fn shows_left(&self)
+        ensures { LeavesContent T.is_open T.may_leave T.holds
+            self.now.tables self.now.seen.content }
+    {
+        self.tables.shows_left();
     }
 
     /// Answers requests, each with the moment at which it comes, in seconds since 1970-01-01T00:00:00Z,
@@ -123,6 +158,9 @@ impl<'z, T: Tables> Office<'z, T> {
             ConservesAfterAll self.old.seen self.new.seen requests.now replies.items) }
         ensures none { IsSure T.is_open self.new → OnErr result (self.new.seen ≡ self.old.seen) }
         ensures sure { IsSure T.is_open self.new → IsSure T.is_open self.old }
+        ensures left { IfOk result (λ replies.
+            CrashAfterAll T.is_honest T.is_open T.may_leave T.holds
+            self.old self.new requests.now replies.items) }
         ensures refusals_counted { IsSure T.is_open self.new → StandsForSome self.old.seen
             → IfOk result (λ replies. CountsReplies replies.items
             (T.refusals self.old.tables) (T.refusals self.new.tables)) }
@@ -134,6 +172,7 @@ impl<'z, T: Tables> Office<'z, T> {
             let pushed = replies.push(self.handle_timed(request));
             prove!(pushed.is_ok());
         }
+        self.shows_left();
         Ok(replies)
     }
 
@@ -143,6 +182,10 @@ impl<'z, T: Tables> Office<'z, T> {
             → HandleStep self.old.seen self.new.seen request.now.0 request.now.1 result }
         ensures sure { IsSure T.is_open self.new → IsSure T.is_open self.old }
         ensures named { NamesItsFile request.now.1.action }
+        ensures crash { AddsOnly T.is_honest T.is_open T.may_leave T.holds
+            self.old.tables self.new.tables (IfReplied result)
+            (MadeInEachState self.old.seen (λ midnight s.
+            step midnight s request.now.0 request.now.1)) }
         ensures refusals_counted { IsSure T.is_open self.new → StandsForSome self.old.seen
             → CountsReply result (T.refusals self.old.tables) (T.refusals self.new.tables) }
     {
@@ -158,6 +201,9 @@ impl<'z, T: Tables> Office<'z, T> {
         ensures untouched { IsSure T.is_open self.new
             → RefusalLeaves self.old.seen self.new.seen (reply_of result) }
         ensures sure { IsSure T.is_open self.new → IsSure T.is_open self.old }
+        ensures crash { AddsOnly T.is_honest T.is_open T.may_leave T.holds
+            self.old.tables self.new.tables (IfReplied (reply_of result))
+            (MadeInEachState self.old.seen (λ midnight s. step midnight s moment request.now)) }
         ensures refusals_counted { IsSure T.is_open self.new → StandsForSome self.old.seen
             → CountsReply (reply_of result)
             (T.refusals self.old.tables) (T.refusals self.new.tables) }

@@ -1,13 +1,15 @@
 //! Reports, which the operator alone gets.
 
-ghost use Rattle.std.specs.Prelude.{◌≡◌, IfOk};
+ghost use Rattle.std.specs.Prelude.{◌≡◌, IfOk, OnOk};
 ghost use Rattle.std.specs.FinMap.{find};
 ghost use Rattle.hh_devices.specs.DeviceChanges.{change};
 ghost use Rattle.hh_requests.specs.declared.report.Report.TheVariants.{Balances, Day, Results};
 ghost use Rattle.hh_states.specs.Runs.{run_key_cmp};
+ghost use Rattle.hh_store.specs.Crashes.{AddsNothing};
 ghost use Rattle.hh_store.specs.Outputs.{balances_in, day_report_in, export_in};
 ghost use Rattle.hh_store.specs.Reached.{AreReached};
 ghost use Rattle.hh_store.specs.StoreFaults.{CountsRefusal};
+ghost use Rattle.hh_office.specs.Crashes.{IfReported};
 ghost use Rattle.hh_office.specs.Refusals.{CountsReportStop};
 ghost use Rattle.hh_office.specs.Reports.{CountsReport, Reports, ReportsAs, WritesReport, or_no_run};
 ghost use Rattle.hh_office.specs.Views.{IsSure};
@@ -44,6 +46,8 @@ impl<'z, T: Tables> Office<'z, T> {
             self.old.seen key.now report.now result }
         ensures counted { CountsReport (change S.taken S.failures out.old out.new) result }
         ensures same { IsSure T.is_open self.new → self.new.seen ≡ self.old.seen }
+        ensures crash { AddsNothing T.is_honest T.is_open T.may_leave
+            self.old.tables self.new.tables (IfReported result) }
         ensures refusals_counted { IsSure T.is_open self.new → AreReached self.old.seen.content
             → CountsReportStop result (T.refusals self.old.tables) (T.refusals self.new.tables) }
         ensures sure { IsSure T.is_open self.new → IsSure T.is_open self.old }
@@ -77,6 +81,8 @@ impl<'z, T: Tables> Office<'z, T> {
             (Day (record { date = date; kind = kind })) result }
         ensures counted { CountsReport (change S.taken S.failures out.old out.new) result }
         ensures same { IsSure T.is_open self.new → self.new.seen ≡ self.old.seen }
+        ensures crash { AddsNothing T.is_honest T.is_open T.may_leave
+            self.old.tables self.new.tables (IfReported result) }
         ensures refusals_counted { IsSure T.is_open self.new → AreReached self.old.seen.content
             → CountsReportStop result (T.refusals self.old.tables) (T.refusals self.new.tables) }
         ensures sure { IsSure T.is_open self.new → IsSure T.is_open self.old }
@@ -101,6 +107,8 @@ impl<'z, T: Tables> Office<'z, T> {
             (Results (record { date = date; kind = kind })) result }
         ensures counted { CountsReport (change S.taken S.failures out.old out.new) result }
         ensures same { IsSure T.is_open self.new → self.new.seen ≡ self.old.seen }
+        ensures crash { AddsNothing T.is_honest T.is_open T.may_leave
+            self.old.tables self.new.tables (IfReported result) }
         ensures refusals_counted { IsSure T.is_open self.new → AreReached self.old.seen.content
             → CountsReportStop result (T.refusals self.old.tables) (T.refusals self.new.tables) }
         ensures sure { IsSure T.is_open self.new → IsSure T.is_open self.old }
@@ -119,6 +127,8 @@ impl<'z, T: Tables> Office<'z, T> {
             self.old.seen key.now Balances result }
         ensures counted { CountsReport (change S.taken S.failures out.old out.new) result }
         ensures same { IsSure T.is_open self.new → self.new.seen ≡ self.old.seen }
+        ensures crash { AddsNothing T.is_honest T.is_open T.may_leave
+            self.old.tables self.new.tables (IfReported result) }
         ensures refusals_counted { IsSure T.is_open self.new → AreReached self.old.seen.content
             → CountsReportStop result (T.refusals self.old.tables) (T.refusals self.new.tables) }
         ensures sure { IsSure T.is_open self.new → IsSure T.is_open self.old }
@@ -133,6 +143,8 @@ impl<'z, T: Tables> Office<'z, T> {
             (or_no_run (day_report_in self.old.seen.content run.now)) result }
         ensures counted { CountsReport (change S.taken S.failures out.old out.new) result }
         ensures same { IsSure T.is_open self.new → self.new.seen ≡ self.old.seen }
+        ensures crash { AddsNothing T.is_honest T.is_open T.may_leave
+            self.old.tables self.new.tables (IfReported result) }
         ensures refusals_counted { IsSure T.is_open self.new → AreReached self.old.seen.content
             → CountsReportStop result (T.refusals self.old.tables) (T.refusals self.new.tables) }
         ensures sure { IsSure T.is_open self.new → IsSure T.is_open self.old }
@@ -150,6 +162,8 @@ impl<'z, T: Tables> Office<'z, T> {
             (or_no_run (export_in self.old.seen.content run.now)) result }
         ensures counted { CountsReport (change S.taken S.failures out.old out.new) result }
         ensures same { IsSure T.is_open self.new → self.new.seen ≡ self.old.seen }
+        ensures crash { AddsNothing T.is_honest T.is_open T.may_leave
+            self.old.tables self.new.tables (IfReported result) }
         ensures refusals_counted { IsSure T.is_open self.new → AreReached self.old.seen.content
             → CountsReportStop result (T.refusals self.old.tables) (T.refusals self.new.tables) }
         ensures sure { IsSure T.is_open self.new → IsSure T.is_open self.old }
@@ -167,6 +181,8 @@ impl<'z, T: Tables> Office<'z, T> {
             (balances_in self.old.seen.content) result }
         ensures counted { CountsReport (change S.taken S.failures out.old out.new) result }
         ensures same { IsSure T.is_open self.new → self.new.seen ≡ self.old.seen }
+        ensures crash { AddsNothing T.is_honest T.is_open T.may_leave
+            self.old.tables self.new.tables (IfReported result) }
         ensures refusals_counted { IsSure T.is_open self.new → AreReached self.old.seen.content
             → CountsReportStop result (T.refusals self.old.tables) (T.refusals self.new.tables) }
         ensures sure { IsSure T.is_open self.new → IsSure T.is_open self.old }
@@ -179,6 +195,8 @@ impl<'z, T: Tables> Office<'z, T> {
         ensures value { IsSure T.is_open self.new → IfOk result (λ found.
             found ≡ find run_key_cmp run.now self.old.seen.content.runs) }
         ensures same { IsSure T.is_open self.new → self.new.seen ≡ self.old.seen }
+        ensures crash { AddsNothing T.is_honest T.is_open T.may_leave
+            self.old.tables self.new.tables (OnOk result) }
         ensures refusals_counted { IsSure T.is_open self.new → AreReached self.old.seen.content
             → CountsRefusal result (T.refusals self.old.tables) (T.refusals self.new.tables) }
         ensures sure { IsSure T.is_open self.new → IsSure T.is_open self.old }

@@ -10,9 +10,12 @@ ghost use Rattle.hh_requests.specs.declared.reply.Reply.TheVariants.{Ran};
 ghost use Rattle.hh_states.specs.DaySettlement.{periods_on};
 ghost use Rattle.hh_states.specs.Reads.{runs_in};
 ghost use Rattle.hh_states.specs.Steps.{missing_meter_fault, period_fault};
+ghost use Rattle.hh_store.specs.Crashes.{AddsNothing, AddsOnly};
 ghost use Rattle.hh_store.specs.Reached.{AreReached};
 ghost use Rattle.hh_store.specs.StoreFaults.{CountsRefusal};
+ghost use Rattle.hh_office.specs.Crashes.{IfReplied, MadeInEachState};
 ghost use Rattle.hh_office.specs.Refusals.{CountsReply, IsElsewhere, StandsForSome};
+ghost use Rattle.hh_office.specs.steps.Crashes.{IfTold, IsMadeContent, IsRunContent};
 ghost use Rattle.hh_office.specs.steps.Refusals.{CountsAnswer};
 ghost use Rattle.hh_office.specs.Promises.{RefusalLeaves};
 ghost use Rattle.hh_office.specs.steps.Promises.{MakesInEachState, reply_of};
@@ -47,6 +50,9 @@ impl<'z, T: Tables> Office<'z, T> {
         ensures untouched { IsSure T.is_open self.new
             → RefusalLeaves self.old.seen self.new.seen (reply_of result) }
         ensures sure { IsSure T.is_open self.new → IsSure T.is_open self.old }
+        ensures crash { AddsOnly T.is_honest T.is_open T.may_leave T.holds
+            self.old.tables self.new.tables (IfReplied (reply_of result))
+            (MadeInEachState self.old.seen (λ midnight s. run midnight s moment key)) }
         ensures refusals_counted { IsSure T.is_open self.new → StandsForSome self.old.seen
             → CountsReply (reply_of result)
             (T.refusals self.old.tables) (T.refusals self.new.tables) }
@@ -69,6 +75,8 @@ impl<'z, T: Tables> Office<'z, T> {
         ensures value { IsSure T.is_open self.new
             → IfOk result (λ runs. runs.items ≡ runs_in self.old.seen.content date) }
         ensures same { IsSure T.is_open self.new → self.new.seen ≡ self.old.seen }
+        ensures crash { AddsNothing T.is_honest T.is_open T.may_leave
+            self.old.tables self.new.tables (OnOk result) }
         ensures refusals_counted { IsSure T.is_open self.new → AreReached self.old.seen.content
             → CountsRefusal result (T.refusals self.old.tables) (T.refusals self.new.tables) }
         ensures sure { IsSure T.is_open self.new → IsSure T.is_open self.old }
@@ -88,6 +96,9 @@ impl<'z, T: Tables> Office<'z, T> {
         ensures untouched { IsSure T.is_open self.new
             → RefusalLeaves self.old.seen self.new.seen (reply_of result) }
         ensures sure { IsSure T.is_open self.new → IsSure T.is_open self.old }
+        ensures crash { AddsOnly T.is_honest T.is_open T.may_leave T.holds
+            self.old.tables self.new.tables (IfReplied (reply_of result))
+            (MadeInEachState self.old.seen (λ midnight s. run midnight s moment key)) }
         ensures refusals_counted { IsSure T.is_open self.new → StandsForSome self.old.seen
             → CountsReply (reply_of result)
             (T.refusals self.old.tables) (T.refusals self.new.tables) }
@@ -114,6 +125,9 @@ impl<'z, T: Tables> Office<'z, T> {
             → IfOk result (IsRunMade self.old.seen self.new.seen key day.now former) }
         ensures same { IsSure T.is_open self.new → OnErr result (self.new.seen ≡ self.old.seen) }
         ensures sure { IsSure T.is_open self.new → IsSure T.is_open self.old }
+        ensures crash { AddsOnly T.is_honest T.is_open T.may_leave T.holds
+            self.old.tables self.new.tables (OnOk result)
+            (IsMadeContent self.old.seen key day.now former) }
         ensures refusals_counted { IsSure T.is_open self.new → AreReached self.old.seen.content
             → FitsRun key day.now (rows_before self.old.seen.content former)
             → CountsRefusal result (T.refusals self.old.tables) (T.refusals self.new.tables) }
@@ -134,6 +148,8 @@ impl<'z, T: Tables> Office<'z, T> {
             → IfErr result (RefusesIn self.old.seen moment date) }
         ensures same { IsSure T.is_open self.new → self.new.seen ≡ self.old.seen }
         ensures sure { IsSure T.is_open self.new → IsSure T.is_open self.old }
+        ensures crash { AddsNothing T.is_honest T.is_open T.may_leave
+            self.old.tables self.new.tables (IfTold result) }
         ensures refusals_counted { IsSure T.is_open self.new → AreReached self.old.seen.content
             → CountsAnswer result (T.refusals self.old.tables) (T.refusals self.new.tables) }
     {
@@ -159,6 +175,8 @@ impl<'z, T: Tables> Office<'z, T> {
             (periods_on day.now.date day.now.count)) }
         ensures same { IsSure T.is_open self.new → self.new.seen ≡ self.old.seen }
         ensures sure { IsSure T.is_open self.new → IsSure T.is_open self.old }
+        ensures crash { AddsNothing T.is_honest T.is_open T.may_leave
+            self.old.tables self.new.tables (IfTold result) }
         ensures refusals_counted { IsSure T.is_open self.new → AreReached self.old.seen.content
             → CountsAnswer result (T.refusals self.old.tables) (T.refusals self.new.tables) }
     {
@@ -178,6 +196,8 @@ impl<'z, T: Tables> Office<'z, T> {
         ensures value { IsSure T.is_open self.new
             → IfOk result (λ rows. rows.items ≡ rows_before self.old.seen.content run) }
         ensures same { IsSure T.is_open self.new → self.new.seen ≡ self.old.seen }
+        ensures crash { AddsNothing T.is_honest T.is_open T.may_leave
+            self.old.tables self.new.tables (OnOk result) }
         ensures refusals_counted { IsSure T.is_open self.new → AreReached self.old.seen.content
             → CountsRefusal result (T.refusals self.old.tables) (T.refusals self.new.tables) }
         ensures sure { IsSure T.is_open self.new → IsSure T.is_open self.old }
@@ -194,6 +214,9 @@ impl<'z, T: Tables> Office<'z, T> {
             → OnOk result (WritesRun self.old.seen self.new.seen change) }
         ensures same { IsSure T.is_open self.new → OnErr result (self.new.seen ≡ self.old.seen) }
         ensures sure { IsSure T.is_open self.new → IsSure T.is_open self.old }
+        ensures crash { AddsOnly T.is_honest T.is_open T.may_leave T.holds
+            self.old.tables self.new.tables (OnOk result)
+            (IsRunContent self.old.seen change) }
         ensures refusals_counted { IsSure T.is_open self.new → AreReached self.old.seen.content
             → CountsRefusal result (T.refusals self.old.tables) (T.refusals self.new.tables) }
     {

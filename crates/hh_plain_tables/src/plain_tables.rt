@@ -1,15 +1,16 @@
 //! The tables of an office, kept in memory.
 
-ghost use Rattle.std.specs.Prelude.{◌≡◌, ◌≢◌, IfErr, IfOk, IfSome, IsOk, OnErr, OnOk, true};
+ghost use Rattle.std.specs.Prelude.{◌≡◌, ◌≢◌, ◌⊎◌, IfErr, IfOk, IfSome, IsOk, OnErr, OnOk, true};
 ghost use Rattle.hh_devices.specs.DeviceChanges.{change};
 ghost use Rattle.hh_time.specs.Days.{Midnights};
 ghost use Rattle.hh_rules.specs.RegisterView.{ServesFor};
 ghost use Rattle.hh_states.specs.Changes.{IsLoadFrom, IsRunFrom, effect_of_load, effect_of_run};
-ghost use Rattle.hh_states.specs.Content.{empty_content, tables_of};
+ghost use Rattle.hh_states.specs.Content.{Content, empty_content, tables_of};
 ghost use Rattle.hh_states.specs.DaySettlement.{periods_on};
 ghost use Rattle.hh_states.specs.Reads.{contracts_in, file_in, is_key_known, party_in, postings_in, reference_in, results_in, runs_in, unit_in, whole_register};
 ghost use Rattle.hh_states.specs.Soundness.{AreSound};
 ghost use Rattle.hh_states.specs.States.{empty_state};
+ghost use Rattle.hh_store.specs.Crashes.{MakesLoad, MakesRun};
 ghost use Rattle.hh_store.specs.DayReads.{IsDayData};
 ghost use Rattle.hh_store.specs.Outputs.{CountsOutcome, Outputs, balances_in, day_report_in, export_in};
 ghost use Rattle.hh_store.specs.Reached.{AreReached};
@@ -85,6 +86,14 @@ impl Tables for PlainTables {
     ghost content = { λ tables. tables };
 
     ghost is_open = { λ _. true };
+
+    ghost is_honest = { λ _. Unit {0} };
+
+    ghost Left = { Content };
+
+    ghost may_leave = { λ tables left. left ≡ tables };
+
+    ghost holds = { λ left content. left ≡ content };
 
     ghost refusals = { λ _. 0 };
 
@@ -245,6 +254,9 @@ impl Tables for PlainTables {
         ensures ok { (midnight : Midnights) → IsLoadFrom midnight self.old change
             → OnOk result (self.new ≡ effect_of_load change self.old) }
         ensures err { OnErr result (self.new ≡ self.old) }
+        ensures crash { (left : Content) → left ≡ self.new
+            → (left ≡ self.old) ⊎ ((content : Content) × (left ≡ content)
+            × MakesLoad change self.old content) }
         ensures memory_alone { IfErr result (λ fault. fault ≡ StoreFault.Memory) }
     {
         let changed = changed_by(self.alloc, &self.register, &change)?;
@@ -257,9 +269,14 @@ impl Tables for PlainTables {
         ensures ok { (midnight : Midnights) → IsRunFrom midnight self.old change
             → OnOk result (self.new ≡ effect_of_run change self.old) }
         ensures err { OnErr result (self.new ≡ self.old) }
+        ensures crash { (left : Content) → left ≡ self.new
+            → (left ≡ self.old) ⊎ ((content : Content) × (left ≡ content)
+            × MakesRun change self.old content) }
         ensures memory_alone { IfErr result (λ fault. fault ≡ StoreFault.Memory) }
     {
         self.runs.put(self.alloc, change)?;
         Ok(())
     }
+
+    fn shows_left(&self) {}
 }

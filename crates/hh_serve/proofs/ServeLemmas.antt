@@ -7,14 +7,15 @@ use Rattle.hh_names.specs.Faults.{memory_fault}
 use Rattle.hh_requests.specs.declared.reply.Reply.{Reply}
 use Rattle.hh_requests.specs.declared.reply.Reply.TheVariants as reply
 use Rattle.hh_requests.specs.declared.request.Request.{Request}
-use Rattle.hh_states.specs.Content.{tables_of}
+use Rattle.hh_states.specs.Content.{Content, tables_of}
 use Rattle.hh_states.specs.States.{State}
+use Rattle.hh_office.specs.Crashes.{CrashStep}
 use Rattle.hh_office.specs.Machine.{next, step}
 use Rattle.hh_office.specs.PartyViews.{ForbidsOthers, ShowsByView}
 use Rattle.hh_office.specs.Promises.{ConservesAfter, HandleStep, RefusalLeaves, RepeatsOnce, Stands, StandsAfter, is_given_up}
 use Rattle.hh_office.specs.Refusals.{CountsReply, StandsForSome, is_of_store}
 use Rattle.hh_office.specs.Transitions.{Transition}
-use Rattle.hh_office.specs.Views.{OfficeView, midnight_of}
+use Rattle.hh_office.specs.Views.{Kept, OfficeView, midnight_of}
 use Rattle.hh_replies.specs.ReplyText.{reply_text}
 use Rattle.hh_replies.specs.declared.refusal.Refused.{Refused}
 use Rattle.hh_replies.specs.declared.reply.WriteFault.{WriteFault}
@@ -27,6 +28,7 @@ use Rattle.hh_serve.specs.declared.serve.ServeFault.{ServeFault}
 use Rattle.hh_serve.specs.declared.serve.ServeFault.TheVariants.{Write}
 use Rattle.hh_serve.specs.declared.serve.Served.{Served}
 use Rattle.hh_serve.specs.declared.serve.Served.TheVariants as outcome
+use Rattle.hh_serve.specs.Crashes.{LeavesHandled, LeavesServed}
 use Rattle.hh_serve.specs.ServeFaults.{serve_fault}
 use Rattle.hh_serve.specs.Serves.{IsAnswer, IsReadOf, Serves, StandsAfterOne}
 
@@ -110,3 +112,27 @@ module _ (old new : OfficeView) (moment at : ℤ) (same : at ≡ moment) (reques
   stands_after_one = subst (λ (m : ℤ). StandsAfterOne old new m) same (λ s before.
       let transition : Transition = step (midnight_of old) s at request in
       stands_by at s transition.state transition.reply (is_given_up given) (steps s before) (stands s before))
+
+-- A request was read and handled, at a moment that is written in two ways, with what a crash leaves then.
+module _ {T L : Type 0} (is_honest : T → Type 0) (is_open : T → Bool) (may_leave : T → L → Type 0) (holds : L → Content → Type 0) (old new : Kept T)
+    (source : Option (List ℕ)) (moment at : ℤ) (same : at ≡ moment) (device : DeviceChange) (request : Request) (given : Reply)
+    (read : Incoming) (is : read ≡ Asked request) (message : IsReadOf source (Ok read)) (left : CrashStep is_honest is_open may_leave holds old new at request given) where
+  leaves_handled : LeavesHandled is_honest is_open may_leave holds old new source moment given
+  leaves_handled = (
+    request,
+    subst (λ (i : Incoming). IsReadOf source (Ok i)) is message,
+    subst (λ (m : ℤ). CrashStep is_honest is_open may_leave holds old new m request given) same left,
+  )
+
+  pub leaves_replied : WritesReply device (reply_text given false) (Ok tt) → LeavesServed is_honest is_open may_leave holds old new source moment device (Ok outcome.Replied)
+  leaves_replied writes = (given, leaves_handled, writes.0)
+
+  leaves_unreplied : (fault : WriteFault) → WritesReply device (reply_text given false) (Err fault)
+      → LeavesServed is_honest is_open may_leave holds old new source moment device (Err (serve_fault fault))
+  leaves_unreplied write.Write writes = inl (given, leaves_handled, writes.0)
+  leaves_unreplied write.Memory writes = (given, leaves_handled)
+
+  pub leaves_not_replied : (fault : WriteFault) (result : Result Served ServeFault) → IsErrAnd result (λ served. served ≡ serve_fault fault)
+      → WritesReply device (reply_text given false) (Err fault) → LeavesServed is_honest is_open may_leave holds old new source moment device result
+  leaves_not_replied fault result told writes =
+      subst (λ (r : Result Served ServeFault). LeavesServed is_honest is_open may_leave holds old new source moment device r) (passed_on result fault told) (leaves_unreplied fault writes)

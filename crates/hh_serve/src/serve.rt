@@ -2,6 +2,7 @@
 
 ghost use Rattle.hh_devices.specs.DeviceChanges.{change};
 ghost use Rattle.hh_office.specs.Views.{IsSure};
+ghost use Rattle.hh_serve.specs.Crashes.{LeavesServed};
 ghost use Rattle.hh_serve.specs.Serves.{CountsReading, CountsUp, CountsWriting, Serves, ServingFailsAwaiting, StandsAfterOne};
 
 use hh_devices::{DeviceFailed, Sink, Source};
@@ -75,6 +76,8 @@ pub fn serve_one<T: Tables, I: Source, O: Sink>(
         → StandsAfterOne office.old.seen office.new.seen moment }
     ensures refusals_up { IsSure T.is_open office.new → CountsUp T.refusals office.old office.new }
     ensures sure { IsSure T.is_open office.new → IsSure T.is_open office.old }
+    ensures left { LeavesServed T.is_honest T.is_open T.may_leave T.holds office.old office.new
+        (I.remaining source.old) moment (change O.taken O.failures sink.old sink.new) result }
     ensures awaited { ServingFailsAwaiting result
         (I.remaining source.old) (I.remaining source.new) }
     ensures read { CountsReading result (I.failures source.old) (I.failures source.new) }

@@ -1,14 +1,30 @@
 -- One reading of an office after the other: they leave together what each leaves, and what one finds stands for both.
-use Rattle.std.proofs.Common.{◌≡◌, ◌∙◌, IsTrue, sym, subst}
+use Rattle.std.proofs.Common.{◌≡◌, ◌∙◌, ◌⊎◌, inl, inr, IsTrue, sym, subst}
 use Rattle.sqlite.specs.Effect.{Database}
-use Rattle.sqlite.specs.State.{State}
+use Rattle.sqlite.specs.State.{HasCleanDisk, State}
 use Rattle.hh_sqlrows.specs.Office.{IsOffice}
-use Rattle.hh_sqlrows.specs.Reads.{LeavesOffice, OfOffice, Stood}
+use Rattle.hh_sqlrows.specs.Reads.{CommitsNothingOf, IsHonest, LeavesOffice, OfOffice, Stood}
 use Rattle.hh_sqlparts.specs.Readings.{SelectsOnly, OfSettled}
+use Rattle.hh_sqlparts.specs.steps.Readings.{HaveReadSafely}
 
 -- a statement that selects rows is a reading
 pub reading_of_statement : (old new : State) → Stood old new → LeavesOffice old new → SelectsOnly old new
 reading_of_statement old new stood left = record { stood = λ stands. (stood stands).0; left = left }
+
+or_never : {A : Type 0} → A ⊎ ⊥ → A
+or_never (inl a) = a
+or_never (inr none) = absurd none
+
+-- one more statement that was answered, after readings that were
+pub safely_more : (old mid new : State) → SelectsOnly old mid → HaveReadSafely old mid → (HasCleanDisk new → IsTrue new.is_open) → IsHonest mid new → CommitsNothingOf mid new → HaveReadSafely old new
+safely_more old mid new reading first opened honest nothing = record {
+  honest = λ clean. first.honest (honest clean);
+  stays = λ clean stands. opened clean;
+  crash = λ stands is settled clean trees may.
+      let before = honest clean in
+      let kept = reading.left (first.stays before stands) is settled in
+      first.crash stands is settled before trees (or_never ((nothing (subst IsOffice (sym kept.0) is)).crash clean trees may));
+}
 
 module _ (old mid new : State) (first : SelectsOnly old mid) (last : SelectsOnly mid new) where
   module _ (stands : IsTrue new.is_open) (is : IsOffice old.now) (settled : old.now ≡ old.committed) where

@@ -3,7 +3,7 @@ use Rattle.std.specs.Prelude.{◌≡◌, IsTrue, OnOk, Result}
 use Rattle.sqlite.specs.State.{HasCleanDisk, State}
 use Rattle.sqlite_trees.specs.Tree.{Trees}
 use Rattle.hh_sqlrows.specs.Office.{IsOffice}
-use Rattle.hh_sqlrows.specs.Reads.{LeavesOffice, OfOffice}
+use Rattle.hh_sqlrows.specs.Reads.{IsHonest, LeavesOffice, OfOffice}
 
 -- this holds of calls on an office, all of which was committed, whose connection is open afterwards
 abbrev pub OfSettled : State → State → Type 0 → Type 0
@@ -14,9 +14,17 @@ pub record SelectsOnly (old new : State) : Type 0 where
   pub stood : IsTrue new.is_open → IsTrue old.is_open
   pub left : LeavesOffice old new
 
--- By a disk that has returned what was written: it did so before; a reading that was answered leaves the connection open; and after a
--- reading of an office, all of which was committed, a crash leaves nothing that it would not have left before.
+-- this holds of an office, all of which was committed
+abbrev pub OfCommitted : State → Type 0 → Type 0
+OfCommitted old P = IsOffice old.now → old.now ≡ old.committed → P
+
+-- by a disk that has returned what was written, a crash leaves nothing that it would not have left before
+abbrev pub LeavesNoMore : State → State → Type 0
+LeavesNoMore old new = HasCleanDisk new → (trees : Trees) → new.may_leave trees → old.may_leave trees
+
+-- A disk that has returned what was written did so before; by such a disk a reading that was answered leaves an open connection open;
+-- and of an office in an open connection, all of which was committed, it adds nothing to what a crash leaves.
 pub record ReadsSafely {X E : Type 0} (old new : State) (result : Result X E) : Type 0 where
-  pub honest : HasCleanDisk new → HasCleanDisk old
-  pub stays : HasCleanDisk new → OnOk result (IsTrue new.is_open)
-  pub crash : IsOffice old.now → old.now ≡ old.committed → HasCleanDisk new → (db : Trees) → new.may_leave db → old.may_leave db
+  pub honest : IsHonest old new
+  pub stays : HasCleanDisk new → IsTrue old.is_open → OnOk result (IsTrue new.is_open)
+  pub crash : IsTrue old.is_open → OfCommitted old (LeavesNoMore old new)

@@ -8,9 +8,9 @@ ghost use Rattle.hh_beside.specs.Keeping.{periods_of_runs, positions_by, positio
 ghost use Rattle.hh_sqlrows.specs.Contents.{registered_of};
 ghost use Rattle.hh_sqlrows.specs.Forms.{rows_under_keys};
 ghost use Rattle.hh_sqlrows.specs.OfficeTables.{contracts, references, runs};
-ghost use Rattle.hh_sqlrows.specs.Reads.{OfOffice};
+ghost use Rattle.hh_sqlrows.specs.Reads.{OfOffice, StaysOpen};
 ghost use Rattle.hh_sqlparts.specs.BesideAnew.{HasNothingBeside, IsBesideAnew};
-ghost use Rattle.hh_sqlparts.specs.Readings.{ReadsSafely, SelectsOnly, OfSettled};
+ghost use Rattle.hh_sqlparts.specs.Readings.{LeavesNoMore, OfCommitted, OfSettled, ReadsSafely, SelectsOnly};
 
 use crate::tables::table_of;
 use hh_kept_rows::KeptRegister;
@@ -49,6 +49,10 @@ pub fn select_beside_anew<S: Alter>(
         OfSettled old new (IfOk result (IsBesideAnew old.now.trees)) }
     ensures reading { SelectsOnly (state S.Store conn.old) (state S.Store conn.new) }
     ensures safe { ReadsSafely (state S.Store conn.old) (state S.Store conn.new) result }
+    ensures stays { StaysOpen (state S.Store conn.old) (state S.Store conn.new) result }
+    ensures crash { let old = state S.Store conn.old in
+        let new = state S.Store conn.new in
+        OfCommitted old (LeavesNoMore old new) }
     ensures mode { conn.old.in_transaction ≡ false → conn.new.in_transaction ≡ false }
 {
     select_nothing_beside(conn, alloc)?;
@@ -64,6 +68,10 @@ fn select_nothing_beside<S: Alter>(conn: &mut Connection<S>, alloc: Global) -> R
         OfSettled old new (OnOk result (HasNothingBeside old.now.trees)) }
     ensures reading { SelectsOnly (state S.Store conn.old) (state S.Store conn.new) }
     ensures safe { ReadsSafely (state S.Store conn.old) (state S.Store conn.new) result }
+    ensures stays { StaysOpen (state S.Store conn.old) (state S.Store conn.new) result }
+    ensures crash { let old = state S.Store conn.old in
+        let new = state S.Store conn.new in
+        OfCommitted old (LeavesNoMore old new) }
     ensures mode { conn.old.in_transaction ≡ false → conn.new.in_transaction ≡ false }
 {
     none_of(select_positions(conn, alloc)?)?;
@@ -92,6 +100,10 @@ fn select_positions_anew<S: Alter>(
         found.items ≡ positions_by (registered_of old.now.trees))) }
     ensures reading { SelectsOnly (state S.Store conn.old) (state S.Store conn.new) }
     ensures safe { ReadsSafely (state S.Store conn.old) (state S.Store conn.new) result }
+    ensures stays { StaysOpen (state S.Store conn.old) (state S.Store conn.new) result }
+    ensures crash { let old = state S.Store conn.old in
+        let new = state S.Store conn.new in
+        OfCommitted old (LeavesNoMore old new) }
     ensures mode { conn.old.in_transaction ≡ false → conn.new.in_transaction ≡ false }
 {
     let tables = select_all_contracts(conn, alloc)?;
@@ -121,6 +133,10 @@ fn select_all_contracts<S: Alter>(
         × (part.references ≡ rows_under_keys references old.now.trees))) }
     ensures reading { SelectsOnly (state S.Store conn.old) (state S.Store conn.new) }
     ensures safe { ReadsSafely (state S.Store conn.old) (state S.Store conn.new) result }
+    ensures stays { StaysOpen (state S.Store conn.old) (state S.Store conn.new) result }
+    ensures crash { let old = state S.Store conn.old in
+        let new = state S.Store conn.new in
+        OfCommitted old (LeavesNoMore old new) }
     ensures mode { conn.old.in_transaction ≡ false → conn.new.in_transaction ≡ false }
 {
     let mut part = KeptRegister::new(alloc);
@@ -177,6 +193,10 @@ fn select_periods_of_runs<S: Alter>(
         found.items ≡ periods_of_runs (rows_under_keys runs old.now.trees))) }
     ensures reading { SelectsOnly (state S.Store conn.old) (state S.Store conn.new) }
     ensures safe { ReadsSafely (state S.Store conn.old) (state S.Store conn.new) result }
+    ensures stays { StaysOpen (state S.Store conn.old) (state S.Store conn.new) result }
+    ensures crash { let old = state S.Store conn.old in
+        let new = state S.Store conn.new in
+        OfCommitted old (LeavesNoMore old new) }
     ensures mode { conn.old.in_transaction ≡ false → conn.new.in_transaction ≡ false }
 {
     match select_runs(conn, alloc) {

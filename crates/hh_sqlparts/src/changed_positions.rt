@@ -9,7 +9,7 @@ ghost use Rattle.hh_beside.specs.Keeping.{positions_with, replaced_by};
 ghost use Rattle.sqlite.specs.Held.{state};
 ghost use Rattle.hh_sqlrows.specs.Forms.{rows_under_keys};
 ghost use Rattle.hh_sqlrows.specs.OfficeTables.{contracts, positions};
-ghost use Rattle.hh_sqlparts.specs.Readings.{SelectsOnly, OfSettled};
+ghost use Rattle.hh_sqlparts.specs.Readings.{ReadsSafely, SelectsOnly, OfSettled};
 
 use crate::moved_positions::{select_positions_named, select_volumes_named};
 use hh_keyed_rows::RowFault;
@@ -35,6 +35,7 @@ pub fn select_positions_after<S: Alter>(
         ≡ positions_with rows.now (rows_under_keys contracts old.now.trees)
         (rows_under_keys positions old.now.trees))) }
     ensures reading { SelectsOnly (state S.Store conn.old) (state S.Store conn.new) }
+    ensures safe { ReadsSafely (state S.Store conn.old) (state S.Store conn.new) result }
     ensures mode { conn.old.in_transaction ≡ false → conn.new.in_transaction ≡ false }
 {
     let mut volumes = select_volumes_named(conn, alloc, rows)?;

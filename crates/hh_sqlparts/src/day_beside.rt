@@ -10,7 +10,7 @@ ghost use Rattle.hh_sqlrows.specs.Contents.{beside_in, content_of, result_of};
 ghost use Rattle.hh_sqlrows.specs.Forms.{rows_under_keys};
 ghost use Rattle.hh_sqlrows.specs.OfficeTables.{credits, positions, results, runs};
 ghost use Rattle.hh_sqlrows.specs.Reads.{OfOffice};
-ghost use Rattle.hh_sqlparts.specs.Readings.{SelectsOnly, OfSettled};
+ghost use Rattle.hh_sqlparts.specs.Readings.{ReadsSafely, SelectsOnly, OfSettled};
 
 use crate::tables::table_of;
 use hh_calc::AccountRow;
@@ -40,6 +40,7 @@ pub fn select_day_beside<S: Alter>(
         (settings : Settings) → OfSettled old new (IfOk result (λ day.
         IsBesideOf (content_of settings old.now.trees) (beside_in old.now.trees) date day)) }
     ensures reading { SelectsOnly (state S.Store conn.old) (state S.Store conn.new) }
+    ensures safe { ReadsSafely (state S.Store conn.old) (state S.Store conn.new) result }
     ensures mode { conn.old.in_transaction ≡ false → conn.new.in_transaction ≡ false }
 {
     let latest = latest_on(conn, alloc, date)?;
@@ -67,6 +68,7 @@ fn latest_on<S: Alter>(
         OfOffice old new (IfOk result (λ latest. latest
         ≡ last_of (filter (λ e. e.0.date == date) (rows_under_keys runs old.now.trees)))) }
     ensures reading { SelectsOnly (state S.Store conn.old) (state S.Store conn.new) }
+    ensures safe { ReadsSafely (state S.Store conn.old) (state S.Store conn.new) result }
     ensures mode { conn.old.in_transaction ≡ false → conn.new.in_transaction ≡ false }
 {
     let runs = select_runs_on(conn, alloc, &date)?;
@@ -85,6 +87,7 @@ fn results_of_latest<S: Alter>(
         ≡ filter (λ e. eq_by_cmp run_key_cmp e.0.run run.0)
         (map result_of (rows_under_keys results old.now.trees))))) }
     ensures reading { SelectsOnly (state S.Store conn.old) (state S.Store conn.new) }
+    ensures safe { ReadsSafely (state S.Store conn.old) (state S.Store conn.new) result }
     ensures mode { conn.old.in_transaction ≡ false → conn.new.in_transaction ≡ false }
 {
     match latest {
@@ -121,6 +124,7 @@ fn credits_of_latest<S: Alter>(
         ≡ filter (λ e. eq_by_cmp run_key_cmp e.0.run run.0)
         (rows_under_keys credits old.now.trees)))) }
     ensures reading { SelectsOnly (state S.Store conn.old) (state S.Store conn.new) }
+    ensures safe { ReadsSafely (state S.Store conn.old) (state S.Store conn.new) result }
     ensures mode { conn.old.in_transaction ≡ false → conn.new.in_transaction ≡ false }
 {
     match latest {
@@ -141,6 +145,7 @@ fn positions_on<S: Alter>(
         ≡ filter (λ e. is_eq (nat_cmp e.0.at.date date))
         (rows_under_keys positions old.now.trees))) }
     ensures reading { SelectsOnly (state S.Store conn.old) (state S.Store conn.new) }
+    ensures safe { ReadsSafely (state S.Store conn.old) (state S.Store conn.new) result }
     ensures mode { conn.old.in_transaction ≡ false → conn.new.in_transaction ≡ false }
 {
     match select_positions_on(conn, alloc, &date) {

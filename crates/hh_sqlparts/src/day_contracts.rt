@@ -5,7 +5,7 @@ ghost use Rattle.sqlite.specs.Held.{state};
 ghost use Rattle.hh_kept_rows.specs.DayRows.{HasContractsOn};
 ghost use Rattle.hh_sqlrows.specs.Contents.{registered_of};
 ghost use Rattle.hh_sqlrows.specs.Reads.{OfOffice};
-ghost use Rattle.hh_sqlparts.specs.Readings.{SelectsOnly, OfSettled};
+ghost use Rattle.hh_sqlparts.specs.Readings.{ReadsSafely, SelectsOnly, OfSettled};
 ghost use Rattle.hh_sqlparts.specs.steps.DayParts.{contracts_on, references_in, with_day_contracts};
 
 use crate::named_entries::references_under;
@@ -33,6 +33,7 @@ pub fn select_contracts_of_day<S: Alter>(
         OfSettled old new (IfOk result (λ part.
         HasContractsOn date (registered_of old.now.trees) part)) }
     ensures reading { SelectsOnly (state S.Store conn.old) (state S.Store conn.new) }
+    ensures safe { ReadsSafely (state S.Store conn.old) (state S.Store conn.new) result }
     ensures mode { conn.old.in_transaction ≡ false → conn.new.in_transaction ≡ false }
 {
     let mut part = KeptRegister::new(alloc);
@@ -52,6 +53,7 @@ pub(crate) fn select_contracts<S: Alter>(
         OfSettled old new (OnOk result (part.new
         ≡ with_day_contracts date (registered_of old.now.trees) part.old)) }
     ensures reading { SelectsOnly (state S.Store conn.old) (state S.Store conn.new) }
+    ensures safe { ReadsSafely (state S.Store conn.old) (state S.Store conn.new) result }
     ensures mode { conn.old.in_transaction ≡ false → conn.new.in_transaction ≡ false }
 {
     part.contracts = volumes_on(conn, alloc, date)?;
@@ -71,6 +73,7 @@ fn volumes_on<S: Alter>(
         OfOffice old new (IfOk result (λ table.
         table ≡ contracts_on date (registered_of old.now.trees))) }
     ensures reading { SelectsOnly (state S.Store conn.old) (state S.Store conn.new) }
+    ensures safe { ReadsSafely (state S.Store conn.old) (state S.Store conn.new) result }
     ensures mode { conn.old.in_transaction ≡ false → conn.new.in_transaction ≡ false }
 {
     match select_contracts_on(conn, alloc, &date) {

@@ -6,7 +6,7 @@ ghost use Rattle.hh_tables.specs.Tables.{IsTable};
 ghost use Rattle.hh_rows.specs.Keys.{reallocation_key_cmp};
 ghost use Rattle.hh_kept_rows.specs.DayRows.{HasRowsOn};
 ghost use Rattle.hh_sqlrows.specs.Contents.{registered_of};
-ghost use Rattle.hh_sqlparts.specs.Readings.{SelectsOnly, OfSettled};
+ghost use Rattle.hh_sqlparts.specs.Readings.{ReadsSafely, SelectsOnly, OfSettled};
 ghost use Rattle.hh_sqlparts.specs.steps.DayParts.{with_registered, with_rows_of_units};
 
 use crate::day_contracts::select_contracts;
@@ -33,6 +33,7 @@ pub fn select_day<S: Alter>(
         OfSettled old new (IfOk result (λ part.
         HasRowsOn date (registered_of old.now.trees) part)) }
     ensures reading { SelectsOnly (state S.Store conn.old) (state S.Store conn.new) }
+    ensures safe { ReadsSafely (state S.Store conn.old) (state S.Store conn.new) result }
     ensures mode { conn.old.in_transaction ≡ false → conn.new.in_transaction ≡ false }
 {
     let mut part = KeptRegister::new(alloc);
@@ -54,6 +55,7 @@ fn select_registered<S: Alter>(
         OfSettled old new (OnOk result (part.new
         ≡ with_registered date (registered_of old.now.trees) part.old)) }
     ensures reading { SelectsOnly (state S.Store conn.old) (state S.Store conn.new) }
+    ensures safe { ReadsSafely (state S.Store conn.old) (state S.Store conn.new) result }
     ensures mode { conn.old.in_transaction ≡ false → conn.new.in_transaction ≡ false }
 {
     part.parties = all_parties(conn, alloc)?;
@@ -76,6 +78,7 @@ fn select_of_units<S: Alter>(
         ≡ with_rows_of_units date (registered_of old.now.trees) part.old)) }
     ensures rises { OnOk result (IsTable reallocation_key_cmp part.new.reallocations) }
     ensures reading { SelectsOnly (state S.Store conn.old) (state S.Store conn.new) }
+    ensures safe { ReadsSafely (state S.Store conn.old) (state S.Store conn.new) result }
     ensures mode { conn.old.in_transaction ≡ false → conn.new.in_transaction ≡ false }
 {
     let units = ids_on(alloc, part.units.rows(), date)?;

@@ -7,7 +7,7 @@ ghost use Rattle.hh_rules.specs.Positions.{position_key, position_key_cmp};
 ghost use Rattle.sqlite.specs.Held.{state};
 ghost use Rattle.hh_sqlrows.specs.Forms.{rows_under_keys};
 ghost use Rattle.hh_sqlrows.specs.OfficeTables.{contracts, positions};
-ghost use Rattle.hh_sqlparts.specs.Readings.{SelectsOnly, OfSettled};
+ghost use Rattle.hh_sqlparts.specs.Readings.{ReadsSafely, SelectsOnly, OfSettled};
 ghost use Rattle.hh_sqlparts.specs.steps.Moved.{buyer_of, seller_of, HasBoth, ServesPositions};
 ghost use Rattle.hh_sqlparts.specs.steps.Named.{volume_key_of, FindsNamed, IsAmong};
 
@@ -34,6 +34,7 @@ pub(crate) fn select_volumes_named<S: Alter>(
         OfSettled old new (IfOk result (FindsNamed contract_key_cmp volume_key_of rows.now
         (rows_under_keys contracts old.now.trees))) }
     ensures reading { SelectsOnly (state S.Store conn.old) (state S.Store conn.new) }
+    ensures safe { ReadsSafely (state S.Store conn.old) (state S.Store conn.new) result }
     ensures mode { conn.old.in_transaction ≡ false → conn.new.in_transaction ≡ false }
 {
     let names = names_in(alloc, rows)?;
@@ -52,6 +53,7 @@ pub(crate) fn select_positions_named<S: Alter>(
         OfSettled old new (IfOk result (ServesPositions rows.now
         (rows_under_keys positions old.now.trees))) }
     ensures reading { SelectsOnly (state S.Store conn.old) (state S.Store conn.new) }
+    ensures safe { ReadsSafely (state S.Store conn.old) (state S.Store conn.new) result }
     ensures mode { conn.old.in_transaction ≡ false → conn.new.in_transaction ≡ false }
 {
     let names = position_keys_in(alloc, rows)?;

@@ -4,7 +4,7 @@ ghost use Rattle.std.specs.Prelude.{◌≡◌, false, IfOk};
 ghost use Rattle.sqlite.specs.Held.{state};
 ghost use Rattle.hh_sqlrows.specs.Contents.{registered_of};
 ghost use Rattle.hh_sqlparts.specs.Named.{JudgesFor};
-ghost use Rattle.hh_sqlparts.specs.Readings.{SelectsOnly, OfSettled};
+ghost use Rattle.hh_sqlparts.specs.Readings.{ReadsSafely, SelectsOnly, OfSettled};
 
 use crate::named_tables::{
     select_contracts_named, select_meters_named, select_prices_named, select_reallocations_named,
@@ -29,6 +29,7 @@ pub fn select_named<S: Alter>(
         let new = state S.Store conn.new in
         OfSettled old new (IfOk result (JudgesFor rows.now (registered_of old.now.trees))) }
     ensures reading { SelectsOnly (state S.Store conn.old) (state S.Store conn.new) }
+    ensures safe { ReadsSafely (state S.Store conn.old) (state S.Store conn.new) result }
     ensures mode { conn.old.in_transaction ≡ false → conn.new.in_transaction ≡ false }
 {
     let parties = all_parties(conn, alloc)?;

@@ -8,7 +8,7 @@ ghost use Rattle.hh_rules.specs.Positions.{position_key_cmp};
 ghost use Rattle.sqlite.specs.Held.{state};
 ghost use Rattle.hh_sqlrows.specs.Forms.{rows_under_keys};
 ghost use Rattle.hh_sqlrows.specs.OfficeTables.{contracts, meters, period_prices, positions, reallocations, references};
-ghost use Rattle.hh_sqlparts.specs.Readings.{SelectsOnly, OfSettled};
+ghost use Rattle.hh_sqlparts.specs.Readings.{ReadsSafely, SelectsOnly, OfSettled};
 ghost use Rattle.hh_sqlparts.specs.steps.Named.{entry_under, prices_of, readings_of, reallocations_of};
 
 use crate::named_names::UnitDay;
@@ -36,6 +36,7 @@ pub(crate) fn references_under<S: Alter>(
         OfSettled old new (IfOk result (λ found. found.items
         ≡ flat_map (entry_under bytes_cmp (rows_under_keys references old.now.trees)) names.now)) }
     ensures reading { SelectsOnly (state S.Store conn.old) (state S.Store conn.new) }
+    ensures safe { ReadsSafely (state S.Store conn.old) (state S.Store conn.new) result }
     ensures mode { conn.old.in_transaction ≡ false → conn.new.in_transaction ≡ false }
 {
     let mut found = Vec::new(alloc);
@@ -59,6 +60,7 @@ pub(crate) fn contracts_under<S: Alter>(
         ≡ flat_map (entry_under contract_key_cmp (rows_under_keys contracts old.now.trees))
         names.now)) }
     ensures reading { SelectsOnly (state S.Store conn.old) (state S.Store conn.new) }
+    ensures safe { ReadsSafely (state S.Store conn.old) (state S.Store conn.new) result }
     ensures mode { conn.old.in_transaction ≡ false → conn.new.in_transaction ≡ false }
 {
     let mut found = Vec::new(alloc);
@@ -82,6 +84,7 @@ pub(crate) fn positions_under<S: Alter>(
         ≡ flat_map (entry_under position_key_cmp (rows_under_keys positions old.now.trees))
         names.now)) }
     ensures reading { SelectsOnly (state S.Store conn.old) (state S.Store conn.new) }
+    ensures safe { ReadsSafely (state S.Store conn.old) (state S.Store conn.new) result }
     ensures mode { conn.old.in_transaction ≡ false → conn.new.in_transaction ≡ false }
 {
     let mut found = Vec::new(alloc);
@@ -104,6 +107,7 @@ pub(crate) fn meters_under<S: Alter>(
         OfSettled old new (IfOk result (λ found. found.items
         ≡ flat_map (readings_of (rows_under_keys meters old.now.trees)) names.now)) }
     ensures reading { SelectsOnly (state S.Store conn.old) (state S.Store conn.new) }
+    ensures safe { ReadsSafely (state S.Store conn.old) (state S.Store conn.new) result }
     ensures mode { conn.old.in_transaction ≡ false → conn.new.in_transaction ≡ false }
 {
     let mut found = Vec::new(alloc);
@@ -125,6 +129,7 @@ pub(crate) fn prices_under<S: Alter>(
         OfSettled old new (IfOk result (λ found. found.items
         ≡ flat_map (prices_of (rows_under_keys period_prices old.now.trees)) names.now)) }
     ensures reading { SelectsOnly (state S.Store conn.old) (state S.Store conn.new) }
+    ensures safe { ReadsSafely (state S.Store conn.old) (state S.Store conn.new) result }
     ensures mode { conn.old.in_transaction ≡ false → conn.new.in_transaction ≡ false }
 {
     let mut found = Vec::new(alloc);
@@ -146,6 +151,7 @@ pub(crate) fn reallocations_under<S: Alter>(
         OfSettled old new (IfOk result (λ found. found.items
         ≡ flat_map (reallocations_of (rows_under_keys reallocations old.now.trees)) names.now)) }
     ensures reading { SelectsOnly (state S.Store conn.old) (state S.Store conn.new) }
+    ensures safe { ReadsSafely (state S.Store conn.old) (state S.Store conn.new) result }
     ensures mode { conn.old.in_transaction ≡ false → conn.new.in_transaction ≡ false }
 {
     let mut found = Vec::new(alloc);

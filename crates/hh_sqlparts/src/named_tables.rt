@@ -6,7 +6,7 @@ ghost use Rattle.hh_rows.specs.Keys.{contract_key_cmp, settlement_period_cmp, un
 ghost use Rattle.sqlite.specs.Held.{state};
 ghost use Rattle.hh_sqlrows.specs.Forms.{rows_under_keys};
 ghost use Rattle.hh_sqlrows.specs.OfficeTables.{contracts, meters, period_prices, reallocations, references};
-ghost use Rattle.hh_sqlparts.specs.Readings.{SelectsOnly, OfSettled};
+ghost use Rattle.hh_sqlparts.specs.Readings.{ReadsSafely, SelectsOnly, OfSettled};
 ghost use Rattle.hh_sqlparts.specs.steps.Named.{price_key_of, reading_key_of, reference_of, volume_key_of, FindsNamed, HasReallocated};
 
 use crate::named_entries::{
@@ -32,6 +32,7 @@ pub(crate) fn select_references_named<S: Alter>(
         OfSettled old new (IfOk result (FindsNamed bytes_cmp reference_of rows.now
         (rows_under_keys references old.now.trees))) }
     ensures reading { SelectsOnly (state S.Store conn.old) (state S.Store conn.new) }
+    ensures safe { ReadsSafely (state S.Store conn.old) (state S.Store conn.new) result }
     ensures mode { conn.old.in_transaction ≡ false → conn.new.in_transaction ≡ false }
 {
     let names = names_in(alloc, rows)?;
@@ -50,6 +51,7 @@ pub(crate) fn select_contracts_named<S: Alter>(
         OfSettled old new (IfOk result (FindsNamed contract_key_cmp volume_key_of rows.now
         (rows_under_keys contracts old.now.trees))) }
     ensures reading { SelectsOnly (state S.Store conn.old) (state S.Store conn.new) }
+    ensures safe { ReadsSafely (state S.Store conn.old) (state S.Store conn.new) result }
     ensures mode { conn.old.in_transaction ≡ false → conn.new.in_transaction ≡ false }
 {
     let names = names_in(alloc, rows)?;
@@ -68,6 +70,7 @@ pub(crate) fn select_meters_named<S: Alter>(
         OfSettled old new (IfOk result (FindsNamed unit_period_cmp reading_key_of rows.now
         (rows_under_keys meters old.now.trees))) }
     ensures reading { SelectsOnly (state S.Store conn.old) (state S.Store conn.new) }
+    ensures safe { ReadsSafely (state S.Store conn.old) (state S.Store conn.new) result }
     ensures mode { conn.old.in_transaction ≡ false → conn.new.in_transaction ≡ false }
 {
     let names = names_in(alloc, rows)?;
@@ -86,6 +89,7 @@ pub(crate) fn select_prices_named<S: Alter>(
         OfSettled old new (IfOk result (FindsNamed settlement_period_cmp price_key_of rows.now
         (rows_under_keys period_prices old.now.trees))) }
     ensures reading { SelectsOnly (state S.Store conn.old) (state S.Store conn.new) }
+    ensures safe { ReadsSafely (state S.Store conn.old) (state S.Store conn.new) result }
     ensures mode { conn.old.in_transaction ≡ false → conn.new.in_transaction ≡ false }
 {
     let names = names_in(alloc, rows)?;
@@ -104,6 +108,7 @@ pub(crate) fn select_reallocations_named<S: Alter>(
         OfSettled old new (IfOk result (HasReallocated rows.now
         (rows_under_keys reallocations old.now.trees))) }
     ensures reading { SelectsOnly (state S.Store conn.old) (state S.Store conn.new) }
+    ensures safe { ReadsSafely (state S.Store conn.old) (state S.Store conn.new) result }
     ensures mode { conn.old.in_transaction ≡ false → conn.new.in_transaction ≡ false }
 {
     let names = names_in(alloc, rows)?;

@@ -6,7 +6,7 @@ ghost use Rattle.hh_tables.specs.Tables.{IsTable};
 ghost use Rattle.hh_sqlrows.specs.Forms.{rows_under_keys};
 ghost use Rattle.hh_sqlrows.specs.OfficeTables.{parties, units};
 ghost use Rattle.hh_sqlrows.specs.Reads.{OfOffice};
-ghost use Rattle.hh_sqlparts.specs.Readings.{SelectsOnly};
+ghost use Rattle.hh_sqlparts.specs.Readings.{ReadsSafely, SelectsOnly};
 
 use hh_keyed_rows::RowFault;
 use hh_names::{PartyId, UnitId};
@@ -39,6 +39,7 @@ pub(crate) fn all_parties<S: Alter>(
         OfOffice old new (IfOk result (λ table.
         table ≡ rows_under_keys parties old.now.trees)) }
     ensures reading { SelectsOnly (state S.Store conn.old) (state S.Store conn.new) }
+    ensures safe { ReadsSafely (state S.Store conn.old) (state S.Store conn.new) result }
     ensures mode { conn.old.in_transaction ≡ false → conn.new.in_transaction ≡ false }
 {
     match select_parties(conn, alloc) {
@@ -56,6 +57,7 @@ pub(crate) fn all_units<S: Alter>(
         let new = state S.Store conn.new in
         OfOffice old new (IfOk result (λ table. table ≡ rows_under_keys units old.now.trees)) }
     ensures reading { SelectsOnly (state S.Store conn.old) (state S.Store conn.new) }
+    ensures safe { ReadsSafely (state S.Store conn.old) (state S.Store conn.new) result }
     ensures mode { conn.old.in_transaction ≡ false → conn.new.in_transaction ≡ false }
 {
     match select_units(conn, alloc) {

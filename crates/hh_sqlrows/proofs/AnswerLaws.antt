@@ -37,6 +37,11 @@ module _ (sql : List _) (params : Row) (old new : State) where
   read_result key value rows (Ok found) h read = (rows, h, read)
   read_result key value rows (Err e) h read = tt
 
+-- what answers, whatever it answers, of a connection that is open
+pub open_result : {X E : Type 0} (new : State) (r : Result X E) → IsTrue new.is_open → OnOk r (IsTrue new.is_open)
+open_result new (Ok x) stands = stands
+open_result new (Err e) stands = tt
+
 pub left_by : (old new : State) → IsUnchanged old new ⊎ IsRolledBack old new → IsTrue new.is_open → old.now ≡ old.committed → (new.now ≡ old.now) × (new.committed ≡ old.committed)
 left_by old new (inl same) stands settled = (same.0.now_is, same.0.committed_is)
 left_by old new (inr back) stands settled = let u = back.undone stands in (u.0 ∙ sym settled, u.1)

@@ -8,7 +8,7 @@ ghost use Rattle.sqlite.specs.Values.{bound};
 ghost use Rattle.hh_devices.specs.DeviceChanges.{change};
 ghost use Rattle.hh_keyed_rows.specs.KeyedRows.{entry_in};
 ghost use Rattle.hh_sqlrows.specs.Giving.{GivesSo};
-ghost use Rattle.hh_sqlrows.specs.Reads.{IsHonest, Stood};
+ghost use Rattle.hh_sqlrows.specs.Reads.{IsHonest, StaysOpen, Stood};
 ghost use Rattle.hh_sqlrows.specs.Statements.{CommitsNothing};
 ghost use Rattle.hh_sqlrows.specs.steps.Answers.{IsPlainOf, IsRead};
 ghost use Rattle.hh_sqlrows.specs.steps.Streams.{HasTaken, IsBegun, OfPlain, TakesNext};
@@ -33,6 +33,8 @@ fn next_entry<S: Alter, K: Columned + Drop, V: Columned + Drop>(
     ensures stood { Stood (state S.Store rows.old.conn.now) (state S.Store rows.new.conn.now) }
     ensures mode { rows.old.conn.now.in_transaction ≡ false
         → rows.new.conn.now.in_transaction ≡ false }
+    ensures stays { StaysOpen (state S.Store rows.old.conn.now) (state S.Store rows.new.conn.now)
+        result }
     ensures survives { Survives (state S.Store rows.old.conn.now)
         (state S.Store rows.new.conn.now) (λ _. ⊥) }
 {
@@ -88,6 +90,7 @@ pub(crate) fn give_entries<
         OfPlain old new text.now (old.now ≡ old.committed
         → (new.now ≡ old.now) × (new.committed ≡ old.committed)) }
     ensures mode { conn.old.in_transaction ≡ false → conn.new.in_transaction ≡ false }
+    ensures stays { StaysOpen (state S.Store conn.old) (state S.Store conn.new) result }
     ensures honest { IsHonest (state S.Store conn.old) (state S.Store conn.new) }
     ensures survives { let old = state S.Store conn.old in
         let new = state S.Store conn.new in
@@ -139,6 +142,7 @@ pub(crate) fn give_by<
         OfPlain old new text.now (old.now ≡ old.committed
         → (new.now ≡ old.now) × (new.committed ≡ old.committed)) }
     ensures mode { conn.old.in_transaction ≡ false → conn.new.in_transaction ≡ false }
+    ensures stays { StaysOpen (state S.Store conn.old) (state S.Store conn.new) result }
     ensures honest { IsHonest (state S.Store conn.old) (state S.Store conn.new) }
     ensures survives { let old = state S.Store conn.old in
         let new = state S.Store conn.new in

@@ -97,6 +97,7 @@ pub fn give_results_of<S: Alter, T: RowTaker<ResultKey, AccountAmounts>, O: Sink
     ensures stood { Stood (state S.Store conn.old) (state S.Store conn.new) }
     ensures left { LeavesOffice (state S.Store conn.old) (state S.Store conn.new) }
     ensures mode { conn.old.in_transaction ≡ false → conn.new.in_transaction ≡ false }
+    ensures stays { StaysOpen (state S.Store conn.old) (state S.Store conn.new) result }
     ensures honest { IsHonest (state S.Store conn.old) (state S.Store conn.new) }
     ensures survives { CommitsNothingOf (state S.Store conn.old) (state S.Store conn.new) }
 {

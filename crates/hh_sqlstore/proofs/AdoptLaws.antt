@@ -1,8 +1,9 @@
 -- The database of an office that is taken over has the settings and the content that it had.
-use Rattle.std.proofs.Common.{◌≡◌, ◌∙◌, inl, inr, true, Option, Some, refl, ap, subst, sym}
+use Rattle.std.proofs.Common.{◌≡◌, ◌∙◌, inl, inr, true, IsTrue, Option, Some, refl, ap, subst, sym}
 use Rattle.std.specs.FinMap.{find}
 use Rattle.sqlite.specs.Effect.{Database}
-use Rattle.sqlite.specs.State.{State}
+use Rattle.sqlite.specs.State.{HasCleanDisk, State}
+use Rattle.sqlite_trees.specs.Tree.{Trees}
 use Rattle.hh_rows.specs.declared.settings.Settings.{Settings}
 use Rattle.hh_states.specs.Content.{Content}
 use Rattle.hh_keyed_rows.specs.Values.{version}
@@ -10,10 +11,11 @@ use Rattle.hh_sqlrows.specs.Contents.{mark_in, stored_content}
 use Rattle.hh_sqlrows.specs.Office.{IsOffice}
 use Rattle.hh_sqlrows.specs.OfficeTables.{one_row_cmp}
 use Rattle.hh_sqlstore.specs.Holds.{HasSettings, Holds}
-use Rattle.hh_sqlstore.specs.Leaving.{IsTakenOver}
+use Rattle.hh_sqlstore.specs.Leaving.{IsTakenOver, KeepsBeside, KeepsHeld, MayKeepBeside}
 use Rattle.hh_sqlstore.specs.steps.Adopted.{IsAdoptedFrom}
 use Rattle.hh_sqlstore.specs.steps.Kept.{IsMarked}
 use Rattle.hh_sqlstore.proofs.ContentLaws.{content_is}
+use Rattle.hh_sqlstore.proofs.CrashLaws.{trees_hold}
 
 module _ (old new : Database) where
   taken_content : IsTakenOver old new → (kept : Settings) → stored_content kept new.trees ≡ stored_content kept old.trees
@@ -71,3 +73,22 @@ module _ (kept : Settings) (old new : State) (adopted : IsAdoptedFrom kept old) 
       taken_content old.committed new.committed committed_taken kept
       ∙ ap (λ k. stored_content k old.committed.trees) is
       ∙ sym (content_is content old.committed holds)
+
+-- where positions are kept from now on, a database holds the content that it held
+beside_holds : (content : Content) (old new : Database) → Holds version content old → KeepsBeside old new → Holds version content new
+beside_holds content old new holds keeps =
+    let same : content ≡ stored_content content.settings new.trees = content_is content old holds ∙ sym (keeps.content content.settings) in
+    subst (λ (c : Content). Holds version c new) (sym same)
+    (holds_content content.settings new keeps.is_office (ap (find one_row_cmp (record {})) keeps.settings ∙ holds.settings))
+
+-- what a crash leaves of a database that is taken over, or was to be, holds the content that it held
+pub keeps_held : (old new : State) → ((trees : Trees) → IsTrue old.is_open → old.may_leave trees → trees ≡ old.committed.trees) → (HasCleanDisk new → HasCleanDisk old)
+    → MayKeepBeside old new → KeepsHeld old new
+keeps_held old new settled honest may clean = (
+  honest clean,
+  λ stands content holds trees left.
+      elim (may stands clean trees left) [
+        | inl before ↦ trees_hold content old.committed trees (settled trees stands before) holds
+        | inr beside ↦ trees_hold content beside.0 trees beside.2 (beside_holds content old.committed beside.0 holds beside.1)
+      ],
+)

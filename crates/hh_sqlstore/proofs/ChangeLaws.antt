@@ -1,11 +1,12 @@
 -- Tables that a transaction has changed, or tried to change, and their content.
-use Rattle.std.proofs.Common.{◌≡◌, ◌∙◌, ℕ, ℤ, true, false, IsTrue, Option, Some, None, ap, refl, subst, sym}
+use Rattle.std.proofs.Common.{◌≡◌, ◌∙◌, ◌⊎◌, inl, inr, ℕ, ℤ, true, false, IsTrue, Option, Some, None, Ok, ap, refl, subst, sym}
 use Rattle.std.specs.Global.{Vec}
 use Rattle.std.specs.FinMap.{find}
 use Rattle.sqlite_trees.specs.declared.store.Store.{Ghosts}
 use Rattle.sqlite.specs.Effect.{Database}
 use Rattle.sqlite.specs.Held.{Held, state}
-use Rattle.sqlite.specs.State.{HasCleanDisk, State}
+use Rattle.sqlite.specs.State.{HasCleanDisk, State, Survives}
+use Rattle.sqlite_trees.specs.Tree.{Trees}
 use Rattle.hh_rows.specs.declared.settings.Settings.{Settings}
 use Rattle.hh_keyed_rows.specs.Values.{version}
 use Rattle.hh_states.specs.Content.{Content}
@@ -13,12 +14,14 @@ use Rattle.hh_states.specs.declared.run_keys.PostingKey.{PostingKey}
 use Rattle.hh_sqlrows.specs.Contents.{mark_in, stored_content}
 use Rattle.hh_sqlrows.specs.Office.{IsOffice}
 use Rattle.hh_sqlrows.specs.OfficeTables.{one_row_cmp}
+use Rattle.hh_sqlrows.specs.Reads.{IsHonest}
 use Rattle.hh_sqlchanges.specs.Writes.{StaysOffice}
-use Rattle.hh_sqlparts.specs.Readings.{SelectsOnly}
+use Rattle.hh_sqlparts.specs.Readings.{OfCommitted, ReadsSafely, SelectsOnly}
 use Rattle.hh_sqlparts.proofs.ReadingLaws.{reading_then}
 use Rattle.hh_sqlstore.specs.Holds.{Holds}
+use Rattle.hh_sqlstore.specs.Leaving.{MayStand}
 use Rattle.hh_sqlstore.specs.Stores.{IsIdle, Stored, content_in}
-use Rattle.hh_sqlstore.specs.steps.Changed.{ChangesNothing, IsChangedBy}
+use Rattle.hh_sqlstore.specs.steps.Changed.{ChangesNothing, IsChangedBy, MayChange}
 use Rattle.hh_sqlstore.specs.steps.Made.{IsUndone}
 
 -- what is undone was but read
@@ -97,3 +100,31 @@ nothing_of_undone old new undone clean = reading_of_undone old new (λ stands. c
 -- nor does it after a reading, by a disk that has returned what was written
 pub nothing_after : (old mid new : State) → SelectsOnly old mid → IsUndone mid new → ChangesNothing old new
 nothing_after old mid new reading undone clean = reading_then old mid new reading (reading_of_undone mid new (λ stands. clean) undone)
+
+-- ---- what a crash may leave of a change
+
+-- where such a database may stand, so may one that follows of it
+stand_so : {A : Type 0} (P Q : Database → Type 0) → ((db : Database) → P db → Q db) → (trees : Trees) → A ⊎ MayStand P trees → A ⊎ MayStand Q trees
+stand_so P Q follows trees (inl before) = inl before
+stand_so P Q follows trees (inr (db, p, is)) = inr (db, follows db p, is)
+
+-- a change may be one that follows of it
+pub may_change_so : (Change Other : Database → Database → Type 0) (old new : State) → (IsOffice old.now → Survives old new (MayStand (Change old.now)))
+    → ((db : Database) → Change old.now db → Other old.now db) → MayChange Other old new
+may_change_so Change Other old new survives follows stands is settled clean trees may =
+    stand_so (Change old.now) (Other old.now) follows trees ((survives is).crash clean trees may)
+
+-- a change after a reading that was answered, by which it is one that follows of it
+pub may_change_after : {X E : Type 0} (Change Other : Database → Database → Type 0) (old mid new : State) (x : X) → SelectsOnly old mid → ReadsSafely {X = X} {E = E} old mid (Ok x) → IsHonest mid new
+    → (IsOffice mid.now → Survives mid new (MayStand (Change mid.now)))
+    → (IsTrue mid.is_open → OfCommitted old ((db : Database) → Change old.now db → Other old.now db)) → MayChange Other old new
+may_change_after Change Other old mid new x reading safe honest survives follows stands is settled clean trees may =
+    let before = honest clean in
+    let still = safe.stays before stands in
+    let kept = reading.left still is settled in
+    let was : IsOffice mid.now = subst IsOffice (sym kept.0) is in
+    either (stand_so (Change mid.now) (Other old.now) (λ db change. follows still is settled db (subst (λ (d : Database). Change d db) kept.0 change)) trees ((survives was).crash clean trees may))
+  where
+    either : mid.may_leave trees ⊎ MayStand (Other old.now) trees → old.may_leave trees ⊎ MayStand (Other old.now) trees
+    either (inl left) = inl (safe.crash stands is settled (honest clean) trees left)
+    either (inr changed) = inr changed

@@ -3,20 +3,17 @@ use Rattle.std.proofs.Common.{◌≡◌, ◌⊎◌, inl, inr, IsTrue, subst}
 use Rattle.sqlite.specs.Effect.{Database}
 use Rattle.sqlite.specs.State.{HasCleanDisk, State, Survives}
 use Rattle.sqlite_trees.specs.Tree.{Trees}
+use Rattle.hh_sqlparts.specs.Readings.{LeavesNoMore}
 use Rattle.hh_sqlstore.specs.Leaving.{KeepsBeside, MayKeepBeside, MayStand}
-
--- a crash leaves nothing more
-abbrev pub LeavesNoMore : State → State → Type 0
-LeavesNoMore old new = IsTrue old.is_open → HasCleanDisk new → (trees : Trees) → new.may_leave trees → old.may_leave trees
 
 or_never : {A : Type 0} → A ⊎ ⊥ → A
 or_never (inl a) = a
 or_never (inr none) = absurd none
 
-pub no_more : (old new : State) → (IsTrue old.is_open → Survives old new (λ _. ⊥)) → LeavesNoMore old new
+pub no_more : (old new : State) → (IsTrue old.is_open → Survives old new (λ _. ⊥)) → IsTrue old.is_open → LeavesNoMore old new
 no_more old new survives stands clean trees may = or_never ((survives stands).crash clean trees may)
 
-module _ (old mid new : State) (first : LeavesNoMore old mid) (same : IsTrue old.is_open → HasCleanDisk mid → IsTrue mid.is_open × (mid.committed ≡ old.committed)) (honest : HasCleanDisk new → HasCleanDisk mid) where
+module _ (old mid new : State) (first : IsTrue old.is_open → LeavesNoMore old mid) (same : IsTrue old.is_open → HasCleanDisk mid → IsTrue mid.is_open × (mid.committed ≡ old.committed)) (honest : HasCleanDisk new → HasCleanDisk mid) where
   -- they may be after what leaves no more
   pub may_keep_after : MayKeepBeside mid new → MayKeepBeside old new
   may_keep_after last stands clean trees may =

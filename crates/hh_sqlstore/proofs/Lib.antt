@@ -2,6 +2,7 @@ pub mod AdoptLaws
 pub mod BesideLaws
 pub mod ChangeLaws
 pub mod ContentLaws
+pub mod CrashLaws
 pub mod IdleLaws
 pub mod KeepingLaws
 pub mod NewLaws

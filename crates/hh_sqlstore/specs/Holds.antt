@@ -9,7 +9,7 @@ use Rattle.hh_keyed_rows.specs.Values.{version}
 use Rattle.hh_sqlrows.specs.Forms.{rows_under_keys}
 use Rattle.hh_sqlrows.specs.Making.{AreEmpty}
 use Rattle.hh_sqlrows.specs.Office.{IsOffice}
-use Rattle.hh_sqlrows.specs.OfficeSchema.{positions_table, touched_table}
+use Rattle.hh_sqlrows.specs.OfficeSchema.{office, positions_table, touched_table}
 use Rattle.hh_sqlrows.specs.OfficeTables.{contracts, credits, files, meters, one_row_cmp, parties, period_prices, postings, reallocations, references, results, runs, settings, units}
 use Rattle.hh_sqlrows.specs.Contents.{is_in_step_in, mark_in, result_of}
 
@@ -40,6 +40,10 @@ pub record Holds (number : ℕ) (content : Content) (db : Database) : Type 0 whe
   pub prices : content.registered.prices ≡ rows_under_keys period_prices db.trees
   pub alike : HoldsAlike content db.trees
   pub in_step : content.is_in_step ≡ is_in_step_in content.settings db.trees
+
+-- the trees are those of an office's database of this version, which holds the content
+abbrev pub TreesHold : Trees → Content → Type 0
+TreesHold trees content = Holds version content (record { schema = office; trees = trees })
 
 -- The database was just made: nothing has been accepted; positions are kept, of which there are none, and no Settlement Period was
 -- touched.

@@ -4,10 +4,13 @@ use Rattle.sqlite.specs.Effect.{Database}
 use Rattle.sqlite.specs.State.{HasCleanDisk, State}
 use Rattle.sqlite_trees.specs.Tree.{Trees}
 use Rattle.hh_rows.specs.declared.settings.Settings.{Settings}
+use Rattle.hh_states.specs.Content.{Content}
+use Rattle.hh_keyed_rows.specs.Values.{version}
 use Rattle.hh_sqlrows.specs.Forms.{rows_under_keys}
 use Rattle.hh_sqlrows.specs.Contents.{mark_in, stored_content}
 use Rattle.hh_sqlrows.specs.Office.{IsOffice}
 use Rattle.hh_sqlrows.specs.OfficeTables.{settings}
+use Rattle.hh_sqlstore.specs.Holds.{Holds, TreesHold}
 
 -- a connection that is open afterwards was so before, and has what it had
 abbrev pub LeavesDatabase : State → State → Type 0
@@ -42,3 +45,10 @@ abbrev pub MayKeepBeside : State → State → Type 0
 MayKeepBeside old new =
     IsTrue old.is_open → HasCleanDisk new → (trees : Trees) → new.may_leave trees
     → old.may_leave trees ⊎ MayStand (KeepsBeside old.committed) trees
+
+-- A disk that has returned what was written did so before, and whatever a crash leaves holds the content that the last commit of the
+-- open connection held.
+abbrev pub KeepsHeld : State → State → Type 0
+KeepsHeld old new = HasCleanDisk new → HasCleanDisk old
+    × (IsTrue old.is_open → (content : Content) → Holds version content old.committed
+    → (trees : Trees) → new.may_leave trees → TreesHold trees content)

@@ -4,7 +4,7 @@ use Rattle.std.specs.Coded.{Coded, code_by, coded×, coded_ℕ, coded_list}
 use Rattle.std.specs.Global.{Vec}
 use Rattle.sqlite_trees.specs.declared.store.Store.{Ghosts}
 use Rattle.sqlite.specs.Held.{Held, held_code, state}
-use Rattle.sqlite.specs.State.{State}
+use Rattle.sqlite.specs.State.{HasCleanDisk, State}
 use Rattle.hh_rows.specs.declared.settings.Settings.{Settings}
 use Rattle.hh_states.specs.Content.{Content}
 use Rattle.hh_states.specs.declared.run_keys.PostingKey.{PostingKey}
@@ -34,6 +34,10 @@ module _ {S : Type 0} (g : Ghosts S) (t : Stored S) where
   -- what the last commit left, and whether what is kept beside it agrees with it
   abbrev pub content_in : Content
   content_in = stored_content t.settings (state g t.connection).committed.trees
+
+  -- the disk has returned what was written
+  abbrev pub IsHonestDisk : Type 0
+  IsHonestDisk = HasCleanDisk (state g t.connection)
 
   -- No transaction is under way, and while they stand, what there is now is what was committed, it holds their content, and its mark
   -- says that positions are kept. These postings are at hand.

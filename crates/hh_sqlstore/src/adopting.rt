@@ -63,6 +63,7 @@ pub(crate) fn take_over<S: Rising>(
     ensures crash { let old = state S.Store connection.old in
         let new = state S.Store connection.new in
         MayKeepBeside old new }
+    ensures honest { IsHonest (state S.Store connection.old) (state S.Store connection.new) }
     ensures autocommit { OnOk result (connection.new.in_transaction ≡ false) }
     ensures foreign { (state S.Store connection.old).now.schema ≢ office → result ≡ Err Store }
 {

@@ -2,10 +2,12 @@
 
 ghost use Rattle.std.specs.Prelude.{◌≡◌, false, OnErr, OnOk, IsTrue};
 ghost use Rattle.sqlite.specs.Held.{state};
-ghost use Rattle.sqlite.specs.State.{HasCleanDisk};
+ghost use Rattle.sqlite.specs.State.{HasCleanDisk, Survives};
 ghost use Rattle.hh_sqlrows.specs.Office.{IsOffice};
+ghost use Rattle.hh_sqlrows.specs.Reads.{IsHonest};
 ghost use Rattle.hh_sqlchanges.specs.Writes.{ChangesByLoad, ChangesByRun};
-ghost use Rattle.hh_sqlstore.specs.steps.Changed.{ChangesNothing, IsChangedBy, KeepsLoad, KeepsRun};
+ghost use Rattle.hh_sqlstore.specs.Leaving.{MayStand};
+ghost use Rattle.hh_sqlstore.specs.steps.Changed.{ChangesNothing, IsChangedBy, KeepsLoad, KeepsRun, MayChange};
 ghost use Rattle.hh_sqlstore.specs.steps.Made.{IsUndone};
 
 use hh_keyed_rows::RowFault;
@@ -34,6 +36,10 @@ pub(crate) fn keep_load<S: Alter>(
     ensures undone { let old = state S.Store connection.old in
         let new = state S.Store connection.new in
         OnErr result (ChangesNothing old new) }
+    ensures crash { let old = state S.Store connection.old in
+        let new = state S.Store connection.new in
+        MayChange (KeepsLoad change.now) old new }
+    ensures honest { IsHonest (state S.Store connection.old) (state S.Store connection.new) }
     ensures autocommit { connection.new.in_transaction ≡ false }
 {
     let positions = select_positions_after(connection, alloc, change.rows())?;
@@ -60,6 +66,11 @@ fn commit_load<S: Alter>(
     ensures undone { let old = state S.Store connection.old in
         let new = state S.Store connection.new in
         OnErr result (IsUndone old new) }
+    ensures crash { let old = state S.Store connection.old in
+        let new = state S.Store connection.new in
+        IsOffice old.now → Survives old new (MayStand
+        (ChangesByLoad change.now positions.now touched.now old.now)) }
+    ensures honest { IsHonest (state S.Store connection.old) (state S.Store connection.new) }
     ensures autocommit { connection.new.in_transaction ≡ false }
 {
     let mut tx = connection.transaction();
@@ -85,6 +96,10 @@ pub(crate) fn keep_run<S: Alter>(
     ensures undone { let old = state S.Store connection.old in
         let new = state S.Store connection.new in
         OnErr result (ChangesNothing old new) }
+    ensures crash { let old = state S.Store connection.old in
+        let new = state S.Store connection.new in
+        MayChange (KeepsRun change.now) old new }
+    ensures honest { IsHonest (state S.Store connection.old) (state S.Store connection.new) }
     ensures autocommit { connection.new.in_transaction ≡ false }
 {
     commit_run(connection, alloc, change)
@@ -105,6 +120,10 @@ fn commit_run<S: Alter>(
     ensures undone { let old = state S.Store connection.old in
         let new = state S.Store connection.new in
         OnErr result (IsUndone old new) }
+    ensures crash { let old = state S.Store connection.old in
+        let new = state S.Store connection.new in
+        IsOffice old.now → Survives old new (MayStand (ChangesByRun change.now old.now)) }
+    ensures honest { IsHonest (state S.Store connection.old) (state S.Store connection.new) }
     ensures autocommit { connection.new.in_transaction ≡ false }
 {
     let mut tx = connection.transaction();

@@ -10,7 +10,7 @@ ghost use Rattle.hh_kept_rows.specs.Parts.{whole_of};
 ghost use Rattle.hh_rows.specs.declared.settings.Settings.{Settings};
 ghost use Rattle.hh_beside.specs.Beside.{agrees};
 ghost use Rattle.hh_sqlrows.specs.Contents.{beside_in, content_of, registered_of};
-ghost use Rattle.hh_sqlparts.specs.Readings.{SelectsOnly, OfSettled};
+ghost use Rattle.hh_sqlparts.specs.Readings.{OfSettled, ReadsSafely, SelectsOnly};
 
 use hh_kept_rows::{contracts_by_their_rows, parts_of_parts, read_by_what_is_beside};
 use hh_keyed_rows::RowFault;
@@ -36,6 +36,7 @@ pub(crate) fn register_of<S: Alter>(
         OfSettled old new (IfOk result
         (ServesFor rows.now (whole_of lead_minutes (registered_of old.now.trees)))) }
     ensures reading { SelectsOnly (state S.Store conn.old) (state S.Store conn.new) }
+    ensures safe { ReadsSafely (state S.Store conn.old) (state S.Store conn.new) result }
     ensures mode { conn.old.in_transaction ≡ false → conn.new.in_transaction ≡ false }
 {
     // Does nothing, but carries a law for the proof: a part of a part serves.
@@ -57,6 +58,7 @@ pub(crate) fn contracts_of_account<S: Alter>(
         OfSettled old new (IfOk result (λ rows.
         rows.items ≡ contracts_of account.now date (registered_of old.now.trees))) }
     ensures reading { SelectsOnly (state S.Store conn.old) (state S.Store conn.new) }
+    ensures safe { ReadsSafely (state S.Store conn.old) (state S.Store conn.new) result }
     ensures mode { conn.old.in_transaction ≡ false → conn.new.in_transaction ≡ false }
 {
     // Does nothing, but carries a law for the proof: the rows of the date are enough.
@@ -79,6 +81,7 @@ pub(crate) fn data_of_day<S: Alter>(
         → IfOk result (IsDayData (registered_of old.now.trees)
         (periods_on day.now.date day.now.count))) }
     ensures reading { SelectsOnly (state S.Store conn.old) (state S.Store conn.new) }
+    ensures safe { ReadsSafely (state S.Store conn.old) (state S.Store conn.new) result }
     ensures mode { conn.old.in_transaction ≡ false → conn.new.in_transaction ≡ false }
 {
     // Does nothing, but carries a law for the proof: the rows of the date and what is kept beside them are

@@ -13,7 +13,7 @@ ghost use Rattle.hh_store.specs.Outputs.{CountsOutcome, Outputs, reported_as};
 ghost use Rattle.hh_sqlrows.specs.Contents.{period_row, posted_amount, rows_of_run};
 ghost use Rattle.hh_sqlrows.specs.Forms.{rows_under_keys};
 ghost use Rattle.hh_sqlrows.specs.OfficeTables.{parties, postings, runs};
-ghost use Rattle.hh_sqlparts.specs.Readings.{SelectsOnly, OfSettled};
+ghost use Rattle.hh_sqlparts.specs.Readings.{OfSettled, ReadsSafely, SelectsOnly};
 
 use hh_devices::Sink;
 use hh_reports::{
@@ -52,6 +52,7 @@ pub(crate) fn write_export<S: Alter, O: Sink>(
         (map period_row (rows_of_run run.now old.now.trees))) result)) }
     ensures counted { CountsOutcome (change O.taken O.failures out.old out.new) result }
     ensures reading { SelectsOnly (state S.Store conn.old) (state S.Store conn.new) }
+    ensures safe { ReadsSafely (state S.Store conn.old) (state S.Store conn.new) result }
     ensures mode { conn.old.in_transaction ≡ false → conn.new.in_transaction ≡ false }
 {
     let Some(summary) = select_run(conn, alloc, run)? else {
@@ -74,6 +75,7 @@ fn write_results<S: Alter, O: Sink>(
         (results_text reported.now (map period_row (rows_of_run run.now old.now.trees))) result) }
     ensures counted { CountsOutcome (change O.taken O.failures out.old out.new) result }
     ensures reading { SelectsOnly (state S.Store conn.old) (state S.Store conn.new) }
+    ensures safe { ReadsSafely (state S.Store conn.old) (state S.Store conn.new) result }
     ensures mode { conn.old.in_transaction ≡ false → conn.new.in_transaction ≡ false }
 {
     // Does nothing, but carries a law for the proof: what some rows give begins what all give.
@@ -99,6 +101,7 @@ pub(crate) fn write_day_report<S: Alter, O: Sink>(
         (map period_row (rows_of_run run.now old.now.trees))) result)) }
     ensures counted { CountsOutcome (change O.taken O.failures out.old out.new) result }
     ensures reading { SelectsOnly (state S.Store conn.old) (state S.Store conn.new) }
+    ensures safe { ReadsSafely (state S.Store conn.old) (state S.Store conn.new) result }
     ensures mode { conn.old.in_transaction ≡ false → conn.new.in_transaction ≡ false }
 {
     let Some(summary) = select_run(conn, alloc, run)? else {
@@ -121,6 +124,7 @@ fn write_day<S: Alter, O: Sink>(
         (day_report_text reported.now (map period_row (rows_of_run run.now old.now.trees))) result) }
     ensures counted { CountsOutcome (change O.taken O.failures out.old out.new) result }
     ensures reading { SelectsOnly (state S.Store conn.old) (state S.Store conn.new) }
+    ensures safe { ReadsSafely (state S.Store conn.old) (state S.Store conn.new) result }
     ensures mode { conn.old.in_transaction ≡ false → conn.new.in_transaction ≡ false }
 {
     // Does nothing, but carries a law for the proof: what some rows give begins what all give.
@@ -143,6 +147,7 @@ pub(crate) fn write_balances<S: Alter, O: Sink>(
         (λ a. sum_for a (map posted_amount (rows_under_keys postings old.now.trees)))) result) }
     ensures counted { CountsOutcome (change O.taken O.failures out.old out.new) result }
     ensures reading { SelectsOnly (state S.Store conn.old) (state S.Store conn.new) }
+    ensures safe { ReadsSafely (state S.Store conn.old) (state S.Store conn.new) result }
     ensures mode { conn.old.in_transaction ≡ false → conn.new.in_transaction ≡ false }
 {
     let sums = sums_posted(conn, alloc, out)?;
@@ -161,6 +166,7 @@ fn sums_posted<S: Alter, O: Sink>(
         (amounts ≡ map posted_amount (rows_under_keys postings old.now.trees))) }
     ensures nothing { Outputs (change O.taken O.failures out.old out.new) [] result }
     ensures reading { SelectsOnly (state S.Store conn.old) (state S.Store conn.new) }
+    ensures safe { ReadsSafely (state S.Store conn.old) (state S.Store conn.new) result }
     ensures mode { conn.old.in_transaction ≡ false → conn.new.in_transaction ≡ false }
 {
     let mut sums = AccountSums::new(alloc);
@@ -184,6 +190,7 @@ fn write_parties<S: Alter, O: Sink>(
     ensures counted { (amounts : Amounts) → HasAmounts sums amounts
         → CountsOutcome (change O.taken O.failures out.old out.new) result }
     ensures reading { SelectsOnly (state S.Store conn.old) (state S.Store conn.new) }
+    ensures safe { ReadsSafely (state S.Store conn.old) (state S.Store conn.new) result }
     ensures mode { conn.old.in_transaction ≡ false → conn.new.in_transaction ≡ false }
 {
     // Does nothing, but carries a law for the proof: what some parties give begins what all give.

@@ -7,7 +7,7 @@ ghost use Rattle.hh_states.specs.Reads.{is_key_known_in, posting_to, result_in, 
 ghost use Rattle.hh_sqlrows.specs.Contents.{period_row, registered_of, result_of};
 ghost use Rattle.hh_sqlrows.specs.Forms.{rows_under_keys};
 ghost use Rattle.hh_sqlrows.specs.OfficeTables.{postings, results, runs};
-ghost use Rattle.hh_sqlparts.specs.Readings.{SelectsOnly, OfSettled};
+ghost use Rattle.hh_sqlparts.specs.Readings.{OfSettled, ReadsSafely, SelectsOnly};
 ghost use Rattle.hh_sqlstore.specs.Stores.{ArePosted};
 
 use hh_calc::AccountRow;
@@ -34,6 +34,7 @@ pub(crate) fn is_key_known<S: Alter>(
         OfSettled old new (IfOk result (λ known.
         known ≡ is_key_known_in (registered_of old.now.trees) key.now)) }
     ensures reading { SelectsOnly (state S.Store conn.old) (state S.Store conn.new) }
+    ensures safe { ReadsSafely (state S.Store conn.old) (state S.Store conn.new) result }
     ensures mode { conn.old.in_transaction ≡ false → conn.new.in_transaction ≡ false }
 {
     let parties = select_parties(conn, alloc)?;
@@ -58,6 +59,7 @@ pub(crate) fn runs_of_date<S: Alter>(
         OfSettled old new (IfOk result (λ found.
         found.items ≡ filter_map (summary_on date) (rows_under_keys runs old.now.trees))) }
     ensures reading { SelectsOnly (state S.Store conn.old) (state S.Store conn.new) }
+    ensures safe { ReadsSafely (state S.Store conn.old) (state S.Store conn.new) result }
     ensures mode { conn.old.in_transaction ≡ false → conn.new.in_transaction ≡ false }
 {
     let rows = select_runs_on(conn, alloc, &date)?;
@@ -75,6 +77,7 @@ pub(crate) fn results_of_run<S: Alter>(
         OfSettled old new (IfOk result (λ found. found.items
         ≡ filter_map (result_in run.now) (map result_of (rows_under_keys results old.now.trees)))) }
     ensures reading { SelectsOnly (state S.Store conn.old) (state S.Store conn.new) }
+    ensures safe { ReadsSafely (state S.Store conn.old) (state S.Store conn.new) result }
     ensures mode { conn.old.in_transaction ≡ false → conn.new.in_transaction ≡ false }
 {
     let rows = select_results_of(conn, alloc, run)?;
@@ -110,6 +113,7 @@ pub(crate) fn postings_to_account<S: Alter>(
         let new = state S.Store conn.new in
         ArePosted old posted.old → OfSettled old new (ArePosted old posted.new) }
     ensures reading { SelectsOnly (state S.Store conn.old) (state S.Store conn.new) }
+    ensures safe { ReadsSafely (state S.Store conn.old) (state S.Store conn.new) result }
     ensures mode { conn.old.in_transaction ≡ false → conn.new.in_transaction ≡ false }
 {
     let rows = all_postings(conn, alloc, posted.take())?;
@@ -129,6 +133,7 @@ fn all_postings<S: Alter>(
         ArePosted old posted → OfSettled old new (IfOk result (λ rows.
         rows.items ≡ rows_under_keys postings old.now.trees)) }
     ensures reading { SelectsOnly (state S.Store conn.old) (state S.Store conn.new) }
+    ensures safe { ReadsSafely (state S.Store conn.old) (state S.Store conn.new) result }
     ensures mode { conn.old.in_transaction ≡ false → conn.new.in_transaction ≡ false }
 {
     match posted {

@@ -11,7 +11,7 @@ ghost use Rattle.hh_sqlrows.specs.Making.{nothing};
 ghost use Rattle.hh_sqlrows.specs.OfficeSchema.{office};
 ghost use Rattle.hh_store.specs.declared.store_fault.StoreFault.TheVariants.{Store};
 ghost use Rattle.hh_sqlstore.specs.Holds.{Holds, IsNewOffice};
-ghost use Rattle.hh_sqlstore.specs.Leaving.{LeavesDatabase, MayKeepBeside, TakesOver};
+ghost use Rattle.hh_sqlstore.specs.Leaving.{KeepsHeld, LeavesDatabase, MayKeepBeside, TakesOver};
 ghost use Rattle.hh_sqlstore.specs.Making.{MayMake};
 ghost use Rattle.hh_sqlstore.specs.Stores.{content_in};
 
@@ -153,6 +153,9 @@ impl<S: Rising> SqlTables<S> {
         ensures crash { MatchResult result
             (λ tables. MayKeepBeside (state S.Store connection) (state S.Store tables.connection))
             (λ e. MayKeepBeside (state S.Store connection) (state S.Store e.1)) }
+        ensures keeps { MatchResult result
+            (λ tables. KeepsHeld (state S.Store connection) (state S.Store tables.connection))
+            (λ e. KeepsHeld (state S.Store connection) (state S.Store e.1)) }
         ensures foreign { (state S.Store connection).now.schema ≢ office
             → MatchResult result (λ _. ⊥) (λ e. e.0 ≡ Store) }
     {

@@ -1,7 +1,9 @@
 //! The calls of the tables that are kept in a database.
 
+ghost use Rattle.sqlite_trees.specs.Tree.{Trees};
 ghost use Rattle.sqlite.specs.Held.{state};
-ghost use Rattle.hh_sqlstore.specs.Stores.{content_in};
+ghost use Rattle.hh_sqlstore.specs.Holds.{TreesHold};
+ghost use Rattle.hh_sqlstore.specs.Stores.{IsHonestDisk, content_in};
 
 use crate::changing::{keep_load, keep_run};
 use crate::faults::{refuse, refuse_report};
@@ -29,6 +31,14 @@ impl<S: Alter> Tables for SqlTables<S> {
     ghost content = { λ t. content_in S.Store t };
 
     ghost is_open = { λ t. (state S.Store t.connection).is_open };
+
+    ghost is_honest = { λ t. IsHonestDisk S.Store t };
+
+    ghost Left = { Trees };
+
+    ghost may_leave = { λ t trees. (state S.Store t.connection).may_leave trees };
+
+    ghost holds = { λ trees content. TreesHold trees content };
 
     ghost refusals = { λ t. t.refusals };
 
@@ -167,5 +177,9 @@ impl<S: Alter> Tables for SqlTables<S> {
             Ok(made) => Ok(made),
             Err(fault) => Err(refuse(&mut self.refusals, StoreFault::from(fault))),
         }
+    }
+
+    fn shows_left(&self) {
+        let _ = &self.connection;
     }
 }

@@ -1,3 +1,4 @@
+pub mod Crashes
 pub mod DayReads
 pub mod Outputs
 pub mod Reached

@@ -8,6 +8,7 @@ ghost use Rattle.hh_states.specs.Changes.{IsLoadFrom, IsRunFrom, effect_of_load,
 ghost use Rattle.hh_states.specs.Content.{Content};
 ghost use Rattle.hh_states.specs.DaySettlement.{periods_on};
 ghost use Rattle.hh_states.specs.Reads.{contracts_in, file_in, is_key_known, party_in, postings_in, reference_in, results_in, runs_in, unit_in, whole_register};
+ghost use Rattle.hh_store.specs.Crashes.{AddsNothing, AddsOnly, LeavesContent, MakesLoad, MakesRun};
 ghost use Rattle.hh_store.specs.DayReads.{IsDayData};
 ghost use Rattle.hh_store.specs.Outputs.{CountsOutcome, Outputs, balances_in, day_report_in, export_in};
 ghost use Rattle.hh_store.specs.Reached.{AreReached};
@@ -39,6 +40,19 @@ pub trait Tables {
     /// do not they never do again, and no call can tell it.
     ghost is_open: { Self → Bool };
 
+    /// Their disk has returned what was written, as far as calls have asked it.
+    ghost is_honest: { Self → Type 0 };
+
+    /// What a crash leaves of tables: of a database its trees, as a file is found to have them when it is
+    /// opened again; of tables in memory their content, which tells nothing of a machine.
+    ghost Left: { Type 0 };
+
+    /// What a crash may leave, if it comes now.
+    ghost may_leave: { Self → Left → Type 0 };
+
+    /// What is left holds the tables of an office, and this is what they contain.
+    ghost holds: { Left → Content → Type 0 };
+
     /// How often they have refused for another cause than memory. The count never falls, and at its
     /// greatest nothing more is said of it.
     ghost refusals: { Self → ℕ };
@@ -49,6 +63,7 @@ pub trait Tables {
             settings ≡ (content self.old).settings) }
         ensures same { IsTrue (is_open self.new) → content self.new ≡ content self.old }
         ensures stood { IsTrue (is_open self.new) → IsTrue (is_open self.old) }
+        ensures crash { AddsNothing is_honest is_open may_leave self.old self.new (OnOk result) }
         ensures refusals_counted { IsTrue (is_open self.new) → AreReached (content self.old)
             → CountsRefusal result (refusals self.old) (refusals self.new) };
 
@@ -58,6 +73,7 @@ pub trait Tables {
             found ≡ party_in (content self.old) party.now) }
         ensures same { IsTrue (is_open self.new) → content self.new ≡ content self.old }
         ensures stood { IsTrue (is_open self.new) → IsTrue (is_open self.old) }
+        ensures crash { AddsNothing is_honest is_open may_leave self.old self.new (OnOk result) }
         ensures refusals_counted { IsTrue (is_open self.new) → AreReached (content self.old)
             → CountsRefusal result (refusals self.old) (refusals self.new) };
 
@@ -67,6 +83,7 @@ pub trait Tables {
             found ≡ unit_in (content self.old) unit.now) }
         ensures same { IsTrue (is_open self.new) → content self.new ≡ content self.old }
         ensures stood { IsTrue (is_open self.new) → IsTrue (is_open self.old) }
+        ensures crash { AddsNothing is_honest is_open may_leave self.old self.new (OnOk result) }
         ensures refusals_counted { IsTrue (is_open self.new) → AreReached (content self.old)
             → CountsRefusal result (refusals self.old) (refusals self.new) };
 
@@ -77,6 +94,7 @@ pub trait Tables {
             found ≡ reference_in (content self.old) reference.now) }
         ensures same { IsTrue (is_open self.new) → content self.new ≡ content self.old }
         ensures stood { IsTrue (is_open self.new) → IsTrue (is_open self.old) }
+        ensures crash { AddsNothing is_honest is_open may_leave self.old self.new (OnOk result) }
         ensures refusals_counted { IsTrue (is_open self.new) → AreReached (content self.old)
             → CountsRefusal result (refusals self.old) (refusals self.new) };
 
@@ -86,6 +104,7 @@ pub trait Tables {
             known ≡ is_key_known (content self.old) key.now) }
         ensures same { IsTrue (is_open self.new) → content self.new ≡ content self.old }
         ensures stood { IsTrue (is_open self.new) → IsTrue (is_open self.old) }
+        ensures crash { AddsNothing is_honest is_open may_leave self.old self.new (OnOk result) }
         ensures refusals_counted { IsTrue (is_open self.new) → AreReached (content self.old)
             → CountsRefusal result (refusals self.old) (refusals self.new) };
 
@@ -95,6 +114,7 @@ pub trait Tables {
             found ≡ file_in (content self.old) kind name.now) }
         ensures same { IsTrue (is_open self.new) → content self.new ≡ content self.old }
         ensures stood { IsTrue (is_open self.new) → IsTrue (is_open self.old) }
+        ensures crash { AddsNothing is_honest is_open may_leave self.old self.new (OnOk result) }
         ensures refusals_counted { IsTrue (is_open self.new) → AreReached (content self.old)
             → CountsRefusal result (refusals self.old) (refusals self.new) };
 
@@ -105,6 +125,7 @@ pub trait Tables {
             → IfOk result (ServesFor rows.now (whole_register (content self.old))) }
         ensures same { IsTrue (is_open self.new) → content self.new ≡ content self.old }
         ensures stood { IsTrue (is_open self.new) → IsTrue (is_open self.old) }
+        ensures crash { AddsNothing is_honest is_open may_leave self.old self.new (OnOk result) }
         ensures refusals_counted { IsTrue (is_open self.new) → AreReached (content self.old)
             → CountsRefusal result (refusals self.old) (refusals self.new) };
 
@@ -119,6 +140,7 @@ pub trait Tables {
             rows.items ≡ contracts_in (content self.old) account.now date) }
         ensures same { IsTrue (is_open self.new) → content self.new ≡ content self.old }
         ensures stood { IsTrue (is_open self.new) → IsTrue (is_open self.old) }
+        ensures crash { AddsNothing is_honest is_open may_leave self.old self.new (OnOk result) }
         ensures refusals_counted { IsTrue (is_open self.new) → AreReached (content self.old)
             → CountsRefusal result (refusals self.old) (refusals self.new) };
 
@@ -132,6 +154,7 @@ pub trait Tables {
             (periods_on day.now.date day.now.count)) }
         ensures same { IsTrue (is_open self.new) → content self.new ≡ content self.old }
         ensures stood { IsTrue (is_open self.new) → IsTrue (is_open self.old) }
+        ensures crash { AddsNothing is_honest is_open may_leave self.old self.new (OnOk result) }
         ensures refusals_counted { IsTrue (is_open self.new) → AreReached (content self.old)
             → CountsRefusal result (refusals self.old) (refusals self.new) };
 
@@ -141,6 +164,7 @@ pub trait Tables {
             runs.items ≡ runs_in (content self.old) date) }
         ensures same { IsTrue (is_open self.new) → content self.new ≡ content self.old }
         ensures stood { IsTrue (is_open self.new) → IsTrue (is_open self.old) }
+        ensures crash { AddsNothing is_honest is_open may_leave self.old self.new (OnOk result) }
         ensures refusals_counted { IsTrue (is_open self.new) → AreReached (content self.old)
             → CountsRefusal result (refusals self.old) (refusals self.new) };
 
@@ -151,6 +175,7 @@ pub trait Tables {
             rows.items ≡ results_in (content self.old) run.now) }
         ensures same { IsTrue (is_open self.new) → content self.new ≡ content self.old }
         ensures stood { IsTrue (is_open self.new) → IsTrue (is_open self.old) }
+        ensures crash { AddsNothing is_honest is_open may_leave self.old self.new (OnOk result) }
         ensures refusals_counted { IsTrue (is_open self.new) → AreReached (content self.old)
             → CountsRefusal result (refusals self.old) (refusals self.new) };
 
@@ -161,6 +186,7 @@ pub trait Tables {
             rows.items ≡ postings_in (content self.old) account.now) }
         ensures same { IsTrue (is_open self.new) → content self.new ≡ content self.old }
         ensures stood { IsTrue (is_open self.new) → IsTrue (is_open self.old) }
+        ensures crash { AddsNothing is_honest is_open may_leave self.old self.new (OnOk result) }
         ensures refusals_counted { IsTrue (is_open self.new) → AreReached (content self.old)
             → CountsRefusal result (refusals self.old) (refusals self.new) };
 
@@ -179,6 +205,7 @@ pub trait Tables {
         ensures counted { CountsOutcome (change S.taken S.failures out.old out.new) result }
         ensures same { IsTrue (is_open self.new) → content self.new ≡ content self.old }
         ensures stood { IsTrue (is_open self.new) → IsTrue (is_open self.old) }
+        ensures crash { AddsNothing is_honest is_open may_leave self.old self.new (OnOk result) }
         ensures refusals_counted { IsTrue (is_open self.new) → AreReached (content self.old)
             → CountsReportRefusal result (refusals self.old) (refusals self.new) };
 
@@ -195,6 +222,7 @@ pub trait Tables {
         ensures counted { CountsOutcome (change S.taken S.failures out.old out.new) result }
         ensures same { IsTrue (is_open self.new) → content self.new ≡ content self.old }
         ensures stood { IsTrue (is_open self.new) → IsTrue (is_open self.old) }
+        ensures crash { AddsNothing is_honest is_open may_leave self.old self.new (OnOk result) }
         ensures refusals_counted { IsTrue (is_open self.new) → AreReached (content self.old)
             → CountsReportRefusal result (refusals self.old) (refusals self.new) };
 
@@ -212,6 +240,7 @@ pub trait Tables {
         ensures counted { CountsOutcome (change S.taken S.failures out.old out.new) result }
         ensures same { IsTrue (is_open self.new) → content self.new ≡ content self.old }
         ensures stood { IsTrue (is_open self.new) → IsTrue (is_open self.old) }
+        ensures crash { AddsNothing is_honest is_open may_leave self.old self.new (OnOk result) }
         ensures refusals_counted { IsTrue (is_open self.new) → AreReached (content self.old)
             → CountsReportRefusal result (refusals self.old) (refusals self.new) };
 
@@ -224,6 +253,8 @@ pub trait Tables {
         ensures err { IsTrue (is_open self.new)
             → OnErr result (content self.new ≡ content self.old) }
         ensures stood { IsTrue (is_open self.new) → IsTrue (is_open self.old) }
+        ensures crash { AddsOnly is_honest is_open may_leave holds self.old self.new (OnOk result)
+            (MakesLoad change (content self.old)) }
         ensures refusals_counted { IsTrue (is_open self.new) → AreReached (content self.old)
             → CountsRefusal result (refusals self.old) (refusals self.new) };
 
@@ -236,6 +267,14 @@ pub trait Tables {
         ensures err { IsTrue (is_open self.new)
             → OnErr result (content self.new ≡ content self.old) }
         ensures stood { IsTrue (is_open self.new) → IsTrue (is_open self.old) }
+        ensures crash { AddsOnly is_honest is_open may_leave holds self.old self.new (OnOk result)
+            (MakesRun change (content self.old)) }
         ensures refusals_counted { IsTrue (is_open self.new) → AreReached (content self.old)
             → CountsRefusal result (refusals self.old) (refusals self.new) };
+
+    /// Does nothing, but carries for a proof that while tables stand, whatever a crash leaves holds what they
+    /// contain, and that there is something that it may leave.
+    fn shows_left(&self)
+        ensures holds { LeavesContent is_open may_leave holds self.now (content self.now) }
+        ensures some { IsTrue (is_open self.now) → (left : Left) × may_leave self.now left };
 }

@@ -1,14 +1,16 @@
 -- A database that a transaction has changed, in the state of its connection.
-use Rattle.std.specs.Prelude.{◌≡◌, IsTrue}
+use Rattle.std.specs.Prelude.{◌≡◌, ◌⊎◌, IsTrue}
 use Rattle.sqlite.specs.Effect.{Database}
 use Rattle.sqlite.specs.State.{HasCleanDisk, State}
+use Rattle.sqlite_trees.specs.Tree.{Trees}
 use Rattle.hh_states.specs.Changes.{LoadWrites, RunWrites}
 use Rattle.hh_beside.specs.Keeping.{beside_with_load, beside_with_run}
 use Rattle.hh_beside.specs.Laws.{AreAlike}
 use Rattle.hh_sqlrows.specs.Contents.{beside_in, registered_of}
 use Rattle.hh_sqlrows.specs.Office.{IsOffice}
 use Rattle.hh_sqlchanges.specs.Writes.{StoresLoad, StoresRun}
-use Rattle.hh_sqlparts.specs.Readings.{SelectsOnly}
+use Rattle.hh_sqlparts.specs.Readings.{OfCommitted, SelectsOnly}
+use Rattle.hh_sqlstore.specs.Leaving.{MayStand}
 
 -- the connection was open and is; what there is was committed, and an office, all of which was committed, was changed so
 pub record IsChangedBy (Change : Database → Database → Type 0) (old new : State) : Type 0 where
@@ -29,3 +31,10 @@ KeepsRun w old new = StoresRun w old new × AreAlike (beside_in new.trees) (besi
 -- nothing was changed, where the disk has returned what was written
 abbrev pub ChangesNothing : State → State → Type 0
 ChangesNothing old new = HasCleanDisk new → SelectsOnly old new
+
+-- by a disk that has returned what was written, a crash leaves what it would have left before of an office in an open connection, all of
+-- which was committed, or that office with such a change
+abbrev pub MayChange : (Database → Database → Type 0) → State → State → Type 0
+MayChange Change old new =
+    IsTrue old.is_open → OfCommitted old (HasCleanDisk new → (trees : Trees) → new.may_leave trees
+    → old.may_leave trees ⊎ MayStand (Change old.now) trees)

@@ -2,7 +2,7 @@ use Rattle.std.proofs.Common.{Err, refl, rules, subst, w64, SFits}
 use Rattle.std.proofs.lemmas.Int.{to_z-of_z}
 use Rattle.hh_wire.specs.declared.incoming.WireFault.{WireFault}
 use Rattle.hh_serve.specs.Serves.{IsReadOf}
-use Rattle.hh_serve.proofs.ServeLemmas.{handled, not_replied, refusal_replied, refusal_unreplied, replied, reply_up, stands_after_one}
+use Rattle.hh_serve.proofs.ServeLemmas.{handled, leaves_not_replied, leaves_replied, not_replied, refusal_replied, refusal_unreplied, replied, reply_up, stands_after_one}
 use Rattle.hh_serve.proofs.serve.serve_one.Goals as goal
 
 pub returns-in_err-write_reply-in-Ok-Asked-clause-served :
@@ -71,3 +71,18 @@ returns-in-Err-Refused-clause-served g c sure =
     let old = c.args.office.now.seen in
     let message = subst (λ (w : WireFault). IsReadOf source (Err w)) c.in-Err-Refused.field-0-is c.in-Err-Refused.ensures.message in
     refusal_unreplied source old old _ _ c.args.moment _ c.in-Err-Refused.refused (message, refl) c.in-Err.field-0 c.in-Err.ensures
+
+pub returns-in_err-write_reply-in-Ok-Asked-clause-left :
+    goal.returns-in_err-write_reply-in-Ok-Asked-clause-left
+returns-in_err-write_reply-in-Ok-Asked-clause-left g c =
+    let fits : SFits w64 c.args.moment = search rules in
+    leaves_not_replied g.T.Tables.is_honest g.T.Tables.is_open g.T.Tables.may_leave g.T.Tables.holds c.args.office.now c.handle-reply.new.self (g.I.Source.remaining c.args.source.now) c.args.moment _ (to_z-of_z w64 c.args.moment fits) _
+    c.in-Ok-Asked.request c.handle-reply.result c.in-Ok-Asked.field-0 c.in-Ok-Asked.field-0-is c.in-Ok-Asked.ensures.message c.handle-reply.ensures.left
+    c.in_err-write_reply-in-Ok-Asked.field-0.0 c.from_residual.result c.from_residual.ensures.1 c.in_err-write_reply-in-Ok-Asked.ensures.reply
+
+pub returns-in-Ok-Asked-clause-left :
+    goal.returns-in-Ok-Asked-clause-left
+returns-in-Ok-Asked-clause-left g c =
+    let fits : SFits w64 c.args.moment = search rules in
+    leaves_replied g.T.Tables.is_honest g.T.Tables.is_open g.T.Tables.may_leave g.T.Tables.holds c.args.office.now c.handle-reply.new.self (g.I.Source.remaining c.args.source.now) c.args.moment _ (to_z-of_z w64 c.args.moment fits) _
+    c.in-Ok-Asked.request c.handle-reply.result c.in-Ok-Asked.field-0 c.in-Ok-Asked.field-0-is c.in-Ok-Asked.ensures.message c.handle-reply.ensures.left c.in_ok-write_reply-in-Ok-Asked.ensures.reply

@@ -4,6 +4,7 @@ use Rattle.sqlite.specs.Held.{state}
 use Rattle.hh_sqlrows.specs.Forms.{rows_under_keys}
 use Rattle.hh_sqlrows.specs.OfficeTables.{meters}
 use Rattle.hh_sqlparts.specs.Readings.{SelectsOnly, OfSettled}
+use Rattle.hh_sqlparts.specs.steps.Readings.{HaveReadSafely}
 use Rattle.hh_sqlparts.specs.steps.Named.{readings_of}
 use Rattle.hh_sqlparts.proofs.named_entries.meters_under.Given as goal
 
@@ -14,6 +15,7 @@ invariant-names g l =
     let now = state g.S.Store l.conn in
     record {
       reading : SelectsOnly old now;
+      safe : HaveReadSafely old now;
       mode : l.fn.conn.in_transaction ≡ false → l.conn.in_transaction ≡ false;
       selected : OfSettled old now (l.found.items ≡ flat_map (readings_of (rows_under_keys meters old.now.trees)) (take l.name-index l.names));
     }

@@ -6,7 +6,7 @@ use Rattle.hh_sqlrows.specs.Forms.{rows_under_keys}
 use Rattle.hh_sqlrows.specs.OfficeTables.{positions}
 use Rattle.hh_sqlparts.specs.steps.Named.{entry_under, found_entry}
 use Rattle.hh_sqlparts.proofs.NamedSelects.{selects_more}
-use Rattle.hh_sqlparts.proofs.ReadingLaws.{reading_of_statement, reading_then}
+use Rattle.hh_sqlparts.proofs.ReadingLaws.{reading_of_statement, reading_then, safely_more}
 use Rattle.hh_sqlparts.proofs.named_entries.positions_under.Goals as goal
 use Rattle.hh_sqlparts.proofs.named_entries.positions_under.Goals.{in-Some+in_ok-push, in_default}
 
@@ -21,6 +21,7 @@ names-preserved g c =
     let last = reading_of_statement mid new one.stood one.left in
     record {
       reading = reading_then old mid new so_far.reading last;
+      safe = safely_more old mid new so_far.reading so_far.safe c.in_ok-position.ensures.stays one.honest one.survives;
       mode = λ h. one.mode (so_far.mode h);
       selected = selects_more (λ db. entry_under position_key_cmp (rows_under_keys positions db.trees)) old mid new so_far.reading last
           c.args.names.now c.names.name-index name (omega arith) c.name-item.is

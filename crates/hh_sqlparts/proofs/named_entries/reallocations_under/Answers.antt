@@ -4,7 +4,7 @@ use Rattle.hh_sqlrows.specs.Forms.{rows_under_keys}
 use Rattle.hh_sqlrows.specs.OfficeTables.{reallocations}
 use Rattle.hh_sqlparts.specs.steps.Named.{reallocations_of}
 use Rattle.hh_sqlparts.proofs.NamedSelects.{selects_more}
-use Rattle.hh_sqlparts.proofs.ReadingLaws.{reading_of_statement, reading_then}
+use Rattle.hh_sqlparts.proofs.ReadingLaws.{reading_of_statement, reading_then, safely_more}
 use Rattle.hh_sqlparts.proofs.named_entries.reallocations_under.Goals as goal
 
 pub names-preserved : goal.names-preserved
@@ -17,6 +17,7 @@ names-preserved g c =
     let last = reading_of_statement mid new one.stood one.left in
     record {
       reading = reading_then old mid new so_far.reading last;
+      safe = safely_more old mid new so_far.reading so_far.safe c.in_ok-reallocations.ensures.stays one.honest one.survives;
       mode = λ h. one.mode (so_far.mode h);
       selected = selects_more (λ db. reallocations_of (rows_under_keys reallocations db.trees)) old mid new so_far.reading last
           c.args.names.now c.names.name-index c.name-item.result (omega arith) c.name-item.is

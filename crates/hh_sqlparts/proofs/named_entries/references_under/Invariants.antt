@@ -5,6 +5,7 @@ use Rattle.sqlite.specs.Held.{state}
 use Rattle.hh_sqlrows.specs.Forms.{rows_under_keys}
 use Rattle.hh_sqlrows.specs.OfficeTables.{references}
 use Rattle.hh_sqlparts.specs.Readings.{SelectsOnly, OfSettled}
+use Rattle.hh_sqlparts.specs.steps.Readings.{HaveReadSafely}
 use Rattle.hh_sqlparts.specs.steps.Named.{entry_under}
 use Rattle.hh_sqlparts.proofs.named_entries.references_under.Given as goal
 
@@ -15,6 +16,7 @@ invariant-names g l =
     let now = state g.S.Store l.conn in
     record {
       reading : SelectsOnly old now;
+      safe : HaveReadSafely old now;
       mode : l.fn.conn.in_transaction ≡ false → l.conn.in_transaction ≡ false;
       selected : OfSettled old now (l.found.items ≡ flat_map (entry_under bytes_cmp (rows_under_keys references old.now.trees)) (take l.name-index l.names));
     }

@@ -1,5 +1,6 @@
-use Rattle.std.proofs.Common.{◌≡◌, ◌∙◌, ◌++◌, [], ◌∷◌, inl, refl, rules, subst}
+use Rattle.std.proofs.Common.{◌≡◌, ◌∙◌, ◌++◌, [], ◌∷◌, inl, refl, rules, subst, IsTrue}
 use Rattle.sqlite.specs.Held.{state}
+use Rattle.sqlite.specs.State.{HasCleanDisk}
 use Rattle.sqlite.specs.Values.{bound}
 use Rattle.hh_keyed_rows.specs.declared.row_fault.RowFault.TheVariants.{Store}
 use Rattle.hh_keyed_rows.proofs.QueryLaws.{clean_by, failed_left, was_open_by}
@@ -88,6 +89,11 @@ returns-in_default-clause-left g c =
     let same : mid ≡ c.conn-in_default-1.given.0 = search rules in
     let next = rw c.in_default.is at (c.in_ok-key.ensures.next c.args.conn.now c.args.text.now (bound c.args.params.now) giving.taken giving.read) in
     subst (Leaves g.S.Store g.met.S.Store.shut_if_dirty g.K.Columned.codec g.V.Columned.codec c.args.text.now (bound c.args.params.now) c.args.conn.now) same (left_by_last g.S.Store g.met.S.Store.shut_if_dirty g.K.Columned.codec g.V.Columned.codec c.args.text.now (bound c.args.params.now) c.args.conn.now mid (λ plain clean. inl (next plain clean).1))
+
+pub returns-in_default-clause-stays : goal.returns-in_default-clause-stays
+returns-in_default-clause-stays g c =
+    let same : c.next_entry.new.rows.conn.now ≡ c.conn-in_default-1.given.0 = search rules in
+    subst (λ last. HasCleanDisk (state g.S.Store last) → IsTrue (state g.S.Store last).is_open) same c.in_ok-key.ensures.stays
 
 pub returns-in_default-clause-survives : goal.returns-in_default-clause-survives
 returns-in_default-clause-survives g c =

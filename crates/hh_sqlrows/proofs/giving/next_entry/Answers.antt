@@ -2,7 +2,9 @@ use Rattle.std.proofs.Common.{◌≡◌, IfOk, Option, Some, subst}
 use Rattle.std.specs.Prelude.{option_map}
 use Rattle.sqlite_value.specs.Order.{Row}
 use Rattle.hh_keyed_rows.specs.KeyedRows.{entry_in}
+use Rattle.sqlite.specs.Held.{state}
 use Rattle.hh_keyed_rows.proofs.QueryLaws.{clean_by, was_open_by}
+use Rattle.hh_sqlrows.proofs.AnswerLaws.{open_result}
 use Rattle.hh_sqlrows.proofs.StreamLaws.{cleaner_before, kept_or_back, next_taken, none_taken}
 use Rattle.hh_sqlrows.proofs.giving.next_entry.Goals as goal
 
@@ -17,6 +19,10 @@ pub returns-in-Ok-clause-stood : goal.returns-in-Ok-clause-stood
 returns-in-Ok-clause-stood g c stands =
     let clean = clean_by _ _ (g.met.S.Store.shut_if_dirty c.advance.new.self.conn.now.store) stands in
     ((c.in-Ok.ensures.same clean).0.was_open, clean)
+
+pub returns-in-Ok-clause-stays : goal.returns-in-Ok-clause-stays
+returns-in-Ok-clause-stays g c clean =
+    open_result (state g.S.Store c.advance.new.self.conn.now) c.entry_of.result (c.in-Ok.ensures.same clean).0.is_open
 
 pub returns-in-Err-clause-next : goal.returns-in-Err-clause-next
 returns-in-Err-clause-next g c start sql params taken before =

@@ -6,7 +6,8 @@ use Rattle.hh_sqlrows.specs.Contents.{registered_of}
 use Rattle.hh_sqlrows.specs.Office.{IsOffice}
 use Rattle.hh_sqlchanges.specs.Writes.{ChangesByLoad}
 use Rattle.hh_sqlchanges.proofs.BesideLaws.{alike_after_load}
-use Rattle.hh_sqlstore.proofs.ChangeLaws.{nothing_after}
+use Rattle.hh_sqlstore.specs.steps.Changed.{KeepsLoad}
+use Rattle.hh_sqlstore.proofs.ChangeLaws.{may_change_after, nothing_after}
 use Rattle.hh_sqlstore.proofs.changing.keep_load.Goals as goal
 
 pub returns-clause-made : goal.returns-clause-made
@@ -33,3 +34,18 @@ returns-clause-undone g c =
     on_err_weaker c.commit_load.result
     (nothing_after (state g.S.Store c.args.connection.now) (state g.S.Store c.select_positions_after.new.conn) (state g.S.Store c.commit_load.new.connection) c.in_ok-positions.ensures.reading)
     c.commit_load.ensures.undone
+
+pub returns-clause-crash : goal.returns-clause-crash
+returns-clause-crash g c =
+    let old = state g.S.Store c.args.connection.now in
+    let mid = state g.S.Store c.select_positions_after.new.conn in
+    let new = state g.S.Store c.commit_load.new.connection in
+    let read = c.in_ok-positions.ensures in
+    let w = c.args.change.now in
+    may_change_after (ChangesByLoad w c.in_ok-positions.positions.items c.in_ok-touched.touched.items) (KeepsLoad w) old mid new c.in_ok-positions.positions
+    read.reading read.safe c.commit_load.ensures.honest
+    (rw c.deref-2.ensures.value at (rw c.deref.ensures.value at c.commit_load.ensures.crash))
+    (λ still office settled db written. (
+      written.stores,
+      alike_after_load w (registered_of old.now.trees) _ _ old.now db written (rw c.rows.ensures at (read.value still office settled)) (rw c.rows-2.ensures at c.in_ok-touched.ensures.same),
+    ))

@@ -40,8 +40,8 @@ returns-clause-crash g c =
     let reading = c.in_ok-beside.ensures.reading in
     let safe = c.in_ok-beside.ensures.safe in
     may_keep_made old mid new
-    (λ stands clean trees may. safe.crash (c.requires.office stands) (c.requires.settled stands) clean trees may)
-    (λ stands clean. let up = safe.stays clean in (up, (reading.left up (c.requires.office stands) (c.requires.settled stands)).1))
+    (λ stands. safe.crash stands (c.requires.office stands) (c.requires.settled stands))
+    (λ stands clean. let up = safe.stays clean stands in (up, (reading.left up (c.requires.office stands) (c.requires.settled stands)).1))
     c.commit_beside.ensures.honest (WritesBesideAnew found.positions.items found.touched.items mid.now)
     (λ up.
     let stands = reading.stood up in

@@ -1,6 +1,6 @@
 use Rattle.std.proofs.Common.{subst, sym, ◌∙◌, w64, to_z, of_z}
 use Rattle.std.proofs.lemmas.Int.{to_z-of_z}
-use Rattle.hh_office.specs.Machine.{act, load}
+use Rattle.hh_office.specs.Machine.{act, load, step}
 use Rattle.hh_office.specs.Promises.{MakesTransition}
 use Rattle.hh_office.specs.steps.Promises.{MakesInEachState, TellsInEachState, reply_of}
 use Rattle.hh_office.specs.Views.{midnight_of}
@@ -11,6 +11,8 @@ use Rattle.hh_office.proofs.RefusalLaws.{reached_by}
 use Rattle.hh_office.specs.Refusals.{CountsReply, StandsForSome}
 use Rattle.hh_store.specs.Reached.{AreReached}
 use Rattle.hh_office.specs.Views.{OfficeView}
+use Rattle.hh_office.proofs.CrashLaws.{only_made_then}
+use Rattle.hh_office.specs.Crashes.{IfReplied, MadeInEachState, with_content}
 use Rattle.hh_office.proofs.office.Office.act.Goals as goal
 
 pub returns-in-Load-clause-makes : goal.returns-in-Load-clause-makes
@@ -116,3 +118,37 @@ returns-in-Runs-clause-refusals_counted g c sure some =
     let same = c.in_ok-may.ensures.same before in
     subst (λ n. CountsReply (reply_of c.runs.result) n (g.T.Tables.refusals c.runs.new.self.tables)) (c.in_ok-may.ensures.refusals_counted before (reached_by c.args.self.now.seen some))
     (c.runs.ensures.refusals_counted sure (subst (λ (o : OfficeView). AreReached o.content) (sym same) (reached_by c.args.self.now.seen some)))
+
+pub returns-in-Load-clause-crash : goal.returns-in-Load-clause-crash
+returns-in-Load-clause-crash g c =
+    let office = c.args.self.now.seen in
+    only_made_then g.T.Tables.is_honest g.T.Tables.is_open g.T.Tables.may_leave g.T.Tables.holds c.args.self.now.tables c.may.new.self.tables c.load.new.self.tables (IfReplied (reply_of c.load.result))
+    (MadeInEachState c.may.new.self.seen (λ midnight s. load midnight s (to_z w64 (of_z w64 c.args.moment)) c.in-Load.upload)) (MadeInEachState office (λ midnight s. step midnight s c.args.moment c.args.request.now))
+    (λ before left made.
+    let at = subst (λ o. MadeInEachState o (λ midnight s. load midnight s (to_z w64 (of_z w64 c.args.moment)) c.in-Load.upload) left) (c.in_ok-may.ensures.same before) made in
+    record {
+      given = at.given;
+      answered = at.answered;
+      makes = λ s stands.
+          comes_allowed office (with_content office left) at.given s c.args.moment c.args.request.now (sym (c.in_ok-may.ensures.allowed before s stands) ∙ c.if-not-branch.false)
+          (subst (λ a. MakesTransition office (with_content office left) at.given (act (midnight_of office) s c.args.moment a)) (sym c.in-Load.is)
+          (subst (λ m. MakesTransition office (with_content office left) at.given (load (midnight_of office) s m c.in-Load.upload)) (to_z-of_z w64 c.args.moment c.ranges.moment) (at.makes s stands)));
+    })
+    c.in_ok-may.ensures.crash c.load.ensures.crash
+
+pub returns-in-Run-clause-crash : goal.returns-in-Run-clause-crash
+returns-in-Run-clause-crash g c =
+    let office = c.args.self.now.seen in
+    only_made_then g.T.Tables.is_honest g.T.Tables.is_open g.T.Tables.may_leave g.T.Tables.holds c.args.self.now.tables c.may.new.self.tables c.run.new.self.tables (IfReplied (reply_of c.run.result))
+    (MadeInEachState c.may.new.self.seen (λ midnight s. run midnight s (to_z w64 (of_z w64 c.args.moment)) c.in-Run.run')) (MadeInEachState office (λ midnight s. step midnight s c.args.moment c.args.request.now))
+    (λ before left made.
+    let at = subst (λ o. MadeInEachState o (λ midnight s. run midnight s (to_z w64 (of_z w64 c.args.moment)) c.in-Run.run') left) (c.in_ok-may.ensures.same before) made in
+    record {
+      given = at.given;
+      answered = at.answered;
+      makes = λ s stands.
+          comes_allowed office (with_content office left) at.given s c.args.moment c.args.request.now (sym (c.in_ok-may.ensures.allowed before s stands) ∙ c.if-not-branch.false)
+          (subst (λ a. MakesTransition office (with_content office left) at.given (act (midnight_of office) s c.args.moment a)) (sym c.in-Run.is)
+          (subst (λ m. MakesTransition office (with_content office left) at.given (run (midnight_of office) s m c.in-Run.run')) (to_z-of_z w64 c.args.moment c.ranges.moment) (at.makes s stands)));
+    })
+    c.in_ok-may.ensures.crash c.run.ensures.crash

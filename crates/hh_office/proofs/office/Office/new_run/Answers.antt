@@ -1,7 +1,7 @@
-use Rattle.std.proofs.Common.{subst, sym, Err, ◌∙◌, w64}
+use Rattle.std.proofs.Common.{subst, sym, Err, ◌∙◌, w64, ap}
 use Rattle.std.proofs.lemmas.Int.{to_z-of_z}
 use Rattle.hh_requests.specs.declared.reply.Reply.TheVariants as reply
-use Rattle.hh_office.specs.Promises.{MakesTransition}
+use Rattle.hh_office.specs.Promises.{MakesTransition, is_given_up}
 use Rattle.hh_office.specs.Runs.{run}
 use Rattle.hh_office.specs.steps.Settling.{IsRunMade, RefusesIn, SettlesIn}
 use Rattle.hh_office.specs.Views.{midnight_of}
@@ -16,6 +16,10 @@ use Rattle.hh_store.specs.StoreFaults.{CountsRefusal, store_fault}
 use Rattle.hh_office.specs.steps.Settling.{rows_before}
 use Rattle.hh_office.specs.Views.{OfficeView}
 use Rattle.hh_office.proofs.RunLaws.{run_fits}
+use Rattle.hh_office.proofs.CrashLaws.{only_as, only_made_then, replied_anyway, store_replied}
+use Rattle.hh_office.specs.Crashes.{IfReplied, MadeInEachState, with_content}
+use Rattle.hh_office.specs.steps.Promises.{reply_of}
+use Rattle.hh_office.specs.steps.Crashes.{IsMadeContent}
 use Rattle.hh_office.proofs.office.Office.new_run.Goals as goal
 
 pub returns-in_err-settled-clause-makes : goal.returns-in_err-settled-clause-makes
@@ -82,3 +86,47 @@ returns-clause-refusals_counted g c sure some =
     (c.in_ok-make_run.ensures.refusals_counted sure (subst (λ (o : OfficeView). AreReached o.content) (sym same) reached)
     (subst (λ (o : OfficeView). FitsRun c.args.key c.deref.result.now (rows_before o.content c.args.former)) (sym same) told)
     ∙ c.in_ok-settled.ensures.refusals_counted before reached)
+
+pub returns-in_err-make_run-clause-crash : goal.returns-in_err-make_run-clause-crash
+returns-in_err-make_run-clause-crash g c =
+    let office = c.args.self.now.seen in
+    let Made = MadeInEachState office (λ midnight s. run midnight s c.args.moment c.args.key) in
+    only_as g.T.Tables.is_honest g.T.Tables.is_open g.T.Tables.may_leave g.T.Tables.holds c.args.self.now.tables c.make_run.new.self.tables (λ P. Unit {0}) (IfReplied (reply_of c.from_residual-in_err-make_run.result)) Made
+    (λ none. store_replied c.from_residual-in_err-make_run.result c.in_err-make_run.field-0.0 _ c.from_residual-in_err-make_run.ensures)
+    (only_made_then g.T.Tables.is_honest g.T.Tables.is_open g.T.Tables.may_leave g.T.Tables.holds c.args.self.now.tables c.settle.new.self.tables c.make_run.new.self.tables (λ P. Unit {0})
+    (IsMadeContent c.settle.new.self.seen c.args.key c.deref.result.now c.args.former) Made
+    (λ before left made.
+    let first = c.in_ok-settled.ensures.sure before in
+    let settles = subst (λ m. SettlesIn office m c.args.key.date c.in_ok-settled.settled.items) (to_z-of_z w64 c.args.moment c.ranges.moment) (c.in_ok-settled.ensures.settled before) in
+    let at = subst (λ o. IsMadeContent o c.args.key c.in_ok-settled.settled.items c.args.former left) (c.in_ok-settled.ensures.same before)
+    (subst (λ day. IsMadeContent c.settle.new.self.seen c.args.key day c.args.former left) c.deref.ensures.value made) in
+    record {
+      given = at.0;
+      answered = ap is_given_up at.1.replied;
+      makes = λ s stands.
+          run_made office s stands c.kept_summaries.ensures c.kept_kinds_of_dates.ensures c.args.key c.args.moment (c.requires.next first) c.writes_the_run.ensures
+          (with_content office left) c.in_ok-settled.settled.items c.args.former at.0 settles (c.requires.former first) at.1;
+    })
+    c.in_ok-settled.ensures.crash c.in_err-make_run.ensures.crash)
+
+pub returns-clause-crash : goal.returns-clause-crash
+returns-clause-crash g c =
+    let office = c.args.self.now.seen in
+    let Made = MadeInEachState office (λ midnight s. run midnight s c.args.moment c.args.key) in
+    only_as g.T.Tables.is_honest g.T.Tables.is_open g.T.Tables.may_leave g.T.Tables.holds c.args.self.now.tables c.make_run.new.self.tables (λ P. P) (IfReplied c.in_ok-make_run.field-0) Made
+    (replied_anyway c.in_ok-make_run.field-0 _)
+    (only_made_then g.T.Tables.is_honest g.T.Tables.is_open g.T.Tables.may_leave g.T.Tables.holds c.args.self.now.tables c.settle.new.self.tables c.make_run.new.self.tables (λ P. P)
+    (IsMadeContent c.settle.new.self.seen c.args.key c.deref.result.now c.args.former) Made
+    (λ before left made.
+    let first = c.in_ok-settled.ensures.sure before in
+    let settles = subst (λ m. SettlesIn office m c.args.key.date c.in_ok-settled.settled.items) (to_z-of_z w64 c.args.moment c.ranges.moment) (c.in_ok-settled.ensures.settled before) in
+    let at = subst (λ o. IsMadeContent o c.args.key c.in_ok-settled.settled.items c.args.former left) (c.in_ok-settled.ensures.same before)
+    (subst (λ day. IsMadeContent c.settle.new.self.seen c.args.key day c.args.former left) c.deref.ensures.value made) in
+    record {
+      given = at.0;
+      answered = ap is_given_up at.1.replied;
+      makes = λ s stands.
+          run_made office s stands c.kept_summaries.ensures c.kept_kinds_of_dates.ensures c.args.key c.args.moment (c.requires.next first) c.writes_the_run.ensures
+          (with_content office left) c.in_ok-settled.settled.items c.args.former at.0 settles (c.requires.former first) at.1;
+    })
+    c.in_ok-settled.ensures.crash c.in_ok-make_run.ensures.crash)

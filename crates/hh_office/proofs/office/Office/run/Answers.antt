@@ -12,6 +12,8 @@ use Rattle.hh_office.proofs.RunLaws.{run_kept, run_out_of_order}
 use Rattle.hh_office.proofs.StepLaws.{comes_same, passed_reply}
 use Rattle.hh_office.proofs.RefusalLaws.{elsewhere_counted, reached_by, refused_alike}
 use Rattle.hh_office.specs.Refusals.{CountsReply, StandsForSome}
+use Rattle.hh_office.proofs.CrashLaws.{only_made_then}
+use Rattle.hh_office.specs.Crashes.{IfReplied, MadeInEachState}
 use Rattle.hh_office.proofs.office.Office.run.Goals as goal
 
 pub returns-in_err-summary-clause-makes : goal.returns-in_err-summary-clause-makes
@@ -64,3 +66,13 @@ returns-clause-refusals_counted g c sure some =
     let same = c.in_ok-runs.ensures.same before in
     subst (λ n. CountsReply (reply_of c.new_run.result) n (g.T.Tables.refusals c.new_run.new.self.tables)) (c.in_ok-runs.ensures.refusals_counted before (reached_by c.args.self.now.seen some))
     (c.new_run.ensures.refusals_counted sure (subst StandsForSome (sym same) some))
+
+pub returns-clause-crash : goal.returns-clause-crash
+returns-clause-crash g c =
+    let office = c.args.self.now.seen in
+    only_made_then g.T.Tables.is_honest g.T.Tables.is_open g.T.Tables.may_leave g.T.Tables.holds c.args.self.now.tables c.runs_of.new.self.tables c.new_run.new.self.tables (IfReplied (reply_of c.new_run.result))
+    (MadeInEachState c.runs_of.new.self.seen (λ midnight s. run midnight s (to_z w64 (of_z w64 c.args.moment)) c.args.key)) (MadeInEachState office (λ midnight s. run midnight s c.args.moment c.args.key))
+    (λ before left made.
+    subst (λ m. MadeInEachState office (λ midnight s. run midnight s m c.args.key) left) (to_z-of_z w64 c.args.moment c.ranges.moment)
+    (subst (λ o. MadeInEachState o (λ midnight s. run midnight s (to_z w64 (of_z w64 c.args.moment)) c.args.key) left) (c.in_ok-runs.ensures.same before) made))
+    c.in_ok-runs.ensures.crash c.new_run.ensures.crash

@@ -4,6 +4,7 @@ use Rattle.hh_office.specs.Promises.{RunAllStep}
 use Rattle.hh_office.specs.Refusals.{CountsReplies}
 use Rattle.hh_office.proofs.RefusalLaws.{counts_more}
 use Rattle.hh_office.proofs.HandleLaws.{conserves_after_all, stands_after_all, stands_for_some}
+use Rattle.hh_office.proofs.CrashLaws.{AreReplied, behind_reply, crash_after_all, replied_before}
 use Rattle.hh_office.proofs.ListLaws.{all_named, run_more, run_to_the_end}
 use Rattle.hh_office.proofs.OnceLaws.{AreNamed, named_more}
 use Rattle.hh_office.proofs.office.Office.run_all.Goals as goal
@@ -33,6 +34,14 @@ loop-request-preserved g c =
           subst (λ given. CountsReplies given first last) (sym pushed)
           (counts_more before c.handle_timed.result first (g.T.Tables.refusals c.loop-request.self.tables) last (c.loop-request.invariant.refusals_counted standing some)
           (c.handle_timed.ensures.refusals_counted sure (stands_for_some old c.loop-request.self.seen (take i requests) before c.loop-request.invariant.named ran some)));
+      crash = λ honest.
+          let last = c.handle_timed.ensures.crash honest in
+          let before_it = c.loop-request.invariant.crash last.0 in (
+            before_it.0,
+            λ stood all.
+                let replied = replied_before before c.handle_timed.result (subst AreReplied pushed all) in
+                behind_reply c.handle_timed.result _ replied.1 (last.1 (before_it.1 stood replied.0)).0,
+          );
       count = ap length pushed ∙ length-append before (c.handle_timed.result ∷ []) ∙ ap (λ n. n + 1) c.loop-request.invariant.count;
       room = omega arith;
     }
@@ -52,3 +61,11 @@ returns-clause-sums g c sure =
     let run : RunAllStep c.args.self.now.seen c.loop-request.self.seen c.args.requests.now c.loop-request.replies.items =
     run_to_the_end c.args.self.now.seen c.loop-request.self.seen c.args.requests.now c.loop-request.replies.items i end (c.loop-request.invariant.run sure) in
     conserves_after_all c.reached_conserve.ensures c.args.self.now.seen c.loop-request.self.seen c.args.requests.now c.loop-request.replies.items (all_named c.args.requests.now i end c.loop-request.invariant.named) run
+
+pub returns-clause-left : goal.returns-clause-left
+returns-clause-left g c =
+    let i = c.loop-request.request-index in
+    let end : i ≡ length c.args.requests.now = omega arith in
+    crash_after_all g.T.Tables.is_honest g.T.Tables.is_open g.T.Tables.may_leave g.T.Tables.holds c.args.self.now c.loop-request.self c.shows_left.ensures c.args.requests.now c.loop-request.replies.items
+    (λ honest stood all. (c.loop-request.invariant.crash honest).1 stood all)
+    (λ sure. run_to_the_end c.args.self.now.seen c.loop-request.self.seen c.args.requests.now c.loop-request.replies.items i end (c.loop-request.invariant.run sure))

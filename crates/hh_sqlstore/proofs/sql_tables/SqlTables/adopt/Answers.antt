@@ -2,7 +2,7 @@ use Rattle.std.proofs.Common.{IsTrue}
 use Rattle.sqlite.specs.Held.{state}
 use Rattle.hh_sqlstore.specs.steps.Adopted.{IsAdoptedFrom}
 use Rattle.hh_sqlstore.specs.steps.Kept.{IsMarked}
-use Rattle.hh_sqlstore.proofs.AdoptLaws.{committed_taken, content_before, held_before, holds_after, mark_committed}
+use Rattle.hh_sqlstore.proofs.AdoptLaws.{committed_taken, content_before, held_before, holds_after, keeps_held, mark_committed}
 use Rattle.hh_sqlstore.proofs.ContentLaws.{clean_while_open}
 use Rattle.hh_sqlstore.proofs.sql_tables.SqlTables.adopt.Goals as goal
 
@@ -36,3 +36,11 @@ returns-in-Ok-clause-left g c stands =
 
 pub returns-in-Err-clause-left : goal.returns-in-Err-clause-left
 returns-in-Err-clause-left g c stands = c.in-Err.ensures.undone (clean_while_open g.S.Store c.take_over.new.connection g.met.S.Store.shut_if_dirty stands) stands
+
+pub returns-in-Ok-clause-keeps : goal.returns-in-Ok-clause-keeps
+returns-in-Ok-clause-keeps g c =
+    keeps_held (state g.S.Store c.args.connection) (state g.S.Store c.take_over.new.connection) (λ trees stands may. g.met.S.Store.settled _ trees stands may) c.in-Ok.ensures.honest c.in-Ok.ensures.crash
+
+pub returns-in-Err-clause-keeps : goal.returns-in-Err-clause-keeps
+returns-in-Err-clause-keeps g c =
+    keeps_held (state g.S.Store c.args.connection) (state g.S.Store c.take_over.new.connection) (λ trees stands may. g.met.S.Store.settled _ trees stands may) c.in-Err.ensures.honest c.in-Err.ensures.crash

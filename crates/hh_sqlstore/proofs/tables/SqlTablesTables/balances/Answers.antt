@@ -11,6 +11,7 @@ use Rattle.hh_sqlrows.specs.OfficeTables.{parties, postings}
 use Rattle.hh_sqlstore.specs.Stores.{Stored, content_in}
 use Rattle.hh_sqlstore.proofs.IdleLaws.{of_committed}
 use Rattle.hh_sqlstore.proofs.ReportLaws.{balanced}
+use Rattle.hh_sqlstore.proofs.CrashLaws.{reading_adds_nothing}
 use Rattle.hh_sqlstore.proofs.tables.SqlTablesTables.balances.Goals as goal
 
 pub returns-in-Ok-clause-writes : goal.returns-in-Ok-clause-writes
@@ -31,3 +32,11 @@ returns-in-Err-clause-writes g c stands =
     let told : Outputs device {A = Unit {0}} (balances_in (content_of c.self.inside.settings trees)) (Err c.in-Err.fault) = balanced {A = Unit {0}} device (Err c.in-Err.fault) (map (λ e. e.0) (rows_under_keys parties trees)) (rows_under_keys postings trees) written in
     subst (λ (fault : OutputFault). Outputs device {A = Unit {0}} (balances_in (content_in g.S.Store c.args.self.now)) (Err fault)) (sym c.refuse_report.ensures.same)
     (subst (λ (t : Stored _). Outputs device {A = Unit {0}} (balances_in (content_in g.S.Store t)) (Err c.in-Err.fault)) c.self.view_is told)
+
+pub returns-in-Ok-clause-crash : goal.returns-in-Ok-clause-crash
+returns-in-Ok-clause-crash g c =
+    reading_adds_nothing g.S.Store _ c.self.invariant c.write_balances.new.conn c.self.inside.refusals (λ P. P) c.in-Ok.ensures.safe.stays c.in-Ok.ensures.safe.honest c.in-Ok.ensures.safe.crash _ c.self.view_is
+
+pub returns-in-Err-clause-crash : goal.returns-in-Err-clause-crash
+returns-in-Err-clause-crash g c =
+    reading_adds_nothing g.S.Store _ c.self.invariant c.write_balances.new.conn c.refuse_report.new.refusals (λ P. Unit {0}) (λ clean stands. tt) c.in-Err.ensures.safe.honest c.in-Err.ensures.safe.crash _ c.self.view_is

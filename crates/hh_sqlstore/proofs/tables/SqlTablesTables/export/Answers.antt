@@ -14,6 +14,7 @@ use Rattle.hh_sqlstore.specs.Stores.{Stored, content_in}
 use Rattle.hh_sqlstore.proofs.IdleLaws.{of_committed}
 use Rattle.hh_sqlstore.proofs.ReadLaws.{results_picked}
 use Rattle.hh_sqlstore.proofs.ReportLaws.{reported_so}
+use Rattle.hh_sqlstore.proofs.CrashLaws.{reading_adds_nothing}
 use Rattle.hh_sqlstore.proofs.tables.SqlTablesTables.export.Goals as goal
 
 pub returns-in-Ok-clause-writes : goal.returns-in-Ok-clause-writes
@@ -38,3 +39,11 @@ returns-in-Err-clause-writes g c stands =
     reported_so {A = Unit {0}} device (Err c.in-Err.fault) results_text run (find run_key_cmp run (rows_under_keys runs trees)) _ _ (results_picked run trees) written in
     subst (λ (fault : OutputFault). IfSome (export_in (content_in g.S.Store c.args.self.now) run) (λ text. Outputs device {A = Unit {0}} text (Err fault))) (sym c.refuse_report.ensures.same)
     (subst (λ (t : Stored _). IfSome (export_in (content_in g.S.Store t) run) (λ text. Outputs device {A = Unit {0}} text (Err c.in-Err.fault))) c.self.view_is told)
+
+pub returns-in-Ok-clause-crash : goal.returns-in-Ok-clause-crash
+returns-in-Ok-clause-crash g c =
+    reading_adds_nothing g.S.Store _ c.self.invariant c.write_export.new.conn c.self.inside.refusals (λ P. P) c.in-Ok.ensures.safe.stays c.in-Ok.ensures.safe.honest c.in-Ok.ensures.safe.crash _ c.self.view_is
+
+pub returns-in-Err-clause-crash : goal.returns-in-Err-clause-crash
+returns-in-Err-clause-crash g c =
+    reading_adds_nothing g.S.Store _ c.self.invariant c.write_export.new.conn c.refuse_report.new.refusals (λ P. Unit {0}) (λ clean stands. tt) c.in-Err.ensures.safe.honest c.in-Err.ensures.safe.crash _ c.self.view_is

@@ -1,0 +1,15 @@
+use Rattle.std.proofs.Common.{◌≡◌, rules, subst}
+use Rattle.sqlite.specs.Held.{state}
+use Rattle.sqlite.specs.State.{Survives}
+use Rattle.hh_sqlchanges.specs.Writes.{ChangesByRun}
+use Rattle.hh_sqlstore.specs.Leaving.{MayStand}
+use Rattle.hh_sqlstore.proofs.NewLaws.{survives_making}
+use Rattle.hh_sqlstore.proofs.changing.commit_run.Goals as goal
+
+pub returns-in-Err-clause-crash : goal.returns-in-Err-clause-crash
+returns-in-Err-clause-crash g c office =
+    let old = state g.S.Store c.args.connection.now in
+    let P = ChangesByRun c.args.change.now old.now in
+    let made = survives_making g.S.Store P c.args.connection.now _ (state g.S.Store c.commit.new.self.0) (search rules) (search rules) c.in-Err.ensures.survives in
+    let same : c.commit.new.self.0 ≡ c.connection-2-1.given.0 = search rules in
+    subst (λ h. Survives old (state g.S.Store h) (MayStand P)) same made
