@@ -1,0 +1,99 @@
+//! Disks in memory, of which one may fail, and databases over them.
+
+use sqlite::{Connection, FileStore, Files, Options};
+use sqlite_disk::{Crash, Disk, Fuse, Memory};
+use std::alloc::Global;
+use std::io;
+
+/// A disk in memory that lets so many calls pass and fails each one behind them.
+pub type FusedDisk = Fuse<Memory>;
+
+/// Which of the two files of a database is on a disk that fails.
+#[derive(Clone, Copy, Debug, PartialEq, Eq)]
+pub enum Failing {
+    Log,
+    Database,
+}
+
+/// How much of a database is kept in memory.
+#[derive(Clone, Copy, Debug, PartialEq, Eq)]
+pub enum Caches {
+    /// As much as the program keeps: the file of a small database is written where it is closed.
+    Large,
+    /// So little that pages are written, and the log is copied into the file of the database, in the midst of requests.
+    Small,
+}
+
+impl Caches {
+    fn options(self) -> Options {
+        match self {
+            Caches::Large => Options::new(1),
+            Caches::Small => Options {
+                cache_pages: 2,
+                spill_pages: 4,
+                checkpoint_frames: 8,
+                seed: 1,
+            },
+        }
+    }
+}
+
+/// What a machine loses where it stops.
+#[derive(Clone, Copy, Debug, PartialEq, Eq)]
+pub enum Loss {
+    /// Nothing that was written.
+    Nothing,
+    /// All that was not synced.
+    Unsynced,
+}
+
+/// New disks, of which one lets so many calls pass.
+pub fn new_disks(alloc: Global, failing: Failing, calls: u64) -> Files<FusedDisk> {
+    let (log, db) = match failing {
+        Failing::Log => (calls, u64::MAX),
+        Failing::Database => (u64::MAX, calls),
+    };
+    Files {
+        log: Fuse::new(Memory::new(alloc), log),
+        db: Fuse::new(Memory::new(alloc), db),
+    }
+}
+
+/// New disks that hold what these hold behind such a loss.
+pub fn left_by(
+    alloc: Global,
+    stopped: &mut Files<FusedDisk>,
+    loss: Loss,
+) -> io::Result<Files<FusedDisk>> {
+    if loss == Loss::Unsynced {
+        stopped.log.crash();
+        stopped.db.crash();
+    }
+    Ok(Files {
+        log: copied(alloc, &stopped.log)?,
+        db: copied(alloc, &stopped.db)?,
+    })
+}
+
+/// A disk that holds what another does, and does not fail.
+fn copied(alloc: Global, disk: &FusedDisk) -> io::Result<FusedDisk> {
+    let mut memory = Memory::new(alloc);
+    memory.write_at(0, disk.inner().bytes())?;
+    memory.sync()?;
+    Ok(Fuse::new(memory, u64::MAX))
+}
+
+/// Opens the database over two disks, which come back where it is not opened.
+pub fn open<D: Disk + Drop>(
+    alloc: Global,
+    files: Files<D>,
+    caches: Caches,
+) -> Result<Connection<FileStore<D>>, Files<D>> {
+    if !files.may_be_used() {
+        return Err(files);
+    }
+    match Connection::open_files(alloc, files, caches.options()) {
+        Ok(connection) => Ok(connection),
+        Err((_, left)) => Err(left.into_files()),
+    }
+}

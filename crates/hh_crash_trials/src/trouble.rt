@@ -1,0 +1,80 @@
+//! Why a trial ends before it is done.
+
+use crate::stops::Part;
+use hh_keyed_rows::RowFault;
+use hh_store::{OutputFault, StoreFault};
+use std::alloc::{AllocError, AllocFailed};
+use std::io;
+
+/// Why a trial ends before it is done.
+#[derive(Clone, Copy, Debug, PartialEq, Eq)]
+pub enum Trouble {
+    /// Memory was refused.
+    Memory,
+    /// A disk with no fuse failed.
+    Disk,
+    /// A database over disks with no fuse failed, or an office over them refused.
+    Store,
+    /// A word of the trial is off its form.
+    Word,
+    /// The request at a place got another answer than the right one.
+    Answered(usize),
+    /// The balances are not the right ones.
+    Balances,
+    /// The store refused again, over disks with no fuse.
+    StoppedAgain(Part),
+    /// The office over tables in memory gave other answers than the right ones.
+    Worked,
+    /// Behind the request at a place two kinds of tables tell different things.
+    Told(usize),
+    /// The tables are neither those before the request at a place nor those behind it.
+    Tables(usize),
+    /// Each of so many rounds met a stop.
+    Endless,
+}
+
+impl From<AllocError> for Trouble {
+    fn from(_error: AllocError) -> Trouble {
+        Trouble::Memory
+    }
+}
+
+impl<T: Drop> From<AllocFailed<T>> for Trouble {
+    fn from(_error: AllocFailed<T>) -> Trouble {
+        Trouble::Memory
+    }
+}
+
+impl From<io::Error> for Trouble {
+    fn from(_error: io::Error) -> Trouble {
+        Trouble::Disk
+    }
+}
+
+impl From<RowFault> for Trouble {
+    fn from(fault: RowFault) -> Trouble {
+        match fault {
+            RowFault::Memory => Trouble::Memory,
+            RowFault::Store => Trouble::Store,
+        }
+    }
+}
+
+impl From<StoreFault> for Trouble {
+    fn from(fault: StoreFault) -> Trouble {
+        match fault {
+            StoreFault::Memory => Trouble::Memory,
+            StoreFault::Store => Trouble::Store,
+        }
+    }
+}
+
+impl From<OutputFault> for Trouble {
+    fn from(fault: OutputFault) -> Trouble {
+        match fault {
+            OutputFault::Memory => Trouble::Memory,
+            OutputFault::Store => Trouble::Store,
+            OutputFault::Write => Trouble::Disk,
+        }
+    }
+}
