@@ -16,10 +16,10 @@ use std::time::{SystemTime, UNIX_EPOCH};
 #[derive(Clone, Copy)]
 pub struct RuntimeHost<'a, R>(pub &'a R);
 
-impl<R: Files + Net + std::rt::Clock> Host for RuntimeHost<'_, R> {
+impl<'a, R: Files + Net + std::rt::Clock> Host for RuntimeHost<'a, R> {
     ghost use Rattle.hh_host.specs.Views.{any_view};
 
-    type Listener = RuntimeListener<R::Listener>;
+    type Listener = RuntimeListener<'a, R::Listener, R>;
 
     ghost view = { λ _. any_view };
 
@@ -27,7 +27,7 @@ impl<R: Files + Net + std::rt::Clock> Host for RuntimeHost<'_, R> {
         FileInputs(RuntimeFiles(self.0)).read(alloc, path, most)
     }
 
-    fn listen(&self, port: u16) -> Result<RuntimeListener<R::Listener>, SocketFailed> {
+    fn listen(&self, port: u16) -> Result<RuntimeListener<'a, R::Listener, R>, SocketFailed> {
         RuntimeLoopback(self.0).listen(port)
     }
 

@@ -23,10 +23,10 @@ pub struct Machine<'a, R> {
     pub databases: &'a HostRuntime,
 }
 
-impl<R: Files + Net + Clock> Host for Machine<'_, R> {
+impl<'a, R: Files + Net + Clock> Host for Machine<'a, R> {
     ghost use Rattle.hh_host.specs.Views.{any_view};
 
-    type Listener = RuntimeListener<R::Listener>;
+    type Listener = RuntimeListener<'a, R::Listener, R>;
 
     ghost view = { λ _. any_view };
 
@@ -34,7 +34,7 @@ impl<R: Files + Net + Clock> Host for Machine<'_, R> {
         RuntimeHost(self.runtime).read(alloc, path, most)
     }
 
-    fn listen(&self, port: u16) -> Result<RuntimeListener<R::Listener>, SocketFailed> {
+    fn listen(&self, port: u16) -> Result<RuntimeListener<'a, R::Listener, R>, SocketFailed> {
         RuntimeHost(self.runtime).listen(port)
     }
 

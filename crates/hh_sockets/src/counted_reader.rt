@@ -26,6 +26,13 @@ impl<T> CountedReader<T> {
         }
     }
 
+    /// The reader again.
+    pub fn into_inner(self) -> T
+        ensures { result ≡ counted_reader self }
+    {
+        self.reader
+    }
+
     /// How many more times it may be read.
     pub fn reads_left(&self) -> u32
         ensures { result ≡ reads_left_of self.now }

@@ -1,20 +1,19 @@
 //! The sockets of the system.
 
 ghost use Rattle.std.specs.Prelude.{◌≡◌, ⊤, IfOk};
+ghost use Rattle.hh_devices.specs.StreamSink.{writer_of};
 ghost use Rattle.hh_devices.specs.StreamSource.{reader_of};
-ghost use Rattle.hh_sockets.specs.CountedReader.{most_reads, reads_left_of};
+ghost use Rattle.hh_sockets.specs.CountedReader.{counted_reader, most_reads, reads_left_of};
+ghost use Rattle.hh_sockets.specs.TimedStream.{limit_of};
+ghost use Rattle.hh_sockets.specs.TimeLimit.{IsLimit, most_time, most_wait};
 
 use crate::counted_reader::CountedReader;
 use crate::loopback::{Connection, Listener, Loopback, Received, SocketFailed};
+use crate::time_limit::TimeLimit;
+use crate::timed_stream::TimedStream;
 use hh_devices::{Reader, StreamSink, StreamSource};
 use std::net::{Ipv4Addr, Net, OpenListener, OpenStream, Shutdown, TcpListener};
-use std::time::Duration;
-
-/// How long a client is awaited in one read or write, in seconds.
-const MOST_SECONDS: u64 = 10;
-
-/// How long a client that has its reply is awaited in one read, in milliseconds.
-const MOST_MILLISECONDS_BEHIND: u64 = 500;
+use std::time::Clock;
 
 /// How many times a client is read in all, with what is read of it once it has its reply (profile).
 const MOST_READS: u32 = 4_096;
@@ -27,19 +26,20 @@ const PIECE: usize = 8_192;
 #[derive(Clone, Copy)]
 pub struct RuntimeLoopback<'a, R>(pub &'a R);
 
-/// What the system listens on.
+/// What the system listens on, and the clock that tells how long its clients take.
 #[derive(Drop)]
-pub struct RuntimeListener<L> {
+pub struct RuntimeListener<'a, L, R> {
     listener: L,
     port: u16,
+    clock: &'a R,
 }
 
-impl<R: Net> Loopback for RuntimeLoopback<'_, R> {
-    type Listener = RuntimeListener<R::Listener>;
+impl<'a, R: Net + Clock> Loopback for RuntimeLoopback<'a, R> {
+    type Listener = RuntimeListener<'a, R::Listener, R>;
 
     ghost ports = { λ _. record { refuses = λ _. ⊤; brings = λ _ _. ⊤ } };
 
-    fn listen(&self, port: u16) -> Result<RuntimeListener<R::Listener>, SocketFailed> {
+    fn listen(&self, port: u16) -> Result<RuntimeListener<'a, R::Listener, R>, SocketFailed> {
         let listener = TcpListener::bind(self.0, (Ipv4Addr::LOCALHOST, port))?;
         let port = if port == 0 {
             listener.local_addr()?.port()
@@ -49,18 +49,22 @@ impl<R: Net> Loopback for RuntimeLoopback<'_, R> {
         if port == 0 {
             return Err(SocketFailed);
         }
-        Ok(RuntimeListener { listener, port })
+        Ok(RuntimeListener {
+            listener,
+            port,
+            clock: self.0,
+        })
     }
 }
 
-impl<L> Listener for RuntimeListener<L>
+impl<'a, L, R: Clock> Listener for RuntimeListener<'a, L, R>
 where
     L: OpenListener,
     L::Stream: std::io::Read + std::io::Write + OpenStream + Drop,
 {
-    type Source = StreamSource<CountedReader<L::Stream>>;
+    type Source = StreamSource<CountedReader<TimedStream<'a, L::Stream, R>>>;
 
-    type Sink = StreamSink<L::Stream>;
+    type Sink = StreamSink<TimedStream<'a, L::Stream, R>>;
 
     ghost port_of = { λ l. l.port };
 
@@ -70,42 +74,54 @@ where
         self.port
     }
 
-    /// A client that is silent or reads nothing for ten seconds has failed, and so has one that was
-    /// read as often as a client may be.
+    /// A client that is silent or reads nothing for ten seconds has failed. So has one whose request is
+    /// not whole 30 seconds from here, or when it was read as often as a client may be, and one that has
+    /// not taken its reply 30 seconds after the first write of it.
     fn accept(&mut self) -> Result<Connection<Self::Source, Self::Sink>, SocketFailed>
-        ensures { IfOk result
+        ensures reads { IfOk result
             (λ connection. reads_left_of (reader_of connection.source) ≡ most_reads) }
+        ensures read_time { IfOk result (λ connection. IsLimit most_time most_wait
+            (limit_of (counted_reader (reader_of connection.source)))) }
+        ensures write_time { IfOk result (λ connection. IsLimit most_time most_wait
+            (limit_of (writer_of connection.sink))) }
     {
         let (stream, _) = self.listener.accept()?;
-        let most = Some(Duration::from_secs(MOST_SECONDS));
-        stream.set_read_timeout(most)?;
-        stream.set_write_timeout(most)?;
+        let limit = TimeLimit::of_a_client();
+        let mut incoming = TimedStream::new(stream.try_clone()?, self.clock, limit);
+        incoming.begin();
         Ok(Connection {
-            source: StreamSource::new(CountedReader::new(stream.try_clone()?, MOST_READS)),
-            sink: StreamSink::new(stream),
+            source: StreamSource::new(CountedReader::new(incoming, MOST_READS)),
+            sink: StreamSink::new(TimedStream::new(stream, self.clock, limit)),
         })
     }
 
     /// Says that no more goes out. A system that closes a socket with bytes unread may take back what went
     /// out before: so a client that may still be sending, or has sent more than was read, is read on for
-    /// a while, as often as it may still be read.
+    /// a while, as often as it may still be read, and for half a second more than what is left of its
+    /// 30 seconds.
     fn close(&mut self, connection: Connection<Self::Source, Self::Sink>, received: Received)
         ensures { ⊤ }
     {
         let Connection { source, sink } = connection;
-        let mut reader = source.into_inner();
-        let stream = sink.into_inner();
+        let mut reader = behind(source.into_inner());
+        let stream = sink.into_inner().into_inner();
         if stream.shutdown(Shutdown::Write).is_err() {
             return;
         }
-        if received == Received::Whole && !has_sent_more(&stream, &mut reader) {
-            return;
-        }
-        let most = Some(Duration::from_millis(MOST_MILLISECONDS_BEHIND));
-        if stream.set_read_timeout(most).is_ok() {
+        if received == Received::Beginning || has_sent_more(&stream, &mut reader) {
             read_behind(&mut reader);
         }
     }
+}
+
+/// The reader of a client behind its reply, with as many reads left.
+fn behind<'a, S, R: Clock>(
+    reader: CountedReader<TimedStream<'a, S, R>>,
+) -> CountedReader<TimedStream<'a, S, R>>
+    ensures { reads_left_of result ≡ reads_left_of reader.entry }
+{
+    let reads_left = reader.reads_left();
+    CountedReader::new(reader.into_inner().behind(), reads_left)
 }
 
 /// Whether bytes of a client that was read whole are still unread. One of them is read then, and that
