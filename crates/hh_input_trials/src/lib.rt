@@ -22,3 +22,5 @@ mod sockets_tests;
 mod tables_tests;
 #[cfg(test)]
 mod time_tests;
+#[cfg(test)]
+mod timed_tests;

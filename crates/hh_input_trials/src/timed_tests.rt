@@ -1,0 +1,167 @@
+//! What no clause says: how long a stream may wait in a call, by a clock that is set by hand.
+
+ghost use Rattle.std.specs.Prelude.{⊤, None};
+
+use hh_devices::{DeviceFailed, Reader, Writer};
+use hh_sockets::{TimeLimit, TimedStream};
+use std::cell::Cell;
+use std::io;
+use std::net::OpenStream;
+use std::test::Fail;
+use std::time::{Clock, Duration};
+
+/// A clock that tells the milliseconds that it was set to, or nothing; and how long the last call of a
+/// stream might wait.
+#[derive(Drop)]
+struct Times {
+    now: Cell<Option<u64>>,
+    wait: Cell<Option<Duration>>,
+}
+
+impl Times {
+    fn new() -> Times {
+        Times {
+            now: Cell::new(None),
+            wait: Cell::new(None),
+        }
+    }
+}
+
+impl Clock for Times {
+    fn monotonic(&self) -> io::Result<Duration> {
+        match self.now.get() {
+            Some(now) => Ok(Duration::from_millis(now)),
+            None => Err(io::Error::from(io::ErrorKind::Unsupported)),
+        }
+    }
+
+    fn since_1970(&self) -> io::Result<Duration> {
+        self.monotonic()
+    }
+}
+
+/// A stream that gives and takes all that it is asked for.
+#[derive(Clone, Copy)]
+struct Patient<'a>(&'a Times);
+
+impl OpenStream for Patient<'_> {
+    fn set_read_timeout(&self, wait: Option<Duration>) -> io::Result<()> {
+        self.0.wait.set(wait);
+        Ok(())
+    }
+
+    fn set_write_timeout(&self, wait: Option<Duration>) -> io::Result<()> {
+        self.0.wait.set(wait);
+        Ok(())
+    }
+}
+
+impl Reader for Patient<'_> {
+    ghost remaining = { λ _. None };
+
+    ghost reads = { λ _ _ _ _ _. ⊤ };
+
+    fn read_some(&mut self, buffer: &mut [u8]) -> Result<usize, DeviceFailed> {
+        Ok(buffer.len())
+    }
+}
+
+impl Writer for Patient<'_> {
+    ghost contents = { λ _. None };
+
+    ghost writes = { λ _ _ _ _. ⊤ };
+
+    fn write_some(&mut self, bytes: &[u8]) -> Result<usize, DeviceFailed> {
+        Ok(bytes.len())
+    }
+}
+
+/// How many milliseconds a read may wait when the clock tells these; nothing where it fails.
+fn read_at<'a>(
+    times: &'a Times,
+    stream: &mut TimedStream<'a, Patient<'a>, Times>,
+    now: Option<u64>,
+) -> Option<u128> {
+    times.now.set(now);
+    let mut piece = [0u8; 4];
+    stream.read_some(&mut piece).ok()?;
+    Some(times.wait.get()?.as_millis())
+}
+
+/// The same of a write.
+fn write_at<'a>(
+    times: &'a Times,
+    stream: &mut TimedStream<'a, Patient<'a>, Times>,
+    now: Option<u64>,
+) -> Option<u128> {
+    times.now.set(now);
+    stream.write_some(b"some").ok()?;
+    Some(times.wait.get()?.as_millis())
+}
+
+#[test]
+fn a_request_has_thirty_seconds(rt: HostRuntime) -> Result<(), Fail> {
+    let times = Times::new();
+    let mut stream = TimedStream::new(Patient(&times), &times, TimeLimit::of_a_client());
+    times.now.set(Some(100_000));
+    stream.begin();
+    let steps = [
+        (119_000, Some(10_000)),
+        (120_001, Some(9_999)),
+        (129_999, Some(1)),
+        (130_000, None),
+        (500_000, None),
+    ];
+    for (now, wait) in steps {
+        assert_eq!(&rt; read_at(&times, &mut stream, Some(now)), wait);
+    }
+
+    // Its time is over, so it has half a second behind its reply, whenever that is.
+    let mut stream = stream.behind();
+    for (now, wait) in [(500_100, Some(400)), (500_500, None)] {
+        assert_eq!(&rt; read_at(&times, &mut stream, Some(now)), wait);
+    }
+    Ok(())
+}
+
+#[test]
+fn what_is_left_of_thirty_seconds_counts_behind_a_reply(rt: HostRuntime) -> Result<(), Fail> {
+    let times = Times::new();
+    let mut stream = TimedStream::new(Patient(&times), &times, TimeLimit::of_a_client());
+    assert_eq!(&rt; read_at(&times, &mut stream, Some(5_000)), Some(10_000));
+    let mut stream = stream.behind();
+    for (now, wait) in [(34_000, Some(500)), (35_200, Some(300)), (35_500, None)] {
+        assert_eq!(&rt; read_at(&times, &mut stream, Some(now)), wait);
+    }
+    Ok(())
+}
+
+#[test]
+fn the_time_of_a_reply_begins_with_its_first_write(rt: HostRuntime) -> Result<(), Fail> {
+    let times = Times::new();
+    let mut stream = TimedStream::new(Patient(&times), &times, TimeLimit::of_a_client());
+    for (now, wait) in [
+        (900_000, Some(10_000)),
+        (929_000, Some(1_000)),
+        (930_000, None),
+    ] {
+        assert_eq!(&rt; write_at(&times, &mut stream, Some(now)), wait);
+    }
+    Ok(())
+}
+
+#[test]
+fn a_clock_that_tells_nothing_ends_nobody(rt: HostRuntime) -> Result<(), Fail> {
+    let times = Times::new();
+    let mut stream = TimedStream::new(Patient(&times), &times, TimeLimit::of_a_client());
+    stream.begin();
+    for (now, wait) in [
+        (None, Some(10_000)),
+        (Some(70_000), Some(10_000)),
+        (None, Some(10_000)),
+    ] {
+        assert_eq!(&rt; read_at(&times, &mut stream, now), wait);
+    }
+    assert_eq!(&rt; read_at(&times, &mut stream, Some(100_000)), None);
+    Ok(())
+}
