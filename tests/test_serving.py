@@ -1,5 +1,7 @@
 """What a client of the office meets over the loopback: a script serves connections, and each request is answered
 by one reply, whose bytes are known."""
+import concurrent.futures
+import contextlib
 import json
 import socket
 import subprocess
@@ -721,6 +723,105 @@ class Clients(Served):
         self.assertEqual(self.rest()[0], "account,moved_pence")
         with self.assertRaises(OSError):
             self.connect()
+
+
+class Waits(Served):
+    """How long one client holds up the next. Each is tried on a service of its own, and all at the same time."""
+
+    def begin(self, before=None):
+        """Begins a service that ends with the test. Its port."""
+        self.serve(1_000, before=before)
+        self.addCleanup(self.program.communicate)
+        self.addCleanup(self.program.kill)
+        port, self.program = self.port, None
+        return port
+
+    def many_contracts(self):
+        """Lines that load as many contracts as make a reply of five megabytes."""
+        rows = [f"C{number},GENCO-P,SUPCO-C,{DAY},1,0" for number in range(60_000)]
+        return [*self.market(), *(self.load("contracts", rows[at : at + 20_000], f"c{at}.csv") for at in range(0, 60_000, 20_000))]
+
+    def waited(self, port, hold, count=1):
+        """How many seconds a client waits for its reply behind so many that hold the service, each in its way. None of
+        them gets more than what it has read itself."""
+        clients = []
+        for _ in range(count):
+            clients.append(socket.socket())
+            clients[-1].settimeout(60)
+            # Little room, so that a long reply doesn't go out at once.
+            clients[-1].setsockopt(socket.SOL_SOCKET, socket.SO_RCVBUF, 4_096)
+            clients[-1].connect(("127.0.0.1", port))
+        began = time.monotonic()
+        with concurrent.futures.ThreadPoolExecutor(count) as pool:
+            held = [pool.submit(hold, client) for client in clients]
+            with socket.create_connection(("127.0.0.1", port), timeout=120) as client:
+                client.sendall(request("GET", "/nowhere"))
+                self.assertEqual(self.read(client), NO_ROUTE)
+            waited = time.monotonic() - began
+            for holder, client in zip(held, clients):
+                holder.result()
+                client.close()
+        return waited
+
+    def says_nothing(self, client):
+        """It is given up without a reply."""
+        self.assertEqual(self.read(client), b"")
+
+    def sends_now_and_then(self, client, pause=2):
+        """It sends a byte every two seconds, until it is given up, without a reply."""
+        client.sendall(b"GET /balances/SUPCO-C HTTP/1.1\r\nHost: localhost\r\nx: ")
+        self.goes_on(client, pause)
+        with contextlib.suppress(ConnectionError):
+            self.assertEqual(self.read(client), b"")
+
+    def goes_on(self, client, pause):
+        with contextlib.suppress(ConnectionError):
+            for _ in range(60):
+                client.sendall(b"x")
+                time.sleep(pause)
+            self.fail("it may send on for ever")
+
+    def sends_on(self, client):
+        """It has its refusal, and sends on."""
+        client.sendall(request("POST", "/files/prices/slow.csv", OPERATOR, headers=["Content-Length: 1048577"]))
+        self.assertEqual(self.read(client), TOO_LARGE)
+        self.goes_on(client, 0.3)
+
+    def reads_slowly(self, client):
+        """It reads its reply in little pieces, and is given up before it has the whole of it."""
+        client.sendall(request("GET", f"/contracts/GENCO-P/{DAY}", GENCO))
+        begun = self.read_slowly(client)
+        head, _, body = begun.partition(b"\r\n\r\n")
+        self.assertTrue(head.startswith(b"HTTP/1.1 200 OK\r\n"))
+        self.assertLess(len(body), int(head.partition(b"Content-Length: ")[2].split()[0]))
+
+    def read_slowly(self, client):
+        got, began = b"", time.monotonic()
+        with contextlib.suppress(ConnectionError):
+            while piece := client.recv(4_096):
+                got += piece
+                # (what was sent before it was given up comes all at once)
+                time.sleep(0.15 if time.monotonic() - began < 33 else 0)
+        return got
+
+    def test_how_long_others_wait(self):
+        services = [(self.begin(), hold, count) for hold, count in ((self.says_nothing, 3), (self.sends_now_and_then, 1), (self.sends_on, 1))]
+        services.append((self.begin(self.many_contracts()), self.reads_slowly, 1))
+        with concurrent.futures.ThreadPoolExecutor(len(services)) as pool:
+            waits = list(pool.map(lambda service: self.waited(*service), services))
+        # Three that say nothing are awaited for ten seconds each.
+        for wait in waits:
+            self.assertTrue(29 < wait < 36, waits)
+
+    def test_a_hundred_that_say_nothing_and_close(self):
+        """Nobody waits for them, and each counts as a connection."""
+        self.serve(101)
+        for client in [self.connect() for _ in range(100)]:
+            client.close()
+        began = time.monotonic()
+        self.assertEqual(self.ask(request("GET", "/balances/SUPCO-C", SUPCO)), reply(200, MOVED))
+        self.assertLess(time.monotonic() - began, 5)
+        self.assertEqual(self.rest(), [])
 
 
 class Ports(Served):
