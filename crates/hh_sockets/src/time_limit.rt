@@ -18,7 +18,9 @@ const MOST_MILLISECONDS_BEHIND: u64 = 500;
 /// How long calls may wait: all of them together, and each.
 #[derive(Clone, Copy, Debug, PartialEq, Eq)]
 pub struct TimeLimit {
+    /// How long all calls together may wait.
     pub in_all: Duration,
+    /// How long each call may wait.
     pub in_one: Duration,
 }
 
