@@ -812,7 +812,7 @@ class Waits(Served):
             waits = list(pool.map(lambda service: self.waited(*service), services))
         # Three that say nothing are awaited for ten seconds each.
         for wait in waits:
-            self.assertTrue(29 < wait < 36, waits)
+            self.assertTrue(29 < wait < 40, waits)
 
     def test_a_hundred_that_say_nothing_and_close(self):
         """Nobody waits for them, and each counts as a connection."""

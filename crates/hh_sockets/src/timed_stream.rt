@@ -48,7 +48,8 @@ impl<'a, S, R: Clock> TimedStream<'a, S, R> {
     /// The stream behind a reply: it has half a second more than what is left, and half a second a call.
     pub fn behind(mut self) -> TimedStream<'a, S, R>
         ensures stream { timed_stream result ≡ timed_stream self.entry }
-        ensures limit { (passed : ℕ) × IsLimitBehind (limit_of self.entry) passed (limit_of result) }
+        ensures limit { (passed : ℕ)
+            × IsLimitBehind (limit_of self.entry) passed (limit_of result) }
     {
         let passed = self.passed();
         self.limit = self.limit.behind(passed);
