@@ -18,9 +18,10 @@ from programs import HOME
 FOLDER = HOME / "wrong-bodies"
 FUNCTION = re.compile(r"(?m)^( *)(?:pub(?:\([a-z]+\))? )?(?:const )?fn (\w+)")
 # Calls that `settle` doesn't make: of a row by itself, of a list of requests, of a date, of devices in memory, of a reading in a
-# database, and of a script over a new office in a database.
+# database, of a script over a new office in a database, and of commands over files of the disk model, with the parts of these.
 OFFERED = {
     "check_row", "apply_row", "run_all", "day_of", "day_number", "date_at", "in_pieces", "select_meter", "run_in_new_database",
+    "answer", "answer_over",
 }
 # What the language calls without naming it.
 UNNAMED = {"main", "fmt", "cmp", "partial_cmp", "eq", "from", "next", "clone", "drop", "default"}

@@ -1,0 +1,82 @@
+-- The life of the two files of an office's database: what a crash leaves of them, from one command to the next.
+use Rattle.std.specs.Prelude.{◌≡◌, ◌⊎◌, List, [], ◌∷◌, IsTrue, MatchBool}
+use Rattle.sqlite_disk.specs.declared.Disk.{Ghosts}
+use Rattle.sqlite_disk.specs.declared.Files.{Files}
+use Rattle.sqlite_wal.specs.Files.{outcomes}
+use Rattle.sqlite_wal.specs.Reads.{AreClean}
+use Rattle.sqlite_wal.specs.Recovery.{Image}
+use Rattle.sqlite_trees.specs.Tree.{Trees}
+use Rattle.sqlite.specs.Files.{HoldsDatabase, image_of}
+use Rattle.hh_time.specs.Days.{Midnights}
+use Rattle.hh_rows.specs.declared.settings.Settings.{Settings}
+use Rattle.hh_requests.specs.declared.reply.Reply.{Reply}
+use Rattle.hh_states.specs.Content.{Content, tables_of}
+use Rattle.hh_states.specs.States.{State, empty_state}
+use Rattle.hh_states.specs.Steps.{IsReached}
+use Rattle.hh_office.specs.Machine.{answer, next}
+use Rattle.hh_office.specs.Promises.{is_given_up}
+use Rattle.hh_sqlstore.specs.Holds.{TreesHold}
+use Rattle.hh_file_life.specs.declared.life.Command.{Command}
+
+-- what is left holds the tables of a state that the machine reaches, and this is true of the state
+abbrev pub HoldsSome : {L : Type 0} → (L → Content → Type 0) → Midnights → (State → Type 0) → L → Type 0
+HoldsSome holds midnight Of left = (s : State) × IsReached midnight s × Of s × holds left (tables_of midnight s)
+
+module _ {D : Type 0} (g : Ghosts D) (files : Files D) where
+  -- no sync of them has failed
+  abbrev pub AreUsable : Type 0
+  AreUsable = IsTrue (g.is_usable files.log) × IsTrue (g.is_usable files.db)
+
+  -- whatever a crash leaves of the files holds trees of this kind
+  abbrev pub LeaveOnly : (Trees → Type 0) → Type 0
+  LeaveOnly Of = (image : Image) → outcomes g files.log files.db image
+      → ∥ ((trees : Trees) × HoldsDatabase image trees × Of trees) ∥₁
+
+  module _ (midnight : Midnights) where
+    -- whatever a crash leaves of the files holds the tables of this state
+    abbrev pub LeaveState : State → Type 0
+    LeaveState s = LeaveOnly (λ trees. TreesHold trees (tables_of midnight s))
+
+    -- whatever a crash leaves of the files holds the tables of a state of this kind, which the machine reaches
+    abbrev pub LeaveStates : (State → Type 0) → Type 0
+    LeaveStates Of = LeaveOnly (HoldsSome TreesHold midnight Of)
+
+    -- as the files read now, they hold the tables of this state
+    abbrev pub ReadAs : State → Type 0
+    ReadAs s = (trees : Trees) × HoldsDatabase (image_of g files) trees × TreesHold trees (tables_of midnight s)
+
+module _ (midnight : Midnights) where
+  -- A command that was answered was counted once: the reply is the machine's, and so is the state after it. One that was given up
+  -- was counted or not.
+  abbrev pub CountsOne : State → Command → Reply → State → Type 0
+  CountsOne s command given t = MatchBool (is_given_up given)
+      ((t ≡ s) ⊎ (t ≡ next midnight s command.moment command.request))
+      ((given ≡ answer midnight s command.moment command.request) × (t ≡ next midnight s command.moment command.request))
+
+  -- the commands were counted so in turn, each with its reply
+  abbrev pub Counts : State → List Command → List Reply → State → Type 0
+  Counts s [] [] t = t ≡ s
+  Counts s (command ∷ commands) (given ∷ replies) t =
+      (between : State) × CountsOne s command given between × Counts between commands replies t
+  Counts s _ _ t = ⊥
+
+module _ {D : Type 0} (g : Ghosts D) (midnight : Midnights) (first : Files D) where
+  -- Of a command that was run over files that read as the tables of a state: by disks that have returned what was written, whatever
+  -- a crash leaves of them behind it holds the tables of a state by which the command was counted.
+  abbrev pub LivesOnce : Command → Reply → Files D → Type 0
+  LivesOnce command given last =
+      AreClean g last.log last.db → (s : State) → IsReached midnight s → ReadAs g first midnight s
+      → LeaveStates g last midnight (CountsOne midnight s command given)
+
+  -- The same of commands that were run one after the other, where whatever a crash leaves of the first files holds the tables of that
+  -- state.
+  abbrev pub Lives : List Command → List Reply → Files D → Type 0
+  Lives commands replies last =
+      AreClean g last.log last.db → (s : State) → IsReached midnight s → LeaveState g first midnight s
+      → LeaveStates g last midnight (Counts midnight s commands replies)
+
+-- Of files in which an office was made: by disks that have returned what was written, whatever a crash leaves of them holds the tables
+-- of the state in which nothing has been accepted, which the machine reaches.
+abbrev pub LeavesNew : {D : Type 0} → Ghosts D → Settings → Files D → Type 0
+LeavesNew g settings last = AreClean g last.log last.db
+    → (midnight : Midnights) → IsReached midnight (empty_state settings) × LeaveState g last midnight (empty_state settings)

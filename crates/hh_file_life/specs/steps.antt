@@ -1,0 +1,2 @@
+-- What contracts of private functions alone cite: the steps of proofs. No public contract names any of it, through whatever definition.
+pub mod Answers

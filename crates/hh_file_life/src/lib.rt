@@ -1,0 +1,12 @@
+//! The life of an office's database file: commands one after the other, each of which opens the files of the
+//! last and closes them, is killed, or is cut off by a crash of the machine.
+#![tactic(auto)]
+
+mod answering;
+mod ending;
+mod life;
+mod making;
+mod opening;
+
+pub use life::{Command, Ending, LifeStop, run_all, run_once};
+pub use making::make_office;
