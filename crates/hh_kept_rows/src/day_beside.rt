@@ -55,9 +55,13 @@ impl KeptRegister {
         let periods = periods_of(alloc, day)?;
         let roll = self.head_of(alloc, day.date)?;
         let places = self.places_of(alloc, &roll, &periods)?;
+        let missing_price = self.missing_price(&periods);
+        let missing_meter = self.missing_meter(&roll.units, &places, &periods);
+        let missing_readings = self.missing_readings(missing_meter, &roll.units, &places, &periods);
         Ok(DayData {
-            missing_price: self.missing_price(&periods),
-            missing_meter: self.missing_meter(&roll.units, &places, &periods),
+            missing_price,
+            missing_meter,
+            missing_readings,
             periods: self.states_of(alloc, &roll, &places, beside, &periods)?,
         })
     }

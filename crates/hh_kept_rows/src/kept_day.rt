@@ -40,9 +40,13 @@ impl KeptRegister {
         let periods = periods_of(alloc, day)?;
         let roll = self.roll_of(alloc, day.date)?;
         let places = self.places_of(alloc, &roll, &periods)?;
+        let missing_price = self.missing_price(&periods);
+        let missing_meter = self.missing_meter(&roll.units, &places, &periods);
+        let missing_readings = self.missing_readings(missing_meter, &roll.units, &places, &periods);
         Ok(DayData {
-            missing_price: self.missing_price(&periods),
-            missing_meter: self.missing_meter(&roll.units, &places, &periods),
+            missing_price,
+            missing_meter,
+            missing_readings,
             periods: self.data_of(alloc, &roll, &places, &periods)?,
         })
     }
@@ -184,6 +188,42 @@ impl KeptRegister {
             }
         }
         None
+    }
+
+    /// How many readings these units lack in these Settlement Periods, where this is the first that is
+    /// missing: none is sought where none is missing.
+    pub(crate) fn missing_readings(
+        &self,
+        first: Option<UnitPeriod>,
+        units: &[(UnitId, UnitRegistration)],
+        places: &DayPlaces,
+        periods: &[SettlementPeriod],
+    ) -> u64 {
+        let mut count = 0u64;
+        if first.is_none() {
+            return count;
+        }
+        for at in periods {
+            count = count.saturating_add(self.missing_readings_at(units, places, at));
+        }
+        count
+    }
+
+    /// How many of these units lack a reading in a Settlement Period.
+    fn missing_readings_at(
+        &self,
+        units: &[(UnitId, UnitRegistration)],
+        places: &DayPlaces,
+        at: &SettlementPeriod,
+    ) -> u64 {
+        let mut count = 0u64;
+        for (place, unit) in units.iter().enumerate() {
+            let key = unit_period(&unit.0, at);
+            if self.lacks_reading(places.of_unit(place).reading_at(at), &key) {
+                count = count.saturating_add(1);
+            }
+        }
+        count
     }
 
     /// Whether a unit has no reading in a Settlement Period. It is sought near a place.

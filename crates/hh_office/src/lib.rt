@@ -3,6 +3,7 @@
 
 mod access;
 mod enquiries;
+mod facts;
 mod loads;
 mod office;
 mod report;

@@ -6,6 +6,8 @@
 
 #[cfg(test)]
 mod change_tests;
+#[cfg(test)]
+mod fact_tests;
 pub mod market;
 #[cfg(test)]
 mod outputs;

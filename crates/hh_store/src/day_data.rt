@@ -14,6 +14,9 @@ pub struct DayData {
     /// The first period in which a unit has no reading, if there is one, with the first such unit by the
     /// bytes of its id.
     pub missing_meter: Option<UnitPeriod>,
+    /// How many readings are missing: for each period, how many units of the date have none there. No
+    /// contract speaks of it: it is told to people alone.
+    pub missing_readings: u64,
     /// Each period in order; of no meaning where a price or a reading is missing.
     pub periods: Vec<PeriodState>,
 }
