@@ -20,8 +20,8 @@ use Rattle.hh_office.specs.Views.{IsSure, Kept, midnight_of}
 use Rattle.hh_keyed_rows.specs.Values.{version}
 use Rattle.hh_sqlstore.specs.Holds.{Holds, TreesHold}
 use Rattle.hh_sqlstore.specs.Leaving.{KeepsHeld}
-use Rattle.hh_file_life.specs.declared.life.Command.{Command}
-use Rattle.hh_file_life.specs.Life.{CountsOne, HoldsSome}
+use Rattle.hh_file_life.specs.declared.life.FileCommand.{FileCommand}
+use Rattle.hh_file_life.specs.Life.{IsCounted, HoldsSome}
 use Rattle.hh_file_life.specs.steps.Answers.{AnswersIn, KeepsReached}
 
 -- what was answered was told as the machine tells it
@@ -40,13 +40,13 @@ by_reply holds left midnight s after content Told false reached last is new as_t
 
 module _ {T L : Type 0} (is_honest : T → Type 0) (is_open : T → Bool) (may_leave : T → L → Type 0) (holds : L → Content → Type 0) (old new : Kept T) where
   -- what a crash leaves behind a command that an office has handled
-  pub handled : (command : Command) (given : Reply) (Made : Content → Type 0) → KeepsReached command.request
+  pub handled : (command : FileCommand) (given : Reply) (Made : Content → Type 0) → KeepsReached command.request
       → AddsOnly is_honest is_open may_leave holds old.tables new.tables (IfReplied given) Made
       → CrashStep is_honest is_open may_leave holds old new command.moment command.request given
       → (IsSure is_open new → HandleStep old.seen new.seen command.moment command.request given)
       → is_honest new.tables → is_honest old.tables
       × (IsTrue (is_open old.tables) → (s : State) → IsReached (midnight_of old.seen) s → old.seen.content ≡ tables_of (midnight_of old.seen) s
-      → (left : L) → may_leave new.tables left → HoldsSome holds (midnight_of old.seen) (CountsOne (midnight_of old.seen) s command given) left)
+      → (left : L) → may_leave new.tables left → HoldsSome holds (midnight_of old.seen) (IsCounted (midnight_of old.seen) s command given) left)
   handled command given Made keeps adds left_by step honest =
       let midnight = midnight_of old.seen in (
         (adds honest).0,
@@ -62,7 +62,7 @@ given_up : (fault : StoreFault) → is_given_up (reply.Refused (store_fault faul
 given_up Memory = refl
 given_up Store = refl
 
-module _ (midnight : Midnights) (command : Command) (old new : Connected) where
+module _ (midnight : Midnights) (command : FileCommand) (old new : Connected) where
   -- the tables were not taken over
   pub refused : (fault : StoreFault) → KeepsHeld old new → AnswersIn midnight command old new (reply.Refused (store_fault fault))
   refused fault keeps clean = (
@@ -81,7 +81,7 @@ module _ (midnight : Midnights) (command : Command) (old new : Connected) where
       → ((held : Content) → Holds version held old.committed → IsTrue taken_over.is_open → content ≡ held)
       → (HasCleanDisk new → HasCleanDisk taken_over
       × (IsTrue taken_over.is_open → (s : State) → IsReached midnight s → content ≡ tables_of midnight s
-      → (trees : Trees) → new.may_leave trees → HoldsSome TreesHold midnight (CountsOne midnight s command given) trees))
+      → (trees : Trees) → new.may_leave trees → HoldsSome TreesHold midnight (IsCounted midnight s command given) trees))
       → AnswersIn midnight command old new given
   taken given taken_over content keeps opens same over clean =
       let last = over clean in (

@@ -26,8 +26,8 @@ use Rattle.hh_states.specs.Steps.{IsReached}
 use Rattle.hh_keyed_rows.specs.Values.{version}
 use Rattle.hh_sqlrows.specs.OfficeSchema.{office}
 use Rattle.hh_sqlstore.specs.Holds.{Holds, TreesHold}
-use Rattle.hh_file_life.specs.declared.life.Command.{Command}
-use Rattle.hh_file_life.specs.Life.{Counts, CountsOne, LeaveOnly, LeaveState, LeaveStates, ReadAs}
+use Rattle.hh_file_life.specs.declared.life.FileCommand.{FileCommand}
+use Rattle.hh_file_life.specs.Life.{AreCounted, IsCounted, LeaveOnly, LeaveState, LeaveStates, ReadAs}
 use Rattle.hh_file_life.specs.steps.Answers.{AnswersIn}
 
 -- what was written may stay
@@ -49,48 +49,48 @@ module _ {D : Type 0} (g : Ghosts D) (first : Files D) (midnight : Midnights) (s
       subst (λ (named : Schema). Holds version (tables_of midnight s) (record { schema = named; trees = found_trees })) (sym schema) holds
 
   -- what an answer leaves of the connection, the files hold behind its end
-  pub lives_once : (command : Command) (given : Reply) (before after : Held (FileStore D g)) (last : Files D) → IsOpened before → Finds first before
+  pub lives_once : (command : FileCommand) (given : Reply) (before after : Held (FileStore D g)) (last : Files D) → IsOpened before → Finds first before
       → AnswersIn midnight command (file_state before) (file_state after) given → HasCleanDisk (file_state after) → LeaveOnly g last (file_state after).may_leave
-      → LeaveStates g last midnight (CountsOne midnight s command given)
+      → LeaveStates g last midnight (IsCounted midnight s command given)
   lives_once command given before after last opened found answers clean left image may =
       let left_of = (answers clean).1 opened.0.is_open s reached (opened_holds before opened found) in
       ∥∥₁_map (left image may) (λ it. (it.0, it.1, left_of it.0 it.2))
 
 -- commands go on from a state as they do from the first
-abbrev pub GoesOn : Midnights → State → List Command → List Reply → List Command → State → Type 0
+abbrev pub GoesOn : Midnights → State → List FileCommand → List Reply → List FileCommand → State → Type 0
 GoesOn midnight s all given rest t =
-    (end : State) (more : List Reply) → Counts midnight t rest more end → Counts midnight s all (given ++ more) end
+    (end : State) (more : List Reply) → AreCounted midnight t rest more end → AreCounted midnight s all (given ++ more) end
 
-goes_on : (midnight : Midnights) (s t next : State) (all : List Command) (given : List Reply) (command : Command) (rest : List Command) (reply : Reply)
-    → GoesOn midnight s all given (command ∷ rest) t → CountsOne midnight t command reply next → GoesOn midnight s all (given ++ reply ∷ []) rest next
+goes_on : (midnight : Midnights) (s t next : State) (all : List FileCommand) (given : List Reply) (command : FileCommand) (rest : List FileCommand) (reply : Reply)
+    → GoesOn midnight s all given (command ∷ rest) t → IsCounted midnight t command reply next → GoesOn midnight s all (given ++ reply ∷ []) rest next
 goes_on midnight s t next all given command rest reply until one end more counts =
-    subst (λ (replies : List Reply). Counts midnight s all replies end) (sym (append_assoc given (reply ∷ []) more)) (until end (reply ∷ more) (next, one, counts))
+    subst (λ (replies : List Reply). AreCounted midnight s all replies end) (sym (append_assoc given (reply ∷ []) more)) (until end (reply ∷ more) (next, one, counts))
 
-module _ {D : Type 0} (g : Ghosts D) (stays : SeenMayStay g) (midnight : Midnights) (s : State) (all : List Command) where
+module _ {D : Type 0} (g : Ghosts D) (stays : SeenMayStay g) (midnight : Midnights) (s : State) (all : List FileCommand) where
   -- nothing has run
   pub lives_begin : (files : Files D) → IsReached midnight s → LeaveState g files midnight s → LeaveStates g files midnight (GoesOn midnight s all [] all)
   lives_begin files reached leaves image may = ∥∥₁_map (leaves image may) (λ it. (it.0, it.1, (s, reached, λ end more counts. counts, it.2)))
 
   -- one command more
-  pub lives_on : (files next : Files D) (given : List Reply) (left : List Command) (command : Command) (rest : List Command) (reply : Reply) → left ≡ command ∷ rest
+  pub lives_on : (files next : Files D) (given : List Reply) (left : List FileCommand) (command : FileCommand) (rest : List FileCommand) (reply : Reply) → left ≡ command ∷ rest
       → LeaveStates g files midnight (GoesOn midnight s all given left)
-      → ((t : State) → IsReached midnight t → ReadAs g files midnight t → LeaveStates g next midnight (CountsOne midnight t command reply))
+      → ((t : State) → IsReached midnight t → ReadAs g files midnight t → LeaveStates g next midnight (IsCounted midnight t command reply))
       → LeaveStates g next midnight (GoesOn midnight s all (given ++ reply ∷ []) rest)
   lives_on files next given left command rest reply is until one image may =
       ∥∥₁_elim (until (image_of g files) (seen g stays files)) squash₁ (λ it.
       let (t, reached, so_far, holds) = it.2 in
-      let from = subst (λ (commands : List Command). GoesOn midnight s all given commands t) is so_far in
+      let from = subst (λ (commands : List FileCommand). GoesOn midnight s all given commands t) is so_far in
       ∥∥₁_map (one t reached (it.0, it.1, holds) image may) (λ found.
       let (after, is_reached, counts, held) = found.2 in
       (found.0, found.1, (after, is_reached, goes_on midnight s t after all given command rest reply from counts, held))))
 
   -- all have run
-  pub lives_end : (last : Files D) (given : List Reply) (left : List Command) → left ≡ [] → LeaveStates g last midnight (GoesOn midnight s all given left)
-      → LeaveStates g last midnight (Counts midnight s all given)
+  pub lives_end : (last : Files D) (given : List Reply) (left : List FileCommand) → left ≡ [] → LeaveStates g last midnight (GoesOn midnight s all given left)
+      → LeaveStates g last midnight (AreCounted midnight s all given)
   lives_end last given left none until image may = ∥∥₁_map (until image may) (λ it.
       let (t, reached, so_far, holds) = it.2 in
-      let rest = subst (λ (commands : List Command). GoesOn midnight s all given commands t) none so_far in
-      let counts = subst (λ (replies : List Reply). Counts midnight s all replies t) (append-nil given) (rest t [] refl) in
+      let rest = subst (λ (commands : List FileCommand). GoesOn midnight s all given commands t) none so_far in
+      let counts = subst (λ (replies : List Reply). AreCounted midnight s all replies t) (append-nil given) (rest t [] refl) in
       (it.0, it.1, (t, reached, counts, holds)))
 
 -- the trees of a database that holds a content hold it

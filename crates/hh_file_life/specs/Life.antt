@@ -16,7 +16,7 @@ use Rattle.hh_states.specs.Steps.{IsReached}
 use Rattle.hh_office.specs.Machine.{answer, next}
 use Rattle.hh_office.specs.Promises.{is_given_up}
 use Rattle.hh_sqlstore.specs.Holds.{TreesHold}
-use Rattle.hh_file_life.specs.declared.life.Command.{Command}
+use Rattle.hh_file_life.specs.declared.life.FileCommand.{FileCommand}
 
 -- what is left holds the tables of a state that the machine reaches, and this is true of the state
 abbrev pub HoldsSome : {L : Type 0} → (L → Content → Type 0) → Midnights → (State → Type 0) → L → Type 0
@@ -48,32 +48,32 @@ module _ {D : Type 0} (g : Ghosts D) (files : Files D) where
 module _ (midnight : Midnights) where
   -- A command that was answered was counted once: the reply is the machine's, and so is the state after it. One that was given up
   -- was counted or not.
-  abbrev pub CountsOne : State → Command → Reply → State → Type 0
-  CountsOne s command given t = MatchBool (is_given_up given)
+  abbrev pub IsCounted : State → FileCommand → Reply → State → Type 0
+  IsCounted s command given t = MatchBool (is_given_up given)
       ((t ≡ s) ⊎ (t ≡ next midnight s command.moment command.request))
       ((given ≡ answer midnight s command.moment command.request) × (t ≡ next midnight s command.moment command.request))
 
   -- the commands were counted so in turn, each with its reply
-  abbrev pub Counts : State → List Command → List Reply → State → Type 0
-  Counts s [] [] t = t ≡ s
-  Counts s (command ∷ commands) (given ∷ replies) t =
-      (between : State) × CountsOne s command given between × Counts between commands replies t
-  Counts s _ _ t = ⊥
+  abbrev pub AreCounted : State → List FileCommand → List Reply → State → Type 0
+  AreCounted s [] [] t = t ≡ s
+  AreCounted s (command ∷ commands) (given ∷ replies) t =
+      (between : State) × IsCounted s command given between × AreCounted between commands replies t
+  AreCounted s _ _ t = ⊥
 
 module _ {D : Type 0} (g : Ghosts D) (midnight : Midnights) (first : Files D) where
   -- Of a command that was run over files that read as the tables of a state: by disks that have returned what was written, whatever
   -- a crash leaves of them behind it holds the tables of a state by which the command was counted.
-  abbrev pub LivesOnce : Command → Reply → Files D → Type 0
+  abbrev pub LivesOnce : FileCommand → Reply → Files D → Type 0
   LivesOnce command given last =
       AreClean g last.log last.db → (s : State) → IsReached midnight s → ReadAs g first midnight s
-      → LeaveStates g last midnight (CountsOne midnight s command given)
+      → LeaveStates g last midnight (IsCounted midnight s command given)
 
   -- The same of commands that were run one after the other, where whatever a crash leaves of the first files holds the tables of that
   -- state.
-  abbrev pub Lives : List Command → List Reply → Files D → Type 0
+  abbrev pub Lives : List FileCommand → List Reply → Files D → Type 0
   Lives commands replies last =
       AreClean g last.log last.db → (s : State) → IsReached midnight s → LeaveState g first midnight s
-      → LeaveStates g last midnight (Counts midnight s commands replies)
+      → LeaveStates g last midnight (AreCounted midnight s commands replies)
 
 -- Of files in which an office was made: by disks that have returned what was written, whatever a crash leaves of them holds the tables
 -- of the state in which nothing has been accepted, which the machine reaches.

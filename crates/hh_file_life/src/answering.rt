@@ -5,7 +5,7 @@ ghost use Rattle.sqlite.specs.Held.{state};
 ghost use Rattle.hh_time.specs.Zone.{midnight_in};
 ghost use Rattle.hh_file_life.specs.steps.Answers.{AnswersIn, AnswersOver, KeepsReached};
 
-use crate::life::Command;
+use crate::life::FileCommand;
 use hh_names::Fault;
 use hh_office::Office;
 use hh_requests::{Action, Reply, Request};
@@ -20,7 +20,7 @@ pub(crate) fn answer<S: Rising>(
     alloc: Global,
     connection: Connection<S>,
     zone: &TimeZone<'_>,
-    command: &Command,
+    command: &FileCommand,
 ) -> (Reply, Connection<S>)
     ensures { AnswersIn (midnight_in (plain_zone zone.now)) command.now
         (state S.Store connection) (state S.Store result.1) result.0 }
@@ -39,7 +39,7 @@ fn answer_over<T: Tables>(
     alloc: Global,
     tables: T,
     zone: &TimeZone<'_>,
-    command: &Command,
+    command: &FileCommand,
 ) -> (Reply, T)
     ensures { AnswersOver T.is_honest T.is_open T.may_leave T.holds T.content
         (midnight_in (plain_zone zone.now)) command.now tables result.1 result.0 }

@@ -8,5 +8,5 @@ mod life;
 mod making;
 mod opening;
 
-pub use life::{Command, Ending, LifeStop, run_all, run_once};
+pub use life::{Ending, FileCommand, LifeStop, run_all, run_once};
 pub use making::make_office;

@@ -30,7 +30,7 @@ pub enum Ending {
 /// What is asked of the office by one command, the moment at which it is asked, in seconds since
 /// 1970-01-01T00:00:00Z, and how the process of the command ends.
 #[derive(Debug, Drop)]
-pub struct Command {
+pub struct FileCommand {
     pub moment: i64,
     pub request: Request,
     pub ending: Ending,
@@ -76,7 +76,7 @@ pub fn run_once<D: Crash + Drop>(
     alloc: Global,
     files: Files<D>,
     zone: &TimeZone<'_>,
-    command: &Command,
+    command: &FileCommand,
 ) -> Result<(Reply, Files<D>), LifeStop>
     ensures usable { command.now.ending ≢ Ending.Left
         → IfOk result (λ ended. AreUsable D.Disk ended.1) }
@@ -106,7 +106,7 @@ pub fn run_all<D: Crash + Drop>(
     alloc: Global,
     files: Files<D>,
     zone: &TimeZone<'_>,
-    commands: &[Command],
+    commands: &[FileCommand],
 ) -> Result<(Vec<Reply>, Files<D>), LifeStop>
     ensures honest { IfOk result (λ ended.
         AreClean D.Disk ended.1.log ended.1.db → AreClean D.Disk files.log files.db) }

@@ -1,7 +1,7 @@
 //! What no clause says: that with ample memory an office is made in files in memory, and that commands over them are answered,
 //! however the process of each ends.
 
-use hh_file_life::{Command, Ending, LifeStop, make_office, run_all};
+use hh_file_life::{Ending, FileCommand, LifeStop, make_office, run_all};
 use hh_names::{FileName, Refusal};
 use hh_report_trials::market::{LOADED_AT, PARTIES, asked, settings};
 use hh_requests::{Action, Bytes, Reply, Upload};
@@ -16,13 +16,13 @@ use std::test::Fail;
 const FEWER: &str = "party,from,to,key\nGENCO,2024-01-01,,genco0001\n";
 
 /// A command that loads a file of parties, under one name for each.
-fn load(alloc: Global, text: &str, ending: Ending) -> Result<Command, Fail> {
+fn load(alloc: Global, text: &str, ending: Ending) -> Result<FileCommand, Fail> {
     let upload = Upload {
         kind: FileKind::Parties,
         name: FileName::read(b"f1.csv").ok_or("name")?,
         body: Bytes::new(text.as_bytes().to_vec(alloc)?),
     };
-    Ok(Command {
+    Ok(FileCommand {
         moment: LOADED_AT,
         request: asked(alloc, Action::Load(upload))?,
         ending,
@@ -30,7 +30,7 @@ fn load(alloc: Global, text: &str, ending: Ending) -> Result<Command, Fail> {
 }
 
 /// The first file is loaded, another is sent under its name, and the first again.
-fn commands(alloc: Global) -> Result<Vec<Command>, Fail> {
+fn commands(alloc: Global) -> Result<Vec<FileCommand>, Fail> {
     let mut commands = Vec::new(alloc);
     commands.push(load(alloc, PARTIES, Ending::Left)?)?;
     commands.push(load(alloc, FEWER, Ending::Crashed)?)?;
@@ -60,7 +60,7 @@ fn say(replies: &[Reply], letters: &[u8]) -> bool {
 fn replies_to(
     alloc: Global,
     settings: Settings,
-    commands: &[Command],
+    commands: &[FileCommand],
 ) -> Result<Vec<Reply>, LifeStop> {
     let files = Files {
         log: Memory::new(alloc),

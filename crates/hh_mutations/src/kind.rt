@@ -1,7 +1,7 @@
 //! What an input is read as.
 
 use crate::change::{Change, Places};
-use crate::dictionary::{file_words, request_words, script_words};
+use crate::dictionary::{FILE_WORDS, REQUEST_WORDS, SCRIPT_WORDS};
 use hh_rows::FileKind;
 
 /// What an input is read as.
@@ -34,9 +34,9 @@ impl Kind {
     /// The words that are put into an input.
     pub(crate) fn words(self) -> &'static [&'static str] {
         match self {
-            Kind::File(_) => file_words(),
-            Kind::Request => request_words(),
-            Kind::Script => script_words(),
+            Kind::File(_) => FILE_WORDS,
+            Kind::Request => REQUEST_WORDS,
+            Kind::Script => SCRIPT_WORDS,
             Kind::Database | Kind::Log => &[],
         }
     }

@@ -12,8 +12,8 @@ use Rattle.hh_states.specs.Steps.{IsReached}
 use Rattle.hh_office.specs.Machine.{next}
 use Rattle.hh_keyed_rows.specs.Values.{version}
 use Rattle.hh_sqlstore.specs.Holds.{Holds, TreesHold}
-use Rattle.hh_file_life.specs.declared.life.Command.{Command}
-use Rattle.hh_file_life.specs.Life.{CountsOne, HoldsSome}
+use Rattle.hh_file_life.specs.declared.life.FileCommand.{FileCommand}
+use Rattle.hh_file_life.specs.Life.{IsCounted, HoldsSome}
 
 -- the machine reaches the state after this request from each that it reaches
 abbrev pub KeepsReached : Request → Type 0
@@ -23,16 +23,16 @@ KeepsReached request = (midnight : Midnights) (s : State) (moment : ℤ) → IsR
 -- A disk that has returned what was written did so before. Whatever a crash leaves of tables that stood for a state holds the tables
 -- of a state by which the command was counted.
 abbrev pub AnswersOver : {T L : Type 0} → (T → Type 0) → (T → Bool) → (T → L → Type 0) → (L → Content → Type 0) → (T → Content)
-    → Midnights → Command → T → T → Reply → Type 0
+    → Midnights → FileCommand → T → T → Reply → Type 0
 AnswersOver {L = L} is_honest is_open may_leave holds content midnight command old new given = is_honest new → is_honest old
     × (IsTrue (is_open old) → (s : State) → IsReached midnight s → content old ≡ tables_of midnight s
-    → (left : L) → may_leave new left → HoldsSome holds midnight (CountsOne midnight s command given) left)
+    → (left : L) → may_leave new left → HoldsSome holds midnight (IsCounted midnight s command given) left)
 
 -- the same of a connection whose last commit held the tables of a state
-abbrev pub AnswersIn : Midnights → Command → Connected → Connected → Reply → Type 0
+abbrev pub AnswersIn : Midnights → FileCommand → Connected → Connected → Reply → Type 0
 AnswersIn midnight command old new given = HasCleanDisk new → HasCleanDisk old
     × (IsTrue old.is_open → (s : State) → IsReached midnight s → Holds version (tables_of midnight s) old.committed
-    → (trees : Trees) → new.may_leave trees → HoldsSome TreesHold midnight (CountsOne midnight s command given) trees)
+    → (trees : Trees) → new.may_leave trees → HoldsSome TreesHold midnight (IsCounted midnight s command given) trees)
 
 -- a disk that has returned what was written has kept the connection open, whose last commit holds the tables of a new office
 abbrev pub HoldsNew : Settings → Connected → Type 0
