@@ -3,11 +3,13 @@ first line of a report alone, and send files by standard input. The terminal is 
 stands in a small repository. Its program is a stand-in that does what its words say, or the built one."""
 import errno
 import fcntl
+import itertools
 import os
 import pty
 import re
 import runpy
 import select
+import shlex
 import signal
 import subprocess
 import sys
@@ -15,12 +17,12 @@ import termios
 import time
 import unittest
 
-from programs import SETTLE
+from programs import HOME, SETTLE
 from test_command_crashes import Ended
 from test_commands import AtAFile, answer
 from test_database import TODAY, content_of, rows_of
-from test_desk import APPLIED, DAY, EARLY, END, LOADED, MARKET, OPERATOR, SETTLED, text_of
-from test_reports import BALANCES, balances
+from test_desk import APPLIED, DAY, EARLY, END, LATE, LOADED, MARKET, OPERATOR, SETTLED, Desk, text_of
+from test_reports import BALANCES, DAY_REPORT, RESULTS, balances, report
 from test_script import INTERRUPTS, OfTheScript, heed_signals
 
 PATIENCE = 120
@@ -41,6 +43,9 @@ for word in sys.argv[1:]:
         os.write(1, f"{os.getpid()}.".encode())
     elif what == "wait":
         time.sleep(float(value))
+    elif what == "await":
+        while not os.path.exists(value):
+            time.sleep(0.01)
     elif what == "read":
         with open(sys.argv[3], "rb") as file:
             file.read(int(value))
@@ -77,9 +82,13 @@ class AtATerminal(OfTheScript):
         super().setUp()
         self.out.mkdir()
         self.office = self.room / "office"
-        stand_in = self.room / "stand-in"
-        stand_in.write_text(STAND_IN)
-        self.use(f'exec "{sys.executable}" -ISB "{stand_in}" "$@"')
+        self.stand_in = self.room / "stand-in"
+        self.stand_in.write_text(STAND_IN)
+        self.does()
+
+    def does(self, *acts):
+        """Makes the stand-in the program. It does what its words say, and then this."""
+        self.use(f'exec "{sys.executable}" -ISB "{self.stand_in}" "$@" {shlex.join(acts)}')
 
     def use(self, line):
         """Makes a line of the shell the program, as if it had been built from the sources that are there."""
@@ -111,10 +120,10 @@ class AtATerminal(OfTheScript):
         """Begins a command on a database file, by the stand-in."""
         self.begin(command, "--db", self.office, *acts, **how)
 
-    def read_until(self, wanted=None):
-        """Reads what is shown until it has this, or until all that have the terminal have ended."""
+    def read_until(self, wanted=None, behind=0):
+        """Reads what is shown until it has this, behind so many bytes, or until all that have the terminal have ended."""
         until = time.monotonic() + PATIENCE
-        while wanted is None or wanted not in self.shown:
+        while wanted is None or wanted not in self.shown[behind:]:
             left = until - time.monotonic()
             self.assertGreater(left, 0, self.shown)
             if select.select([self.terminal], [], [], left)[0]:
@@ -133,6 +142,11 @@ class AtATerminal(OfTheScript):
     def told(self):
         """The lines that told how far the call was."""
         return re.findall(rb"settle: [^\r]*", self.shown)
+
+    def stages(self):
+        """The same without seconds, each once."""
+        told = [re.sub(r", [0-9]+ s\Z", "", line.decode().removeprefix("settle: ")) for line in self.told()]
+        return [stage for stage, _ in itertools.groupby(told)]
 
 
 class Shown(AtATerminal):
@@ -213,6 +227,336 @@ class Shown(AtATerminal):
         fcntl.ioctl(self.terminal, termios.TIOCSWINSZ, b"\x18\0\x0c\0\0\0\0\0")  # 24 lines of 12 letters
         self.ends(0, "hello")
         self.assertEqual(set(self.told()), {b"settle: at "})
+
+
+# The lines of a script, which are loads, runs and reports. Some are refused.
+LINES = [
+    f"load {EARLY} {OPERATOR} parties rows/parties.csv",
+    f"load {EARLY} {OPERATOR} meters rows/m2.csv",
+    f"run {END} {OPERATOR} {DAY} SF",
+    f"run {END} {OPERATOR} {DAY} R1",
+    report("day"),
+    report("csv"),
+    balances(),
+    report("day", "R1"),
+    f"load {EARLY} {OPERATOR} prices rows/prices.csv",
+    balances(),
+]
+# What is shown while nothing comes, and what comes then.
+STAGES = [
+    ("line 1 of 10, load parties rows/parties.csv", "applied=2 late=0|"),
+    ("line 2 of 10, load meters rows/m2.csv", "refused 14 BadField row 3 column 4|"),
+    (f"line 3 of 10, run {DAY} SF", f"{SETTLED}|refused 53 MissingPrice period 1|"),
+    (f"line 5 of 10, report day {DAY} SF", f"DAY REPORT {DAY} SF|PER ACCOUNT  CREDITED|  1 GENCO-P  99.5|"),
+    (f"line 5 of 10, report day {DAY} SF", "  1 RESIDUAL  0|NET GENCO-P  0|END|"),
+    (f"line 6 of 10, report csv {DAY} SF", f"date,kind,account,period|{DAY},SF,GENCO-P,1|"),
+    (f"line 6 of 10, report csv {DAY} SF, or the next", f"{DAY},SF,GENCO-P,2|account,moved_pence|GENCO-P,0|"),
+    ("line 7 of 10, report balances, or the next", "refused 63 NoRun|"),
+    ("line 9 of 10, load prices rows/prices.csv", "fault file|"),
+    ("line 10 of 10, report balances", "account,moved_pence|GENCO-P,-38|"),
+    ("line 10 of 10, report balances", "GENCO-C,0|"),
+]
+FIRST, SECOND = STAGES[:2]
+
+
+class ShownOfAScript(AtATerminal):
+    """Of a script it is shown which line is at work, by what the program has answered."""
+
+    def setUp(self):
+        super().setUp()
+        self.script = self.room / "script"
+        self.in_memory = "script", "--operator-key", OPERATOR, self.script
+        self.at_a_file = "script", "--db", self.office, self.script
+        self.give(*LINES)
+
+    def give(self, *lines):
+        """Gives the script these lines."""
+        self.script.write_text("".join(f"{line}\n" for line in lines))
+
+    def goes_through(self, words, *stages, **streams):
+        """Begins a call, whose program writes what comes of each stage once that was shown. Nothing else is shown, and no
+        key."""
+        steps = [self.room / f"step{number}" for number, _ in enumerate(stages)]
+        acts = [(f"await={step}", f"write={text}") for step, (_, text) in zip(steps, stages)]
+        self.does(*itertools.chain(*acts))
+        self.begin(*words, **streams)
+        place = 0
+        for step, (stage, _) in zip(steps, stages):
+            self.read_until(f"settle: {stage}, ".encode(), place)
+            place = len(self.shown)
+            step.touch()
+        written = "".join(text for _, text in stages).replace("|", "\n")
+        self.ends(0, *([] if "stdout" in streams else written.splitlines()))
+        self.assertEqual(self.stages(), [stage for stage, _ in itertools.groupby(stage for stage, _ in stages)])
+        self.assertNotIn(OPERATOR.encode(), self.shown)
+        for step in steps:
+            step.unlink()
+        return written
+
+    def open_output(self, how):
+        """A file that has a line already, and is written behind it."""
+        path = self.room / "output"
+        path.write_text("before\n")
+        output = os.open(path, os.O_WRONLY | how)
+        self.addCleanup(os.close, output)
+        if how != os.O_APPEND:
+            os.lseek(output, 0, os.SEEK_END)
+        return output
+
+    def test_loads_runs_and_reports(self):
+        self.goes_through(self.in_memory, *STAGES)
+
+    def test_a_database_file(self):
+        self.goes_through(self.at_a_file, *STAGES[:3])
+
+    def test_answers_that_go_into_a_file(self):
+        """They are seen there, behind what it had."""
+        for how in (0, os.O_APPEND):
+            written = self.goes_through(self.in_memory, *STAGES[:4], stdout=self.open_output(how))
+            self.assertEqual((self.room / "output").read_text(), f"before\n{written}")
+
+    def test_what_goes_beside_a_file(self):
+        """It is no answer."""
+        self.does("write=applied=2 late=0|", "tell=hello|", "wait=4")
+        self.begin(*self.in_memory, stdout=self.open_output(0))
+        self.ends(0, "hello")
+        self.assertEqual(self.stages(), [SECOND[0]])
+
+    def test_seconds(self):
+        """They are those of the line."""
+        self.does("wait=5", "write=applied=2 late=0|", "wait=2")
+        self.begin(*self.in_memory)
+        self.ends(0, "applied=2 late=0")
+        first, second = ([line for line in self.told() if b"line %d of 10" % number in line] for number in (1, 2))
+        self.assertRegex(first[-1], rb", [45] s\Z")
+        self.assertRegex(second[0], rb", [012] s\Z")
+
+    def test_a_short_script(self):
+        self.does("wait=0.7", "write=applied=2 late=0|", "end=1")
+        self.begin(*self.in_memory)
+        self.ends(1, "applied=2 late=0")
+        self.assertEqual(self.told(), [])
+
+    def test_a_file_that_is_read_first(self):
+        self.office.write_bytes(bytes(80_000_000))
+        self.does("read=40000000", "wait=4", "read=60000000", "wait=2")
+        self.begin(*self.at_a_file)
+        self.ends(0)
+        reading, *rest = self.stages()
+        self.assertRegex(reading, r"\Areading the file, [0-9]+ s, 4[0-9]\.[0-9] MB of 80\.0 MB\Z")
+        self.assertEqual(rest[-1], FIRST[0])
+
+    def test_a_file_that_has_grown(self):
+        """Once a line was answered the file was read, though it may have more bytes by now than were read."""
+        self.office.write_bytes(bytes(80_000_000))
+        self.does("write=applied=2 late=0|", "wait=4")
+        self.begin(*self.at_a_file)
+        self.ends(0, "applied=2 late=0")
+        self.assertEqual(self.stages(), [SECOND[0]])
+
+    def test_a_line_that_serves(self):
+        """Nothing is shown while it awaits connections, and those behind it are counted on."""
+        self.give(f"serve {EARLY} 0 2", *LINES[2:4])
+        listening, served = "listening 127.0.0.1:8080", self.room / "served"
+        for streams in ({}, {"stdout": self.open_output(0)}):
+            self.does("wait=4", f"write={listening}|", f"await={served}", f"write={SETTLED}|", "wait=2")
+            self.begin(*self.in_memory, **streams)
+            self.read_until(b"settle: line 1 of 3")
+            time.sleep(4)
+            self.shown += self.terminal.read(65_536)
+            self.assertEqual(screen_of(self.shown), [*([] if streams else [listening]), ""])
+            served.touch()
+            self.ends(0, *([] if streams else [listening, SETTLED]))
+            self.assertEqual(self.stages(), ["line 1 of 3, serve 0", f"line 3 of 3, run {DAY} R1"])
+            served.unlink()
+
+    def test_explanations(self):
+        """What standard error has beside the answers isn't counted."""
+        explained = "line 1: rows/parties.csv: late: rows 2"
+        self.does("write=applied=1 late=1|", f"tell={explained}|", "wait=4")
+        self.begin(*self.in_memory, "--explain")
+        self.ends(0, "applied=1 late=1", explained)
+        self.assertEqual(self.stages(), [SECOND[0]])
+
+    def test_an_answer_that_is_not_understood(self):
+        """From then on no line is shown."""
+        for words in (self.in_memory, self.at_a_file):
+            self.goes_through(words, (FIRST[0], "hello|"), ("at work", "applied=2 late=0|"), ("at work", ""))
+
+    def test_a_line_that_is_off_its_form(self):
+        self.give(f"load {OPERATOR} {EARLY} meters rows/m2.csv")
+        self.goes_through(self.at_a_file, ("at work", ""))
+
+    def test_paths(self):
+        """Nothing but printable letters, and of a long path its end."""
+        for path, shown in (("r\x1b[2Jö.csv", "r?[2J??.csv"), ("a/" * 30 + "b.csv", ".." + "/a" * 11 + "/b.csv")):
+            self.give(f"load {EARLY} {OPERATOR} meters {path}")
+            self.goes_through(self.in_memory, (f"line 1 of 1, load meters {shown}", ""))
+
+    def test_a_file_that_may_be_typed(self):
+        """Nothing is shown where a line of the script reads it."""
+        self.give(*LINES, f"load {EARLY} {OPERATOR} prices /dev/stdin")
+        for words in (self.in_memory, self.at_a_file):
+            self.does("wait=4")
+            self.begin(*words)
+            self.ends(0)
+            self.assertEqual(self.shown, b"")
+
+    def test_a_script_that_is_no_file(self):
+        """It is the program's alone, and no line is shown. The stand-in never opens the pipe."""
+        pipe = self.room / "pipe"
+        os.mkfifo(pipe)
+        for path in ("/dev/stdin", pipe):
+            with open(self.script, "rb") as file:
+                self.goes_through(("script", "--db", self.office, path), ("at work", "hello|"), stdin=file)
+            self.is_taken_over("script", "--operator-key", OPERATOR, path)
+
+    def test_a_script_that_is_too_long(self):
+        self.give(*LINES[:1] * 320_000)
+        self.assertGreater(self.script.stat().st_size, 16_777_216)
+        self.is_taken_over(*self.in_memory)
+
+    def is_taken_over(self, *words, **streams):
+        """The program takes the process over, and nothing is shown."""
+        self.does("wait=4" if "stdout" in streams else "wait=0", "process", "write=ended|")
+        self.begin(*words, **streams)
+        self.read_until()
+        self.assertEqual(self.begun.wait(timeout=PATIENCE), 0)
+        self.assertEqual(self.shown, b"" if "stdout" in streams else f"{self.begun.pid}.ended\r\n".encode())
+
+    def test_no_terminal(self):
+        """Nor where the answers can't be seen."""
+        self.is_taken_over(*self.in_memory, stderr=subprocess.DEVNULL)
+        self.is_taken_over(*self.in_memory, stdout=subprocess.DEVNULL)
+        self.does("wait=4", "write=hello|", "end=1")
+        for words in (self.in_memory, self.at_a_file):
+            self.assertEqual(self.call(*map(str, words)), (1, b"hello\n", ""))
+
+    def test_ctrl_c(self):
+        """The office lies in memory, so nothing is told of what is kept."""
+        self.does("write=applied=2 late=0|", "wait=60")
+        self.begin(*self.in_memory)
+        self.read_until(b"settle: line 2 of 10")
+        self.terminal.write(CTRL_C)
+        self.ends(-signal.SIGINT, "applied=2 late=0")
+        self.assertNotIn(b"interrupted", self.shown)
+
+
+class Counted(unittest.TestCase):
+    """How the words of a script are read, and which line is at work by what the program wrote."""
+
+    def setUp(self):
+        self.settle = runpy.run_path(str(HOME / "settle"))
+
+    def count(self, lines, written, size=65_536):
+        """Takes in what was written, in pieces of this size. Gives the line that is shown, without seconds."""
+        script = self.settle["Script"]("\n".join(lines).encode(), None)
+        progress = self.settle["Progress"](os.getpid(), ["script", "x"], script)
+        for place in range(0, len(written), size):
+            progress.hear(written[place : place + size].encode())
+        return script.shown and re.sub(r", [0-9]+ s\Z", "", script.line().removeprefix("settle: "))
+
+    def test_words(self):
+        path = "x.script"
+        for words in (
+            ["script", "--db", "office", path],
+            ["script", path, "--db=office"],
+            ["script", "--operator-key", OPERATOR, "--lead-minutes", "60", path],
+            ["script", f"--operator-key={OPERATOR}", "--lead-minutes=60", "--explain", "--strict", path],
+            ["--explain", "script", "--strict", path, "--operator-key-file", "key"],
+            ["script", "--operator-key-file=key", "--", path],
+        ):
+            self.assertEqual(self.settle["placed_words"](words), ["script", path], words)
+        self.assertEqual(self.settle["placed_words"](["script", "--", "--db"]), ["script", "--db"])
+        for words in (["script"], ["script", "--db"], ["script", HOME / "settle", "x"], ["run", HOME / "settle"]):
+            self.assertIsNone(self.settle["script_of"](list(map(str, words))))
+
+    def test_whole_reports(self):
+        """Each piece of them counts for the same, however it is cut."""
+        lines = [report("day"), report("csv"), balances(), report("day"), report("csv"), report("csv"), balances(), LINES[0]]
+        written = DAY_REPORT + RESULTS + BALANCES + DAY_REPORT + RESULTS + RESULTS + BALANCES
+        for size in (1, 10, 100, 1000, 65_536):
+            self.assertEqual(self.count(lines, written, size), "line 7 of 8, report balances, or the next")
+            self.assertEqual(self.count(lines, f"{written}{LATE}\n", size), None)
+        self.assertEqual(self.count(lines, DAY_REPORT[:-1]), f"line 1 of 8, report day {DAY} SF")
+        self.assertEqual(self.count(lines, DAY_REPORT), f"line 2 of 8, report csv {DAY} SF")
+        self.assertEqual(self.count(lines, DAY_REPORT + RESULTS[:-1]), f"line 2 of 8, report csv {DAY} SF, or the next")
+
+    def test_what_ends_a_report_that_has_no_end(self):
+        for line, text in (
+            (LINES[0], APPLIED),
+            (LINES[0], "fault file"),
+            (LINES[0], "refused 20 FileChanged"),
+            (LINES[2], SETTLED),
+            (LINES[2], "refused 51 NoInitialRun"),
+            ("serve 0 0 0", "listening 127.0.0.1:1"),
+            ("serve 0 0 0", "fault socket"),
+            (report("day"), "refused 63 NoRun"),
+            (report("day"), DAY_REPORT[:-1]),
+        ):
+            for first, written in ((report("csv"), RESULTS), (balances(), BALANCES)):
+                lines = [first, line, LINES[1]]
+                self.assertEqual(self.count(lines, f"{written}{text}\n"), "line 3 of 3, load meters rows/m2.csv", text)
+
+    def test_reports_that_are_given_up(self):
+        """In a line's midst, which ends with the refusal. Behind a whole line it may be that of the next."""
+        told = "refused 91 Store\n"
+        for line, written in ((report("day"), DAY_REPORT), (report("csv"), RESULTS), (balances(), BALANCES)):
+            lines, whole = [line, LINES[1]], written.index("\n", len(written) // 2) + 1
+            self.assertEqual(self.count(lines, told), "line 2 of 2, load meters rows/m2.csv")
+            self.assertEqual(self.count(lines, written[: whole + 5] + told), "line 2 of 2, load meters rows/m2.csv")
+        self.assertEqual(self.count(lines, BALANCES + told), None)
+        self.assertEqual(self.count([report("day"), LINES[1]], f"DAY REPORT {DAY} SF\n{told}"), "line 2 of 2, load meters rows/m2.csv")
+
+    def test_answers_of_other_lines(self):
+        """They aren't understood."""
+        others = {
+            LINES[0]: [SETTLED, "listening 127.0.0.1:1", "account,moved_pence", "", "line 1 is off its form"],
+            LINES[2]: [APPLIED, SETTLED.replace("SF", "R1"), f"DAY REPORT {DAY} SF", "run"],
+            report("day"): [APPLIED, SETTLED, f"DAY REPORT {DAY} R1", "END", f"DAY REPORT {DAY} SF\n{APPLIED}"],
+            balances(): ["date,kind,account,period", "account,moved_pence\nhello", f"account,moved_pence\n{SETTLED}"],
+        }
+        for line, texts in others.items():
+            for text in texts:
+                self.assertIsNone(self.count([line, LINES[0]], f"{text}\n"), text)
+
+    def test_explanations(self):
+        told = "refused 14 BadField row 1 column 1\nline 1: x.csv: row 1 is line 2 of the file; column 1\n"
+        self.assertEqual(self.count(LINES[:3], told + APPLIED + "\n"), f"line 3 of 3, run {DAY} SF")
+
+    def test_lines_that_are_off_their_form(self):
+        """Where words are in the wrong places a key might be shown."""
+        for line in (
+            "",
+            "load",
+            f"load {EARLY} parties {OPERATOR} x.csv",
+            f"load {EARLY} x.csv parties {OPERATOR}",
+            f"load {EARLY} {OPERATOR}  parties x.csv",
+            f"load {EARLY} {OPERATOR} parties x.csv ",
+            f"run {END} {DAY} {OPERATOR} SF",
+            f"run {END} {OPERATOR} {DAY} S1",
+            f"report {OPERATOR} day {DAY}",
+            f"report balances {OPERATOR}",
+            f"report {OPERATOR} balances {DAY} SF",
+            f"serve {EARLY} {OPERATOR} 1",
+        ):
+            self.assertIsNone(self.count([line], ""), line)
+
+
+class CountedOffice(Desk):
+    """What the built program writes is understood, line by line."""
+
+    def test_a_script(self):
+        wrong = [self.load("prices", ["x"], "wrong.csv"), f"load {EARLY} {OPERATOR} prices {self.room}/missing.csv"]
+        reports = [report("day"), report("csv"), report("csv"), balances(), report("day", "R2"), balances()]
+        lines = [*self.market(), *wrong, self.order("SF"), self.order("R2", EARLY), *reports, f"serve {END} 0 0", self.dearer()]
+        status, written, told = self.run_script("".join(f"{line}\n" for line in lines))
+        self.assertEqual((status, told), (0, b""))
+        script = runpy.run_path(str(HOME / "settle"))["Script"]("\n".join(lines).encode(), None)
+        for line in written.decode().splitlines():
+            self.assertIsNotNone(script.shown, line)
+            script.hear(line)
+        self.assertEqual(script.number, len(lines) + 1)
 
 
 class NotShown(AtATerminal):
@@ -404,7 +748,7 @@ class InterruptedOffice(AtATerminal, Awaited):
         script = self.file("script", "".join(f"{line}\n" for line in lines))
         self.begin("script", "--db", self.database, script)
         self.give_a_part(self.begun)
-        self.read_until(b"\n")
+        self.read_until(b"settle: line 2 of 3, load prices ")
         self.terminal.write(CTRL_C)
         self.ends(-signal.SIGINT, APPLIED, KEPT)
         self.is_sound()

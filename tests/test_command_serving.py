@@ -56,6 +56,39 @@ class Bytes(Serving, test_serving.Bytes):
     pass
 
 
+class Waits(Serving, test_serving.Waits):
+    """How long clients hold up the next one, measured: no longer than docs/http.md says."""
+
+    # What this machine may be late by when it is busy.
+    LATE = 4
+
+    def tearDown(self):
+        """The services are still there, each with its file."""
+
+    def begin_service(self, before=None):
+        self.offices = getattr(self, "offices", 0) + 1
+        self.database = self.room / f"office{self.offices}.db"
+        return super().begin_service(before)
+
+    def stalls(self, client):
+        """It sends half a head and then nothing, and is given up without a reply."""
+        client.sendall(b"GET /balances/SUPCO-C HTTP/1.1\r\nHost: lo")
+        self.assertEqual(self.read(client), b"")
+
+    def stays_for_a_while(self, client):
+        """It says nothing for three seconds, and closes."""
+        time.sleep(3)
+        client.close()
+
+    def test_how_long_others_wait(self):
+        """One that stalls holds them up for ten seconds, and eleven at most; one that sends a byte now and then for thirty, and
+        31 at most. A hundred that connect are all there, and hold them up for as long as they stay."""
+        holds = (self.stalls, 1), (self.sends_now_and_then, 1), (self.stays_for_a_while, 100)
+        waits = self.waits_of([(self.begin_service(before=[]), hold, count) for hold, count in holds])
+        for wait, least, most in zip(waits, (9, 29, 2), (11, 31, 4)):
+            self.assertTrue(least < wait < most + self.LATE, waits)
+
+
 class Kept(Serving, test_serving.Served):
     """What is served stays."""
 

@@ -12,13 +12,14 @@ from test_desk import APPLIED, DAY, END, OPERATOR
 # Each command, in short.
 FORMS = (
     "settle period METER CONTRACTS PRICE",
-    "settle script --operator-key KEY [--lead-minutes N] FILE",
-    "settle script --db PATH FILE",
+    "settle script --operator-key KEY [--lead-minutes N] [--strict] FILE",
+    "settle script --db PATH [--strict] FILE",
     "settle init --db PATH --operator-key KEY [--lead-minutes N]",
     "settle load --db PATH --key KEY [--at SECONDS] KIND FILE",
     "settle run --db PATH --key KEY [--at SECONDS] DATE KIND",
     "settle report --db PATH --key KEY FORM [DATE KIND]",
     "settle serve --db PATH --port N [--count N] [--at SECONDS]",
+    "settle --version",
 )
 KEYS = "", "op-short", "genco01", "genco_0001", "genco0001 ", "k" * 65, "op-" + "k" * 62
 DATES = "", "2024-02-30", "2024-7-1", "2000-12-31", "2100-01-01", "24-07-01"

@@ -135,12 +135,13 @@ class Desk(OfTheProgram):
         return found[5:]
 
     def is_wrong(self, made, line=None):
-        """Status 2 with nothing run. The line that is off its form is told by its number."""
+        """Status 2 with nothing run. The line that is off its form is told by its number, and on a second line by a word of
+        it, of which test_explain.py has the whole text."""
         status, written, told = made
         self.assertEqual((status, written), (2, b""))
         self.assertTrue(told.endswith(b"\n"))
         if line is not None:
-            self.assertRegex(told, rb"(?<!\d)%d(?!\d)" % line)
+            self.assertRegex(told, rb"\Aline %d is off its form\nline %d (?:word [1-9][0-9]* |is empty: ).*\n\Z" % (line, line))
 
 
 class Loads(Desk):

@@ -10,6 +10,7 @@ the turn. A C compiler builds what refuses, `failing_malloc.c`.
 import itertools
 import os
 import pathlib
+import re
 import shutil
 import socket
 import subprocess
@@ -320,20 +321,28 @@ class Refused(unittest.TestCase):
             lines = lines[same:]
         return not lines and refused <= 1
 
-    def refuse_each(self, call, status, writes_by_file=False, replies=None):
+    def refuse_each(self, call, status, writes_by_file=False, replies=None, beside=None):
         """Refuses each allocation of a call in turn. With ample memory it has this status, and a script
-        these replies."""
+        these replies. Lines on standard error that are like `beside` are left out where memory is refused for them."""
         need(call[0])
         wanted = self.run_once(call, 0)
         self.assertEqual(wanted[0], status, call)
+        plain = self.without(wanted, beside)
+        self.assertTrue(beside is None or plain != wanted, wanted)
         if replies is not None:
-            self.assertEqual(wanted[1:], (b"".join(reply + b"\n" for reply, _, _ in replies), []))
+            self.assertEqual(plain[1:], (b"".join(reply + b"\n" for reply, _, _ in replies), []))
         most = wanted[1] if writes_by_file else b""
 
-        def is_right(got):
-            return self.is_refusal(got, most) if replies is None else self.is_script_answered(got, replies)
+        def is_right(made):
+            got = self.without(made, beside)
+            return got == plain or (self.is_refusal(got, most) if replies is None else self.is_script_answered(got, replies))
 
         self.refuse_in_turn(lambda fail_at: self.run_once(call, fail_at), wanted, is_right)
+
+    def without(self, made, beside):
+        """What a run came to without the lines on standard error that are like this."""
+        status, written, told = made
+        return status, written, [line for line in told if beside is None or not re.match(beside, line)]
 
     def refuse_in_turn(self, run, wanted, is_right):
         """Runs with each allocation refused in turn. What a run comes to is what is wanted, or right where memory was
@@ -389,11 +398,11 @@ class Refused(unittest.TestCase):
             replies.append(answers)
         return lines, replies
 
-    def refuse_each_of_script(self, lines, replies):
+    def refuse_each_of_script(self, lines, replies, *options, beside=None):
         """Refuses each allocation of a script in turn."""
         script = self.room / "script"
         script.write_text("".join(lines))
-        self.refuse_each([SETTLE, "script", "--operator-key", OPERATOR, str(script)], 0, replies=replies)
+        self.refuse_each([SETTLE, "script", "--operator-key", OPERATOR, *options, str(script)], 0, replies=replies, beside=beside)
 
     def test_a_script(self):
         """Files of each kind, two refused ones, the first file once more, and one that isn't there."""
@@ -401,6 +410,19 @@ class Refused(unittest.TestCase):
         lines += [lines[0], f"load 0 {OPERATOR} units {self.room}/none.csv\n"]
         replies += [replies[0], [b"fault file", {}, None]]
         self.refuse_each_of_script(lines, replies)
+
+    def test_explanations(self):
+        """Of refused files and runs, one that isn't there, and late rows. No answer depends on whether there is memory for
+        them."""
+        lines, replies = self.loads(SCRIPT[:4])
+        lines += [lines[2].replace(" 0 ", " 1719874800 ").replace("3.csv", "late.csv"), f"run 0 {OPERATOR} {DAY} SF\n", f"load 0 {OPERATOR} units {self.room}/none.csv\n"]
+        (self.room / "late.csv").write_text(SCRIPT[2][1])
+        replies += [[b"applied=0 late=2", {"parties": NO_PARTY}, None], [b"refused 52 DayNotOver", {}, None], [b"fault file", {}, None]]
+        self.refuse_each_of_script(lines, replies, "--explain", beside=rb"line [1-7]: |.*: the system refused memory\Z")
+
+    def test_explanations_of_a_period(self):
+        self.refuse_each([SETTLE, "period", "--explain", CONTRACTS, METER, "50.00000"], 1, beside=re.escape(CONTRACTS.encode()) + b"|the system refused memory\\Z|.*; a file can't be read a second time\\Z")
+        self.refuse_each([SETTLE, "period", "--explain", METER, CONTRACTS, "x"], 1, beside=b"price |the system refused memory\\Z")
 
     def test_runs_of_a_script(self):
         """A first run, and another one, which tells by its reply whether the first was made."""
@@ -468,7 +490,7 @@ class Refused(unittest.TestCase):
     def test_a_script_that_is_not_run(self):
         script = self.room / "wrong"
         script.write_text(f"load 0 {OPERATOR} units u.csv\n\n")
-        self.refuse_each([SETTLE, "script", "--operator-key", OPERATOR, str(script)], 2)
+        self.refuse_each([SETTLE, "script", "--operator-key", OPERATOR, str(script)], 2, beside=b"line 2 is empty: ")
         self.refuse_each([SETTLE, "script", "--operator-key", OPERATOR, str(self.room / "missing")], 1)
 
 

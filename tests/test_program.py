@@ -215,7 +215,7 @@ class WrongWords(OfTheProgram):
         self.wrong("period", METER, CONTRACTS, "-5")
         self.wrong("period", METER, CONTRACTS, "50", "--at=1")
         self.wrong("period", "-x", METER, CONTRACTS, "50")
-        self.wrong("--version")
+        self.wrong("version")
 
     def test_calls_for_help(self):
         for words in (("--help",), ("-h",), ("help",), ("period", METER, CONTRACTS, "--help")):

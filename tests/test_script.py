@@ -27,13 +27,14 @@ PROVED = ["low", "side", "middle", "hh_settle"]
 USAGE = (
     "period METER CONTRACTS PRICE",
     "period METER CONTRACTS -- -PRICE",
-    "script --operator-key KEY [--lead-minutes N] FILE",
-    "script --db PATH FILE",
+    "script --operator-key KEY [--lead-minutes N] [--strict] FILE",
+    "script --db PATH [--strict] FILE",
     "init --db PATH --operator-key KEY [--lead-minutes N]",
     "load --db PATH --key KEY [--at SECONDS] KIND FILE",
     "run --db PATH --key KEY [--at SECONDS] DATE KIND",
     "report --db PATH --key KEY FORM [DATE KIND]",
     "serve --db PATH --port N [--count N] [--at SECONDS]",
+    "--version",
 )
 PATIENCE = 30
 INTERRUPTS = signal.SIGINT, signal.SIGTERM, signal.SIGHUP

@@ -728,7 +728,7 @@ class Clients(Served):
 class Waits(Served):
     """How long one client holds up the next. Each is tried on a service of its own, and all at the same time."""
 
-    def begin(self, before=None):
+    def begin_service(self, before=None):
         """Begins a service that ends with the test. Its port."""
         self.serve(1_000, before=before)
         self.addCleanup(self.program.communicate)
@@ -762,6 +762,11 @@ class Waits(Served):
                 holder.result()
                 client.close()
         return waited
+
+    def waits_of(self, services):
+        """How long the next waits at each of these services, at the same time."""
+        with concurrent.futures.ThreadPoolExecutor(len(services)) as pool:
+            return list(pool.map(lambda service: self.waited(*service), services))
 
     def says_nothing(self, client):
         """It is given up without a reply."""
@@ -806,10 +811,9 @@ class Waits(Served):
         return got
 
     def test_how_long_others_wait(self):
-        services = [(self.begin(), hold, count) for hold, count in ((self.says_nothing, 3), (self.sends_now_and_then, 1), (self.sends_on, 1))]
-        services.append((self.begin(self.many_contracts()), self.reads_slowly, 1))
-        with concurrent.futures.ThreadPoolExecutor(len(services)) as pool:
-            waits = list(pool.map(lambda service: self.waited(*service), services))
+        services = [(self.begin_service(), hold, count) for hold, count in ((self.says_nothing, 3), (self.sends_now_and_then, 1), (self.sends_on, 1))]
+        services.append((self.begin_service(self.many_contracts()), self.reads_slowly, 1))
+        waits = self.waits_of(services)
         # Three that say nothing are awaited for ten seconds each.
         for wait in waits:
             self.assertTrue(29 < wait < 40, waits)

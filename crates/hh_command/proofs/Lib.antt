@@ -1,4 +1,5 @@
 pub mod AnyPlaces
+pub mod CommandFacts
 pub mod FrontFacts
 pub mod ResultFacts
 pub mod StopFacts

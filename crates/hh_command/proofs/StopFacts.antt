@@ -14,6 +14,8 @@ use Rattle.hh_command.specs.declared.stop.Stop.{Stop}
 use Rattle.clap.specs.Words.{Text}
 use Rattle.hh_rows.specs.declared.settings.Settings.{Settings}
 use Rattle.hh_host.specs.Views.{HostView}
+use Rattle.hh_script.specs.declared.off_word.OffWord.{OffWord}
+use Rattle.hh_session.specs.declared.run.LinesStop.TheVariants as lines
 use Rattle.hh_session.specs.declared.script.ScriptStop.{ScriptStop}
 use Rattle.hh_session.specs.declared.script.ScriptStop.TheVariants as script
 use Rattle.hh_session.specs.Script.{IsUnread, StopsAt}
@@ -29,8 +31,8 @@ use Rattle.hh_command.specs.Stopping.{period_stop, script_stop}
 use Rattle.hh_command.specs.Tasks.{StopsAsked, StopsTask, path_stop, script_path_stop}
 use Rattle.hh_words.specs.Lines.{DatabaseCommand, Line, PeriodCommand, ScriptCommand, line_value}
 use Rattle.hh_command.specs.declared.stop.Stop.TheVariants as stop
-use Rattle.hh_command.specs.Stops.{AreWrong, IsOfScript, ComesTo, DoesPeriod, HasUnreadable, StopsBy, StopsLine, StopsPeriod, TellsOff}
-use Rattle.hh_command.specs.steps.Stops.{IsOffAndTold}
+use Rattle.hh_command.specs.Stops.{IsOfScript, ComesTo, DoesPeriod, HasUnreadable, StopsBy, StopsLine, StopsPeriod}
+use Rattle.hh_command.specs.steps.Stops.{IsOffAnd}
 use Rattle.hh_command.proofs.FrontFacts.{period_outcome-front}
 
 ByRefusal-map : (r : Refusal) (P Q R : Type 0) → (Q → R) → ByRefusal r P Q → ByRefusal r P R
@@ -90,71 +92,77 @@ is_own (Err (at.Script why)) = true
 is_own _ = false
 
 -- a script of which a line is off its form was not read
-unread_off : (host : HostView) (file : Text) (device : DeviceChange) (found left : Connected) (ended : Result Unit ScriptStop) (n : ℕ)
-    → Err (at.Script (script.Off n)) ≡ script_at ended → RunsFile host device file found left ended → IsUnread host file (script.Off n)
-unread_off host file device found left (Ok x) n is runs = let bad : script.Off n ≡ script.File = ap stop_in is in cc bad
-unread_off host file device found left (Err script.File) n is runs = let bad : script.Off n ≡ script.File = ap stop_in is in cc bad
-unread_off host file device found left (Err script.Output) n is runs = let bad : script.Off n ≡ script.Output = ap stop_in is in cc bad
-unread_off host file device found left (Err (script.Refused fault)) n is runs = let bad : script.Off n ≡ script.Refused fault = ap stop_in is in cc bad
-unread_off host file device found left (Err (script.Off m)) n is (inr (held, unread, takes), kept) =
-    let same : script.Off n ≡ script.Off m = ap stop_in is in
-    let number : m ≡ n = cc same in
-    subst (λ k. IsUnread host file (script.Off k)) number unread
-unread_off host file device found left (Err (script.Off m)) n is (inl ((fault, none), leaves), kept) = cc none
+unread_off : (host : HostView) (file : Text) (device : DeviceChange) (strict : Bool) (found left : Connected) (ended : Result Unit ScriptStop) (n : ℕ) (word : OffWord)
+    → Err (at.Script (script.Off n word)) ≡ script_at ended → RunsFile host device file strict found left ended → IsUnread host file (script.Off n word)
+unread_off host file device strict found left (Ok x) n word is runs = let bad : script.Off n word ≡ script.File = ap stop_in is in cc bad
+unread_off host file device strict found left (Err script.File) n word is runs = let bad : script.Off n word ≡ script.File = ap stop_in is in cc bad
+unread_off host file device strict found left (Err (script.Early why)) n word is runs = let bad : script.Off n word ≡ script.Early why = ap stop_in is in cc bad
+unread_off host file device strict found left (Err (script.Refused fault)) n word is runs = let bad : script.Off n word ≡ script.Refused fault = ap stop_in is in cc bad
+unread_off host file device strict found left (Err (script.Off m other)) n word is (inr (held, unread, takes), kept) =
+    let same : script.Off n word ≡ script.Off m other = ap stop_in is in
+    subst (IsUnread host file) (sym same) unread
+unread_off host file device strict found left (Err (script.Off m other)) n word is (inl ((fault, none), leaves), kept) = cc none
 
-ends_off : (host : HostView) (file : Text) (device : DeviceChange) (places : Places) (path : Text) (n : ℕ)
-    → EndsScript host device file places path (Err (at.Script (script.Off n))) → IsUnread host file (script.Off n)
-ends_off host file device places path n (inl (fault, refused, is, kept)) = let bad : true ≡ false = ap is_own is in cc bad
-ends_off host file device places path n (inr (inl (is, absent, kept))) = let bad : true ≡ false = ap is_own is in cc bad
-ends_off host file device places path n (inr (inr (present, (found, left, ended, opens, closes, is, runs)))) = unread_off host file device found left ended n is runs
+ends_off : (host : HostView) (file : Text) (device : DeviceChange) (strict : Bool) (places : Places) (path : Text) (n : ℕ) (word : OffWord)
+    → EndsScript host device file strict places path (Err (at.Script (script.Off n word))) → IsUnread host file (script.Off n word)
+ends_off host file device strict places path n word (inl (fault, refused, is, kept)) = let bad : true ≡ false = ap is_own is in cc bad
+ends_off host file device strict places path n word (inr (inl (is, absent, kept))) = let bad : true ≡ false = ap is_own is in cc bad
+ends_off host file device strict places path n word (inr (inr (present, (found, left, ended, opens, closes, is, runs)))) =
+    unread_off host file device strict found left ended n word is runs
 
--- A line stops as one of a script that is off its form, and that is told: the words are wrong.
-module _ (host : HostView) (places : Places) (words : List Text) (out err : DeviceChange) where
-  wrong_at : (file : Text) → IsOfScript words file → (n line : ℕ) → n ≡ line → TellsOff err line → IsUnread host file (script.Off n) → AreWrong host words err
-  wrong_at file is n line number told unread = inr (file, n, is, unread, subst (TellsOff err) (sym number) told)
+-- A line stops as one of a script that is off its form, of which this is told: the words are wrong.
+module _ (host : HostView) (places : Places) (strict : Bool) (words : List Text) (out : DeviceChange) (told : ℕ → OffWord → Type 0) where
+  abbrev pub IsOfOff : Type 0
+  IsOfOff = (file : Text) × (line : ℕ) × (word : OffWord) × IsOfScript words file × IsUnread host file (script.Off line word) × told line word
 
-  off_at : (settings : Settings) (file : Text) → line_value words ≡ Some (ScriptCommand settings file) → (line : ℕ) → TellsOff err line
-      → (why : ScriptStop) → script_stop why ≡ stop.Off line → StopsAt host file settings out why → AreWrong host words err
-  off_at settings file is line told script.File same at = cc same
-  off_at settings file is line told (script.Off n) same at = let number : n ≡ line = cc same in wrong_at file (inl (settings, is)) n line number told at.1
-  off_at settings file is line told (script.Refused fault) same at = cc same
-  off_at settings file is line told script.Output same at = cc same
-
-  off_kept : (path file : Text) → line_value words ≡ Some (DatabaseCommand path (ToRunScript file)) → (line : ℕ) → TellsOff err line
-      → (why : ScriptPathStop) → script_path_stop why ≡ stop.Off line → EndsScript host out file places path (Err why) → AreWrong host words err
-  off_kept path file is line told at.NoFile same ends = cc same
-  off_kept path file is line told (at.Unopened fault) same ends = cc same
-  off_kept path file is line told (at.Script script.File) same ends = cc same
-  off_kept path file is line told (at.Script (script.Refused fault)) same ends = cc same
-  off_kept path file is line told (at.Script script.Output) same ends = cc same
-  off_kept path file is line told (at.Script (script.Off n)) same ends =
+  off_at : (settings : Settings) (file : Text) → line_value words ≡ Some (ScriptCommand settings file) → (line : ℕ) (word : OffWord) → told line word
+      → (why : ScriptStop) → script_stop why ≡ stop.Off line word → StopsAt host file settings out strict why → IsOfOff
+  off_at settings file is line word tells script.File same at = cc same
+  off_at settings file is line word tells (script.Off n other) same at =
       let number : n ≡ line = cc same in
-      wrong_at file (inr (path, is)) n line number told (ends_off host file out places path n ends)
+      let of : other ≡ word = cc same in
+      (file, n, other, inl (settings, is), at.1, subst (λ m. told m other) (sym number) (subst (told line) (sym of) tells))
+  off_at settings file is line word tells (script.Refused fault) same at = cc same
+  off_at settings file is line word tells (script.Early lines.Output) same at = cc same
+  off_at settings file is line word tells (script.Early (lines.Line number)) same at = cc same
+
+  off_kept : (path file : Text) → line_value words ≡ Some (DatabaseCommand path (ToRunScript file)) → (line : ℕ) (word : OffWord) → told line word
+      → (why : ScriptPathStop) → script_path_stop why ≡ stop.Off line word → EndsScript host out file strict places path (Err why) → IsOfOff
+  off_kept path file is line word tells at.NoFile same ends = cc same
+  off_kept path file is line word tells (at.Unopened fault) same ends = cc same
+  off_kept path file is line word tells (at.Script script.File) same ends = cc same
+  off_kept path file is line word tells (at.Script (script.Refused fault)) same ends = cc same
+  off_kept path file is line word tells (at.Script (script.Early lines.Output)) same ends = cc same
+  off_kept path file is line word tells (at.Script (script.Early (lines.Line number))) same ends = cc same
+  off_kept path file is line word tells (at.Script (script.Off n other)) same ends =
+      let number : n ≡ line = cc same in
+      let of : other ≡ word = cc same in
+      (file, n, other, inr (path, is), ends_off host file out strict places path n other ends, subst (λ m. told m other) (sym number) (subst (told line) (sym of) tells))
 
   -- no other command on a database has lines
-  not_off : {A : Type 0} (why : PathStop) (line : ℕ) → path_stop why ≡ stop.Off line → A
-  not_off path.Exists line same = cc same
-  not_off path.NoFile line same = cc same
-  not_off (path.Errand (errand.Refused fault)) line same = cc same
-  not_off (path.Errand errand.Unreadable) line same = cc same
-  not_off (path.Errand errand.NoSocket) line same = cc same
-  not_off (path.Errand errand.Output) line same = cc same
+  not_off : {A : Type 0} (why : PathStop) (line : ℕ) (word : OffWord) → path_stop why ≡ stop.Off line word → A
+  not_off path.Exists line word same = cc same
+  not_off path.NoFile line word same = cc same
+  not_off (path.Errand (errand.Refused fault)) line word same = cc same
+  not_off (path.Errand errand.Unreadable) line word same = cc same
+  not_off (path.Errand errand.NoSocket) line word same = cc same
+  not_off (path.Errand errand.Output) line word same = cc same
 
-  asked_off : {A : Type 0} (path : Text) (task : Task) (s : Stop) (line : ℕ) → StopsAsked host places path out task s → s ≡ stop.Off line → A
-  asked_off path task s line (inl (why, from, ends)) same = not_off why line (sym from ∙ same)
-  asked_off path task s line (inr (clock, asks, kept)) same = let bad : stop.NoClock ≡ stop.Off line = sym clock ∙ same in cc bad
+  asked_off : {A : Type 0} (path : Text) (task : Task) (s : Stop) (line : ℕ) (word : OffWord) → StopsAsked host places path out task s → s ≡ stop.Off line word → A
+  asked_off path task s line word (inl (why, from, ends)) same = not_off why line word (sym from ∙ same)
+  asked_off path task s line word (inr (clock, asks, kept)) same = let bad : stop.NoClock ≡ stop.Off line word = sym clock ∙ same in cc bad
 
-  task_off : (path : Text) (task : Task) → line_value words ≡ Some (DatabaseCommand path task) → (s : Stop) (line : ℕ) → StopsTask host places path out task s
-      → s ≡ stop.Off line → TellsOff err line → AreWrong host words err
-  task_off path (ToInit settings) is s line (why, from, makes) same told = not_off why line (sym from ∙ same)
-  task_off path (ToLoad load) is s line stops same told = asked_off path (ToLoad load) s line stops same
-  task_off path (ToRun run) is s line stops same told = asked_off path (ToRun run) s line stops same
-  task_off path (ToReport asked) is s line stops same told = asked_off path (ToReport asked) s line stops same
-  task_off path (ToServe serve) is s line stops same told = asked_off path (ToServe serve) s line stops same
-  task_off path (ToRunScript file) is s line (why, from, ends) same told = off_kept path file is line told why (sym from ∙ same) ends
+  task_off : (path : Text) (task : Task) → line_value words ≡ Some (DatabaseCommand path task) → (s : Stop) (line : ℕ) (word : OffWord)
+      → StopsTask host places path out strict task s → s ≡ stop.Off line word → told line word → IsOfOff
+  task_off path (ToInit settings) is s line word (why, from, makes) same tells = not_off why line word (sym from ∙ same)
+  task_off path (ToLoad load) is s line word stops same tells = asked_off path (ToLoad load) s line word stops same
+  task_off path (ToRun run) is s line word stops same tells = asked_off path (ToRun run) s line word stops same
+  task_off path (ToReport asked) is s line word stops same tells = asked_off path (ToReport asked) s line word stops same
+  task_off path (ToServe serve) is s line word stops same tells = asked_off path (ToServe serve) s line word stops same
+  task_off path (ToRunScript file) is s line word (why, from, ends) same tells = off_kept path file is line word tells why (sym from ∙ same) ends
 
-  pub wrong_by_off : (l : Line) → line_value words ≡ Some l → (s : Stop) → StopsLine host places out l s → IsOffAndTold err s → AreWrong host words err
-  wrong_by_off (PeriodCommand meter contracts price) is s stops (line, same, told) =
+  pub wrong_by_off : (l : Line) → line_value words ≡ Some l → (s : Stop) → StopsLine host places strict out l s → IsOffAnd told s → IsOfOff
+  wrong_by_off (PeriodCommand meter contracts price) is s stops (line, word, same, tells) =
       absurd (subst (StopsBy out (ComesTo host meter contracts price) (HasUnreadable host meter contracts)) same stops)
-  wrong_by_off (ScriptCommand settings file) is s (why, from, at) (line, same, told) = off_at settings file is line told why (sym from ∙ same) at
-  wrong_by_off (DatabaseCommand path task) is s stops (line, same, told) = task_off path task is s line stops same told
+  wrong_by_off (ScriptCommand settings file) is s (why, from, at) (line, word, same, tells) = off_at settings file is line word tells why (sym from ∙ same) at
+  wrong_by_off (DatabaseCommand path task) is s stops (line, word, same, tells) = task_off path task is s line word stops same tells

@@ -1,3 +1,4 @@
+pub mod Calls
 pub mod Stopping
 pub mod Stops
 pub mod Tasks

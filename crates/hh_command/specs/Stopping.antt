@@ -2,6 +2,7 @@
 use Rattle.std.specs.Prelude.{None}
 use Rattle.hh_inputs.specs.declared.inputs.InputFault.{InputFault}
 use Rattle.hh_inputs.specs.declared.inputs.InputFault.TheVariants.{Unreadable, Memory}
+use Rattle.hh_session.specs.declared.run.LinesStop.TheVariants as lines
 use Rattle.hh_session.specs.declared.script.ScriptStop.{ScriptStop}
 use Rattle.hh_session.specs.declared.script.ScriptStop.TheVariants as script
 use Rattle.hh_period.specs.declared.inputs.PeriodFault.{PeriodFault}
@@ -23,6 +24,7 @@ period_stop period.Write = stop.Output
 -- why a command stops whose script is not run, or not to its end
 abbrev pub script_stop : ScriptStop → Stop
 script_stop script.File = stop.File
-script_stop (script.Off line) = stop.Off line
+script_stop (script.Off line word) = stop.Off line word
 script_stop (script.Refused fault) = stop.Refused (record { fault = fault; input = None })
-script_stop script.Output = stop.Output
+script_stop (script.Early lines.Output) = stop.Output
+script_stop (script.Early (lines.Line number)) = stop.Line number

@@ -1,5 +1,5 @@
 -- How a line of words ends: done, or stopped, and what is told of it.
-use Rattle.std.specs.Prelude.{◌≡◌, ◌≢◌, ◌⊎◌, ℕ, List, [], ◌++◌, Some, None, Ok, Err, codes, decimal}
+use Rattle.std.specs.Prelude.{◌≡◌, ◌≢◌, ◌⊎◌, ℕ, Bool, true, false, List, [], ◌++◌, Option, Some, None, Ok, Err, codes, decimal}
 use Rattle.std.specs.Io.KnownBytes.{Appends}
 use Rattle.clap.specs.Words.{Text, fault_of}
 use Rattle.hh_devices.specs.DeviceChanges.{DeviceChange, HasFailed}
@@ -9,6 +9,7 @@ use Rattle.hh_rows.specs.declared.settings.Settings.{Settings}
 use Rattle.hh_inputs.specs.declared.inputs.InputFault.{InputFault}
 use Rattle.hh_inputs.specs.declared.inputs.InputFault.TheVariants.{Unreadable, Memory}
 use Rattle.hh_host.specs.Views.{HostView}
+use Rattle.hh_script.specs.declared.off_word.OffWord.{OffWord}
 use Rattle.hh_session.specs.declared.script.ScriptStop.{ScriptStop}
 use Rattle.hh_session.specs.declared.script.ScriptStop.TheVariants as script
 use Rattle.hh_session.specs.Script.{IsUnread, StopsAt, WritesScript}
@@ -19,7 +20,7 @@ use Rattle.hh_period.specs.Outcome.{memory_rejection, period_outcome, Outcome}
 use Rattle.hh_period.specs.RejectionText.{rejection_text}
 use Rattle.hh_words.specs.Grammar.{settle_app}
 use Rattle.hh_kept_office.specs.Places.{Places}
-use Rattle.hh_words.specs.Lines.{DatabaseCommand, Line, PeriodCommand, ScriptCommand, line_value, usage}
+use Rattle.hh_words.specs.Lines.{DatabaseCommand, EndsWithUsage, Line, PeriodCommand, ScriptCommand, line_value}
 use Rattle.hh_words.specs.Tasks.{ToRunScript}
 use Rattle.hh_command.specs.Stopping.{script_stop}
 use Rattle.hh_command.specs.Tasks.{DoesTask, StopsTask}
@@ -39,7 +40,8 @@ stop_line stop.Exists = codes "fault exists\n"
 stop_line stop.NoFile = codes "fault nofile\n"
 stop_line stop.NoSocket = codes "fault socket\n"
 stop_line stop.NoClock = codes "fault clock\n"
-stop_line (stop.Off line) = codes "line " ++ decimal line ++ codes " is off its form\n"
+stop_line (stop.Off line word) = codes "line " ++ decimal line ++ codes " is off its form\n"
+stop_line (stop.Line number) = codes "line " ++ decimal number ++ codes " stopped the script\n"
 
 -- the exit status of a command that stops so: 1, or 2 for a line of a script that is off its form
 abbrev pub stop_status : Stop → ℕ
@@ -50,7 +52,8 @@ stop_status stop.Exists = 1
 stop_status stop.NoFile = 1
 stop_status stop.NoSocket = 1
 stop_status stop.NoClock = 1
-stop_status (stop.Off line) = 2
+stop_status (stop.Off line word) = 2
+stop_status (stop.Line number) = 1
 
 -- a text went out, unless the device failed
 abbrev pub IsTold : DeviceChange → List ℕ → Type 0
@@ -60,10 +63,10 @@ IsTold device text = HasFailed device ⊎ Appends device.old device.new text
 abbrev pub not_text_line : List ℕ
 not_text_line = codes "words that are not text (UTF-8)\n"
 
--- what tells that words are wrong, unless the device failed: a text of `clap`'s where that finds a fault in them, and else how the
--- program is used
+-- what tells that words are wrong, unless the device failed: a text of `clap`'s where that finds a fault in them, and else one that ends
+-- with how the program is used
 abbrev pub TellsWrong : List Text → DeviceChange → Type 0
-TellsWrong words device = (text : List ℕ) × (text ≢ []) × (fault_of settle_app words ≡ [] → text ≡ usage) × IsTold device text
+TellsWrong words device = (text : List ℕ) × (text ≢ []) × (fault_of settle_app words ≡ [] → EndsWithUsage text) × IsTold device text
 
 -- a stop is a refusal
 abbrev pub IsRefused : Stop → Type 0
@@ -75,9 +78,18 @@ abbrev pub Tells : DeviceChange → Stop → Type 0
 Tells device s = HasFailed device ⊎ Appends device.old device.new (stop_line s)
     ⊎ (IsRefused s × Appends device.old device.new (rejection_line memory_rejection))
 
--- the number of a script's line that is off its form went out, unless the device failed
-abbrev pub TellsOff : DeviceChange → ℕ → Type 0
-TellsOff device line = IsTold device (stop_line (stop.Off line))
+-- a text went out, and perhaps more behind it
+abbrev pub AppendsAtLeast : Option (List ℕ) → Option (List ℕ) → List ℕ → Type 0
+AppendsAtLeast old new text = (more : List ℕ) × Appends old new (text ++ more)
+
+-- the number of a script's line that is off its form went out, unless the device failed; what is told behind it is for people
+abbrev pub TellsOff : DeviceChange → ℕ → OffWord → Type 0
+TellsOff device line word = HasFailed device ⊎ AppendsAtLeast device.old device.new (stop_line (stop.Off line word))
+
+-- so it is told, but where an explanation was asked for nothing is said of what is told
+abbrev pub UnlessExplained : Bool → Type 0 → Type 0
+UnlessExplained true told = Unit {0}
+UnlessExplained false told = told
 
 -- a stop has status 1
 abbrev pub HasStatusOne : Stop → Type 0
@@ -118,19 +130,19 @@ module _ (host : HostView) where
   abbrev pub StopsPeriod : DeviceChange → Text → Text → Text → Stop → Type 0
   StopsPeriod device meter contracts price = StopsBy device (ComesTo meter contracts price) (HasUnreadable meter contracts)
 
-  -- The databases at the paths of the machine are these.
-  module _ (places : Places) where
+  -- The databases at the paths of the machine are these. A script may be strict.
+  module _ (places : Places) (strict : Bool) where
     -- the line is done, and known bytes grow by its text
     abbrev pub Does : Line → DeviceChange → Type 0
     Does (PeriodCommand meter contracts price) device = DoesPeriod meter contracts price device
     Does (ScriptCommand settings file) device = WritesScript host file settings device
-    Does (DatabaseCommand path task) device = DoesTask host places path device task
+    Does (DatabaseCommand path task) device = DoesTask host places path device strict task
 
     -- a line stops so, where this changes in the output
     abbrev pub StopsLine : DeviceChange → Line → Stop → Type 0
     StopsLine device (PeriodCommand meter contracts price) s = StopsPeriod device meter contracts price s
-    StopsLine device (ScriptCommand settings file) s = (why : ScriptStop) × (s ≡ script_stop why) × StopsAt host file settings device why
-    StopsLine device (DatabaseCommand path task) s = StopsTask host places path device task s
+    StopsLine device (ScriptCommand settings file) s = (why : ScriptStop) × (s ≡ script_stop why) × StopsAt host file settings device strict why
+    StopsLine device (DatabaseCommand path task) s = StopsTask host places path device strict task s
 
     -- words form a line, and it is done
     abbrev pub DoesWords : List Text → DeviceChange → Type 0
@@ -141,11 +153,11 @@ module _ (host : HostView) where
     StopsWords words out s = ((s ≡ stop.Refused memory_rejection) × (out.new ≡ out.old))
         ⊎ ((line : Line) × (line_value words ≡ Some line) × StopsLine out line s)
 
-    -- words stop with status 1, and why is told
-    abbrev pub Stops : List Text → DeviceChange → DeviceChange → Type 0
-    Stops words out err = (s : Stop) × HasStatusOne s × StopsWords words out s × Tells err s
+    -- words stop with status 1, and why is told; an explanation may be asked for
+    abbrev pub Stops : Bool → List Text → DeviceChange → DeviceChange → Type 0
+    Stops explain words out err = (s : Stop) × HasStatusOne s × StopsWords words out s × UnlessExplained explain (Tells err s)
 
   -- words form no line, which is told; or that of a script of which a line is off its form, whose number is told
-  abbrev pub AreWrong : List Text → DeviceChange → Type 0
-  AreWrong words err = ((line_value words ≡ None) × TellsWrong words err) ⊎ ((file : Text) × (line : ℕ)
-      × IsOfScript words file × IsUnread host file (script.Off line) × TellsOff err line)
+  abbrev pub AreWrong : Bool → List Text → DeviceChange → Type 0
+  AreWrong explain words err = ((line_value words ≡ None) × TellsWrong words err) ⊎ ((file : Text) × (line : ℕ) × (word : OffWord)
+      × IsOfScript words file × IsUnread host file (script.Off line word) × UnlessExplained explain (TellsOff err line word))

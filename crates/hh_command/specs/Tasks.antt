@@ -1,5 +1,5 @@
 -- How a command on a database ends.
-use Rattle.std.specs.Prelude.{◌≡◌, ◌⊎◌, ℤ, Option, Some, None, Result, Ok, Err, true}
+use Rattle.std.specs.Prelude.{◌≡◌, ◌⊎◌, ℤ, Bool, Option, Some, None, Result, Ok, Err, true}
 use Rattle.clap.specs.Words.{Text}
 use Rattle.hh_devices.specs.DeviceChanges.{DeviceChange}
 use Rattle.hh_store.specs.StoreFaults.{store_fault}
@@ -62,18 +62,18 @@ module _ (host : HostView) (places : Places) (path : Text) (device : DeviceChang
   abbrev pub EndsAsked : Task → Result Unit PathStop → Type 0
   EndsAsked task result = (step : ErrandStep) × AsksOfOffice task step × EndsAt places path device host step result
 
-  -- a task is done
-  abbrev pub DoesTask : Task → Type 0
-  DoesTask (ToInit settings) = MakesAt places path device settings (Ok tt)
-  DoesTask (ToRunScript file) = EndsScript host device file places path (Ok tt)
-  DoesTask task = EndsAsked task (Ok tt)
+  -- a task is done; a script may be strict
+  abbrev pub DoesTask : Bool → Task → Type 0
+  DoesTask strict (ToInit settings) = MakesAt places path device settings (Ok tt)
+  DoesTask strict (ToRunScript file) = EndsScript host device file strict places path (Ok tt)
+  DoesTask strict task = EndsAsked task (Ok tt)
 
   -- a task of an errand stops so, or because the clock told no moment, and then nothing was written
   abbrev pub StopsAsked : Task → Stop → Type 0
   StopsAsked task s = ((why : PathStop) × (s ≡ path_stop why) × EndsAsked task (Err why)) ⊎ ((s ≡ stop.NoClock) × AsksClock task × (device.new ≡ device.old))
 
-  -- a task stops so
-  abbrev pub StopsTask : Task → Stop → Type 0
-  StopsTask (ToInit settings) s = (why : PathStop) × (s ≡ path_stop why) × MakesAt places path device settings (Err why)
-  StopsTask (ToRunScript file) s = (why : ScriptPathStop) × (s ≡ script_path_stop why) × EndsScript host device file places path (Err why)
-  StopsTask task s = StopsAsked task s
+  -- a task stops so; a script may be strict
+  abbrev pub StopsTask : Bool → Task → Stop → Type 0
+  StopsTask strict (ToInit settings) s = (why : PathStop) × (s ≡ path_stop why) × MakesAt places path device settings (Err why)
+  StopsTask strict (ToRunScript file) s = (why : ScriptPathStop) × (s ≡ script_path_stop why) × EndsScript host device file strict places path (Err why)
+  StopsTask strict task s = StopsAsked task s

@@ -1,6 +1,6 @@
 //! Commands on a database.
 
-ghost use Rattle.std.specs.Prelude.{◌≡◌, Ok, IfErr, IfOk, OnErr, OnOk, None};
+ghost use Rattle.std.specs.Prelude.{◌≡◌, Ok, IfErr, IfOk, OnErr, OnOk, None, false};
 ghost use Rattle.hh_devices.specs.DeviceChanges.{change};
 ghost use Rattle.hh_kept_office.specs.Places.{places_of, shown_by};
 ghost use Rattle.hh_words.specs.Tasks.{ToLoad, ToReport, ToRun, ToServe, load_task, report_task, run_task, task_of};
@@ -13,28 +13,36 @@ use hh_errands::{Errand, Serving};
 use hh_host::{ClockFailed, Host};
 use hh_kept_office::{DatabaseHost, make_office_at, run_errand_at, run_script_at};
 use hh_script::{LoadLine, ReportLine, RunLine};
+use hh_session::Notes;
 use hh_sqlstore::Rising;
 use hh_words::{DatabaseTask, DatabaseWords, LoadWords, ReportWords, RunWords, ServeWords};
 use sqlite::Connection;
 use std::alloc::Global;
 
 /// Does what a command on a database asks for.
-pub(crate) fn on_database<S: Rising, D: DatabaseHost<Connection = Connection<S>>, O: Sink>(
+pub(crate) fn on_database<
+    S: Rising,
+    D: DatabaseHost<Connection = Connection<S>>,
+    N: Notes,
+    O: Sink,
+>(
     alloc: Global,
     host: &D,
     words: &DatabaseWords<'_>,
+    strict: bool,
+    notes: &mut N,
     out: &mut O,
 ) -> Result<(), Stop>
     ensures done { OnOk result (DoesTask (D.view host.now)
         (places_of D.finds D.refuses D.opens D.closes D.discards (shown_by S.Store) host.now)
         words.now.path.now
-        (change O.taken O.failures out.old out.new) (task_of words.now.task)) }
+        (change O.taken O.failures out.old out.new) strict (task_of words.now.task)) }
     ensures well { OnOk result (O.failures out.new ≡ O.failures out.old) }
     ensures stopped { IfErr result (StopsTask (D.view host.now)
         (places_of D.finds D.refuses D.opens D.closes D.discards (shown_by S.Store) host.now)
         words.now.path.now
         (change O.taken O.failures out.old out.new)
-        (task_of words.now.task)) }
+        strict (task_of words.now.task)) }
     ensures off { IfErr result (λ stop. stop_status stop ≡ 2 → out.new ≡ out.old) }
 {
     match &words.task {
@@ -45,7 +53,9 @@ pub(crate) fn on_database<S: Rising, D: DatabaseHost<Connection = Connection<S>>
         DatabaseTask::Run(run) => run_at(alloc, host, words.path, run, out),
         DatabaseTask::Report(report) => report_at(alloc, host, words.path, report, out),
         DatabaseTask::Serve(serve) => serve_at(alloc, host, words.path, serve, out),
-        DatabaseTask::Script(file) => Ok(run_script_at(alloc, host, words.path, file, out)?),
+        DatabaseTask::Script(file) => Ok(run_script_at(
+            alloc, host, words.path, file, strict, notes, out,
+        )?),
     }
 }
 
@@ -60,12 +70,12 @@ fn load_at<S: Rising, D: DatabaseHost<Connection = Connection<S>>, O: Sink>(
     ensures done { OnOk result (DoesTask (D.view host.now)
         (places_of D.finds D.refuses D.opens D.closes D.discards (shown_by S.Store) host.now)
         path.now
-        (change O.taken O.failures out.old out.new) (ToLoad (load_task words.now))) }
+        (change O.taken O.failures out.old out.new) false (ToLoad (load_task words.now))) }
     ensures well { OnOk result (O.failures out.new ≡ O.failures out.old) }
     ensures stopped { IfErr result (StopsTask (D.view host.now)
         (places_of D.finds D.refuses D.opens D.closes D.discards (shown_by S.Store) host.now)
         path.now
-        (change O.taken O.failures out.old out.new) (ToLoad (load_task words.now))) }
+        (change O.taken O.failures out.old out.new) false (ToLoad (load_task words.now))) }
     ensures on { IfErr result (λ stop. stop_status stop ≡ 1) }
 {
     let line = LoadLine {
@@ -90,12 +100,12 @@ fn run_at<S: Rising, D: DatabaseHost<Connection = Connection<S>>, O: Sink>(
     ensures done { OnOk result (DoesTask (D.view host.now)
         (places_of D.finds D.refuses D.opens D.closes D.discards (shown_by S.Store) host.now)
         path.now
-        (change O.taken O.failures out.old out.new) (ToRun (run_task words.now))) }
+        (change O.taken O.failures out.old out.new) false (ToRun (run_task words.now))) }
     ensures well { OnOk result (O.failures out.new ≡ O.failures out.old) }
     ensures stopped { IfErr result (StopsTask (D.view host.now)
         (places_of D.finds D.refuses D.opens D.closes D.discards (shown_by S.Store) host.now)
         path.now
-        (change O.taken O.failures out.old out.new) (ToRun (run_task words.now))) }
+        (change O.taken O.failures out.old out.new) false (ToRun (run_task words.now))) }
     ensures on { IfErr result (λ stop. stop_status stop ≡ 1) }
 {
     let line = RunLine {
@@ -118,12 +128,12 @@ fn report_at<S: Rising, D: DatabaseHost<Connection = Connection<S>>, O: Sink>(
     ensures done { OnOk result (DoesTask (D.view host.now)
         (places_of D.finds D.refuses D.opens D.closes D.discards (shown_by S.Store) host.now)
         path.now
-        (change O.taken O.failures out.old out.new) (ToReport (report_task words.now))) }
+        (change O.taken O.failures out.old out.new) false (ToReport (report_task words.now))) }
     ensures well { OnOk result (O.failures out.new ≡ O.failures out.old) }
     ensures stopped { IfErr result (StopsTask (D.view host.now)
         (places_of D.finds D.refuses D.opens D.closes D.discards (shown_by S.Store) host.now)
         path.now
-        (change O.taken O.failures out.old out.new) (ToReport (report_task words.now))) }
+        (change O.taken O.failures out.old out.new) false (ToReport (report_task words.now))) }
     ensures on { IfErr result (λ stop. stop_status stop ≡ 1) }
 {
     let line = ReportLine {
@@ -145,12 +155,12 @@ fn serve_at<S: Rising, D: DatabaseHost<Connection = Connection<S>>, O: Sink>(
     ensures done { OnOk result (DoesTask (D.view host.now)
         (places_of D.finds D.refuses D.opens D.closes D.discards (shown_by S.Store) host.now)
         path.now
-        (change O.taken O.failures out.old out.new) (ToServe words.now)) }
+        (change O.taken O.failures out.old out.new) false (ToServe words.now)) }
     ensures well { OnOk result (O.failures out.new ≡ O.failures out.old) }
     ensures stopped { IfErr result (StopsTask (D.view host.now)
         (places_of D.finds D.refuses D.opens D.closes D.discards (shown_by S.Store) host.now)
         path.now
-        (change O.taken O.failures out.old out.new) (ToServe words.now)) }
+        (change O.taken O.failures out.old out.new) false (ToServe words.now)) }
     ensures on { IfErr result (λ stop. stop_status stop ≡ 1) }
 {
     let serve = Serving {

@@ -2,6 +2,7 @@
 #![tactic(auto)]
 
 mod database;
+mod explaining;
 mod no_words;
 mod program;
 mod stop;

@@ -10,7 +10,9 @@ use hh_inputs::InputFault;
 use hh_kept_office::{PathStop, ScriptPathStop};
 use hh_names::{Fault, Refusal};
 use hh_period::{PeriodFault, Rejection};
-use hh_session::ScriptStop;
+use hh_script::OffWord;
+use hh_session::{LinesStop, ScriptStop};
+use std::alloc::AllocError;
 
 /// The exit status of a command that was refused, or met a fault of a file, a port, the clock or the output.
 const REFUSED: u8 = 1;
@@ -35,8 +37,10 @@ pub enum Stop {
     NoSocket,
     /// The machine's clock tells no moment.
     NoClock,
-    /// A line of a script is off its form.
-    Off { line: usize },
+    /// A line of a script is off its form, and this word of it.
+    Off { line: usize, word: OffWord },
+    /// A line of a strict script was refused or met a fault.
+    Line { number: usize },
 }
 
 impl Stop {
@@ -58,7 +62,8 @@ impl Stop {
             | Stop::Exists
             | Stop::NoFile
             | Stop::NoSocket
-            | Stop::NoClock => REFUSED,
+            | Stop::NoClock
+            | Stop::Line { .. } => REFUSED,
         }
     }
 }
@@ -97,9 +102,10 @@ impl From<ScriptStop> for Stop {
     fn from(why: ScriptStop) -> Stop {
         match why {
             ScriptStop::File => Stop::File,
-            ScriptStop::Off { line } => Stop::Off { line },
+            ScriptStop::Off { line, word } => Stop::Off { line, word },
             ScriptStop::Refused(fault) => Stop::Refused(Rejection { fault, input: None }),
-            ScriptStop::Output => Stop::Output,
+            ScriptStop::Early(LinesStop::Output) => Stop::Output,
+            ScriptStop::Early(LinesStop::Line { number }) => Stop::Line { number },
         }
     }
 }
@@ -147,5 +153,16 @@ impl From<ClockFailed> for Stop {
 
     fn from(_failed: ClockFailed) -> Stop {
         Stop::NoClock
+    }
+}
+
+impl From<AllocError> for Stop {
+    ghost use Rattle.hh_period.specs.Outcome.{memory_rejection};
+    ghost use Rattle.hh_command.specs.declared.stop.Stop.TheVariants.{Refused};
+
+    ghost from_gives = { λ _ stop. stop ≡ Refused memory_rejection };
+
+    fn from(_error: AllocError) -> Stop {
+        Stop::no_memory()
     }
 }

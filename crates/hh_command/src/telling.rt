@@ -1,15 +1,16 @@
 //! How it is told that words are wrong, and why a command stops.
 
-ghost use Rattle.std.specs.Prelude.{◌≡◌, ◌≤◌, OnErr, OnOk};
+ghost use Rattle.std.specs.Prelude.{◌≡◌, ◌≤◌, ◌++◌, OnErr, OnOk, codes, decimal};
 ghost use Rattle.std.specs.Io.KnownBytes.{Appends};
 ghost use Rattle.hh_devices.specs.DeviceChanges.{change};
 ghost use Rattle.hh_devices.specs.Devices.{Failed};
-ghost use Rattle.hh_command.specs.Stops.{HasStatusOne, IsTold, Tells, stop_line};
-ghost use Rattle.hh_command.specs.steps.Stops.{IsOffAndTold, told_text};
+ghost use Rattle.hh_command.specs.Stops.{AppendsAtLeast, HasStatusOne, IsTold, Tells, TellsOff, stop_line, stop_status};
+ghost use Rattle.hh_command.specs.steps.Stops.{IsOffAnd, TellsStop, told_text};
 
 use crate::stop::{Stop, WRONG_WORDS};
 use hh_devices::{DeviceFailed, Sink, write_whole};
 use hh_period::Rejection;
+use hh_script::OffWord;
 use hh_words::USAGE;
 use itoa::Buffer;
 use std::alloc::{AllocError, Global};
@@ -33,10 +34,11 @@ fn told_text(text: &str) -> &str
 
 /// Tells why a command stops, where the device for it does not fail, and answers the status of that.
 pub(crate) fn stopped<E: Sink>(alloc: Global, err: &mut E, stop: Stop) -> u8
-    ensures status { (1 ≤ result) × (result ≤ 2) }
+    ensures status { result ≡ stop_status stop }
     ensures one { result ≡ 1 → HasStatusOne stop
         × Tells (change E.taken E.failures err.old err.new) stop }
-    ensures two { result ≡ 2 → IsOffAndTold (change E.taken E.failures err.old err.new) stop }
+    ensures two { result ≡ 2
+        → IsOffAnd (TellsOff (change E.taken E.failures err.old err.new)) stop }
 {
     let status = stop.status();
     tell(alloc, err, stop);
@@ -45,7 +47,7 @@ pub(crate) fn stopped<E: Sink>(alloc: Global, err: &mut E, stop: Stop) -> u8
 
 /// Tells why a command stops, where the device for it does not fail.
 fn tell<E: Sink>(alloc: Global, err: &mut E, stop: Stop)
-    ensures { Tells (change E.taken E.failures err.old err.new) stop }
+    ensures { TellsStop (change E.taken E.failures err.old err.new) stop }
 {
     let _ = write_stop(alloc, err, stop);
 }
@@ -53,7 +55,7 @@ fn tell<E: Sink>(alloc: Global, err: &mut E, stop: Stop)
 /// Writes why a command stops.
 fn write_stop<E: Sink>(alloc: Global, err: &mut E, stop: Stop) -> Result<(), DeviceFailed>
     ensures failed { OnErr result (Failed (E.failures err.old) (E.failures err.new)) }
-    ensures told { OnOk result (Tells (change E.taken E.failures err.old err.new) stop) }
+    ensures told { OnOk result (TellsStop (change E.taken E.failures err.old err.new) stop) }
 {
     match stop {
         Stop::Refused(rejection) => write_rejection(alloc, err, rejection),
@@ -63,20 +65,40 @@ fn write_stop<E: Sink>(alloc: Global, err: &mut E, stop: Stop) -> Result<(), Dev
         Stop::NoFile => write_whole(err, b"fault nofile\n"),
         Stop::NoSocket => write_whole(err, b"fault socket\n"),
         Stop::NoClock => write_whole(err, b"fault clock\n"),
-        Stop::Off { line } => write_off(err, line),
+        Stop::Off { line, word } => write_off(alloc, err, line, word),
+        Stop::Line { number } => write_line(err, number, b" stopped the script\n"),
     }
 }
 
-/// Writes which line of a script is off its form. Takes no memory.
-fn write_off<S: Sink>(sink: &mut S, line: usize) -> Result<(), DeviceFailed>
+/// Writes which line of a script is off its form, and then which word of it, if there is memory for that.
+fn write_off<S: Sink>(
+    alloc: Global,
+    sink: &mut S,
+    line: usize,
+    word: OffWord,
+) -> Result<(), DeviceFailed>
     ensures failed { OnErr result (Failed (S.failures sink.old) (S.failures sink.new)) }
+    ensures told { OnOk result (AppendsAtLeast (S.taken sink.old) (S.taken sink.new)
+        (stop_line (Stop.Off line word))) }
+{
+    write_line(sink, line, b" is off its form\n")?;
+    match format!(in alloc; "line {line} {word}\n") {
+        Ok(text) => write_whole(sink, text.as_bytes()),
+        Err(AllocError) => Ok(()),
+    }
+}
+
+/// Writes what is so of a line of a script. Takes no memory.
+fn write_line<S: Sink>(sink: &mut S, line: usize, what: &[u8]) -> Result<(), DeviceFailed>
+    ensures failed { OnErr result (Failed (S.failures sink.old) (S.failures sink.new)) }
+    ensures well { OnOk result (S.failures sink.new ≡ S.failures sink.old) }
     ensures told { OnOk result (Appends (S.taken sink.old) (S.taken sink.new)
-        (stop_line (Stop.Off line))) }
+        (codes "line " ++ decimal line ++ what.now)) }
 {
     let mut digits = Buffer::new();
     write_whole(sink, b"line ")?;
     write_whole(sink, digits.format(line).as_bytes())?;
-    write_whole(sink, b" is off its form\n")
+    write_whole(sink, what)
 }
 
 /// Writes a rejection's line, or that of memory where memory runs out for the line itself.

@@ -1,5 +1,5 @@
 -- Lines that are run over an office, by the content of its tables before and after them.
-use Rattle.std.proofs.Common.{◌≡◌, ℕ, List, Option, subst, sym}
+use Rattle.std.proofs.Common.{◌≡◌, ℕ, Bool, List, Option, subst, sym, take}
 use Rattle.jiff.specs.declared.tz.timezone.TimeZone.{TimeZone}
 use Rattle.jiff.specs.Words.{plain_zone}
 use Rattle.hh_devices.specs.DeviceChanges.{DeviceChange}
@@ -11,12 +11,14 @@ use Rattle.hh_office.specs.Views.{OfficeView, midnight_of}
 use Rattle.hh_host.specs.Views.{HostView}
 use Rattle.hh_script.specs.Steps.{Step}
 use Rattle.hh_desk.specs.Doing.{StandsNow}
-use Rattle.hh_session.specs.Course.{RunsScript, StopsScript}
+use Rattle.hh_session.specs.declared.run.LinesStop.{LinesStop}
+use Rattle.hh_session.specs.declared.run.LinesStop.TheVariants.{Line, Output}
+use Rattle.hh_session.specs.Course.{EndsEarly, RunsScript, StopsScript}
 use Rattle.hh_session.specs.Script.{IsMarketZone}
-use Rattle.hh_database.specs.steps.Running.{RunsOver, StopsOver}
+use Rattle.hh_database.specs.steps.Running.{EarlyBetween, RunsOver, StopsOver}
 
 module _ (host : HostView) (fails : Type 0) (zone : TimeZone) (market : IsMarketZone zone)
-    (old new : Content) (last : OfficeView) (same : new ≡ last.content) (device : DeviceChange) (steps : List Step) where
+    (old new : Content) (last : OfficeView) (same : new ≡ last.content) (device : DeviceChange) where
   abbrev first : OfficeView
   first = record { zone = zone; content = old }
 
@@ -25,9 +27,14 @@ module _ (host : HostView) (fails : Type 0) (zone : TimeZone) (market : IsMarket
   stands_now t (now, zoned) =
       subst (λ z. StandsFor (midnight_in (plain_zone z)) new t) zoned (subst (λ c. StandsFor (midnight_of last) c t) (sym same) now)
 
-  pub runs_over : RunsScript host fails first last device steps → RunsOver host fails device old new steps
-  runs_over runs = (zone, market, λ s stands. let (text, t, does, went, now) = runs s stands in (text, t, does, went, stands_now t now))
+  pub runs_over : (steps : List Step) → RunsScript host fails first last device steps → RunsOver host fails device old new steps
+  runs_over steps runs = (zone, market, λ s stands. let (text, t, does, went, now) = runs s stands in (text, t, does, went, stands_now t now))
 
-  pub stops_over : StopsScript host fails first last device steps → StopsOver host fails device old new steps
-  stops_over stops =
+  stops_over : (steps : List Step) → StopsScript host fails first last device steps → StopsOver host fails device old new steps
+  stops_over steps stops =
       (zone, market, λ s stands. let (count, text, t, does, went, now) = stops s stands in (count, text, t, does, went, stands_now t now))
+
+  pub early_over : (strict : Bool) (steps : List Step) (why : LinesStop) → EndsEarly host fails first last device strict steps why
+      → EarlyBetween host fails device old new strict steps why
+  early_over strict steps Output stops = stops_over steps stops
+  early_over strict steps (Line number) (may, runs) = (may, runs_over (take number steps) runs)

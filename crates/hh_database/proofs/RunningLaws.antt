@@ -1,6 +1,6 @@
 -- What lines come to over an office whose tables stand in a database, by what the database holds after them.
-use Rattle.std.proofs.Common.{◌≡◌, ℕ, ◌<◌, List, Option, Result, Ok, Err, subst, sym, arith}
-use Rattle.std.specs.Prelude.{IfErr, IfOk, MatchResult, OnErr, OnOk}
+use Rattle.std.proofs.Common.{◌≡◌, ℕ, ◌<◌, Bool, List, Option, Result, Ok, Err, subst, sym, arith, take}
+use Rattle.std.specs.Prelude.{IfErr, IfOk, MatchResult, OnOk}
 use Rattle.jiff.specs.Words.{plain_zone}
 use Rattle.sqlite.specs.Effect.{Database}
 use Rattle.hh_devices.specs.DeviceChanges.{DeviceChange}
@@ -17,11 +17,15 @@ use Rattle.hh_keyed_rows.specs.Values.{version}
 use Rattle.hh_sqlstore.specs.Holds.{Holds}
 use Rattle.hh_host.specs.Views.{HostView}
 use Rattle.hh_script.specs.Steps.{Step}
+use Rattle.hh_session.specs.declared.run.LinesStop.{LinesStop}
+use Rattle.hh_session.specs.declared.run.LinesStop.TheVariants.{Line, Output}
 use Rattle.hh_session.specs.Course.{cut_after}
 use Rattle.hh_desk.specs.GivingUp.{CountsMore}
 use Rattle.hh_session.proofs.GivingUpLaws.{script_then}
-use Rattle.hh_database.specs.Running.{CutsFrom, CutsNew, CutsOver, HoldsState, WritesFrom, WritesNew, WritesOver}
-use Rattle.hh_database.specs.steps.Running.{RunsOver, StopsOver}
+use Rattle.hh_database.specs.declared.stop.DatabaseStop.{DatabaseStop}
+use Rattle.hh_database.specs.declared.stop.DatabaseStop.TheVariants.{Early, Refused}
+use Rattle.hh_database.specs.Running.{CutsFrom, CutsNew, CutsOver, EarlyNew, EarlyOver, HoldsState, IfEarly, WritesFrom, WritesNew, WritesOver}
+use Rattle.hh_database.specs.steps.Running.{EarlyBetween, RunsOver, StopsOver}
 
 -- ---- what a result comes to
 
@@ -29,8 +33,8 @@ module _ {A E : Type 0} where
   pub ok_then : {P : Type 0} (r : Result A E) (x : A) → r ≡ Ok x → OnOk r P → P
   ok_then {P} r x is holds = subst (λ r. OnOk r P) is holds
 
-  pub err_then : {P : Type 0} (r : Result A E) (e : E) → r ≡ Err e → OnErr r P → P
-  err_then {P} r e is holds = subst (λ r. OnErr r P) is holds
+  pub err_then : (P : E → Type 0) (r : Result A E) (e : E) → r ≡ Err e → IfErr r P → P e
+  err_then P r e is holds = subst (λ r. IfErr r P) is holds
 
   pub ok_by : {P Q R : A → Type 0} (Q' : E → Type 0) (r : Result A E) → ((x : A) → P x → Q x → R x) → IfOk r P → MatchResult r Q Q' → IfOk r R
   ok_by Q (Ok x) gives first second = gives x first second
@@ -46,7 +50,7 @@ module _ {A E : Type 0} where
 risen : (count : ℕ) → CountsMore 0 count → 0 < count
 risen count more = more (omega arith)
 
-module _ (host : HostView) (device : DeviceChange) (db : Database) (steps : List Step) where
+module _ (host : HostView) (device : DeviceChange) (db : Database) where
   -- Lines were run over tables of one content, and left tables of another, which the database holds.
   module _ (fails : Type 0) (conserve : ReachedConserve) (old new : Content) (holds : Holds version new db) where
     holds_state : (midnight : Midnights) (t : State) → StandsFor midnight new t → HoldsState midnight t db
@@ -55,8 +59,8 @@ module _ (host : HostView) (device : DeviceChange) (db : Database) (steps : List
       sums = conserve midnight t reached;
     }
 
-    pub writes_over : RunsOver host fails device old new steps → WritesOver host fails device db steps old
-    writes_over (zone, market, runs) = (
+    pub writes_over : (steps : List Step) → RunsOver host fails device old new steps → WritesOver host fails device db steps old
+    writes_over steps (zone, market, runs) = (
       zone,
       market,
       λ s stands.
@@ -64,8 +68,8 @@ module _ (host : HostView) (device : DeviceChange) (db : Database) (steps : List
           (text, t, does, went, holds_state _ t now),
     )
 
-    pub cuts_over : StopsOver host fails device old new steps → CutsOver host fails device db steps old
-    cuts_over (zone, market, stops) = (
+    cuts_over : (steps : List Step) → StopsOver host fails device old new steps → CutsOver host fails device db steps old
+    cuts_over steps (zone, market, stops) = (
       zone,
       market,
       λ s stands.
@@ -73,16 +77,21 @@ module _ (host : HostView) (device : DeviceChange) (db : Database) (steps : List
           (count, text, t, does, went, holds_state _ t now),
     )
 
+    pub early_over : (strict : Bool) (steps : List Step) (why : LinesStop) → EarlyBetween host fails device old new strict steps why
+        → EarlyOver host fails device db strict steps old why
+    early_over strict steps Output stops = cuts_over steps stops
+    early_over strict steps (Line number) (may, runs) = (may, writes_over (take number steps) runs)
+
   -- The office had refused nothing before, and has refused so many calls then.
   module _ (count : ℕ) where
-    writes_where : (midnight : Midnights) (s : State) → WritesFrom host (CountsMore 0 count) device db steps s midnight
+    writes_where : (steps : List Step) (midnight : Midnights) (s : State) → WritesFrom host (CountsMore 0 count) device db steps s midnight
         → WritesFrom host (0 < count) device db steps s midnight
-    writes_where midnight s (text, t, does, went, held) =
+    writes_where steps midnight s (text, t, does, went, held) =
         (text, t, script_then (CountsMore 0 count) (0 < count) (risen count) host midnight s steps text t does, went, held)
 
-    cuts_where : (midnight : Midnights) (s : State) → CutsFrom host (CountsMore 0 count) device db steps s midnight
+    cuts_where : (steps : List Step) (midnight : Midnights) (s : State) → CutsFrom host (CountsMore 0 count) device db steps s midnight
         → CutsFrom host (0 < count) device db steps s midnight
-    cuts_where midnight s (first, text, t, does, went, held) = (
+    cuts_where steps midnight s (first, text, t, does, went, held) = (
       first,
       text,
       t,
@@ -92,26 +101,41 @@ module _ (host : HostView) (device : DeviceChange) (db : Database) (steps : List
     )
 
     -- the content that the office was taken over with is that which the database held
-    pub writes_held : (old content : Content) → old ≡ content → WritesOver host (CountsMore 0 count) device db steps old
+    pub writes_held : (steps : List Step) (old content : Content) → old ≡ content → WritesOver host (CountsMore 0 count) device db steps old
         → WritesOver host (0 < count) device db steps content
-    writes_held old content same (zone, market, writes) =
+    writes_held steps old content same (zone, market, writes) =
         let midnight = midnight_in (plain_zone zone) in
-        (zone, market, λ s stands. writes_where midnight s (writes s (subst (λ c. StandsFor midnight c s) (sym same) stands)))
+        (zone, market, λ s stands. writes_where steps midnight s (writes s (subst (λ c. StandsFor midnight c s) (sym same) stands)))
 
-    pub cuts_held : (old content : Content) → old ≡ content → CutsOver host (CountsMore 0 count) device db steps old
+    cuts_held : (steps : List Step) (old content : Content) → old ≡ content → CutsOver host (CountsMore 0 count) device db steps old
         → CutsOver host (0 < count) device db steps content
-    cuts_held old content same (zone, market, cuts) =
+    cuts_held steps old content same (zone, market, cuts) =
         let midnight = midnight_in (plain_zone zone) in
-        (zone, market, λ s stands. cuts_where midnight s (cuts s (subst (λ c. StandsFor midnight c s) (sym same) stands)))
+        (zone, market, λ s stands. cuts_where steps midnight s (cuts s (subst (λ c. StandsFor midnight c s) (sym same) stands)))
+
+    pub early_held : (strict : Bool) (steps : List Step) (old content : Content) → old ≡ content → (why : LinesStop)
+        → EarlyOver host (CountsMore 0 count) device db strict steps old why → EarlyOver host (0 < count) device db strict steps content why
+    early_held strict steps old content same Output cuts = cuts_held steps old content same cuts
+    early_held strict steps old content same (Line number) (may, writes) = (may, writes_held (take number steps) old content same writes)
 
     -- a new office stands for the empty state
     module _ (settings : Settings) (fine : AreSettings settings) (old : Content) (stands : (midnight : Midnights) → old ≡ tables_of midnight (empty_state settings)) where
-      pub writes_new : WritesOver host (CountsMore 0 count) device db steps old → WritesNew host (0 < count) device db steps settings
-      writes_new (zone, market, writes) =
+      pub writes_new : (steps : List Step) → WritesOver host (CountsMore 0 count) device db steps old → WritesNew host (0 < count) device db steps settings
+      writes_new steps (zone, market, writes) =
           let midnight = midnight_in (plain_zone zone) in
-          (zone, market, writes_where midnight (empty_state settings) (writes (empty_state settings) (at_first settings fine, stands midnight)))
+          (zone, market, writes_where steps midnight (empty_state settings) (writes (empty_state settings) (at_first settings fine, stands midnight)))
 
-      pub cuts_new : CutsOver host (CountsMore 0 count) device db steps old → CutsNew host (0 < count) device db steps settings
-      cuts_new (zone, market, cuts) =
+      cuts_new : (steps : List Step) → CutsOver host (CountsMore 0 count) device db steps old → CutsNew host (0 < count) device db steps settings
+      cuts_new steps (zone, market, cuts) =
           let midnight = midnight_in (plain_zone zone) in
-          (zone, market, cuts_where midnight (empty_state settings) (cuts (empty_state settings) (at_first settings fine, stands midnight)))
+          (zone, market, cuts_where steps midnight (empty_state settings) (cuts (empty_state settings) (at_first settings fine, stands midnight)))
+
+      pub early_new : (strict : Bool) (steps : List Step) (why : LinesStop) → EarlyOver host (CountsMore 0 count) device db strict steps old why
+          → EarlyNew host (0 < count) device db strict steps settings why
+      early_new strict steps Output cuts = cuts_new steps cuts
+      early_new strict steps (Line number) (may, writes) = (may, writes_new (take number steps) writes)
+
+-- what is known of lines that were not run to their end
+pub if_early : (stop : DatabaseStop) (P Q : LinesStop → Type 0) → ((why : LinesStop) → P why → Q why) → IfEarly stop P → IfEarly stop Q
+if_early (Early why) P Q then known = then why known
+if_early (Refused fault) P Q then known = tt

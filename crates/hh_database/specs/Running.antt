@@ -1,5 +1,5 @@
 -- What the lines of a script come to over an office whose tables stand in a database.
-use Rattle.std.specs.Prelude.{ℕ, List, Option}
+use Rattle.std.specs.Prelude.{ℕ, Bool, List, Option, take}
 use Rattle.std.specs.Io.KnownBytes.{Appends}
 use Rattle.sqlite.specs.Effect.{Database}
 use Rattle.jiff.specs.declared.tz.timezone.TimeZone.{TimeZone}
@@ -17,8 +17,12 @@ use Rattle.hh_keyed_rows.specs.Values.{version}
 use Rattle.hh_sqlstore.specs.Holds.{Holds}
 use Rattle.hh_host.specs.Views.{HostView}
 use Rattle.hh_script.specs.Steps.{Step}
-use Rattle.hh_session.specs.Course.{ScriptDoes, cut_after}
+use Rattle.hh_session.specs.declared.run.LinesStop.{LinesStop}
+use Rattle.hh_session.specs.declared.run.LinesStop.TheVariants.{Line, Output}
+use Rattle.hh_session.specs.Course.{MayStopBehind, ScriptDoes, cut_after}
 use Rattle.hh_session.specs.Script.{IsMarketZone}
+use Rattle.hh_database.specs.declared.stop.DatabaseStop.{DatabaseStop}
+use Rattle.hh_database.specs.declared.stop.DatabaseStop.TheVariants.{Early, Refused}
 
 -- this holds of the moments at which local midnights fall in the zone of the market
 abbrev pub InMarket : (Midnights → Type 0) → Type 0
@@ -62,3 +66,27 @@ module _ (host : HostView) (fails : Type 0) (device : DeviceChange) (db : Databa
 
     abbrev pub CutsOver : Type 0
     CutsOver = InMarket (λ midnight. (s : State) → StandsFor midnight content s → CutsFrom s midnight)
+
+-- A host may show this of files and ports. The database may have failed only where this holds. This changes in an output, and this is
+-- what the database holds after the steps, which were not run to their end: the output failed; or they are strict, and those up to a line
+-- were run, and no more.
+module _ (host : HostView) (fails : Type 0) (device : DeviceChange) (db : Database) (strict : Bool) (steps : List Step) where
+  -- so it is from a new office with these settings
+  abbrev pub EarlyNew : Settings → LinesStop → Type 0
+  EarlyNew settings Output = CutsNew host fails device db steps settings
+  EarlyNew settings (Line number) = MayStopBehind strict steps number × WritesNew host fails device db (take number steps) settings
+
+  -- so it is from each state whose tables have this content
+  abbrev pub EarlyOver : Content → LinesStop → Type 0
+  EarlyOver content Output = CutsOver host fails device db steps content
+  EarlyOver content (Line number) = MayStopBehind strict steps number × WritesOver host fails device db (take number steps) content
+
+-- this holds of lines that were not run to their end
+abbrev pub IfEarly : DatabaseStop → (LinesStop → Type 0) → Type 0
+IfEarly (Early why) holds = holds why
+IfEarly (Refused fault) holds = Unit {0}
+
+-- no line was run, since the tables are refused
+abbrev pub IsRefused : DatabaseStop → Type 0
+IsRefused (Early why) = ⊥
+IsRefused (Refused fault) = Unit {0}

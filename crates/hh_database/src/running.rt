@@ -14,15 +14,16 @@ ghost use Rattle.hh_sqlstore.specs.Leaving.{LeavesDatabase};
 ghost use Rattle.hh_sqlstore.specs.Stores.{content_in};
 ghost use Rattle.hh_script.specs.Steps.{step_of};
 ghost use Rattle.hh_desk.specs.GivingUp.{CountsMore};
-ghost use Rattle.hh_database.specs.Running.{CutsNew, CutsOver, WritesNew, WritesOver};
+ghost use Rattle.hh_database.specs.Running.{EarlyNew, EarlyOver, IfEarly, IsRefused, WritesNew, WritesOver};
 
 use crate::over::run_over;
 use crate::stop::{AfterUse, DatabaseStop};
 use hh_day::reached_conserve;
-use hh_devices::{DeviceFailed, Sink};
+use hh_devices::Sink;
 use hh_host::Host;
 use hh_rows::Settings;
 use hh_script::ScriptLine;
+use hh_session::{LinesStop, Notes};
 use hh_sqlstore::{Rising, SqlTables};
 use hh_store::StoreFault;
 use sqlite::{Alter, Connection};
@@ -35,14 +36,15 @@ use std::alloc::Global;
 /// # Errors
 ///
 /// `Refused` where the tables are not made: nothing is written, and the database has what it had.
-/// `Output` where the output failed or took nothing in this call: the first of the lines were run, and a
-/// beginning of what they write went out. The connection comes back.
-pub fn run_in_new_database<S: Alter, H: Host, O: Sink>(
+/// `Early` as of `run_lines`. The connection comes back.
+pub fn run_in_new_database<S: Alter, H: Host, N: Notes, O: Sink>(
     alloc: Global,
     connection: Connection<S>,
     settings: Settings,
     host: &H,
     lines: &[ScriptLine<'_>],
+    strict: bool,
+    notes: &mut N,
     out: &mut O,
 ) -> Result<AfterUse<S>, (DatabaseStop, AfterUse<S>)>
     ensures done { IfOk result (λ after. IsTrue (state S.Store after.connection).is_open
@@ -50,15 +52,15 @@ pub fn run_in_new_database<S: Alter, H: Host, O: Sink>(
         (change O.taken O.failures out.old out.new) (state S.Store after.connection).committed
         (map step_of lines.now) settings) }
     ensures well { OnOk result (O.failures out.new ≡ O.failures out.old) }
-    ensures cut { IfErr result (λ e. e.0 ≡ DatabaseStop.Output
-        → IsTrue (state S.Store e.1.connection).is_open
-        → CutsNew (H.view host.now) (0 < e.1.refusals)
+    ensures cut { IfErr result (λ e. IfEarly e.0 (λ why.
+        IsTrue (state S.Store e.1.connection).is_open
+        → EarlyNew (H.view host.now) (0 < e.1.refusals)
         (change O.taken O.failures out.old out.new) (state S.Store e.1.connection).committed
-        (map step_of lines.now) settings) }
-    ensures failed { IfErr result (λ e. e.0 ≡ DatabaseStop.Output
+        strict (map step_of lines.now) settings why)) }
+    ensures failed { IfErr result (λ e. e.0 ≡ DatabaseStop.Early LinesStop.Output
         → Failed (O.failures out.old) (O.failures out.new)) }
-    ensures untouched { IfErr result (λ e. e.0 ≢ DatabaseStop.Output → out.new ≡ out.old) }
-    ensures undone { IfErr result (λ e. e.0 ≢ DatabaseStop.Output
+    ensures untouched { IfErr result (λ e. IsRefused e.0 → out.new ≡ out.old) }
+    ensures undone { IfErr result (λ e. IsRefused e.0
         → LeavesDatabase (state S.Store connection) (state S.Store e.1.connection)) }
     ensures foreign { (state S.Store connection).now.schema ≢ nothing
         → MatchResult result (λ _. ⊥) (λ e. e.0 ≡ DatabaseStop.Refused Store) }
@@ -66,7 +68,7 @@ pub fn run_in_new_database<S: Alter, H: Host, O: Sink>(
     // Does nothing, but carries a law for the proof: the settings are within their ranges.
     settings.are_settings();
     match SqlTables::create(alloc, connection, settings) {
-        Ok(tables) => run_over_database(alloc, tables, host, lines, out),
+        Ok(tables) => run_over_database(alloc, tables, host, lines, strict, notes, out),
         Err(refused) => Err(not_run(refused)),
     }
 }
@@ -78,11 +80,13 @@ pub fn run_in_new_database<S: Alter, H: Host, O: Sink>(
 /// # Errors
 ///
 /// As of `run_in_new_database`. `Refused` where the tables are not taken over.
-pub fn run_in_database<S: Rising, H: Host, O: Sink>(
+pub fn run_in_database<S: Rising, H: Host, N: Notes, O: Sink>(
     alloc: Global,
     connection: Connection<S>,
     host: &H,
     lines: &[ScriptLine<'_>],
+    strict: bool,
+    notes: &mut N,
     out: &mut O,
 ) -> Result<AfterUse<S>, (DatabaseStop, AfterUse<S>)>
     ensures done { (content : Content) → Holds version content (state S.Store connection).committed
@@ -92,21 +96,21 @@ pub fn run_in_database<S: Rising, H: Host, O: Sink>(
         (map step_of lines.now) content) }
     ensures well { OnOk result (O.failures out.new ≡ O.failures out.old) }
     ensures cut { (content : Content) → Holds version content (state S.Store connection).committed
-        → IfErr result (λ e. e.0 ≡ DatabaseStop.Output
-        → IsTrue (state S.Store e.1.connection).is_open
-        → CutsOver (H.view host.now) (0 < e.1.refusals)
+        → IfErr result (λ e. IfEarly e.0 (λ why.
+        IsTrue (state S.Store e.1.connection).is_open
+        → EarlyOver (H.view host.now) (0 < e.1.refusals)
         (change O.taken O.failures out.old out.new) (state S.Store e.1.connection).committed
-        (map step_of lines.now) content) }
-    ensures failed { IfErr result (λ e. e.0 ≡ DatabaseStop.Output
+        strict (map step_of lines.now) content why)) }
+    ensures failed { IfErr result (λ e. e.0 ≡ DatabaseStop.Early LinesStop.Output
         → Failed (O.failures out.old) (O.failures out.new)) }
-    ensures untouched { IfErr result (λ e. e.0 ≢ DatabaseStop.Output → out.new ≡ out.old) }
-    ensures left { IfErr result (λ e. e.0 ≢ DatabaseStop.Output
+    ensures untouched { IfErr result (λ e. IsRefused e.0 → out.new ≡ out.old) }
+    ensures left { IfErr result (λ e. IsRefused e.0
         → LeavesDatabase (state S.Store connection) (state S.Store e.1.connection)) }
     ensures foreign { (state S.Store connection).now.schema ≢ office
         → MatchResult result (λ _. ⊥) (λ e. e.0 ≡ DatabaseStop.Refused Store) }
 {
     match SqlTables::adopt(alloc, connection) {
-        Ok(tables) => run_over_database(alloc, tables, host, lines, out),
+        Ok(tables) => run_over_database(alloc, tables, host, lines, strict, notes, out),
         Err(refused) => Err(not_run(refused)),
     }
 }
@@ -130,13 +134,14 @@ fn not_run<S: Alter>(refused: (StoreFault, Connection<S>)) -> (DatabaseStop, Aft
 ///
 /// # Errors
 ///
-/// `Output` where the output failed or took nothing in this call: the first of the lines were run, and a
-/// beginning of what they write went out.
-pub fn run_over_database<S: Alter, H: Host, O: Sink>(
+/// `Early` as of `run_lines`.
+pub fn run_over_database<S: Alter, H: Host, N: Notes, O: Sink>(
     alloc: Global,
     tables: SqlTables<S>,
     host: &H,
     lines: &[ScriptLine<'_>],
+    strict: bool,
+    notes: &mut N,
     out: &mut O,
 ) -> Result<AfterUse<S>, (DatabaseStop, AfterUse<S>)>
     ensures done { IfOk result (λ after. IsTrue (state S.Store after.connection).is_open
@@ -145,13 +150,15 @@ pub fn run_over_database<S: Alter, H: Host, O: Sink>(
         (change O.taken O.failures out.old out.new) (state S.Store after.connection).committed
         (map step_of lines.now) (content_in S.Store tables)) }
     ensures well { OnOk result (O.failures out.new ≡ O.failures out.old) }
-    ensures cut { IfErr result (λ e. IsTrue (state S.Store e.1.connection).is_open
-        → CutsOver (H.view host.now)
+    ensures cut { IfErr result (λ e. IfEarly e.0 (λ why.
+        IsTrue (state S.Store e.1.connection).is_open
+        → EarlyOver (H.view host.now)
         (CountsMore tables.refusals e.1.refusals)
         (change O.taken O.failures out.old out.new) (state S.Store e.1.connection).committed
-        (map step_of lines.now) (content_in S.Store tables)) }
-    ensures output { IfErr result (λ e. e.0 ≡ DatabaseStop.Output) }
-    ensures failed { IfErr result (λ e. Failed (O.failures out.old) (O.failures out.new)) }
+        strict (map step_of lines.now) (content_in S.Store tables) why)) }
+    ensures run { IfErr result (λ e. IsRefused e.0 → ⊥) }
+    ensures failed { IfErr result (λ e. e.0 ≡ DatabaseStop.Early LinesStop.Output
+        → Failed (O.failures out.old) (O.failures out.new)) }
     ensures sure { MatchResult result
         (λ after. IsTrue (state S.Store after.connection).is_open
         → IsTrue (state S.Store tables.connection).is_open)
@@ -160,10 +167,10 @@ pub fn run_over_database<S: Alter, H: Host, O: Sink>(
 {
     // Does nothing, but carries a law for the proof: the tables of the machine's states add up.
     reached_conserve();
-    let (ran, tables) = run_over(alloc, tables, host, lines, out);
+    let (ran, tables) = run_over(alloc, tables, host, lines, strict, notes, out);
     let after = AfterUse::of(tables);
     match ran {
         Ok(()) => Ok(after),
-        Err(DeviceFailed) => Err((DatabaseStop::Output, after)),
+        Err(why) => Err((DatabaseStop::Early(why), after)),
     }
 }

@@ -6,6 +6,7 @@ ghost use Rattle.hh_keyed_rows.specs.Values.{version};
 ghost use Rattle.hh_sqlstore.specs.Holds.{Holds};
 ghost use Rattle.hh_sqlstore.specs.Stores.{content_in};
 
+use hh_session::LinesStop;
 use hh_sqlstore::SqlTables;
 use hh_store::StoreFault;
 use sqlite::{Alter, Connection};
@@ -49,6 +50,6 @@ impl<S: Alter> AfterUse<S> {
 pub enum DatabaseStop {
     /// The office's tables were not made or not taken over. Nothing was run.
     Refused(StoreFault),
-    /// The output failed or took nothing, and a beginning of the text went out.
-    Output,
+    /// The lines were not run to their end.
+    Early(LinesStop),
 }

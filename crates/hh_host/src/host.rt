@@ -8,7 +8,7 @@ ghost use Rattle.hh_host.specs.Views.{HostView};
 use crate::clock::ClockFailed;
 use hh_inputs::InputFault;
 use hh_sockets::{Listener, SocketFailed};
-use std::alloc::Global;
+use std::alloc::{AllocError, Global};
 
 /// What a command touches beside its outputs: files, ports of this machine's loopback, and the clock.
 pub trait Host {
@@ -40,4 +40,21 @@ pub trait Host {
 
     /// The moment now, in whole seconds since 1970-01-01T00:00:00Z. Nothing is known of it but its range.
     fn now(&self) -> Result<i64, ClockFailed>;
+
+    /// Why the file of a path cannot be read, in the system's words and on one line; nothing where
+    /// it can. The file is opened anew and a byte of it is read, so it tells how things stand now.
+    ///
+    /// # Errors
+    ///
+    /// Where memory was refused for the words.
+    fn why_unreadable(&self, alloc: Global, path: &str) -> Result<Option<String>, AllocError>;
+
+    /// Why a port of the loopback cannot be listened on, in the system's words and on one line;
+    /// nothing where it can. The port is listened on anew and at once let go, so it tells how
+    /// things stand now.
+    ///
+    /// # Errors
+    ///
+    /// Where memory was refused for the words.
+    fn why_not_listening(&self, alloc: Global, port: u16) -> Result<Option<String>, AllocError>;
 }

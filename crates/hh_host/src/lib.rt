@@ -3,6 +3,7 @@
 
 mod clock;
 mod host;
+mod reason;
 mod system;
 
 pub use clock::{Clock, ClockFailed, FixedClock};

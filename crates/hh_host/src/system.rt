@@ -4,9 +4,10 @@ ghost use Rattle.std.specs.Prelude.{⊤};
 
 use crate::clock::{Clock, ClockFailed};
 use crate::host::Host;
+use crate::reason::{try_file, try_port, words_of};
 use hh_inputs::{FileInputs, InputFault, Inputs, RuntimeFiles};
 use hh_sockets::{Loopback, RuntimeListener, RuntimeLoopback, SocketFailed};
-use std::alloc::Global;
+use std::alloc::{AllocError, Global};
 use std::net::Net;
 use std::rt::Files;
 use std::time::{SystemTime, UNIX_EPOCH};
@@ -37,6 +38,14 @@ impl<'a, R: Files + Net + std::rt::Clock> Host for RuntimeHost<'a, R> {
             return Err(ClockFailed);
         };
         i64::try_from(since.as_secs()).map_err(|_| ClockFailed)
+    }
+
+    fn why_unreadable(&self, alloc: Global, path: &str) -> Result<Option<String>, AllocError> {
+        words_of(alloc, try_file(self.0, path))
+    }
+
+    fn why_not_listening(&self, alloc: Global, port: u16) -> Result<Option<String>, AllocError> {
+        words_of(alloc, try_port(self.0, port))
     }
 }
 

@@ -1,5 +1,5 @@
 -- What is known of some paths is nothing more than what is known of none.
-use Rattle.std.proofs.Common.{List, inl, inr, Result}
+use Rattle.std.proofs.Common.{Bool, List, inl, inr, Result}
 use Rattle.std.specs.Prelude.{⊤}
 use Rattle.hh_devices.specs.DeviceChanges.{DeviceChange}
 use Rattle.hh_rows.specs.declared.settings.Settings.{Settings}
@@ -25,8 +25,8 @@ module _ (places : Places) (path : List _) (device : DeviceChange) where
   ends_any host step result (inr (inl (is, found, same))) = inr (inl (is, tt, same))
   ends_any host step result (inr (inr (present, (found, left, ended, opens, closes, is, more)))) = inr (inr (tt, (found, left, ended, tt, tt, is, more)))
 
-  pub script_any : (host : HostView) (file : List _) (result : Result Unit ScriptPathStop) → EndsScript host device file places path result
-      → EndsScript host device file any_places path result
-  script_any host file result (inl (fault, refused, is, same)) = inl (fault, tt, is, same)
-  script_any host file result (inr (inl (is, found, same))) = inr (inl (is, tt, same))
-  script_any host file result (inr (inr (present, (found, left, ended, opens, closes, is, more)))) = inr (inr (tt, (found, left, ended, tt, tt, is, more)))
+  pub script_any : (host : HostView) (file : List _) (strict : Bool) (result : Result Unit ScriptPathStop) → EndsScript host device file strict places path result
+      → EndsScript host device file strict any_places path result
+  script_any host file strict result (inl (fault, refused, is, same)) = inl (fault, tt, is, same)
+  script_any host file strict result (inr (inl (is, found, same))) = inr (inl (is, tt, same))
+  script_any host file strict result (inr (inr (present, (found, left, ended, opens, closes, is, more)))) = inr (inr (tt, (found, left, ended, tt, tt, is, more)))

@@ -1,5 +1,5 @@
 -- What comes of a script that is run over an office at a path.
-use Rattle.std.specs.Prelude.{◌≡◌, ◌⊎◌, ⊤, true, false, ℕ, List, Result, Ok, Err, IsTrue}
+use Rattle.std.specs.Prelude.{◌≡◌, ◌⊎◌, ⊤, Bool, true, false, ℕ, List, Result, Ok, Err, IsTrue}
 use Rattle.sqlite.specs.Effect.{Database}
 use Rattle.hh_devices.specs.DeviceChanges.{DeviceChange}
 use Rattle.hh_states.specs.Content.{Content}
@@ -12,7 +12,8 @@ use Rattle.hh_script.specs.Steps.{Step}
 use Rattle.hh_session.specs.declared.script.ScriptStop.{ScriptStop}
 use Rattle.hh_session.specs.declared.script.ScriptStop.TheVariants as script
 use Rattle.hh_session.specs.Script.{IsScript, IsUnread}
-use Rattle.hh_database.specs.Running.{CutsOver, WritesOver}
+use Rattle.hh_session.specs.ScriptStops.{IsUnrun}
+use Rattle.hh_database.specs.Running.{EarlyOver, WritesOver}
 use Rattle.hh_kept_office.specs.declared.scripts.ScriptPathStop.{ScriptPathStop}
 use Rattle.hh_kept_office.specs.declared.scripts.ScriptPathStop.TheVariants.{NoFile, Script, Unopened}
 use Rattle.hh_kept_office.specs.Places.{Connected, LeavesConnected, Places, TakesConnected}
@@ -21,6 +22,11 @@ use Rattle.hh_kept_office.specs.Places.{Connected, LeavesConnected, Places, Take
 abbrev pub script_at : Result Unit ScriptStop → Result Unit ScriptPathStop
 script_at (Ok x) = Ok x
 script_at (Err why) = Err (Script why)
+
+-- no line of the script was run
+abbrev pub IsUnrunAt : ScriptPathStop → Type 0
+IsUnrunAt (Script why) = IsUnrun why
+IsUnrunAt _ = Unit {0}
 
 -- the database holds the tables of an office
 abbrev pub HoldsOffice : Database → Type 0
@@ -33,23 +39,23 @@ module _ (host : HostView) (device : DeviceChange) (file : List ℕ) where
   IsOfNoOffice why = (fault : StoreFault) × (why ≡ script.Refused (store_fault fault))
 
   -- The script was run over the office in a database that was opened so and left so: from each state whose tables the database held, if the
-  -- connection is open in the end. Or the output failed. Or nothing was run and nothing was written: the tables were not taken over, and the
-  -- database has what it had; or they were, and the script cannot be had.
-  abbrev pub RunsFile : Connected → Connected → Result Unit ScriptStop → Type 0
-  RunsFile found left (Ok x) = (steps : List Step) × IsScript host file steps
+  -- connection is open in the end. Or its lines were not run to their end. Or nothing was run and nothing was written: the tables were not
+  -- taken over, and the database has what it had; or they were, and the script cannot be had.
+  abbrev pub RunsFile : Bool → Connected → Connected → Result Unit ScriptStop → Type 0
+  RunsFile strict found left (Ok x) = (steps : List Step) × IsScript host file steps
       × ((content : Content) → Holds version content found.committed → IsTrue left.is_open → WritesOver host ⊤ device left.committed steps content)
-  RunsFile found left (Err script.Output) = (steps : List Step) × IsScript host file steps
-      × ((content : Content) → Holds version content found.committed → IsTrue left.is_open → CutsOver host ⊤ device left.committed steps content)
-  RunsFile found left (Err why) =
+  RunsFile strict found left (Err (script.Early why)) = (steps : List Step) × IsScript host file steps
+      × ((content : Content) → Holds version content found.committed → IsTrue left.is_open → EarlyOver host ⊤ device left.committed strict steps content why)
+  RunsFile strict found left (Err why) =
       ((IsOfNoOffice why × LeavesConnected found left)
       ⊎ ((IsTrue left.is_open → HoldsOffice found.committed) × IsUnread host file why × TakesConnected found left))
       × (device.new ≡ device.old)
 
   -- A script was to be run at a path: nothing was opened; or nothing was found there; or something was, it was opened, and the script was run.
-  abbrev pub EndsScript : Places → List ℕ → Result Unit ScriptPathStop → Type 0
-  EndsScript places path result =
+  abbrev pub EndsScript : Bool → Places → List ℕ → Result Unit ScriptPathStop → Type 0
+  EndsScript strict places path result =
       ((fault : StoreFault) × places.refuses path fault × (result ≡ Err (Unopened fault)) × (device.new ≡ device.old))
       ⊎ (((result ≡ Err NoFile) × places.finds path false × (device.new ≡ device.old))
       ⊎ (places.finds path true
       × ((found left : Connected) × (ended : Result Unit ScriptStop)
-      × places.opens path found × places.closes path left × (result ≡ script_at ended) × RunsFile found left ended)))
+      × places.opens path found × places.closes path left × (result ≡ script_at ended) × RunsFile strict found left ended)))

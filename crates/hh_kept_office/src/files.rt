@@ -45,6 +45,14 @@ pub(crate) fn remove(rt: &HostRuntime, path: &str) {
     }
 }
 
+/// Whether a path leads to a plain file, and not to a pipe or a device.
+pub(crate) fn is_file(rt: &HostRuntime, path: &str) -> bool {
+    match fs::metadata(rt, path) {
+        Ok(found) => found.is_file(),
+        Err(_) => false,
+    }
+}
+
 /// Whether what lies at a path is no database, so that it is not opened: it is no file, or it doesn't begin
 /// as a database does. A file with a log may be one whose making was interrupted.
 pub(crate) fn is_no_database(rt: &HostRuntime, path: &str) -> Result<bool, StoreFault> {

@@ -2,6 +2,7 @@
 #![tactic(auto)]
 
 mod errands;
+mod facts;
 mod files;
 mod making;
 mod over;
@@ -11,6 +12,7 @@ mod scripts;
 mod system;
 
 pub use errands::run_errand_in_database;
+pub use facts::{Lateness, lateness_at, missing_readings_at};
 pub use making::make_office_in_database;
 pub use path::{PathStop, make_office_at, run_errand_at};
 pub use place::DatabaseHost;

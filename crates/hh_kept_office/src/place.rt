@@ -5,6 +5,7 @@ ghost use Rattle.hh_store.specs.declared.store_fault.StoreFault.{StoreFault};
 
 use hh_host::Host;
 use hh_store::StoreFault;
+use std::alloc::Global;
 
 /// A host with databases at paths.
 pub trait DatabaseHost: Host {
@@ -63,4 +64,9 @@ pub trait DatabaseHost: Host {
     /// file stays.
     fn discard(&self, path: &str, connection: Self::Connection)
         ensures { discards self.now path.now connection };
+
+    /// The first bytes of the file of a path, so many or all of them, where it is a file that can be read more
+    /// than once. There are none of a pipe or a terminal, which may wait for ever, and none where memory is
+    /// refused. No contract knows them.
+    fn read_again(&self, alloc: Global, path: &str, most: usize) -> Option<Vec<u8>>;
 }

@@ -2,7 +2,7 @@
 
 ghost use Rattle.std.specs.Prelude.{⊤, IfErr, IfOk};
 
-use crate::files::{connect, fault_of, has_log, is_no_database, make_file, remove};
+use crate::files::{connect, fault_of, has_log, is_file, is_no_database, make_file, remove};
 use crate::place::DatabaseHost;
 use hh_host::{ClockFailed, Host, RuntimeHost};
 use hh_inputs::InputFault;
@@ -10,7 +10,7 @@ use hh_sockets::{RuntimeListener, SocketFailed};
 use hh_store::StoreFault;
 use sqlite::{Connection, FileStore};
 use sqlite_std_file::File;
-use std::alloc::Global;
+use std::alloc::{AllocError, Global};
 use std::fs;
 use std::io::ErrorKind;
 use std::net::Net;
@@ -40,6 +40,14 @@ impl<'a, R: Files + Net + Clock> Host for Machine<'a, R> {
 
     fn now(&self) -> Result<i64, ClockFailed> {
         RuntimeHost(self.runtime).now()
+    }
+
+    fn why_unreadable(&self, alloc: Global, path: &str) -> Result<Option<String>, AllocError> {
+        RuntimeHost(self.runtime).why_unreadable(alloc, path)
+    }
+
+    fn why_not_listening(&self, alloc: Global, port: u16) -> Result<Option<String>, AllocError> {
+        RuntimeHost(self.runtime).why_not_listening(alloc, port)
     }
 }
 
@@ -110,5 +118,13 @@ impl<R: Files + Net + Clock> DatabaseHost for Machine<'_, R> {
         // While the connection is open, no other process has opened these files.
         remove(self.databases, path);
         let _ = connection.close();
+    }
+
+    fn read_again(&self, alloc: Global, path: &str, most: usize) -> Option<Vec<u8>> {
+        if is_file(self.databases, path) {
+            self.read(alloc, path, most).ok()
+        } else {
+            None
+        }
     }
 }

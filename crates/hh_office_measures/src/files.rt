@@ -7,6 +7,7 @@ use hh_measures::{MeasureStop, Watch};
 use hh_names::Refusal;
 use hh_rows::Settings;
 use hh_script::ScriptLine;
+use hh_session::NoNotes;
 use hh_sqlstore::Rising;
 use hh_store::StoreFault;
 use sqlite::{Connection, Error, ErrorCode, FileStore, Options};
@@ -62,8 +63,17 @@ fn run_over<S: Rising, H: Host, O: Sink>(
     out: &mut O,
 ) -> (Result<(), MeasureStop>, Connection<S>) {
     let ran = match settings {
-        Some(settings) => run_in_new_database(alloc, connection, settings, host, lines, out),
-        None => run_in_database(alloc, connection, host, lines, out),
+        Some(settings) => run_in_new_database(
+            alloc,
+            connection,
+            settings,
+            host,
+            lines,
+            false,
+            &mut NoNotes,
+            out,
+        ),
+        None => run_in_database(alloc, connection, host, lines, false, &mut NoNotes, out),
     };
     match ran {
         Ok(
@@ -96,7 +106,7 @@ fn stopped(stop: DatabaseStop) -> MeasureStop {
     match stop {
         DatabaseStop::Refused(StoreFault::Memory) => MeasureStop::Refused(Refusal::Memory),
         DatabaseStop::Refused(StoreFault::Store) => MeasureStop::Refused(Refusal::Store),
-        DatabaseStop::Output => MeasureStop::Output,
+        DatabaseStop::Early(_) => MeasureStop::Output,
     }
 }
 

@@ -6,5 +6,5 @@ use Rattle.hh_script.specs.declared.script.ScriptFault.TheVariants.{Off, Memory}
 
 -- the fault is the first line that is off its form, or memory was refused
 abbrev pub IsFaultOf : List ℕ → ScriptFault → Type 0
-IsFaultOf bytes (Off line) = (script_value bytes ≡ None) × (first_off bytes ≡ Some line)
+IsFaultOf bytes (Off line word) = (script_value bytes ≡ None) × (first_off bytes ≡ Some line)
 IsFaultOf bytes Memory = Unit {0}

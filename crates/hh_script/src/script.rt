@@ -5,6 +5,7 @@ ghost use Rattle.hh_script.specs.Steps.{step_of};
 ghost use Rattle.hh_script.specs.Script.{lines_of, script_value};
 ghost use Rattle.hh_script.specs.Faults.{IsFaultOf};
 
+use crate::off_word::OffWord;
 use crate::script_line::ScriptLine;
 use crate::words::place_of;
 use std::alloc::Global;
@@ -12,8 +13,8 @@ use std::alloc::Global;
 /// Why a script is not read (profile).
 #[derive(Clone, Copy, Debug, PartialEq, Eq)]
 pub enum ScriptFault {
-    /// The first line that is off its form, numbered from 1.
-    Off { line: usize },
+    /// The first line that is off its form, numbered from 1, and the word by which it is.
+    Off { line: usize, word: OffWord },
     /// Memory was refused.
     Memory,
 }
@@ -23,8 +24,9 @@ pub enum ScriptFault {
 ///
 /// # Errors
 ///
-/// `Off` with the number of the first line that is off its form or has a word off its grammar; an empty
-/// line is off its form. `Memory` may come in the place of any answer.
+/// `Off` with the number of the first line that is off its form or has a word off its grammar, and
+/// with the first such word; an empty line is off its form. `Memory` may come in the place of any
+/// answer.
 pub fn read_script<'a>(alloc: Global, bytes: &'a [u8]) -> Result<Vec<ScriptLine<'a>>, ScriptFault>
     ensures lines { IfOk result (λ lines.
         script_value bytes.entry.now ≡ Some (map step_of lines.items)) }
@@ -43,6 +45,7 @@ pub fn read_script<'a>(alloc: Global, bytes: &'a [u8]) -> Result<Vec<ScriptLine<
             None => {
                 return Err(ScriptFault::Off {
                     line: lines.len() + 1,
+                    word: OffWord::of(line),
                 });
             }
         }

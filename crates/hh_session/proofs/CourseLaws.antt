@@ -1,8 +1,9 @@
 -- What becomes of the lines of a script, by what its parts do.
-use Rattle.std.proofs.Common.{◌≡◌, ℕ, ◌+◌, ◌<◌, ◌≤◌, List, [], ◌∷◌, ◌++◌, length, map, take, refl, sym, ap, subst, ◌∙◌, Option, Some, None, Result, Ok, Err, inl, inr, arith}
-use Rattle.std.specs.Prelude.{OnErr, OnOk, slice_index_or}
+use Rattle.std.proofs.Common.{◌≡◌, ℕ, ◌+◌, ◌<◌, ◌≤◌, Bool, List, [], ◌∷◌, ◌++◌, length, map, take, refl, sym, ap, subst, ◌∙◌, Option, Some, None, Result, Ok, Err, inl, inr, arith}
+use Rattle.std.specs.Result.{IsErrAnd}
+use Rattle.std.specs.Prelude.{IfErr, IsTrue, OnErr, OnOk, slice_index_or}
 use Rattle.std.specs.Io.KnownBytes.{Appends}
-use Rattle.std.proofs.lemmas.List.{append-nil, append_assoc, map-append, take-map, take_more}
+use Rattle.std.proofs.lemmas.List.{append-nil, append_assoc, length-map, map-append, take-map, take_more}
 use Rattle.hh_devices.specs.DeviceChanges.{DeviceChange, change}
 use Rattle.hh_devices.specs.Devices.{AppendsFront}
 use Rattle.jiff.specs.Words.{plain_zone}
@@ -20,7 +21,9 @@ use Rattle.hh_desk.specs.declared.told.Told.{Told}
 use Rattle.hh_desk.specs.Doing.{LeavesRefused, LoadDoes, RunDoes, StandsNow, no_memory}
 use Rattle.hh_desk.specs.GivingUp.{CountsMore}
 use Rattle.hh_desk.proofs.GivingUpLaws.{more_at_first, more_later}
-use Rattle.hh_session.specs.Course.{FirstConserve, IsLineOf, RunsScript, ScriptConserves, ScriptDoes, StepDoes, StopsScript, cut_last, cut_short}
+use Rattle.hh_session.specs.declared.run.LinesStop.{LinesStop}
+use Rattle.hh_session.specs.declared.run.LinesStop.TheVariants.{Line, Output}
+use Rattle.hh_session.specs.Course.{EarlyConserves, EndsEarly, FirstConserve, IsLineOf, RunsScript, ScriptConserves, ScriptDoes, StepDoes, StopsScript, cut_last, cut_short}
 use Rattle.hh_session.specs.steps.Course.{BeginsLine, RunsStep, StopsStep, TellsLine}
 use Rattle.hh_session.specs.Lines.{told_line}
 use Rattle.hh_session.proofs.GivingUpLaws.{script_then, step_then}
@@ -140,6 +143,24 @@ module _ (host : HostView) (old now new : OfficeView) (first mid last : ℕ)
           (new_stands, new_zone ∙ zone),
         )
 
+-- The office was read after some lines, and its store had counted so many refusals at first, so many after them, and so many later.
+module _ (host : HostView) (old new heard : OfficeView) (same : heard ≡ new) (first last later : ℕ) (device : DeviceChange) (steps : List Step)
+    (up : StandsForSome old → first ≤ last) (further : StandsForSome new → last ≤ later) (runs : RunsScript host (CountsMore first last) old new device steps) where
+  -- it is as after the lines
+  pub heard_script : RunsScript host (CountsMore first later) old heard device steps
+  heard_script s stands =
+      let (text, t, does, went, now) = runs s stands in (
+        text,
+        t,
+        script_then (CountsMore first last) (CountsMore first later) (more_at_first first last later (up (s, stands)) (further (t, now.0))) host (midnight_of old) s steps text t does,
+        went,
+        subst (λ o. StandsNow old o t) (sym same) now,
+      )
+
+  -- the count does not fall
+  pub heard_up : StandsForSome old → first ≤ later
+  heard_up (s, stands) = let (text, t, does, went, now) = runs s stands in omega (arith, up (s, stands), further (t, now.0))
+
 -- The tables of a state that an office stands for add up.
 module _ (conserve : ReachedConserve) (host : HostView) (fails : Type 0) (old new : OfficeView) (device : DeviceChange) (steps : List Step) where
   sums_now : (t : State) → StandsNow old new t → Conserves (midnight_of old) t new.content
@@ -150,8 +171,14 @@ module _ (conserve : ReachedConserve) (host : HostView) (fails : Type 0) (old ne
   pub script_conserves : RunsScript host fails old new device steps → ScriptConserves host fails old new steps
   script_conserves runs s stands = let (text, t, does, went, now) = runs s stands in (text, t, does, sums_now t now)
 
-  pub first_conserve : StopsScript host fails old new device steps → FirstConserve host fails old new steps
+  first_conserve : StopsScript host fails old new device steps → FirstConserve host fails old new steps
   first_conserve stops s stands = let (count, text, t, does, cut, now) = stops s stands in (count, text, t, does, sums_now t now)
+
+-- The steps were not run to their end, and the tables of the state after those that were add up.
+module _ (conserve : ReachedConserve) (host : HostView) (fails : Type 0) (old new : OfficeView) (device : DeviceChange) where
+  pub early_conserves : (strict : Bool) (steps : List Step) (why : LinesStop) → EndsEarly host fails old new device strict steps why → EarlyConserves host fails old new steps why
+  early_conserves strict steps Output stops = first_conserve conserve host fails old new device steps stops
+  early_conserves strict steps (Line number) (may, runs) = script_conserves conserve host fails old new device (take number steps) runs
 
 -- ---- results
 
@@ -177,7 +204,49 @@ next_step lines i line inside is = subst (λ l. map step_of (take (i + 1) lines)
 pub first_steps : (lines : List ScriptLine) (n : ℕ) → take n (map step_of lines) ≡ map step_of (take n lines)
 first_steps lines n = take-map step_of n lines
 
+-- The lines so far were run, then one more, and then the office was read. Its store had counted so many refusals at first, so many after
+-- the lines so far, so many after the one more, and so many later.
+module _ (host : HostView) (old now new heard : OfficeView) (first mid last later : ℕ)
+    {S : Type 0} (taken : S → Option (List ℕ)) (failures : S → ℕ) (before between after : S)
+    (lines : List ScriptLine) (i : ℕ) (line : ScriptLine) (inside : i < length lines) (is : line ≡ slice_index_or lines i line)
+    (ran : RunsScript host (CountsMore first mid) old now (change taken failures before between) (map step_of (take i lines)))
+    (up : StandsForSome old → first ≤ mid) (further : StandsForSome now → mid ≤ last)
+    (runs : RunsStep host (CountsMore mid last) now new (change taken failures between after) (step_of line))
+    (same : heard ≡ new) (more : StandsForSome new → last ≤ later) where
+  ran_more : RunsScript host (CountsMore first last) old new (change taken failures before after) (map step_of (take (i + 1) lines))
+  ran_more =
+      subst (RunsScript host (CountsMore first last) old new (change taken failures before after)) (sym (next_step lines i line inside is))
+      (script_more host old now new first mid last taken failures before between after (map step_of (take i lines)) (step_of line) ran up further runs)
+
+  ran_up : StandsForSome old → first ≤ last
+  ran_up = up_more host old now new first mid last taken failures before between after (map step_of (take i lines)) (step_of line) ran up further
+
+  pub line_heard : RunsScript host (CountsMore first later) old heard (change taken failures before after) (map step_of (take (i + 1) lines))
+  line_heard = heard_script host old new heard same first last later (change taken failures before after) (map step_of (take (i + 1) lines)) ran_up more ran_more
+
+  pub line_heard_up : StandsForSome old → first ≤ later
+  line_heard_up = heard_up host old new heard same first last later (change taken failures before after) (map step_of (take (i + 1) lines)) ran_up more ran_more
+
+  -- strict lines stop behind it
+  pub line_stops : (strict : Bool) → IsTrue strict
+      → EndsEarly host (CountsMore first later) old heard (change taken failures before after) strict (map step_of lines) (Line (i + 1))
+  line_stops strict asked =
+      let many : length (map step_of lines) ≡ length lines = length-map lines step_of in (
+        (asked, omega arith, omega (arith, inside, many)),
+        subst (RunsScript host (CountsMore first later) old heard (change taken failures before after)) (sym (first_steps lines (i + 1))) line_heard,
+      )
+
 -- a fault that is passed on
 pub passed_failure : {T E : Type 0} (P : Type 0) (result : Result T E) → P → OnErr result P
 passed_failure P (Ok x) p = tt
 passed_failure P (Err e) p = p
+
+-- lines that were not run to their end, as a result says
+pub ended_early : {E : Type 0} (P Q : E → Type 0) (result : Result (Unit {0}) E) → ((why : E) → result ≡ Err why → P why → Q why) → IfErr result P → IfErr result Q
+ended_early P Q (Ok x) f p = tt
+ended_early P Q (Err why) f p = f why refl p
+
+-- the same of a result whose reason is known
+pub ended_by : {E : Type 0} (P : E → Type 0) (result : Result (Unit {0}) E) (why : E) → IsErrAnd result (λ s. s ≡ why) → P why → IfErr result P
+ended_by P (Ok x) why is p = tt
+ended_by P (Err s) why is p = subst P (sym is) p

@@ -4,7 +4,7 @@ use Rattle.std.proofs.lemmas.Bool.{ltb-false, ltb-true}
 use Rattle.std.proofs.lemmas.List.{length-take-le, take_all}
 use Rattle.jiff.specs.declared.tz.timezone.TimeZone.{TimeZone}
 use Rattle.jiff.specs.Words.{plain_zone}
-use Rattle.hh_devices.specs.DeviceChanges.{DeviceChange}
+use Rattle.hh_devices.specs.DeviceChanges.{DeviceChange, HasFailed}
 use Rattle.hh_time.specs.Days.{Midnights}
 use Rattle.hh_time.specs.Zone.{midnight_in}
 use Rattle.hh_rows.specs.Values.{AreSettings}
@@ -18,8 +18,10 @@ use Rattle.hh_host.specs.Views.{HostView}
 use Rattle.hh_script.specs.Steps.{Step}
 use Rattle.hh_desk.specs.Doing.{StandsNow}
 use Rattle.hh_desk.specs.GivingUp.{CountsMore}
-use Rattle.hh_session.specs.Course.{RunsScript, ScriptDoes, StopsScript, cut_after}
-use Rattle.hh_session.specs.Script.{IsMarketZone, NewOfficeCuts, NewOfficeWrites}
+use Rattle.hh_session.specs.declared.run.LinesStop.{LinesStop}
+use Rattle.hh_session.specs.declared.run.LinesStop.TheVariants.{Line, Output}
+use Rattle.hh_session.specs.Course.{EndsEarly, RunsScript, ScriptDoes, StopsScript, cut_after}
+use Rattle.hh_session.specs.Script.{IsMarketZone, NewOfficeCuts, NewOfficeEnds, NewOfficeWrites}
 use Rattle.hh_session.proofs.GivingUpLaws.{script_then}
 
 -- So many bytes were read of a file, or all of it.
@@ -48,7 +50,7 @@ module _ (most : ℕ) (all bytes : List ℕ) (front : bytes ≡ take (most + 1) 
 
 -- A new office is run.
 module _ (host : HostView) (settings : Settings) (fine : AreSettings settings) (conserve : ReachedConserve) (zone : TimeZone) (market : IsMarketZone zone)
-    (content : Content) (stands : (midnight : Midnights) → content ≡ tables_of midnight (empty_state settings)) (new : OfficeView) (device : DeviceChange) (steps : List Step) where
+    (content : Content) (stands : (midnight : Midnights) → content ≡ tables_of midnight (empty_state settings)) (new : OfficeView) (device : DeviceChange) where
   abbrev first : OfficeView
   first = record { zone = zone; content = content }
 
@@ -63,12 +65,17 @@ module _ (host : HostView) (settings : Settings) (fine : AreSettings settings) (
   never_fails ran text t does =
       script_then (CountsMore 0 0) ⊥ (λ more. absurd (omega (arith, more (omega arith)))) host (midnight_of first) (empty_state settings) ran text t does
 
-  pub new_office_writes : RunsScript host (CountsMore 0 0) first new device steps → NewOfficeWrites host settings device steps
-  new_office_writes runs =
+  pub new_office_writes : (steps : List Step) → RunsScript host (CountsMore 0 0) first new device steps → NewOfficeWrites host settings device steps
+  new_office_writes steps runs =
       let (text, t, does, went, now) = runs (empty_state settings) (at_first settings fine, stands (midnight_of first)) in
       (text, (zone, market, (t, never_fails steps text t does, sums_now t now)), went)
 
-  pub new_office_cuts : StopsScript host (CountsMore 0 0) first new device steps → NewOfficeCuts host settings device steps
-  new_office_cuts stops =
+  new_office_cuts : (steps : List Step) → StopsScript host (CountsMore 0 0) first new device steps → NewOfficeCuts host settings device steps
+  new_office_cuts steps stops =
       let (count, text, t, does, went, now) = stops (empty_state settings) (at_first settings fine, stands (midnight_of first)) in
       (count, text, (zone, market, (t, never_fails (cut_after count steps) text t does, sums_now t now)), went)
+
+  pub new_office_ends : (strict : Bool) (steps : List Step) (why : LinesStop) → (why ≡ Output → HasFailed device)
+      → EndsEarly host (CountsMore 0 0) first new device strict steps why → NewOfficeEnds host settings device strict steps why
+  new_office_ends strict steps Output failed stops = (failed refl, new_office_cuts steps stops)
+  new_office_ends strict steps (Line number) failed (may, runs) = (may, new_office_writes (take number steps) runs)

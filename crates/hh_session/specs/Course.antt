@@ -1,5 +1,5 @@
 -- What becomes of an office, and what is written, while the lines of a script are run.
-use Rattle.std.specs.Prelude.{◌≡◌, ℕ, List, [], ◌∷◌, ◌++◌, take}
+use Rattle.std.specs.Prelude.{◌≡◌, ◌≤◌, ◌<◌, ℕ, Bool, List, [], ◌∷◌, ◌++◌, length, take, IsTrue}
 use Rattle.std.specs.Io.KnownBytes.{Appends}
 use Rattle.hh_devices.specs.DeviceChanges.{DeviceChange}
 use Rattle.hh_devices.specs.Devices.{AppendsFront}
@@ -12,6 +12,8 @@ use Rattle.hh_host.specs.Views.{HostView}
 use Rattle.hh_script.specs.Steps.{LoadFile, MakeRun, Serve, Step, WriteReport}
 use Rattle.hh_desk.specs.declared.told.Told.{Told}
 use Rattle.hh_desk.specs.Doing.{LoadDoes, RunDoes, StandsNow}
+use Rattle.hh_session.specs.declared.run.LinesStop.{LinesStop}
+use Rattle.hh_session.specs.declared.run.LinesStop.TheVariants.{Line, Output}
 use Rattle.hh_session.specs.Lines.{told_line}
 use Rattle.hh_session.specs.Reporting.{ReportDoes}
 use Rattle.hh_session.specs.Serving.{ServeDoes, awaits_none}
@@ -53,6 +55,10 @@ cut_last (step ∷ other ∷ steps) = step ∷ cut_last (other ∷ steps)
 abbrev pub cut_after : ℕ → List Step → List Step
 cut_after count steps = cut_last (take count steps)
 
+-- strict lines may stop behind this one of some steps
+abbrev pub MayStopBehind : Bool → List Step → ℕ → Type 0
+MayStopBehind strict steps number = IsTrue strict × (0 < number) × (number ≤ length steps)
+
 -- What changes in an output. The store may have failed only where this holds.
 module _ (host : HostView) (fails : Type 0) (old new : OfficeView) (device : DeviceChange) where
   -- steps were run from each state that the office stood for, and what they write went out
@@ -64,6 +70,11 @@ module _ (host : HostView) (fails : Type 0) (old new : OfficeView) (device : Dev
   abbrev pub StopsScript : List Step → Type 0
   StopsScript steps = (s : State) → Stands old s
       → (count : ℕ) × (text : List ℕ) × (t : State) × ScriptDoes host fails (midnight_of old) s (cut_after count steps) text t × AppendsFront device.old device.new text × StandsNow old new t
+
+  -- The steps were not run to their end: the output failed; or they are strict, and those up to a line were run, and no more.
+  abbrev pub EndsEarly : Bool → List Step → LinesStop → Type 0
+  EndsEarly strict steps Output = StopsScript steps
+  EndsEarly strict steps (Line number) = MayStopBehind strict steps number × RunsScript (take number steps)
 
 -- A host may show this of files and ports, and the store may have failed only where this holds. An office was the one before and is the
 -- other after the lines.
@@ -78,3 +89,8 @@ module _ (host : HostView) (fails : Type 0) (old new : OfficeView) where
   abbrev pub FirstConserve : List Step → Type 0
   FirstConserve steps = (s : State) → Stands old s
       → (count : ℕ) × (text : List ℕ) × (t : State) × ScriptDoes host fails (midnight_of old) s (cut_after count steps) text t × Conserves (midnight_of old) t new.content
+
+  -- so it is in the state after the steps that were run
+  abbrev pub EarlyConserves : List Step → LinesStop → Type 0
+  EarlyConserves steps Output = FirstConserve steps
+  EarlyConserves steps (Line number) = ScriptConserves (take number steps)

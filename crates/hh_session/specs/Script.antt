@@ -1,5 +1,5 @@
 -- How the script in a file is run over a new office.
-use Rattle.std.specs.Prelude.{◌≡◌, ℕ, ◌<◌, ◌≤◌, List, length, Some, None, codes}
+use Rattle.std.specs.Prelude.{◌≡◌, ℕ, ◌<◌, ◌≤◌, Bool, List, length, take, Some, None, codes}
 use Rattle.std.specs.Io.KnownBytes.{Appends}
 use Rattle.jiff.specs.Placed.{IsPosixZone}
 use Rattle.jiff.specs.declared.tz.timezone.TimeZone.{TimeZone}
@@ -17,9 +17,11 @@ use Rattle.hh_day.specs.Headline.{Conserves}
 use Rattle.hh_host.specs.Views.{HostView}
 use Rattle.hh_script.specs.Script.{first_off, script_value}
 use Rattle.hh_script.specs.Steps.{Step}
+use Rattle.hh_session.specs.declared.run.LinesStop.{LinesStop}
+use Rattle.hh_session.specs.declared.run.LinesStop.TheVariants.{Line, Output}
 use Rattle.hh_session.specs.declared.script.ScriptStop.{ScriptStop}
 use Rattle.hh_session.specs.declared.script.ScriptStop.TheVariants as stop
-use Rattle.hh_session.specs.Course.{ScriptDoes, cut_after}
+use Rattle.hh_session.specs.Course.{MayStopBehind, ScriptDoes, cut_after}
 
 -- the most bytes that a script may have: 16 MiB
 abbrev pub most_script_bytes : ℕ
@@ -41,14 +43,19 @@ module _ (host : HostView) (settings : Settings) where
       (t : State) × ScriptDoes host ⊥ midnight (empty_state settings) steps text t × Conserves midnight t (tables_of midnight t))
 
   -- What changes in an output.
-  module _ (device : DeviceChange) (steps : List Step) where
+  module _ (device : DeviceChange) where
     -- steps were run over a new office, and what they write went out
-    abbrev pub NewOfficeWrites : Type 0
-    NewOfficeWrites = (text : List ℕ) × NewOfficeDoes steps text × Appends device.old device.new text
+    abbrev pub NewOfficeWrites : List Step → Type 0
+    NewOfficeWrites steps = (text : List ℕ) × NewOfficeDoes steps text × Appends device.old device.new text
 
     -- the first of the steps were run, the last of them was cut short, and a beginning of what they write went out
-    abbrev pub NewOfficeCuts : Type 0
-    NewOfficeCuts = (count : ℕ) × (text : List ℕ) × NewOfficeDoes (cut_after count steps) text × AppendsFront device.old device.new text
+    abbrev pub NewOfficeCuts : List Step → Type 0
+    NewOfficeCuts steps = (count : ℕ) × (text : List ℕ) × NewOfficeDoes (cut_after count steps) text × AppendsFront device.old device.new text
+
+    -- The steps were not run to their end: the output failed; or they are strict, and those up to a line were run, and no more.
+    abbrev pub NewOfficeEnds : Bool → List Step → LinesStop → Type 0
+    NewOfficeEnds strict steps Output = HasFailed device × NewOfficeCuts steps
+    NewOfficeEnds strict steps (Line number) = MayStopBehind strict steps number × NewOfficeWrites (take number steps)
 
 -- A script lies at a path of a host.
 module _ (host : HostView) (path : List ℕ) where
@@ -59,10 +66,10 @@ module _ (host : HostView) (path : List ℕ) where
   -- why the steps are not known: the file cannot be read, is too large, or has a line off its form; or memory was refused
   abbrev pub IsUnread : ScriptStop → Type 0
   IsUnread stop.File = host.reads path None
-  IsUnread (stop.Off line) = (all : List ℕ) × host.reads path (Some all) × (script_value all ≡ None) × (first_off all ≡ Some line)
+  IsUnread (stop.Off line word) = (all : List ℕ) × host.reads path (Some all) × (script_value all ≡ None) × (first_off all ≡ Some line)
   IsUnread (stop.Refused fault) = ByRefusal fault.refusal (fault ≡ memory_fault)
       ((fault ≡ plain_fault FileTooLarge) × ((all : List ℕ) × host.reads path (Some all) × (most_script_bytes < length all)))
-  IsUnread stop.Output = ⊥
+  IsUnread (stop.Early why) = ⊥
 
   -- An office has these settings, and this changes in an output.
   module _ (settings : Settings) (device : DeviceChange) where
@@ -70,7 +77,7 @@ module _ (host : HostView) (path : List ℕ) where
     abbrev pub WritesScript : Type 0
     WritesScript = (steps : List Step) × IsScript steps × NewOfficeWrites host settings device steps
 
-    -- why the script is not run: it is not read, and nothing went out; or the output failed while it was run
-    abbrev pub StopsAt : ScriptStop → Type 0
-    StopsAt stop.Output = HasFailed device × ((steps : List Step) × IsScript steps × NewOfficeCuts host settings device steps)
-    StopsAt why = (device.new ≡ device.old) × IsUnread why
+    -- why the script is not run, or not to its end: it is not read, and nothing went out; or it ended early
+    abbrev pub StopsAt : Bool → ScriptStop → Type 0
+    StopsAt strict (stop.Early why) = (steps : List Step) × IsScript steps × NewOfficeEnds host settings device strict steps why
+    StopsAt strict why = (device.new ≡ device.old) × IsUnread why

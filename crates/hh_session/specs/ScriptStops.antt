@@ -5,7 +5,7 @@ use Rattle.hh_names.specs.Faults.{memory_fault}
 use Rattle.hh_script.specs.declared.script.ScriptFault.{ScriptFault}
 use Rattle.hh_script.specs.declared.script.ScriptFault.TheVariants as script
 use Rattle.hh_session.specs.declared.script.ScriptStop.{ScriptStop}
-use Rattle.hh_session.specs.declared.script.ScriptStop.TheVariants.{File, Off, Refused}
+use Rattle.hh_session.specs.declared.script.ScriptStop.TheVariants.{Early, File, Off, Refused}
 
 -- a script whose file gives no bytes
 abbrev pub unread_stop : InputFault → ScriptStop
@@ -14,5 +14,10 @@ unread_stop input.Memory = Refused memory_fault
 
 -- a script that is not read
 abbrev pub fault_stop : ScriptFault → ScriptStop
-fault_stop (script.Off line) = Off line
+fault_stop (script.Off line word) = Off line word
 fault_stop script.Memory = Refused memory_fault
+
+-- no line of the script was run
+abbrev pub IsUnrun : ScriptStop → Type 0
+IsUnrun (Early why) = ⊥
+IsUnrun _ = Unit {0}

@@ -9,6 +9,7 @@ ghost use Rattle.hh_script.specs.Reports.{report_of};
 ghost use Rattle.hh_desk.specs.GivingUp.{HasRefused};
 ghost use Rattle.hh_session.specs.steps.Reporting.{BeginsReport, RunsReport};
 
+use crate::notes::Came;
 use crate::tell::tell_refused;
 use hh_devices::{DeviceFailed, Sink};
 use hh_office::{Office, ReportStop};
@@ -17,12 +18,13 @@ use hh_store::Tables;
 use std::alloc::Global;
 
 /// Writes a report, or the line of its refusal. One that is given up begins, and the line follows it.
+/// Answers what came of it.
 pub(crate) fn write_report<T: Tables, O: Sink>(
     alloc: Global,
     office: &mut Office<'_, T>,
     line: &ReportLine<'_>,
     out: &mut O,
-) -> Result<(), DeviceFailed>
+) -> Result<Came, DeviceFailed>
     ensures done { IsSure T.is_open office.new
         → OnOk result (RunsReport (HasRefused T.refusals office.old office.new)
         office.old.seen (change O.taken O.failures out.old out.new) (report_of line.now)) }
@@ -36,7 +38,7 @@ pub(crate) fn write_report<T: Tables, O: Sink>(
     ensures sure { IsSure T.is_open office.new → IsSure T.is_open office.old }
 {
     match office.report(line.key, &line.report, out) {
-        Ok(()) => Ok(()),
+        Ok(()) => Ok(Came::Done { late: 0 }),
         Err(ReportStop::Refused(fault)) => tell_refused(alloc, fault, out),
         Err(ReportStop::Write) => Err(DeviceFailed),
     }

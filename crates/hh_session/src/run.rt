@@ -1,15 +1,16 @@
 //! The lines of a script, run one after the other.
 
-ghost use Rattle.std.specs.Prelude.{◌≡◌, map, OnErr, OnOk};
+ghost use Rattle.std.specs.Prelude.{◌≡◌, map, IfErr, IsErrOf, OnErr, OnOk};
 ghost use Rattle.hh_devices.specs.DeviceChanges.{change};
 ghost use Rattle.hh_devices.specs.Devices.{Failed};
 ghost use Rattle.hh_office.specs.Views.{IsSure};
 ghost use Rattle.hh_serve.specs.Serves.{CountsUp};
 ghost use Rattle.hh_script.specs.Steps.{step_of};
 ghost use Rattle.hh_desk.specs.GivingUp.{HasRefused};
-ghost use Rattle.hh_session.specs.Course.{FirstConserve, RunsScript, ScriptConserves, StopsScript};
+ghost use Rattle.hh_session.specs.Course.{EndsEarly, EarlyConserves, RunsScript, ScriptConserves};
 ghost use Rattle.hh_session.specs.steps.Course.{RunsStep, StopsStep};
 
+use crate::notes::{Came, Notes};
 use crate::reporting::write_report;
 use crate::serving::serve_connections;
 use crate::tell::tell;
@@ -22,59 +23,88 @@ use hh_script::ScriptLine;
 use hh_store::Tables;
 use std::alloc::Global;
 
+/// Why the lines of a script are not run to their end.
+#[derive(Clone, Copy, Debug, PartialEq, Eq)]
+pub enum LinesStop {
+    /// The output failed or took nothing, and a beginning of the text went out.
+    Output,
+    /// This line, numbered from 1, was refused or met a fault, and the lines were to stop there.
+    Line { number: usize },
+}
+
+impl From<DeviceFailed> for LinesStop {
+    ghost use Rattle.hh_session.specs.declared.run.LinesStop.TheVariants.{Output};
+
+    ghost from_gives = { λ _ stop. stop ≡ Output };
+
+    fn from(_failed: DeviceFailed) -> LinesStop {
+        LinesStop::Output
+    }
+}
+
 /// Runs the lines of a script over an office, one after the other, and writes what comes of each
 /// (profile): `applied=N late=M`; `run DATE KIND periods N accounts N residual T postings N`; a
 /// report; `listening 127.0.0.1:PORT`, before connections are served; a refusal's text; `fault file`
-/// where the file cannot be read, and `fault socket` where the port is not listened on.
+/// where the file cannot be read, and `fault socket` where the port is not listened on. What came of a
+/// line is heard once it is written. Strict lines stop behind the first that is refused or meets a fault.
 ///
 /// # Errors
 ///
-/// The output failed or took nothing in this call. The first of the lines were run, and a beginning of
+/// `Output` where the output failed or took nothing in this call: the first of the lines were run, and a
+/// beginning of what they write went out. `Line` where strict lines stop: those up to there were run, and
 /// what they write went out.
-pub fn run_lines<T: Tables, H: Host, O: Sink>(
+pub fn run_lines<T: Tables, H: Host, N: Notes, O: Sink>(
     alloc: Global,
     office: &mut Office<'_, T>,
     host: &H,
     lines: &[ScriptLine<'_>],
+    strict: bool,
+    notes: &mut N,
     out: &mut O,
-) -> Result<(), DeviceFailed>
+) -> Result<(), LinesStop>
     ensures done { IsSure T.is_open office.new
         → OnOk result (RunsScript (H.view host.now)
         (HasRefused T.refusals office.old office.new) office.old.seen office.new.seen
         (change O.taken O.failures out.old out.new) (map step_of lines.now)) }
     ensures well { OnOk result (O.failures out.new ≡ O.failures out.old) }
     ensures cut { IsSure T.is_open office.new
-        → OnErr result (StopsScript (H.view host.now)
+        → IfErr result (EndsEarly (H.view host.now)
         (HasRefused T.refusals office.old office.new) office.old.seen office.new.seen
-        (change O.taken O.failures out.old out.new) (map step_of lines.now)) }
+        (change O.taken O.failures out.old out.new) strict (map step_of lines.now)) }
     ensures sums { IsSure T.is_open office.new
         → OnOk result (ScriptConserves (H.view host.now)
         (HasRefused T.refusals office.old office.new) office.old.seen office.new.seen
         (map step_of lines.now)) }
     ensures sums_cut { IsSure T.is_open office.new
-        → OnErr result (FirstConserve (H.view host.now)
+        → IfErr result (EarlyConserves (H.view host.now)
         (HasRefused T.refusals office.old office.new) office.old.seen office.new.seen
         (map step_of lines.now)) }
-    ensures failed { OnErr result (Failed (O.failures out.old) (O.failures out.new)) }
+    ensures failed { IsErrOf result LinesStop.Output
+        → Failed (O.failures out.old) (O.failures out.new) }
     ensures refusals_up { IsSure T.is_open office.new → CountsUp T.refusals office.old office.new }
     ensures sure { IsSure T.is_open office.new → IsSure T.is_open office.old }
 {
     // Does nothing, but carries a law for the proof: the tables of the machine's states add up.
     reached_conserve();
-    for line in lines.iter() {
-        run_line(alloc, office, host, line, out)?;
+    for (index, line) in lines.iter().enumerate() {
+        let number = index + 1;
+        let came = run_line(alloc, office, host, line, out)?;
+        notes.hear(alloc, office, host, number, line, came);
+        if strict && !came.is_done() {
+            return Err(LinesStop::Line { number });
+        }
     }
     Ok(())
 }
 
-/// Runs a line of a script over an office, and writes what comes of it.
+/// Runs a line of a script over an office, writes what comes of it, and answers that.
 fn run_line<T: Tables, H: Host, O: Sink>(
     alloc: Global,
     office: &mut Office<'_, T>,
     host: &H,
     line: &ScriptLine<'_>,
     out: &mut O,
-) -> Result<(), DeviceFailed>
+) -> Result<Came, DeviceFailed>
     ensures done { IsSure T.is_open office.new
         → OnOk result (RunsStep (H.view host.now)
         (HasRefused T.refusals office.old office.new) office.old.seen office.new.seen

@@ -1,21 +1,22 @@
 //! The script in a file, run over a new office.
 
-ghost use Rattle.std.specs.Prelude.{◌≡◌, ◌≢◌, ◌≤◌, Some, length, map, IfErr, IfOk, OnErr, OnOk};
+ghost use Rattle.std.specs.Prelude.{◌≡◌, ◌≤◌, Some, length, map, IfErr, IfOk, OnOk};
 ghost use Rattle.hh_devices.specs.DeviceChanges.{change};
-ghost use Rattle.hh_devices.specs.Devices.{Failed};
 ghost use Rattle.hh_script.specs.Steps.{step_of};
-ghost use Rattle.hh_session.specs.Script.{IsUnread, NewOfficeCuts, NewOfficeWrites, StopsAt, WritesScript, most_script_bytes};
+ghost use Rattle.hh_session.specs.Script.{IsUnread, NewOfficeEnds, NewOfficeWrites, StopsAt, WritesScript, most_script_bytes};
+ghost use Rattle.hh_session.specs.ScriptStops.{IsUnrun};
 
-use crate::run::run_lines;
+use crate::notes::Notes;
+use crate::run::{LinesStop, run_lines};
 use hh_day::reached_conserve;
-use hh_devices::{DeviceFailed, Sink};
+use hh_devices::Sink;
 use hh_host::Host;
 use hh_inputs::InputFault;
 use hh_names::{Fault, Refusal};
 use hh_office::Office;
 use hh_plain_tables::PlainTables;
 use hh_rows::Settings;
-use hh_script::{ScriptFault, ScriptLine, read_script};
+use hh_script::{OffWord, ScriptFault, ScriptLine, read_script};
 use hh_time::london;
 use std::alloc::Global;
 
@@ -27,12 +28,12 @@ pub const MOST_SCRIPT_BYTES: usize = 16_777_216;
 pub enum ScriptStop {
     /// Its file cannot be read. Nothing was run.
     File,
-    /// The first line that is off its form, numbered from 1. Nothing was run.
-    Off { line: usize },
+    /// The first line that is off its form, numbered from 1, and its first word that is. Nothing was run.
+    Off { line: usize, word: OffWord },
     /// It has too many bytes (10), or memory was refused (90). Nothing was run.
     Refused(Fault),
-    /// The output failed or took nothing, and a beginning of the text went out.
-    Output,
+    /// Its lines were not run to their end.
+    Early(LinesStop),
 }
 
 impl From<InputFault> for ScriptStop {
@@ -57,39 +58,50 @@ impl From<ScriptFault> for ScriptStop {
 
     fn from(fault: ScriptFault) -> ScriptStop {
         match fault {
-            ScriptFault::Off { line } => ScriptStop::Off { line },
+            ScriptFault::Off { line, word } => ScriptStop::Off { line, word },
             ScriptFault::Memory => ScriptStop::Refused(Fault::of(Refusal::Memory)),
         }
     }
 }
 
+impl From<LinesStop> for ScriptStop {
+    ghost use Rattle.std.specs.Prelude.{◌≡◌};
+    ghost use Rattle.hh_session.specs.declared.script.ScriptStop.TheVariants.{Early};
+
+    ghost from_gives = { λ why stop. stop ≡ Early why };
+
+    fn from(why: LinesStop) -> ScriptStop {
+        ScriptStop::Early(why)
+    }
+}
+
 /// Runs the script in a file over a new office with these settings, whose tables are in memory, and
-/// writes what comes of each of its lines (profile). All lines are read before any is run.
+/// writes what comes of each of its lines (profile), as `run_lines` does. All lines are read before any is
+/// run.
 ///
 /// # Errors
 ///
-/// `File`, `Off` and `Refused`, with nothing written; `Output` where the output failed or took nothing
-/// in this call.
-pub fn run_script<H: Host, O: Sink>(
+/// `File`, `Off` and `Refused`, with nothing written; `Early` as of `run_lines`.
+pub fn run_script<H: Host, N: Notes, O: Sink>(
     alloc: Global,
     settings: Settings,
     host: &H,
     path: &str,
+    strict: bool,
+    notes: &mut N,
     out: &mut O,
 ) -> Result<(), ScriptStop>
     ensures done { OnOk result (WritesScript (H.view host.now) path.now settings
         (change O.taken O.failures out.old out.new)) }
     ensures well { OnOk result (O.failures out.new ≡ O.failures out.old) }
     ensures stopped { IfErr result (StopsAt (H.view host.now) path.now settings
-        (change O.taken O.failures out.old out.new)) }
-    ensures untouched { IfErr result (λ stop. stop ≢ ScriptStop.Output → out.new ≡ out.old) }
+        (change O.taken O.failures out.old out.new) strict) }
+    ensures untouched { IfErr result (λ stop. IsUnrun stop → out.new ≡ out.old) }
 {
     let bytes = read_script_file(alloc, host, path)?;
     let lines = read_script(alloc, &bytes)?;
-    match run_new_office(alloc, settings, host, &lines, out) {
-        Ok(()) => Ok(()),
-        Err(DeviceFailed) => Err(ScriptStop::Output),
-    }
+    run_new_office(alloc, settings, host, &lines, strict, notes, out)?;
+    Ok(())
 }
 
 /// The bytes of a script's file, where it has not too many.
@@ -101,7 +113,7 @@ pub fn read_script_file<H: Host>(alloc: Global, host: &H, path: &str) -> Result<
     ensures whole { IfOk result (λ bytes. (H.view host.now).reads path.now (Some bytes.items)) }
     ensures small { IfOk result (λ bytes. length bytes.items ≤ most_script_bytes) }
     ensures unread { IfErr result (IsUnread (H.view host.now) path.now) }
-    ensures known { IfErr result (λ stop. stop ≢ ScriptStop.Output) }
+    ensures unrun { IfErr result IsUnrun }
 {
     let bytes = host.read(alloc, path, MOST_SCRIPT_BYTES + 1)?;
     if bytes.len() > MOST_SCRIPT_BYTES {
@@ -110,27 +122,28 @@ pub fn read_script_file<H: Host>(alloc: Global, host: &H, path: &str) -> Result<
     Ok(bytes)
 }
 
-/// Runs lines over a new office, whose tables are in memory.
-fn run_new_office<H: Host, O: Sink>(
+/// Runs lines over a new office, whose tables are in memory, as `run_lines` does.
+fn run_new_office<H: Host, N: Notes, O: Sink>(
     alloc: Global,
     settings: Settings,
     host: &H,
     lines: &[ScriptLine<'_>],
+    strict: bool,
+    notes: &mut N,
     out: &mut O,
-) -> Result<(), DeviceFailed>
+) -> Result<(), LinesStop>
     ensures done { OnOk result (NewOfficeWrites (H.view host.now) settings
         (change O.taken O.failures out.old out.new)
         (map step_of lines.now)) }
     ensures well { OnOk result (O.failures out.new ≡ O.failures out.old) }
-    ensures cut { OnErr result (NewOfficeCuts (H.view host.now) settings
-        (change O.taken O.failures out.old out.new)
+    ensures stopped { IfErr result (NewOfficeEnds (H.view host.now) settings
+        (change O.taken O.failures out.old out.new) strict
         (map step_of lines.now)) }
-    ensures failed { OnErr result (Failed (O.failures out.old) (O.failures out.new)) }
 {
     // Do nothing, but carry laws for the proof: the settings are within their ranges, and the tables of the
     // machine's states add up.
     settings.are_settings();
     reached_conserve();
     let mut office = Office::new(alloc, PlainTables::new(alloc, settings), london());
-    run_lines(alloc, &mut office, host, lines, out)
+    run_lines(alloc, &mut office, host, lines, strict, notes, out)
 }

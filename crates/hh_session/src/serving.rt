@@ -8,6 +8,7 @@ ghost use Rattle.hh_serve.specs.Serves.{CountsUp};
 ghost use Rattle.hh_desk.specs.GivingUp.{HasRefused};
 ghost use Rattle.hh_session.specs.steps.Serving.{RunsServing, StopsServing};
 
+use crate::notes::Came;
 use hh_desk::{listening_line, serve_each};
 use hh_devices::{DeviceFailed, Sink, write_whole};
 use hh_host::{FixedClock, Host};
@@ -18,14 +19,14 @@ use hh_store::Tables;
 use std::alloc::Global;
 
 /// Listens on a port of the loopback, tells which, and then serves so many connections at the line's
-/// moment, one after the other. A port that is not listened on is told in its place.
+/// moment, one after the other. A port that is not listened on is told in its place. Answers what came of it.
 pub(crate) fn serve_connections<T: Tables, H: Host, O: Sink>(
     alloc: Global,
     office: &mut Office<'_, T>,
     host: &H,
     line: &ServeLine,
     out: &mut O,
-) -> Result<(), DeviceFailed>
+) -> Result<Came, DeviceFailed>
     ensures done { IsSure T.is_open office.new
         → OnOk result (RunsServing (H.view host.now)
         (HasRefused T.refusals office.old office.new) office.old.seen office.new.seen
@@ -46,8 +47,11 @@ pub(crate) fn serve_connections<T: Tables, H: Host, O: Sink>(
                 moment: line.moment,
             };
             serve_each(alloc, office, &mut listener, &mut clock, line.count);
-            Ok(())
+            Ok(Came::Done { late: 0 })
         }
-        Err(SocketFailed) => write_whole(out, b"fault socket\n"),
+        Err(SocketFailed) => {
+            write_whole(out, b"fault socket\n")?;
+            Ok(Came::NoSocket)
+        }
     }
 }

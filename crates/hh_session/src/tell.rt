@@ -10,6 +10,7 @@ ghost use Rattle.hh_desk.specs.Doing.{no_memory};
 ghost use Rattle.hh_session.specs.Lines.{told_line};
 ghost use Rattle.hh_session.specs.steps.Course.{BeginsLine, TellsLine};
 
+use crate::notes::Came;
 use hh_desk::{Told, loaded_line, run_line};
 use hh_devices::{DeviceFailed, Sink, write_whole};
 use hh_names::Fault;
@@ -17,21 +18,33 @@ use hh_requests::Reply;
 use std::alloc::{AllocError, Global};
 
 /// Tells what a line came to. Where memory is refused for the line of a refusal, that is told in its
+/// place; the others take none. Answers what it came to.
+pub(crate) fn tell<O: Sink>(alloc: Global, told: &Told, out: &mut O) -> Result<Came, DeviceFailed>
+    ensures told { OnOk result (TellsLine (change O.taken O.failures out.old out.new) told.now) }
+    ensures well { OnOk result (O.failures out.new ≡ O.failures out.old) }
+    ensures cut { OnErr result (BeginsLine (change O.taken O.failures out.old out.new) told.now) }
+    ensures failed { OnErr result (Failed (O.failures out.old) (O.failures out.new)) }
+{
+    write_told(alloc, told, out)?;
+    Ok(Came::of(told))
+}
+
+/// Writes what a line came to. Where memory is refused for the line of a refusal, that is told in its
 /// place; the others take none.
-pub(crate) fn tell<O: Sink>(alloc: Global, told: &Told, out: &mut O) -> Result<(), DeviceFailed>
+fn write_told<O: Sink>(alloc: Global, told: &Told, out: &mut O) -> Result<(), DeviceFailed>
     ensures told { OnOk result (TellsLine (change O.taken O.failures out.old out.new) told.now) }
     ensures well { OnOk result (O.failures out.new ≡ O.failures out.old) }
     ensures cut { OnErr result (BeginsLine (change O.taken O.failures out.old out.new) told.now) }
     ensures failed { OnErr result (Failed (O.failures out.old) (O.failures out.new)) }
 {
     match told {
-        Told::Replied(reply) => tell_reply(alloc, reply, out),
+        Told::Replied(reply) => write_reply(alloc, reply, out),
         Told::Unreadable => write_whole(out, b"fault file\n"),
     }
 }
 
-/// Tells a reply, as `tell` does.
-fn tell_reply<O: Sink>(alloc: Global, reply: &Reply, out: &mut O) -> Result<(), DeviceFailed>
+/// Writes a reply, as `write_told` does.
+fn write_reply<O: Sink>(alloc: Global, reply: &Reply, out: &mut O) -> Result<(), DeviceFailed>
     ensures told { OnOk result (TellsLine (change O.taken O.failures out.old out.new)
         (Replied reply.now)) }
     ensures well { OnOk result (O.failures out.new ≡ O.failures out.old) }
@@ -42,19 +55,19 @@ fn tell_reply<O: Sink>(alloc: Global, reply: &Reply, out: &mut O) -> Result<(), 
     match reply {
         Reply::Loaded(loaded) => write_whole(out, &loaded_line(*loaded)),
         Reply::Ran { run, summary } => write_whole(out, &run_line(run, summary)),
-        Reply::Refused(fault) => tell_refused(alloc, *fault, out),
+        Reply::Refused(fault) => write_refusal(alloc, fault, out),
         Reply::Account(_) | Reply::Balance { .. } | Reply::Contracts(_) | Reply::Runs(_) => {
             write_whole(out, b"")
         }
     }
 }
 
-/// Tells a refusal, or that of memory where memory is refused for its line.
+/// Tells a refusal, or that of memory where memory is refused for its line. Answers what it came to.
 pub(crate) fn tell_refused<O: Sink>(
     alloc: Global,
     fault: Fault,
     out: &mut O,
-) -> Result<(), DeviceFailed>
+) -> Result<Came, DeviceFailed>
     ensures told { OnOk result (TellsLine (change O.taken O.failures out.old out.new)
         (Replied (Refused fault))) }
     ensures well { OnOk result (O.failures out.new ≡ O.failures out.old) }
@@ -62,14 +75,27 @@ pub(crate) fn tell_refused<O: Sink>(
         (Replied (Refused fault))) }
     ensures failed { OnErr result (Failed (O.failures out.old) (O.failures out.new)) }
 {
+    write_refusal(alloc, &fault, out)?;
+    Ok(Came::Refused(fault))
+}
+
+/// Writes a refusal, or that of memory where memory is refused for its line.
+fn write_refusal<O: Sink>(alloc: Global, fault: &Fault, out: &mut O) -> Result<(), DeviceFailed>
+    ensures told { OnOk result (TellsLine (change O.taken O.failures out.old out.new)
+        (Replied (Refused fault.now))) }
+    ensures well { OnOk result (O.failures out.new ≡ O.failures out.old) }
+    ensures cut { OnErr result (BeginsLine (change O.taken O.failures out.old out.new)
+        (Replied (Refused fault.now))) }
+    ensures failed { OnErr result (Failed (O.failures out.old) (O.failures out.new)) }
+{
     match format!(in alloc; "{fault}\n") {
         Ok(line) => write_whole(out, line.as_bytes()),
-        Err(AllocError) => tell_no_memory(out),
+        Err(AllocError) => write_no_memory(out),
     }
 }
 
-/// Tells that memory was refused. Takes none.
-fn tell_no_memory<O: Sink>(out: &mut O) -> Result<(), DeviceFailed>
+/// Writes that memory was refused. Takes none.
+fn write_no_memory<O: Sink>(out: &mut O) -> Result<(), DeviceFailed>
     ensures told { OnOk result (Appends (O.taken out.old) (O.taken out.new)
         (told_line no_memory)) }
     ensures well { OnOk result (O.failures out.new ≡ O.failures out.old) }

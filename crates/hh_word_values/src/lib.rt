@@ -2,12 +2,14 @@
 #![tactic(auto)]
 
 mod connections;
+mod cut_text;
 mod keys;
 mod moments;
 mod paths;
 mod reports;
 
 pub use connections::{MOST_CONNECTIONS, read_count, read_port};
+pub use cut_text::CutText;
 pub use keys::read_shown_key;
 pub use moments::read_moment;
 pub use paths::{read_path, read_path_name};

@@ -1,2 +1,4 @@
 pub mod GrammarFacts
+pub mod KeyFacts
 pub mod LineFacts
+pub mod PlainFacts

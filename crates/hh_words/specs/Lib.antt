@@ -1,6 +1,9 @@
 pub mod Database
 pub mod Given
 pub mod Grammar
+pub mod KeyFiles
 pub mod Lines
+pub mod Options
+pub mod PlainWords
 pub mod Tasks
 pub mod steps

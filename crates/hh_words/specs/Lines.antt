@@ -1,5 +1,5 @@
 -- What a line of words asks for.
-use Rattle.std.specs.Prelude.{◌≡◌, List, [], ◌∷◌, Option, Some, None, codes, string_bytes, if◌then◌else◌}
+use Rattle.std.specs.Prelude.{◌≡◌, ◌++◌, Bool, false, List, [], ◌∷◌, Option, Some, None, codes, string_bytes, if◌then◌else◌}
 use Rattle.std.specs.Str.{bytes_eq}
 use Rattle.clap.specs.Words.{Row, Text, first_of, fault_of, subcommand_of}
 use Rattle.clap.specs.Kinds.{Kinds}
@@ -85,9 +85,22 @@ line_value words = faultless (fault_of settle_app words) (given_line (subcommand
 
 -- how the program is used, in short
 abbrev pub usage : Text
-usage = codes "usage: settle period METER CONTRACTS PRICE\n       settle script --operator-key KEY [--lead-minutes N] FILE\n       settle script --db PATH FILE\n       settle init --db PATH --operator-key KEY [--lead-minutes N]\n       settle load --db PATH --key KEY [--at SECONDS] KIND FILE\n       settle run --db PATH --key KEY [--at SECONDS] DATE KIND\n       settle report --db PATH --key KEY FORM [DATE KIND]\n       settle serve --db PATH --port N [--count N] [--at SECONDS]\n"
+usage = codes "usage: settle period METER CONTRACTS PRICE\n       settle script --operator-key KEY [--lead-minutes N] [--strict] FILE\n       settle script --db PATH [--strict] FILE\n       settle init --db PATH --operator-key KEY [--lead-minutes N]\n       settle load --db PATH --key KEY [--at SECONDS] KIND FILE\n       settle run --db PATH --key KEY [--at SECONDS] DATE KIND\n       settle report --db PATH --key KEY FORM [DATE KIND]\n       settle serve --db PATH --port N [--count N] [--at SECONDS]\n       settle --version\n       --key-file PATH and --operator-key-file PATH take the key from a file\n       with any command: [--explain]\n"
 
--- words in which `clap` finds no fault have a value off its grammar, and what tells them wrong is how the program is used
+-- a text that ends with how the program is used
+abbrev pub EndsWithUsage : Text → Type 0
+EndsWithUsage text = (front : Text) × (text ≡ front ++ usage)
+
+-- words in which `clap` finds no fault have a value off its grammar, and what tells them wrong ends with how the program is used
 abbrev pub TellsUsage : List Text → WordsFault → Type 0
-TellsUsage words (Wrong text) = fault_of settle_app words ≡ [] → string_bytes text ≡ usage
+TellsUsage words (Wrong text) = fault_of settle_app words ≡ [] → EndsWithUsage (string_bytes text)
 TellsUsage words Memory = Unit {0}
+
+-- what the program tells of its version
+abbrev pub version : Text
+version = codes "settle 1.0.0, tables of version 1\n"
+
+-- words that ask for it: `--version` alone, behind the program's own name
+abbrev pub asks_version : List Text → Bool
+asks_version (name ∷ word ∷ []) = bytes_eq word (codes "--version")
+asks_version _ = false

@@ -3,11 +3,12 @@
 ghost use Rattle.std.specs.Prelude.{◌≡◌, ◌≢◌, IfOk, IfErr, map, string_bytes, option_map, None, Some};
 ghost use Rattle.clap.specs.Words.{found_of, kind_of, rows_of, subcommand_rows_of};
 ghost use Rattle.clap.specs.declared.error.kind.ErrorKind.TheVariants.{OutOfMemory};
-ghost use Rattle.hh_words.specs.Lines.{TellsUsage, given_command, given_database, given_line, given_period, given_script, line_of, line_value};
+ghost use Rattle.hh_words.specs.Lines.{TellsUsage, asks_version, given_command, given_database, given_line, given_period, given_script, line_of, line_value};
 
 use crate::database::{DatabaseTask, DatabaseWords, database_task};
 use crate::given::{settings_of, value_of};
 use crate::grammar::settle_grammar;
+use crate::wrong::wrong_text;
 use clap::ArgMatches;
 use clap::error::ErrorKind;
 use hh_rows::Settings;
@@ -15,13 +16,19 @@ use std::alloc::{AllocError, Global};
 
 /// How the program is used, in short.
 pub const USAGE: &str = "usage: settle period METER CONTRACTS PRICE
-       settle script --operator-key KEY [--lead-minutes N] FILE
-       settle script --db PATH FILE
+       settle script --operator-key KEY [--lead-minutes N] [--strict] FILE
+       settle script --db PATH [--strict] FILE
        settle init --db PATH --operator-key KEY [--lead-minutes N]
        settle load --db PATH --key KEY [--at SECONDS] KIND FILE
        settle run --db PATH --key KEY [--at SECONDS] DATE KIND
        settle report --db PATH --key KEY FORM [DATE KIND]
-       settle serve --db PATH --port N [--count N] [--at SECONDS]\n";
+       settle serve --db PATH --port N [--count N] [--at SECONDS]
+       settle --version
+       --key-file PATH and --operator-key-file PATH take the key from a file
+       with any command: [--explain]\n";
+
+/// What the program tells of its version.
+pub const VERSION: &str = "settle 1.0.0, tables of version 1\n";
 
 /// What the program is to do.
 #[derive(Clone, Copy, Debug, PartialEq, Eq)]
@@ -73,7 +80,9 @@ impl From<AllocError> for WordsFault {
 /// # Errors
 ///
 /// `Wrong` where the words are no command by `clap`'s grammar, or call for help, with a text of
-/// `clap`'s; and where a value is off its grammar, with `USAGE`. `Memory` where memory was refused.
+/// `clap`'s; and where a value is off its grammar, or what `script` or `report` is given doesn't go
+/// together, with a line that tells it, an empty line and `USAGE`. `Memory` where memory was
+/// refused.
 pub fn read_words<'a>(alloc: Global, words: &'a [String]) -> Result<Command<'a>, WordsFault>
     ensures command { IfOk result (λ command.
         line_value (map string_bytes words.entry.now) ≡ Some (line_of command)) }
@@ -85,10 +94,18 @@ pub fn read_words<'a>(alloc: Global, words: &'a [String]) -> Result<Command<'a>,
     match settle.try_get_matches_from(words) {
         Ok(matches) => match command_of(&matches) {
             Some(command) => Ok(command),
-            None => Err(WordsFault::Wrong(String::from_str(alloc, USAGE)?)),
+            None => Err(WordsFault::Wrong(wrong_text(alloc, &matches)?)),
         },
         Err(error) => Err(fault_of(alloc, &error)),
     }
+}
+
+/// Whether the words ask for the program's version: `--version` alone, the program's own name in
+/// front.
+pub fn asks_version(words: &[String]) -> bool
+    ensures { result ≡ asks_version (map string_bytes words.now) }
+{
+    words.len() == 2 && words[1].as_str() == "--version"
 }
 
 /// What the program makes of an error of `clap`.

@@ -1,5 +1,5 @@
 -- What comes of a script that is run over an office whose tables were taken over.
-use Rattle.std.specs.Prelude.{◌≡◌, ⊤, ℕ, List, Result, Ok, Err, IsTrue}
+use Rattle.std.specs.Prelude.{◌≡◌, ⊤, Bool, ℕ, List, Result, Ok, Err, IsTrue}
 use Rattle.hh_devices.specs.DeviceChanges.{DeviceChange}
 use Rattle.hh_states.specs.Content.{Content}
 use Rattle.hh_store.specs.StoreFaults.{store_fault}
@@ -10,21 +10,21 @@ use Rattle.hh_session.specs.declared.script.ScriptStop.TheVariants as script
 use Rattle.hh_session.specs.Script.{IsScript, IsUnread}
 use Rattle.hh_database.specs.declared.stop.DatabaseStop.{DatabaseStop}
 use Rattle.hh_database.specs.declared.stop.DatabaseStop.TheVariants as database
-use Rattle.hh_database.specs.Running.{CutsOver, WritesOver}
+use Rattle.hh_database.specs.Running.{EarlyOver, WritesOver}
 use Rattle.hh_kept_office.specs.Places.{Connected, LeavesConnected}
 
 -- why a script is not run, or not to its end, over a database
 abbrev pub stop_of : DatabaseStop → ScriptStop
-stop_of database.Output = script.Output
+stop_of (database.Early why) = script.Early why
 stop_of (database.Refused fault) = script.Refused (store_fault fault)
 
 -- A host may show this of files and ports, this changes in an output, and a script lies in a file. The tables that were taken over have
--- this content. The script was run over them, in a database that was connected so before and is so after it; or the output failed; or the
+-- this content. The script was run over them, in a database that was connected so before and is so after it; or not to its end; or the
 -- script cannot be had, and then nothing was run and nothing written.
-abbrev pub RunsFileOver : HostView → DeviceChange → List ℕ → Content → Connected → Connected → Result Unit ScriptStop → Type 0
-RunsFileOver host device file content taken left (Ok x) =
+abbrev pub RunsFileOver : HostView → DeviceChange → List ℕ → Bool → Content → Connected → Connected → Result Unit ScriptStop → Type 0
+RunsFileOver host device file strict content taken left (Ok x) =
     (steps : List Step) × IsScript host file steps × (IsTrue left.is_open → WritesOver host ⊤ device left.committed steps content)
-RunsFileOver host device file content taken left (Err script.Output) =
-    (steps : List Step) × IsScript host file steps × (IsTrue left.is_open → CutsOver host ⊤ device left.committed steps content)
-RunsFileOver host device file content taken left (Err why) =
+RunsFileOver host device file strict content taken left (Err (script.Early why)) =
+    (steps : List Step) × IsScript host file steps × (IsTrue left.is_open → EarlyOver host ⊤ device left.committed strict steps content why)
+RunsFileOver host device file strict content taken left (Err why) =
     IsUnread host file why × LeavesConnected taken left × (device.new ≡ device.old)

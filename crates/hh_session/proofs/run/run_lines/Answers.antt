@@ -1,81 +1,102 @@
-use Rattle.std.proofs.Common.{◌≤◌, ◌+◌, length, map, take, sym, ap, ◌∙◌, subst, arith}
+use Rattle.std.proofs.Common.{◌+◌, map, take, ap, ◌∙◌, subst}
 use Rattle.std.proofs.lemmas.List.{take_all}
 use Rattle.hh_devices.specs.DeviceChanges.{change}
 use Rattle.hh_script.specs.Steps.{step_of}
-use Rattle.hh_session.specs.Course.{RunsScript}
+use Rattle.hh_session.specs.Course.{EndsEarly, RunsScript}
+use Rattle.hh_session.specs.declared.run.LinesStop.TheVariants.{Line, Output}
 use Rattle.hh_desk.specs.GivingUp.{CountsMore}
-use Rattle.hh_session.proofs.CourseLaws.{OnErr-map, first_conserve, first_steps, next_step, passed_failure, script_conserves, script_more, script_stops, up_more}
+use Rattle.hh_session.proofs.CourseLaws.{early_conserves, ended_by, ended_early, first_steps, line_heard, line_heard_up, line_stops, next_step, script_conserves, script_stops, up_more}
 use Rattle.hh_session.proofs.run.run_lines.Goals as goal
 
-pub returns-in_err-run_line-clause-cut : goal.returns-in_err-run_line-clause-cut
-returns-in_err-run_line-clause-cut g c sure =
+pub loop-index-preserved : goal.loop-index-preserved
+loop-index-preserved g c = record {
+  run = λ sure.
+      let ran = c.hear.ensures.sure sure in
+      let standing = c.in_ok-came.ensures.sure ran in
+      line_heard (g.H.Host.view c.args.host.now) c.args.office.now.seen c.loop-index.office.seen c.run_line.new.office.seen c.hear.new.office.seen
+      (g.T.Tables.refusals c.args.office.now.tables) (g.T.Tables.refusals c.loop-index.office.tables) (g.T.Tables.refusals c.run_line.new.office.tables) (g.T.Tables.refusals c.hear.new.office.tables)
+      g.O.Sink.taken g.O.Sink.failures c.args.out.now c.loop-index.out c.run_line.new.out c.args.lines.now c.loop-index.index c.index-lines-index.result c.loop-index-test.true c.index-lines-index.is
+      (c.loop-index.invariant.run standing) (c.loop-index.invariant.refusals_up standing) (c.in_ok-came.ensures.refusals_up ran) (c.in_ok-came.ensures.done ran)
+      (c.hear.ensures.same sure) (c.hear.ensures.refusals_up sure);
+  refusals_up = λ sure.
+      let ran = c.hear.ensures.sure sure in
+      let standing = c.in_ok-came.ensures.sure ran in
+      line_heard_up (g.H.Host.view c.args.host.now) c.args.office.now.seen c.loop-index.office.seen c.run_line.new.office.seen c.hear.new.office.seen
+      (g.T.Tables.refusals c.args.office.now.tables) (g.T.Tables.refusals c.loop-index.office.tables) (g.T.Tables.refusals c.run_line.new.office.tables) (g.T.Tables.refusals c.hear.new.office.tables)
+      g.O.Sink.taken g.O.Sink.failures c.args.out.now c.loop-index.out c.run_line.new.out c.args.lines.now c.loop-index.index c.index-lines-index.result c.loop-index-test.true c.index-lines-index.is
+      (c.loop-index.invariant.run standing) (c.loop-index.invariant.refusals_up standing) (c.in_ok-came.ensures.refusals_up ran) (c.in_ok-came.ensures.done ran)
+      (c.hear.ensures.same sure) (c.hear.ensures.refusals_up sure);
+  sure = λ sure. c.loop-index.invariant.sure (c.in_ok-came.ensures.sure (c.hear.ensures.sure sure));
+  well = c.in_ok-came.ensures.well ∙ c.loop-index.invariant.well;
+}
+
+pub returns-then-not-is_done-clause-cut : goal.returns-then-not-is_done-clause-cut
+returns-then-not-is_done-clause-cut g c sure =
+    let ran = c.hear.ensures.sure sure in
+    let standing = c.in_ok-came.ensures.sure ran in
+    line_stops (g.H.Host.view c.args.host.now) c.args.office.now.seen c.loop-index.office.seen c.run_line.new.office.seen c.hear.new.office.seen
+    (g.T.Tables.refusals c.args.office.now.tables) (g.T.Tables.refusals c.loop-index.office.tables) (g.T.Tables.refusals c.run_line.new.office.tables) (g.T.Tables.refusals c.hear.new.office.tables)
+    g.O.Sink.taken g.O.Sink.failures c.args.out.now c.loop-index.out c.run_line.new.out c.args.lines.now c.loop-index.index c.index-lines-index.result c.loop-index-test.true c.index-lines-index.is
+    (c.loop-index.invariant.run standing) (c.loop-index.invariant.refusals_up standing) (c.in_ok-came.ensures.refusals_up ran) (c.in_ok-came.ensures.done ran)
+    (c.hear.ensures.same sure) (c.hear.ensures.refusals_up sure)
+    c.args.strict c.if-strict.true
+
+pub returns-then-not-is_done-clause-sums_cut : goal.returns-then-not-is_done-clause-sums_cut
+returns-then-not-is_done-clause-sums_cut g c sure =
+    early_conserves c.reached_conserve.ensures (g.H.Host.view c.args.host.now) (CountsMore (g.T.Tables.refusals c.args.office.now.tables) (g.T.Tables.refusals c.hear.new.office.tables))
+    c.args.office.now.seen c.hear.new.office.seen (change g.O.Sink.taken g.O.Sink.failures c.args.out.now c.run_line.new.out) c.args.strict (map step_of c.args.lines.now) (Line (c.loop-index.index + 1))
+    (returns-then-not-is_done-clause-cut g c sure)
+
+pub returns-then-not-is_done-clause-refusals_up : goal.returns-then-not-is_done-clause-refusals_up
+returns-then-not-is_done-clause-refusals_up g c sure =
+    let ran = c.hear.ensures.sure sure in
+    let standing = c.in_ok-came.ensures.sure ran in
+    line_heard_up (g.H.Host.view c.args.host.now) c.args.office.now.seen c.loop-index.office.seen c.run_line.new.office.seen c.hear.new.office.seen
+    (g.T.Tables.refusals c.args.office.now.tables) (g.T.Tables.refusals c.loop-index.office.tables) (g.T.Tables.refusals c.run_line.new.office.tables) (g.T.Tables.refusals c.hear.new.office.tables)
+    g.O.Sink.taken g.O.Sink.failures c.args.out.now c.loop-index.out c.run_line.new.out c.args.lines.now c.loop-index.index c.index-lines-index.result c.loop-index-test.true c.index-lines-index.is
+    (c.loop-index.invariant.run standing) (c.loop-index.invariant.refusals_up standing) (c.in_ok-came.ensures.refusals_up ran) (c.in_ok-came.ensures.done ran)
+    (c.hear.ensures.same sure) (c.hear.ensures.refusals_up sure)
+
+pub returns-then-not-is_done-clause-sure : goal.returns-then-not-is_done-clause-sure
+returns-then-not-is_done-clause-sure g c sure = c.loop-index.invariant.sure (c.in_ok-came.ensures.sure (c.hear.ensures.sure sure))
+
+pub returns-in_err-came-clause-cut : goal.returns-in_err-came-clause-cut
+returns-in_err-came-clause-cut g c sure =
     let lines = c.args.lines.now in
-    let i = c.loop-line.line-index in
+    let i = c.loop-index.index in
     let taken = g.O.Sink.taken in
     let failures = g.O.Sink.failures in
     let refusals = g.T.Tables.refusals in
-    let standing = c.in_err-run_line.ensures.sure sure in
-    passed_failure _ c.from_residual.result
-    (script_stops (g.H.Host.view c.args.host.now) c.args.office.now.seen c.loop-line.office.seen c.run_line.new.office.seen
-    (refusals c.args.office.now.tables) (refusals c.loop-line.office.tables) (refusals c.run_line.new.office.tables) taken failures c.args.out.now c.loop-line.out c.run_line.new.out
-    (map step_of (take i lines)) (step_of c.line-item.result) (c.loop-line.invariant.run standing) (c.loop-line.invariant.refusals_up standing) (c.in_err-run_line.ensures.refusals_up sure)
-    (map step_of lines) (i + 1) (first_steps lines (i + 1) ∙ next_step lines i c.line-item.result (omega arith) c.line-item.is) (c.in_err-run_line.ensures.cut sure))
+    let host = g.H.Host.view c.args.host.now in
+    let standing = c.in_err-came.ensures.sure sure in
+    let stopped = script_stops host c.args.office.now.seen c.loop-index.office.seen c.run_line.new.office.seen
+    (refusals c.args.office.now.tables) (refusals c.loop-index.office.tables) (refusals c.run_line.new.office.tables) taken failures c.args.out.now c.loop-index.out c.run_line.new.out
+    (map step_of (take i lines)) (step_of c.index-lines-index.result) (c.loop-index.invariant.run standing) (c.loop-index.invariant.refusals_up standing) (c.in_err-came.ensures.refusals_up sure)
+    (map step_of lines) (i + 1) (first_steps lines (i + 1) ∙ next_step lines i c.index-lines-index.result c.loop-index-test.true c.index-lines-index.is) (c.in_err-came.ensures.cut sure) in
+    ended_by (EndsEarly host (CountsMore (refusals c.args.office.now.tables) (refusals c.run_line.new.office.tables)) c.args.office.now.seen c.run_line.new.office.seen
+    (change taken failures c.args.out.now c.run_line.new.out) c.args.strict (map step_of lines)) c.from_residual.result Output c.from_residual.ensures.1 stopped
 
-pub returns-in_err-run_line-clause-sums_cut : goal.returns-in_err-run_line-clause-sums_cut
-returns-in_err-run_line-clause-sums_cut g c sure =
-    let taken = g.O.Sink.taken in
-    let failures = g.O.Sink.failures in
-    let fails = CountsMore (g.T.Tables.refusals c.args.office.now.tables) (g.T.Tables.refusals c.run_line.new.office.tables) in
-    OnErr-map c.from_residual.result _ _
-    (first_conserve c.reached_conserve.ensures (g.H.Host.view c.args.host.now) fails c.args.office.now.seen c.run_line.new.office.seen (change taken failures c.args.out.now c.run_line.new.out)
-    (map step_of c.args.lines.now)) (returns-in_err-run_line-clause-cut g c sure)
+pub returns-in_err-came-clause-sums_cut : goal.returns-in_err-came-clause-sums_cut
+returns-in_err-came-clause-sums_cut g c sure =
+    ended_early _ _ c.from_residual.result
+    (λ why _. early_conserves c.reached_conserve.ensures (g.H.Host.view c.args.host.now) (CountsMore (g.T.Tables.refusals c.args.office.now.tables) (g.T.Tables.refusals c.run_line.new.office.tables))
+    c.args.office.now.seen c.run_line.new.office.seen (change g.O.Sink.taken g.O.Sink.failures c.args.out.now c.run_line.new.out) c.args.strict (map step_of c.args.lines.now) why)
+    (returns-in_err-came-clause-cut g c sure)
+
+pub returns-in_err-came-clause-refusals_up : goal.returns-in_err-came-clause-refusals_up
+returns-in_err-came-clause-refusals_up g c sure =
+    let standing = c.in_err-came.ensures.sure sure in
+    up_more (g.H.Host.view c.args.host.now) c.args.office.now.seen c.loop-index.office.seen c.run_line.new.office.seen
+    _ _ _ g.O.Sink.taken g.O.Sink.failures c.args.out.now c.loop-index.out c.run_line.new.out (map step_of (take c.loop-index.index c.args.lines.now)) (step_of c.index-lines-index.result)
+    (c.loop-index.invariant.run standing) (c.loop-index.invariant.refusals_up standing) (c.in_err-came.ensures.refusals_up sure)
 
 pub returns-clause-sums : goal.returns-clause-sums
 returns-clause-sums g c sure =
     let lines = c.args.lines.now in
-    let i = c.loop-line.line-index in
+    let i = c.loop-index.index in
     let taken = g.O.Sink.taken in
     let failures = g.O.Sink.failures in
     let host = g.H.Host.view c.args.host.now in
-    let fails = CountsMore (g.T.Tables.refusals c.args.office.now.tables) (g.T.Tables.refusals c.loop-line.office.tables) in
-    let end : length lines ≤ i = omega arith in
-    script_conserves c.reached_conserve.ensures host fails c.args.office.now.seen c.loop-line.office.seen (change taken failures c.args.out.now c.loop-line.out) (map step_of lines)
-    (subst (RunsScript host fails c.args.office.now.seen c.loop-line.office.seen (change taken failures c.args.out.now c.loop-line.out)) (ap (map step_of) (take_all i lines end)) (c.loop-line.invariant.run sure))
-
-pub loop-line-preserved : goal.loop-line-preserved
-loop-line-preserved g c =
-    let lines = c.args.lines.now in
-    let i = c.loop-line.line-index in
-    let taken = g.O.Sink.taken in
-    let failures = g.O.Sink.failures in
-    let host = g.H.Host.view c.args.host.now in
-    let first = g.T.Tables.refusals c.args.office.now.tables in
-    let mid = g.T.Tables.refusals c.loop-line.office.tables in
-    let last = g.T.Tables.refusals c.run_line.new.office.tables in
-    let old = c.args.office.now.seen in
-    let now = c.loop-line.office.seen in
-    let new = c.run_line.new.office.seen in
-    let steps = map step_of (take i lines) in
-    record {
-      run = λ sure.
-          let standing = c.in_ok-run_line.ensures.sure sure in
-          subst (RunsScript host (CountsMore first last) old new (change taken failures c.args.out.now c.run_line.new.out)) (sym (next_step lines i c.line-item.result (omega arith) c.line-item.is))
-          (script_more host old now new first mid last taken failures c.args.out.now c.loop-line.out c.run_line.new.out steps (step_of c.line-item.result)
-          (c.loop-line.invariant.run standing) (c.loop-line.invariant.refusals_up standing) (c.in_ok-run_line.ensures.refusals_up sure) (c.in_ok-run_line.ensures.done sure));
-      refusals_up = λ sure.
-          let standing = c.in_ok-run_line.ensures.sure sure in
-          up_more host old now new first mid last taken failures c.args.out.now c.loop-line.out c.run_line.new.out steps (step_of c.line-item.result)
-          (c.loop-line.invariant.run standing) (c.loop-line.invariant.refusals_up standing) (c.in_ok-run_line.ensures.refusals_up sure);
-      sure = λ sure. c.loop-line.invariant.sure (c.in_ok-run_line.ensures.sure sure);
-      well = c.in_ok-run_line.ensures.well ∙ c.loop-line.invariant.well;
-    }
-
-pub returns-in_err-run_line-clause-refusals_up : goal.returns-in_err-run_line-clause-refusals_up
-returns-in_err-run_line-clause-refusals_up g c sure =
-    let taken = g.O.Sink.taken in
-    let failures = g.O.Sink.failures in
-    let i = c.loop-line.line-index in
-    let standing = c.in_err-run_line.ensures.sure sure in
-    up_more (g.H.Host.view c.args.host.now) c.args.office.now.seen c.loop-line.office.seen c.run_line.new.office.seen
-    _ _ _ taken failures c.args.out.now c.loop-line.out c.run_line.new.out (map step_of (take i c.args.lines.now)) (step_of c.line-item.result)
-    (c.loop-line.invariant.run standing) (c.loop-line.invariant.refusals_up standing) (c.in_err-run_line.ensures.refusals_up sure)
+    let fails = CountsMore (g.T.Tables.refusals c.args.office.now.tables) (g.T.Tables.refusals c.loop-index.office.tables) in
+    script_conserves c.reached_conserve.ensures host fails c.args.office.now.seen c.loop-index.office.seen (change taken failures c.args.out.now c.loop-index.out) (map step_of lines)
+    (subst (RunsScript host fails c.args.office.now.seen c.loop-index.office.seen (change taken failures c.args.out.now c.loop-index.out)) (ap (map step_of) (take_all i lines c.loop-index-test.false)) (c.loop-index.invariant.run sure))

@@ -8,10 +8,10 @@ use Rattle.hh_desk.specs.GivingUp.{HasRefused}
 use Rattle.hh_session.proofs.run.run_lines.Given as goal
 
 -- the lines so far were run
-abbrev pub invariant-loop-line : goal.invariant-loop-line
-invariant-loop-line g l = record {
+abbrev pub invariant-loop-index : goal.invariant-loop-index
+invariant-loop-index g l = record {
   run : IsSure g.T.Tables.is_open l.office → RunsScript (g.H.Host.view l.host) (HasRefused g.T.Tables.refusals l.fn.office l.office)
-      l.fn.office.seen l.office.seen (change g.O.Sink.taken g.O.Sink.failures l.fn.out l.out) (map step_of (take l.line-index l.lines));
+      l.fn.office.seen l.office.seen (change g.O.Sink.taken g.O.Sink.failures l.fn.out l.out) (map step_of (take l.index l.lines));
   refusals_up : IsSure g.T.Tables.is_open l.office → CountsUp g.T.Tables.refusals l.fn.office l.office;
   sure : IsSure g.T.Tables.is_open l.office → IsSure g.T.Tables.is_open l.fn.office;
   well : g.O.Sink.failures l.out ≡ g.O.Sink.failures l.fn.out;

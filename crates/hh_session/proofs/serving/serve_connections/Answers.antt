@@ -3,7 +3,7 @@ use Rattle.hh_devices.specs.DeviceChanges.{change}
 use Rattle.hh_devices.specs.Devices.{AppendsFront}
 use Rattle.hh_sockets.specs.Ports.{IsPortFor}
 use Rattle.hh_desk.specs.Lines.{listening_line}
-use Rattle.hh_session.proofs.CourseLaws.{OnErr-map, passed_failure}
+use Rattle.hh_session.proofs.CourseLaws.{passed_failure}
 use Rattle.hh_session.proofs.ServingLaws.{no_socket_cut, serving_cut}
 use Rattle.hh_session.proofs.serving.serve_connections.Goals as goal
 
@@ -16,7 +16,7 @@ returns-in_err-write_whole-in-Ok-clause-cut g c sure =
     (subst (λ port. IsPortFor c.args.line.now.port port) (sym c.port.ensures) c.in-Ok.ensures.port) (c.in-Ok.ensures.brings [] c.in-Ok.listener c.in-Ok.ensures.begins)
     (subst (AppendsFront device.old device.new) text c.in_err-write_whole-in-Ok.ensures.front))
 
-pub returns-in-Err-clause-cut : goal.returns-in-Err-clause-cut
-returns-in-Err-clause-cut g c sure =
-    OnErr-map c.write_whole-in-Err.result _ _
-    (no_socket_cut (g.H.Host.view c.args.host.now) _ c.args.office.now.seen (change g.O.Sink.taken g.O.Sink.failures c.args.out.now c.write_whole-in-Err.new.sink) c.args.line.now c.in-Err.ensures.refused) c.write_whole-in-Err.ensures.front
+pub returns-in_err-write_whole-in-Err-clause-cut : goal.returns-in_err-write_whole-in-Err-clause-cut
+returns-in_err-write_whole-in-Err-clause-cut g c sure =
+    passed_failure _ c.from_residual-in_err-write_whole-in-Err.result
+    (no_socket_cut (g.H.Host.view c.args.host.now) _ c.args.office.now.seen (change g.O.Sink.taken g.O.Sink.failures c.args.out.now c.write_whole-in-Err.new.sink) c.args.line.now c.in-Err.ensures.refused c.in_err-write_whole-in-Err.ensures.front)

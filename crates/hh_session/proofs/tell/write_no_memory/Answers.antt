@@ -1,5 +1,5 @@
 use Rattle.std.specs.Fmt.{digits}
-use Rattle.hh_session.proofs.tell.tell_no_memory.Goals as goal
+use Rattle.hh_session.proofs.tell.write_no_memory.Goals as goal
 
 pub returns-clause-told : goal.returns-clause-told
 unfolding digits

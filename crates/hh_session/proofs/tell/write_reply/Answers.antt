@@ -6,12 +6,12 @@ use Rattle.hh_desk.specs.declared.told.Told.TheVariants.{Replied}
 use Rattle.hh_desk.specs.Lines.{run_line}
 use Rattle.hh_session.specs.steps.Course.{BeginsLine}
 use Rattle.hh_session.proofs.CourseLaws.{OnErr-map}
-use Rattle.hh_session.proofs.tell.tell_reply.Goals as goal
+use Rattle.hh_session.proofs.tell.write_reply.Goals as goal
 
 pub returns-in-Refused-clause-cut : goal.returns-in-Refused-clause-cut
 returns-in-Refused-clause-cut g c =
-    subst (λ reply. OnErr c.tell_refused.result (BeginsLine (change g.O.Sink.taken g.O.Sink.failures c.args.out.now c.tell_refused.new.out) (Replied reply))) (sym c.in-Refused.is)
-    c.tell_refused.ensures.cut
+    subst (λ reply. OnErr c.write_refusal.result (BeginsLine (change g.O.Sink.taken g.O.Sink.failures c.args.out.now c.write_refusal.new.out) (Replied reply))) (sym c.in-Refused.is)
+    c.write_refusal.ensures.cut
 
 pub returns-in-Ran-clause-cut : goal.returns-in-Ran-clause-cut
 returns-in-Ran-clause-cut g c =

@@ -1,0 +1,23 @@
+//! Explanations of refusals: in which line of which file, what stands there, and what is expected.
+//!
+//! Each is one line of text without its end. No clause says what it holds: the texts are tested.
+#![tactic(auto)]
+
+mod columns;
+mod headed_file;
+mod late;
+mod load;
+mod meanings;
+mod moments;
+mod period;
+mod records;
+mod runs;
+mod shown;
+mod wrong_rows;
+
+pub use late::late_rows;
+pub use load::{RowsFile, load_refused};
+pub use meanings::{refused, script_refused};
+pub use period::{PeriodInputs, PeriodText, period_refused};
+pub use runs::{report_refused, run_refused};
+pub use shown::one_line;

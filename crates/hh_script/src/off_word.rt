@@ -1,0 +1,121 @@
+//! The word by which a line is off its form.
+
+use crate::blemish::Blemish;
+use crate::expected::{Expected, form_of};
+use crate::words::split_word;
+use hh_word_values::CutText;
+use std::fmt;
+
+/// The first word by which a line is off its form (profile): one that is wrong or missing, else the
+/// first that is too many.
+#[derive(Clone, Copy, Debug, PartialEq, Eq)]
+pub struct OffWord {
+    /// The place of the word in the line, from 1.
+    pub place: usize,
+    /// The word as it stands. It is empty where the word is missing; one that is there and empty
+    /// has the blemish of a doubled blank.
+    pub text: CutText,
+    /// What was expected in its place.
+    pub expected: Expected,
+    /// What the word has that is not seen where the line is shown.
+    pub blemish: Option<Blemish>,
+}
+
+impl OffWord {
+    /// The word by which a line is off its form. Of a line that has a form, which no caller asks
+    /// for, the word behind the last is said to be missing.
+    pub(crate) fn of(line: &[u8]) -> OffWord {
+        if line.is_empty() {
+            return OffWord::missing(1, Expected::Line);
+        }
+        let form = form_of(line);
+        let mut rest = Some(line);
+        for (before, expected) in form.iter().enumerate() {
+            let Some(text) = rest else {
+                return OffWord::missing(before + 1, *expected);
+            };
+            let (word, more) = next_word(text);
+            if !expected.reads(word) {
+                return OffWord::at(before + 1, word, *expected, more.is_none());
+            }
+            rest = more;
+        }
+        OffWord::behind(form.len() + 1, rest)
+    }
+
+    /// The word that is too many, the first of these behind a form.
+    fn behind(place: usize, rest: Option<&[u8]>) -> OffWord {
+        match rest {
+            Some(text) => {
+                let (word, more) = next_word(text);
+                OffWord::at(place, word, Expected::NoMore, more.is_none())
+            }
+            None => OffWord::missing(place, Expected::NoMore),
+        }
+    }
+
+    /// A word that is off its grammar, or too many.
+    fn at(place: usize, word: &[u8], expected: Expected, is_last: bool) -> OffWord {
+        OffWord {
+            place,
+            text: CutText::of(word),
+            expected,
+            blemish: Blemish::of(word, place == 1, is_last),
+        }
+    }
+
+    /// A word that is missing.
+    fn missing(place: usize, expected: Expected) -> OffWord {
+        OffWord {
+            place,
+            text: CutText::of(b""),
+            expected,
+            blemish: None,
+        }
+    }
+
+    /// Whether the word is missing.
+    pub fn is_missing(&self) -> bool {
+        self.text.is_empty() && self.blemish.is_none()
+    }
+}
+
+/// The next word of a text, and the words behind it, if there are any.
+fn next_word(text: &[u8]) -> (&[u8], Option<&[u8]>) {
+    match split_word(text) {
+        Some((word, more)) => (word, Some(more)),
+        None => (text, None),
+    }
+}
+
+/// The text says which word it is, how it stands, what was expected, and the word's blemish:
+/// `word 4 "party": expected one of parties, ..`. Of a key only its length is told. It has no line end.
+impl fmt::Display for OffWord {
+    fn fmt<W: fmt::Write>(&self, f: &mut fmt::Formatter<W>) -> fmt::Result {
+        write_expected(f, self)?;
+        match self.blemish {
+            Some(blemish) => write!(f, "; {}", blemish.text()),
+            None => Ok(()),
+        }
+    }
+}
+
+/// Which word it is, how it stands, and what was expected.
+fn write_expected<W: fmt::Write>(f: &mut fmt::Formatter<W>, off: &OffWord) -> fmt::Result {
+    let (place, text, expected) = (off.place, &off.text, off.expected.text());
+    if off.expected == Expected::Line {
+        write!(f, "is empty: a line has {expected}")
+    } else if off.is_missing() {
+        write!(f, "word {place} is missing: expected {expected}")
+    } else if off.expected == Expected::NoMore {
+        write!(f, "word {place} {text} is one too many")
+    } else if off.expected == Expected::Key {
+        write!(
+            f,
+            "word {place} of {} bytes: expected {expected}",
+            text.len()
+        )
+    } else {
+        write!(f, "word {place} {text}: expected {expected}")
+    }
+}

@@ -1,0 +1,93 @@
+//! What hears what came of each line of a script, beside what is written of it.
+
+ghost use Rattle.std.specs.Prelude.{◌≡◌};
+ghost use Rattle.hh_office.specs.Views.{IsSure};
+ghost use Rattle.hh_serve.specs.Serves.{CountsUp};
+
+use hh_desk::Told;
+use hh_host::Host;
+use hh_names::Fault;
+use hh_office::Office;
+use hh_requests::Reply;
+use hh_script::ScriptLine;
+use hh_store::Tables;
+use std::alloc::Global;
+
+/// What came of a line of a script.
+#[derive(Clone, Copy, Debug, PartialEq, Eq)]
+pub enum Came {
+    /// It was done. Of a file that was loaded, so many rows were late.
+    Done { late: u32 },
+    /// The office refused.
+    Refused(Fault),
+    /// The line's file can't be read.
+    Unreadable,
+    /// Nothing listens on the line's port.
+    NoSocket,
+}
+
+impl Came {
+    /// What came of a load or of a run.
+    pub(crate) fn of(told: &Told) -> Came {
+        match told {
+            Told::Replied(reply) => Came::of_reply(reply),
+            Told::Unreadable => Came::Unreadable,
+        }
+    }
+
+    /// The same of a reply.
+    fn of_reply(reply: &Reply) -> Came {
+        match reply {
+            Reply::Loaded(loaded) => Came::Done { late: loaded.late },
+            Reply::Refused(fault) => Came::Refused(*fault),
+            Reply::Ran { .. }
+            | Reply::Account(_)
+            | Reply::Balance { .. }
+            | Reply::Contracts(_)
+            | Reply::Runs(_) => Came::Done { late: 0 },
+        }
+    }
+
+    /// Whether the line was done.
+    pub fn is_done(&self) -> bool {
+        match self {
+            Came::Done { .. } => true,
+            Came::Refused(_) | Came::Unreadable | Came::NoSocket => false,
+        }
+    }
+}
+
+/// What hears what came of each line of a script. It may read the office, and leaves it as it is.
+pub trait Notes {
+    /// Hears what came of a line, which is numbered from 1. The line has been run, and what it writes has
+    /// gone out.
+    fn hear<T: Tables, H: Host>(
+        &mut self,
+        alloc: Global,
+        office: &mut Office<'_, T>,
+        host: &H,
+        number: usize,
+        line: &ScriptLine<'_>,
+        came: Came,
+    )
+        ensures same { IsSure T.is_open office.new → office.new.seen ≡ office.old.seen }
+        ensures refusals_up { IsSure T.is_open office.new
+            → CountsUp T.refusals office.old office.new }
+        ensures sure { IsSure T.is_open office.new → IsSure T.is_open office.old };
+}
+
+/// Hears nothing.
+#[derive(Clone, Copy, Debug)]
+pub struct NoNotes;
+
+impl Notes for NoNotes {
+    fn hear<T: Tables, H: Host>(
+        &mut self,
+        _alloc: Global,
+        _office: &mut Office<'_, T>,
+        _host: &H,
+        _number: usize,
+        _line: &ScriptLine<'_>,
+        _came: Came,
+    ) {}
+}
