@@ -784,6 +784,25 @@ class Period(OfTheProgram):
         for paths, path, why in (((missing, meter), missing, MISSING), ((meter, missing), missing, MISSING), ((str(self.room), missing), str(self.room), IS_FOLDER)):
             self.assertEqual(self.explained(*paths, "1"), (answer("fault file"), f"{path}: {why}\n"))
 
+    def from_pipe(self, data, *words):
+        """A period whose METER is a pipe with a name into which a writer writes once."""
+        pipe = self.room / "meter.pipe"
+        os.mkfifo(pipe)
+        writer = subprocess.Popen(["sh", "-c", 'exec cat "$0" >"$1"', self.file("data", data), str(pipe)])
+        self.addCleanup(writer.wait)
+        self.addCleanup(writer.kill)
+        return settle("period", "--explain", str(pipe), *words, timeout=PATIENCE)
+
+    def test_a_pipe(self):
+        """It can't be read a second time."""
+        told = "refused 12 BadHeader in meter\nthe file has another header, or none; a file can't be read a second time\n"
+        self.assertEqual(self.from_pipe("x\n", self.file("c", CONTRACTS_HEADER), "1"), (1, b"", told.encode()))
+
+    def test_a_pipe_beside_a_wrong_price(self):
+        """A price needs no file."""
+        told = f"refused 14 BadField in price\nprice {shown('x')}; expected {PRICE}\n"
+        self.assertEqual(self.from_pipe(METER_HEADER, self.file("c", CONTRACTS_HEADER), "x"), (1, b"", told.encode()))
+
     def test_an_output_that_takes_nothing(self):
         meter, contracts = self.file("m", METER_HEADER), self.file("c", CONTRACTS_HEADER)
         for streams in (">/dev/full", ">&-"):
