@@ -793,6 +793,11 @@ class Period(OfTheProgram):
         self.addCleanup(writer.kill)
         return settle("period", "--explain", str(pipe), *words, timeout=PATIENCE)
 
+    def test_a_pipe_beside_a_file_that_is_not_there(self):
+        """Why a file can't be read isn't asked of the pipe, into which nobody writes a second time."""
+        missing = f"{self.room}/missing.csv"
+        self.assertEqual(self.from_pipe(METER_HEADER, missing, "1"), (1, b"", f"fault file\n{missing}: {MISSING}\n".encode()))
+
     def test_a_pipe(self):
         """It can't be read a second time."""
         told = "refused 12 BadHeader in meter\nthe file has another header, or none; a file can't be read a second time\n"
@@ -1028,8 +1033,8 @@ class OffTheirForm(Desk):
         mark = "the line begins with a byte order mark"
         self.is_told(f"\ufeff{good}", f'word 1 "\\xEF\\xBB\\xBFload": expected {COMMAND}; {mark}')
         tab = f"it has a tab: {BLANKS}"
-        self.is_told(good.replace(" ", "\t", 1), f'word 1 "load\\t{EARLY}": expected {COMMAND}; {tab}')
-        self.is_told(good.replace(" prices ", " prices\t"), f'word 4 "prices\\tp.csv": expected {KIND}; {tab}')
+        self.is_told(good.replace(" ", "\t", 1), f'word 1 "load\\t..": expected {COMMAND}; {tab}')
+        self.is_told(good.replace(" prices ", " prices\t"), f'word 4 "prices\\t..": expected {KIND}; {tab}')
         self.is_told(good.replace(" ", "  ", 1), f'word 2 "": expected {MOMENT}; {BLANKS}')
         self.is_told(f" {good}", f'word 1 "": expected {COMMAND}; {BLANKS}')
         self.is_told(f"{good} ", f'word 6 "" is one too many; {BLANKS}')

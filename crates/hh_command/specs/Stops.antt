@@ -7,7 +7,7 @@ use Rattle.hh_devices.specs.Devices.{AppendsFront}
 use Rattle.hh_names.specs.Faults.{ByRefusal}
 use Rattle.hh_rows.specs.declared.settings.Settings.{Settings}
 use Rattle.hh_inputs.specs.declared.inputs.InputFault.{InputFault}
-use Rattle.hh_inputs.specs.declared.inputs.InputFault.TheVariants.{Unreadable, Memory}
+use Rattle.hh_inputs.specs.declared.inputs.InputFault.TheVariants.{Memory}
 use Rattle.hh_host.specs.Views.{HostView}
 use Rattle.hh_script.specs.declared.off_word.OffWord.{OffWord}
 use Rattle.hh_session.specs.declared.script.ScriptStop.{ScriptStop}
@@ -135,7 +135,7 @@ module _ (host : HostView) where
     -- the line is done, and known bytes grow by its text
     abbrev pub Does : Line → DeviceChange → Type 0
     Does (PeriodCommand meter contracts price) device = DoesPeriod meter contracts price device
-    Does (ScriptCommand settings file) device = WritesScript host file settings device
+    Does (ScriptCommand settings file) device = WritesScript host file settings device strict
     Does (DatabaseCommand path task) device = DoesTask host places path device strict task
 
     -- a line stops so, where this changes in the output

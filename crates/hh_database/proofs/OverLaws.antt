@@ -1,5 +1,5 @@
 -- Lines that are run over an office, by the content of its tables before and after them.
-use Rattle.std.proofs.Common.{◌≡◌, ℕ, Bool, List, Option, subst, sym, take}
+use Rattle.std.proofs.Common.{◌≡◌, Bool, List, subst, sym, take}
 use Rattle.jiff.specs.declared.tz.timezone.TimeZone.{TimeZone}
 use Rattle.jiff.specs.Words.{plain_zone}
 use Rattle.hh_devices.specs.DeviceChanges.{DeviceChange}
@@ -13,7 +13,7 @@ use Rattle.hh_script.specs.Steps.{Step}
 use Rattle.hh_desk.specs.Doing.{StandsNow}
 use Rattle.hh_session.specs.declared.run.LinesStop.{LinesStop}
 use Rattle.hh_session.specs.declared.run.LinesStop.TheVariants.{Line, Output}
-use Rattle.hh_session.specs.Course.{EndsEarly, RunsScript, StopsScript}
+use Rattle.hh_session.specs.Course.{EndsEarly, LastNotDone, RunsScript, StopsScript}
 use Rattle.hh_session.specs.Script.{IsMarketZone}
 use Rattle.hh_database.specs.steps.Running.{EarlyBetween, RunsOver, StopsOver}
 
@@ -27,14 +27,14 @@ module _ (host : HostView) (fails : Type 0) (zone : TimeZone) (market : IsMarket
   stands_now t (now, zoned) =
       subst (λ z. StandsFor (midnight_in (plain_zone z)) new t) zoned (subst (λ c. StandsFor (midnight_of last) c t) (sym same) now)
 
-  pub runs_over : (steps : List Step) → RunsScript host fails first last device steps → RunsOver host fails device old new steps
-  runs_over steps runs = (zone, market, λ s stands. let (text, t, does, went, now) = runs s stands in (text, t, does, went, stands_now t now))
+  pub runs_over : (may : List Step → Bool → Type 0) (steps : List Step) → RunsScript host fails first last device may steps → RunsOver host fails device old new may steps
+  runs_over may steps runs = (zone, market, λ s stands. let (text, t, does, went, now) = runs s stands in (text, t, does, went, stands_now t now))
 
-  stops_over : (steps : List Step) → StopsScript host fails first last device steps → StopsOver host fails device old new steps
-  stops_over steps stops =
+  stops_over : (strict : Bool) (steps : List Step) → StopsScript host fails first last device strict steps → StopsOver host fails device old new strict steps
+  stops_over strict steps stops =
       (zone, market, λ s stands. let (count, text, t, does, went, now) = stops s stands in (count, text, t, does, went, stands_now t now))
 
   pub early_over : (strict : Bool) (steps : List Step) (why : LinesStop) → EndsEarly host fails first last device strict steps why
       → EarlyBetween host fails device old new strict steps why
-  early_over strict steps Output stops = stops_over steps stops
-  early_over strict steps (Line number) (may, runs) = (may, runs_over (take number steps) runs)
+  early_over strict steps Output stops = stops_over strict steps stops
+  early_over strict steps (Line number) (may, runs) = (may, runs_over LastNotDone (take number steps) runs)

@@ -1,5 +1,5 @@
 -- What lines come to over an office whose tables stand in a database, by what the database holds after them.
-use Rattle.std.proofs.Common.{◌≡◌, ℕ, ◌<◌, Bool, List, Option, Result, Ok, Err, subst, sym, arith, take}
+use Rattle.std.proofs.Common.{◌≡◌, ℕ, ◌<◌, Bool, List, Result, Ok, Err, subst, sym, arith, take}
 use Rattle.std.specs.Prelude.{IfErr, IfOk, MatchResult, OnOk}
 use Rattle.jiff.specs.Words.{plain_zone}
 use Rattle.sqlite.specs.Effect.{Database}
@@ -19,7 +19,7 @@ use Rattle.hh_host.specs.Views.{HostView}
 use Rattle.hh_script.specs.Steps.{Step}
 use Rattle.hh_session.specs.declared.run.LinesStop.{LinesStop}
 use Rattle.hh_session.specs.declared.run.LinesStop.TheVariants.{Line, Output}
-use Rattle.hh_session.specs.Course.{cut_after}
+use Rattle.hh_session.specs.Course.{AllDoneButLast, LastNotDone, cut_after}
 use Rattle.hh_desk.specs.GivingUp.{CountsMore}
 use Rattle.hh_session.proofs.GivingUpLaws.{script_then}
 use Rattle.hh_database.specs.declared.stop.DatabaseStop.{DatabaseStop}
@@ -59,8 +59,8 @@ module _ (host : HostView) (device : DeviceChange) (db : Database) where
       sums = conserve midnight t reached;
     }
 
-    pub writes_over : (steps : List Step) → RunsOver host fails device old new steps → WritesOver host fails device db steps old
-    writes_over steps (zone, market, runs) = (
+    pub writes_over : (may : List Step → Bool → Type 0) (steps : List Step) → RunsOver host fails device old new may steps → WritesOver host fails device db steps old may
+    writes_over may steps (zone, market, runs) = (
       zone,
       market,
       λ s stands.
@@ -68,8 +68,8 @@ module _ (host : HostView) (device : DeviceChange) (db : Database) where
           (text, t, does, went, holds_state _ t now),
     )
 
-    cuts_over : (steps : List Step) → StopsOver host fails device old new steps → CutsOver host fails device db steps old
-    cuts_over steps (zone, market, stops) = (
+    cuts_over : (strict : Bool) (steps : List Step) → StopsOver host fails device old new strict steps → CutsOver host fails device db steps old strict
+    cuts_over strict steps (zone, market, stops) = (
       zone,
       market,
       λ s stands.
@@ -79,61 +79,63 @@ module _ (host : HostView) (device : DeviceChange) (db : Database) where
 
     pub early_over : (strict : Bool) (steps : List Step) (why : LinesStop) → EarlyBetween host fails device old new strict steps why
         → EarlyOver host fails device db strict steps old why
-    early_over strict steps Output stops = cuts_over steps stops
-    early_over strict steps (Line number) (may, runs) = (may, writes_over (take number steps) runs)
+    early_over strict steps Output stops = cuts_over strict steps stops
+    early_over strict steps (Line number) (may, runs) = (may, writes_over LastNotDone (take number steps) runs)
 
   -- The office had refused nothing before, and has refused so many calls then.
   module _ (count : ℕ) where
-    writes_where : (steps : List Step) (midnight : Midnights) (s : State) → WritesFrom host (CountsMore 0 count) device db steps s midnight
-        → WritesFrom host (0 < count) device db steps s midnight
-    writes_where steps midnight s (text, t, does, went, held) =
-        (text, t, script_then (CountsMore 0 count) (0 < count) (risen count) host midnight s steps text t does, went, held)
+    writes_where : (may : List Step → Bool → Type 0) (steps : List Step) (midnight : Midnights) (s : State)
+        → WritesFrom host (CountsMore 0 count) device db steps may s midnight → WritesFrom host (0 < count) device db steps may s midnight
+    writes_where may steps midnight s (text, t, does, went, held) =
+        (text, t, script_then (CountsMore 0 count) (0 < count) (risen count) host midnight may s steps text t does, went, held)
 
-    cuts_where : (steps : List Step) (midnight : Midnights) (s : State) → CutsFrom host (CountsMore 0 count) device db steps s midnight
-        → CutsFrom host (0 < count) device db steps s midnight
-    cuts_where steps midnight s (first, text, t, does, went, held) = (
+    cuts_where : (strict : Bool) (steps : List Step) (midnight : Midnights) (s : State)
+        → CutsFrom host (CountsMore 0 count) device db steps strict s midnight → CutsFrom host (0 < count) device db steps strict s midnight
+    cuts_where strict steps midnight s (first, text, t, does, went, held) = (
       first,
       text,
       t,
-      script_then (CountsMore 0 count) (0 < count) (risen count) host midnight s (cut_after first steps) text t does,
+      script_then (CountsMore 0 count) (0 < count) (risen count) host midnight (AllDoneButLast strict) s (cut_after first steps) text t does,
       went,
       held,
     )
 
     -- the content that the office was taken over with is that which the database held
-    pub writes_held : (steps : List Step) (old content : Content) → old ≡ content → WritesOver host (CountsMore 0 count) device db steps old
-        → WritesOver host (0 < count) device db steps content
-    writes_held steps old content same (zone, market, writes) =
+    pub writes_held : (may : List Step → Bool → Type 0) (steps : List Step) (old content : Content) → old ≡ content
+        → WritesOver host (CountsMore 0 count) device db steps old may → WritesOver host (0 < count) device db steps content may
+    writes_held may steps old content same (zone, market, writes) =
         let midnight = midnight_in (plain_zone zone) in
-        (zone, market, λ s stands. writes_where steps midnight s (writes s (subst (λ c. StandsFor midnight c s) (sym same) stands)))
+        (zone, market, λ s stands. writes_where may steps midnight s (writes s (subst (λ c. StandsFor midnight c s) (sym same) stands)))
 
-    cuts_held : (steps : List Step) (old content : Content) → old ≡ content → CutsOver host (CountsMore 0 count) device db steps old
-        → CutsOver host (0 < count) device db steps content
-    cuts_held steps old content same (zone, market, cuts) =
+    cuts_held : (strict : Bool) (steps : List Step) (old content : Content) → old ≡ content
+        → CutsOver host (CountsMore 0 count) device db steps old strict → CutsOver host (0 < count) device db steps content strict
+    cuts_held strict steps old content same (zone, market, cuts) =
         let midnight = midnight_in (plain_zone zone) in
-        (zone, market, λ s stands. cuts_where steps midnight s (cuts s (subst (λ c. StandsFor midnight c s) (sym same) stands)))
+        (zone, market, λ s stands. cuts_where strict steps midnight s (cuts s (subst (λ c. StandsFor midnight c s) (sym same) stands)))
 
     pub early_held : (strict : Bool) (steps : List Step) (old content : Content) → old ≡ content → (why : LinesStop)
         → EarlyOver host (CountsMore 0 count) device db strict steps old why → EarlyOver host (0 < count) device db strict steps content why
-    early_held strict steps old content same Output cuts = cuts_held steps old content same cuts
-    early_held strict steps old content same (Line number) (may, writes) = (may, writes_held (take number steps) old content same writes)
+    early_held strict steps old content same Output cuts = cuts_held strict steps old content same cuts
+    early_held strict steps old content same (Line number) (may, writes) = (may, writes_held LastNotDone (take number steps) old content same writes)
 
     -- a new office stands for the empty state
     module _ (settings : Settings) (fine : AreSettings settings) (old : Content) (stands : (midnight : Midnights) → old ≡ tables_of midnight (empty_state settings)) where
-      pub writes_new : (steps : List Step) → WritesOver host (CountsMore 0 count) device db steps old → WritesNew host (0 < count) device db steps settings
-      writes_new steps (zone, market, writes) =
+      pub writes_new : (may : List Step → Bool → Type 0) (steps : List Step) → WritesOver host (CountsMore 0 count) device db steps old may
+          → WritesNew host (0 < count) device db steps settings may
+      writes_new may steps (zone, market, writes) =
           let midnight = midnight_in (plain_zone zone) in
-          (zone, market, writes_where steps midnight (empty_state settings) (writes (empty_state settings) (at_first settings fine, stands midnight)))
+          (zone, market, writes_where may steps midnight (empty_state settings) (writes (empty_state settings) (at_first settings fine, stands midnight)))
 
-      cuts_new : (steps : List Step) → CutsOver host (CountsMore 0 count) device db steps old → CutsNew host (0 < count) device db steps settings
-      cuts_new steps (zone, market, cuts) =
+      cuts_new : (strict : Bool) (steps : List Step) → CutsOver host (CountsMore 0 count) device db steps old strict
+          → CutsNew host (0 < count) device db steps settings strict
+      cuts_new strict steps (zone, market, cuts) =
           let midnight = midnight_in (plain_zone zone) in
-          (zone, market, cuts_where steps midnight (empty_state settings) (cuts (empty_state settings) (at_first settings fine, stands midnight)))
+          (zone, market, cuts_where strict steps midnight (empty_state settings) (cuts (empty_state settings) (at_first settings fine, stands midnight)))
 
       pub early_new : (strict : Bool) (steps : List Step) (why : LinesStop) → EarlyOver host (CountsMore 0 count) device db strict steps old why
           → EarlyNew host (0 < count) device db strict steps settings why
-      early_new strict steps Output cuts = cuts_new steps cuts
-      early_new strict steps (Line number) (may, writes) = (may, writes_new (take number steps) writes)
+      early_new strict steps Output cuts = cuts_new strict steps cuts
+      early_new strict steps (Line number) (may, writes) = (may, writes_new LastNotDone (take number steps) writes)
 
 -- what is known of lines that were not run to their end
 pub if_early : (stop : DatabaseStop) (P Q : LinesStop → Type 0) → ((why : LinesStop) → P why → Q why) → IfEarly stop P → IfEarly stop Q

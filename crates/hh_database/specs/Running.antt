@@ -1,5 +1,5 @@
 -- What the lines of a script come to over an office whose tables stand in a database.
-use Rattle.std.specs.Prelude.{ℕ, Bool, List, Option, take}
+use Rattle.std.specs.Prelude.{ℕ, Bool, List, take}
 use Rattle.std.specs.Io.KnownBytes.{Appends}
 use Rattle.sqlite.specs.Effect.{Database}
 use Rattle.jiff.specs.declared.tz.timezone.TimeZone.{TimeZone}
@@ -19,7 +19,7 @@ use Rattle.hh_host.specs.Views.{HostView}
 use Rattle.hh_script.specs.Steps.{Step}
 use Rattle.hh_session.specs.declared.run.LinesStop.{LinesStop}
 use Rattle.hh_session.specs.declared.run.LinesStop.TheVariants.{Line, Output}
-use Rattle.hh_session.specs.Course.{MayStopBehind, ScriptDoes, cut_after}
+use Rattle.hh_session.specs.Course.{AllDoneButLast, LastNotDone, MayStopBehind, ScriptDoes, cut_after}
 use Rattle.hh_session.specs.Script.{IsMarketZone}
 use Rattle.hh_database.specs.declared.stop.DatabaseStop.{DatabaseStop}
 use Rattle.hh_database.specs.declared.stop.DatabaseStop.TheVariants.{Early, Refused}
@@ -38,48 +38,49 @@ pub record HoldsState (midnight : Midnights) (t : State) (db : Database) : Type 
 -- and this is what the database holds after the steps.
 module _ (host : HostView) (fails : Type 0) (device : DeviceChange) (db : Database)
     (steps : List Step) where
-  -- the steps were run from a state, what they write went out, and the database holds the state after them
-  abbrev pub WritesFrom : State → Midnights → Type 0
-  WritesFrom s midnight =
+  -- The steps were run from a state, what they write went out, and the database holds the state after them. `may`
+  -- says which steps may have been done, and which may not.
+  abbrev pub WritesFrom : (List Step → Bool → Type 0) → State → Midnights → Type 0
+  WritesFrom may s midnight =
       (text : List ℕ) × (t : State)
-      × ScriptDoes host fails midnight s steps text t × Appends device.old device.new text × HoldsState midnight t db
+      × ScriptDoes host fails midnight may s steps text t × Appends device.old device.new text × HoldsState midnight t db
 
   -- the first of the steps were run from a state, the last of them was cut short, a beginning of what they write went out, and the
   -- database holds the state after them
-  abbrev pub CutsFrom : State → Midnights → Type 0
-  CutsFrom s midnight =
+  abbrev pub CutsFrom : Bool → State → Midnights → Type 0
+  CutsFrom strict s midnight =
       (count : ℕ) × (text : List ℕ) × (t : State)
-      × ScriptDoes host fails midnight s (cut_after count steps) text t × AppendsFront device.old device.new text × HoldsState midnight t db
+      × ScriptDoes host fails midnight (AllDoneButLast strict) s (cut_after count steps) text t × AppendsFront device.old device.new text × HoldsState midnight t db
 
   -- so it is from a new office with these settings
   module _ (settings : Settings) where
-    abbrev pub WritesNew : Type 0
-    WritesNew = InMarket (WritesFrom (empty_state settings))
+    abbrev pub WritesNew : (List Step → Bool → Type 0) → Type 0
+    WritesNew may = InMarket (WritesFrom may (empty_state settings))
 
-    abbrev pub CutsNew : Type 0
-    CutsNew = InMarket (CutsFrom (empty_state settings))
+    abbrev pub CutsNew : Bool → Type 0
+    CutsNew strict = InMarket (CutsFrom strict (empty_state settings))
 
   -- so it is from each state whose tables have this content
   module _ (content : Content) where
-    abbrev pub WritesOver : Type 0
-    WritesOver = InMarket (λ midnight. (s : State) → StandsFor midnight content s → WritesFrom s midnight)
+    abbrev pub WritesOver : (List Step → Bool → Type 0) → Type 0
+    WritesOver may = InMarket (λ midnight. (s : State) → StandsFor midnight content s → WritesFrom may s midnight)
 
-    abbrev pub CutsOver : Type 0
-    CutsOver = InMarket (λ midnight. (s : State) → StandsFor midnight content s → CutsFrom s midnight)
+    abbrev pub CutsOver : Bool → Type 0
+    CutsOver strict = InMarket (λ midnight. (s : State) → StandsFor midnight content s → CutsFrom strict s midnight)
 
 -- A host may show this of files and ports. The database may have failed only where this holds. This changes in an output, and this is
 -- what the database holds after the steps, which were not run to their end: the output failed; or they are strict, and those up to a line
--- were run, and no more.
+-- were run, the first that was not done.
 module _ (host : HostView) (fails : Type 0) (device : DeviceChange) (db : Database) (strict : Bool) (steps : List Step) where
   -- so it is from a new office with these settings
   abbrev pub EarlyNew : Settings → LinesStop → Type 0
-  EarlyNew settings Output = CutsNew host fails device db steps settings
-  EarlyNew settings (Line number) = MayStopBehind strict steps number × WritesNew host fails device db (take number steps) settings
+  EarlyNew settings Output = CutsNew host fails device db steps settings strict
+  EarlyNew settings (Line number) = MayStopBehind strict steps number × WritesNew host fails device db (take number steps) settings LastNotDone
 
   -- so it is from each state whose tables have this content
   abbrev pub EarlyOver : Content → LinesStop → Type 0
-  EarlyOver content Output = CutsOver host fails device db steps content
-  EarlyOver content (Line number) = MayStopBehind strict steps number × WritesOver host fails device db (take number steps) content
+  EarlyOver content Output = CutsOver host fails device db steps content strict
+  EarlyOver content (Line number) = MayStopBehind strict steps number × WritesOver host fails device db (take number steps) content LastNotDone
 
 -- this holds of lines that were not run to their end
 abbrev pub IfEarly : DatabaseStop → (LinesStop → Type 0) → Type 0
@@ -87,6 +88,6 @@ IfEarly (Early why) holds = holds why
 IfEarly (Refused fault) holds = Unit {0}
 
 -- no line was run, since the tables are refused
-abbrev pub IsRefused : DatabaseStop → Type 0
-IsRefused (Early why) = ⊥
-IsRefused (Refused fault) = Unit {0}
+abbrev pub WereRefused : DatabaseStop → Type 0
+WereRefused (Early why) = ⊥
+WereRefused (Refused fault) = Unit {0}

@@ -5,6 +5,7 @@ ghost use Rattle.hh_devices.specs.DeviceChanges.{change};
 ghost use Rattle.hh_devices.specs.Devices.{Failed};
 ghost use Rattle.hh_script.specs.Steps.{step_of};
 ghost use Rattle.hh_desk.specs.GivingUp.{CountsMore};
+ghost use Rattle.hh_session.specs.Course.{AllDone};
 ghost use Rattle.hh_database.specs.steps.Running.{EarlyBetween, RunsOver};
 
 use hh_devices::Sink;
@@ -31,7 +32,7 @@ pub(crate) fn run_over<T: Tables, H: Host, N: Notes, O: Sink>(
         → OnOk result.0 (RunsOver (H.view host.now)
         (CountsMore (T.refusals tables) (T.refusals result.1))
         (change O.taken O.failures out.old out.new) (T.content tables) (T.content result.1)
-        (map step_of lines.now)) }
+        (AllDone strict) (map step_of lines.now)) }
     ensures well { OnOk result.0 (O.failures out.new ≡ O.failures out.old) }
     ensures cut { IsTrue (T.is_open result.1)
         → IfErr result.0 (EarlyBetween (H.view host.now)

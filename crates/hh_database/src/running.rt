@@ -14,7 +14,8 @@ ghost use Rattle.hh_sqlstore.specs.Leaving.{LeavesDatabase};
 ghost use Rattle.hh_sqlstore.specs.Stores.{content_in};
 ghost use Rattle.hh_script.specs.Steps.{step_of};
 ghost use Rattle.hh_desk.specs.GivingUp.{CountsMore};
-ghost use Rattle.hh_database.specs.Running.{EarlyNew, EarlyOver, IfEarly, IsRefused, WritesNew, WritesOver};
+ghost use Rattle.hh_session.specs.Course.{AllDone};
+ghost use Rattle.hh_database.specs.Running.{EarlyNew, EarlyOver, IfEarly, WereRefused, WritesNew, WritesOver};
 
 use crate::over::run_over;
 use crate::stop::{AfterUse, DatabaseStop};
@@ -50,7 +51,7 @@ pub fn run_in_new_database<S: Alter, H: Host, N: Notes, O: Sink>(
     ensures done { IfOk result (λ after. IsTrue (state S.Store after.connection).is_open
         → WritesNew (H.view host.now) (0 < after.refusals)
         (change O.taken O.failures out.old out.new) (state S.Store after.connection).committed
-        (map step_of lines.now) settings) }
+        (map step_of lines.now) settings (AllDone strict)) }
     ensures well { OnOk result (O.failures out.new ≡ O.failures out.old) }
     ensures cut { IfErr result (λ e. IfEarly e.0 (λ why.
         IsTrue (state S.Store e.1.connection).is_open
@@ -59,8 +60,8 @@ pub fn run_in_new_database<S: Alter, H: Host, N: Notes, O: Sink>(
         strict (map step_of lines.now) settings why)) }
     ensures failed { IfErr result (λ e. e.0 ≡ DatabaseStop.Early LinesStop.Output
         → Failed (O.failures out.old) (O.failures out.new)) }
-    ensures untouched { IfErr result (λ e. IsRefused e.0 → out.new ≡ out.old) }
-    ensures undone { IfErr result (λ e. IsRefused e.0
+    ensures untouched { IfErr result (λ e. WereRefused e.0 → out.new ≡ out.old) }
+    ensures undone { IfErr result (λ e. WereRefused e.0
         → LeavesDatabase (state S.Store connection) (state S.Store e.1.connection)) }
     ensures foreign { (state S.Store connection).now.schema ≢ nothing
         → MatchResult result (λ _. ⊥) (λ e. e.0 ≡ DatabaseStop.Refused Store) }
@@ -93,7 +94,7 @@ pub fn run_in_database<S: Rising, H: Host, N: Notes, O: Sink>(
         → IfOk result (λ after. IsTrue (state S.Store after.connection).is_open
         → WritesOver (H.view host.now) (0 < after.refusals)
         (change O.taken O.failures out.old out.new) (state S.Store after.connection).committed
-        (map step_of lines.now) content) }
+        (map step_of lines.now) content (AllDone strict)) }
     ensures well { OnOk result (O.failures out.new ≡ O.failures out.old) }
     ensures cut { (content : Content) → Holds version content (state S.Store connection).committed
         → IfErr result (λ e. IfEarly e.0 (λ why.
@@ -103,8 +104,8 @@ pub fn run_in_database<S: Rising, H: Host, N: Notes, O: Sink>(
         strict (map step_of lines.now) content why)) }
     ensures failed { IfErr result (λ e. e.0 ≡ DatabaseStop.Early LinesStop.Output
         → Failed (O.failures out.old) (O.failures out.new)) }
-    ensures untouched { IfErr result (λ e. IsRefused e.0 → out.new ≡ out.old) }
-    ensures left { IfErr result (λ e. IsRefused e.0
+    ensures untouched { IfErr result (λ e. WereRefused e.0 → out.new ≡ out.old) }
+    ensures left { IfErr result (λ e. WereRefused e.0
         → LeavesDatabase (state S.Store connection) (state S.Store e.1.connection)) }
     ensures foreign { (state S.Store connection).now.schema ≢ office
         → MatchResult result (λ _. ⊥) (λ e. e.0 ≡ DatabaseStop.Refused Store) }
@@ -148,7 +149,7 @@ pub fn run_over_database<S: Alter, H: Host, N: Notes, O: Sink>(
         → WritesOver (H.view host.now)
         (CountsMore tables.refusals after.refusals)
         (change O.taken O.failures out.old out.new) (state S.Store after.connection).committed
-        (map step_of lines.now) (content_in S.Store tables)) }
+        (map step_of lines.now) (content_in S.Store tables) (AllDone strict)) }
     ensures well { OnOk result (O.failures out.new ≡ O.failures out.old) }
     ensures cut { IfErr result (λ e. IfEarly e.0 (λ why.
         IsTrue (state S.Store e.1.connection).is_open
@@ -156,7 +157,7 @@ pub fn run_over_database<S: Alter, H: Host, N: Notes, O: Sink>(
         (CountsMore tables.refusals e.1.refusals)
         (change O.taken O.failures out.old out.new) (state S.Store e.1.connection).committed
         strict (map step_of lines.now) (content_in S.Store tables) why)) }
-    ensures run { IfErr result (λ e. IsRefused e.0 → ⊥) }
+    ensures run { IfErr result (λ e. WereRefused e.0 → ⊥) }
     ensures failed { IfErr result (λ e. e.0 ≡ DatabaseStop.Early LinesStop.Output
         → Failed (O.failures out.old) (O.failures out.new)) }
     ensures sure { MatchResult result

@@ -42,7 +42,8 @@ pub trait Host {
     fn now(&self) -> Result<i64, ClockFailed>;
 
     /// Why the file of a path cannot be read, in the system's words and on one line; nothing where
-    /// it can. The file is opened anew and a byte of it is read, so it tells how things stand now.
+    /// it can, or where it is a pipe or a device. The file is opened anew and a byte of it is read, so it
+    /// tells how things are now.
     ///
     /// # Errors
     ///

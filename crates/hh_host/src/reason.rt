@@ -6,8 +6,13 @@ use std::net::{Ipv4Addr, Net, OpenListener, TcpListener};
 use std::rt::Files;
 use std::{fs, io};
 
-/// Opens the file of a path, and reads a byte of it: a folder can be opened, but not read.
+/// Opens the file of a path, and reads a byte of it: a folder can be opened, but not read. A pipe or a
+/// device is not opened, since that may wait for another process.
 pub(crate) fn try_file<R: Files>(files: &R, path: &str) -> io::Result<()> {
+    let found = fs::metadata(files, path)?;
+    if !found.is_file() && !found.is_dir() {
+        return Ok(());
+    }
     let mut file = fs::open(files, path)?;
     let mut byte = [0u8; 1];
     file.read(&mut byte)?;

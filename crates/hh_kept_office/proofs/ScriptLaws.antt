@@ -11,7 +11,7 @@ use Rattle.hh_sqlstore.specs.Leaving.{IsTakenOver}
 use Rattle.hh_sqlstore.specs.Holds.{Holds}
 use Rattle.hh_host.specs.Views.{HostView}
 use Rattle.hh_script.specs.Steps.{Step}
-use Rattle.hh_session.specs.Course.{cut_after}
+use Rattle.hh_session.specs.Course.{AllDone, AllDoneButLast, LastNotDone, cut_after}
 use Rattle.hh_session.specs.declared.run.LinesStop.{LinesStop}
 use Rattle.hh_session.specs.declared.run.LinesStop.TheVariants.{Line, Output}
 use Rattle.hh_session.specs.declared.script.ScriptStop.{ScriptStop}
@@ -20,35 +20,36 @@ use Rattle.hh_session.specs.Script.{IsScript}
 use Rattle.hh_session.proofs.GivingUpLaws.{script_then}
 use Rattle.hh_database.specs.declared.stop.DatabaseStop.{DatabaseStop}
 use Rattle.hh_database.specs.declared.stop.DatabaseStop.TheVariants as database
-use Rattle.hh_database.specs.Running.{CutsOver, EarlyOver, IfEarly, IsRefused, WritesOver}
+use Rattle.hh_database.specs.Running.{CutsOver, EarlyOver, IfEarly, WereRefused, WritesOver}
 use Rattle.hh_kept_office.specs.Places.{Connected, LeavesConnected, TakesConnected}
 use Rattle.hh_kept_office.specs.Scripts.{RunsFile}
 use Rattle.hh_kept_office.specs.steps.Scripts.{RunsFileOver, stop_of}
 
 -- where the store may have failed, it may in more cases
 module _ (fails others : Type 0) (implies : fails → others) (host : HostView) (device : DeviceChange) (db : Database) (content : Content) where
-  pub writes_then : (steps : List Step) → WritesOver host fails device db steps content → WritesOver host others device db steps content
-  writes_then steps (zone, market, writes) = (
+  pub writes_then : (may : List Step → Bool → Type 0) (steps : List Step) → WritesOver host fails device db steps content may
+      → WritesOver host others device db steps content may
+  writes_then may steps (zone, market, writes) = (
     zone,
     market,
     λ s stands.
         let (text, t, does, went, held) = writes s stands in
-        (text, t, script_then fails others implies host (midnight_in (plain_zone zone)) s steps text t does, went, held),
+        (text, t, script_then fails others implies host (midnight_in (plain_zone zone)) may s steps text t does, went, held),
   )
 
-  cuts_then : (steps : List Step) → CutsOver host fails device db steps content → CutsOver host others device db steps content
-  cuts_then steps (zone, market, cuts) = (
+  cuts_then : (strict : Bool) (steps : List Step) → CutsOver host fails device db steps content strict → CutsOver host others device db steps content strict
+  cuts_then strict steps (zone, market, cuts) = (
     zone,
     market,
     λ s stands.
         let (count, text, t, does, went, held) = cuts s stands in
-        (count, text, t, script_then fails others implies host (midnight_in (plain_zone zone)) s (cut_after count steps) text t does, went, held),
+        (count, text, t, script_then fails others implies host (midnight_in (plain_zone zone)) (AllDoneButLast strict) s (cut_after count steps) text t does, went, held),
   )
 
   pub early_then : (strict : Bool) (steps : List Step) (why : LinesStop) → EarlyOver host fails device db strict steps content why
       → EarlyOver host others device db strict steps content why
-  early_then strict steps Output cuts = cuts_then steps cuts
-  early_then strict steps (Line number) (may, writes) = (may, writes_then (take number steps) writes)
+  early_then strict steps Output cuts = cuts_then strict steps cuts
+  early_then strict steps (Line number) (may, writes) = (may, writes_then LastNotDone (take number steps) writes)
 
 -- a script over tables that were taken over from a database that held their content, and left so
 module _ (host : HostView) (device : DeviceChange) (file : List ℕ) (found taken left : Connected) (content : Content) where
@@ -64,7 +65,7 @@ module _ (host : HostView) (device : DeviceChange) (file : List ℕ) (found take
     pub runs_file : (strict : Bool) (result : Result Unit ScriptStop) → RunsFileOver host device file strict content taken left result
         → RunsFile host device file strict found left result
     runs_file strict (Ok x) (steps, is, writes) =
-        (steps, is, λ held holding up. subst (WritesOver host ⊤ device left.committed steps) (same held holding (sure up)) (writes up))
+        (steps, is, λ held holding up. subst (λ c. WritesOver host ⊤ device left.committed steps c (AllDone strict)) (same held holding (sure up)) (writes up))
     runs_file strict (Err (script.Early why)) (steps, is, cuts) =
         (steps, is, λ held holding up. subst (λ c. EarlyOver host ⊤ device left.committed strict steps c why) (same held holding (sure up)) (cuts up))
     runs_file strict (Err script.File) (unread, more, silent) = (inr (λ up. (content, holds (sure up)), unread, takes_both more), silent)
@@ -73,7 +74,7 @@ module _ (host : HostView) (device : DeviceChange) (file : List ℕ) (found take
 
 -- a script over tables was not run to its end
 pub early_file : (host : HostView) (device : DeviceChange) (file : List ℕ) (strict : Bool) (content : Content) (taken left : Connected) (why : ScriptStop)
-    (stop : DatabaseStop) → why ≡ stop_of stop → (IsRefused stop → ⊥) → (steps : List Step) → IsScript host file steps
+    (stop : DatabaseStop) → why ≡ stop_of stop → (WereRefused stop → ⊥) → (steps : List Step) → IsScript host file steps
     → IfEarly stop (λ early. IsTrue left.is_open → EarlyOver host ⊤ device left.committed strict steps content early)
     → RunsFileOver host device file strict content taken left (Err why)
 early_file host device file strict content taken left why (database.Early early) is run steps script cuts =

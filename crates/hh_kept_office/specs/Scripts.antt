@@ -12,6 +12,7 @@ use Rattle.hh_script.specs.Steps.{Step}
 use Rattle.hh_session.specs.declared.script.ScriptStop.{ScriptStop}
 use Rattle.hh_session.specs.declared.script.ScriptStop.TheVariants as script
 use Rattle.hh_session.specs.Script.{IsScript, IsUnread}
+use Rattle.hh_session.specs.Course.{AllDone}
 use Rattle.hh_session.specs.ScriptStops.{IsUnrun}
 use Rattle.hh_database.specs.Running.{EarlyOver, WritesOver}
 use Rattle.hh_kept_office.specs.declared.scripts.ScriptPathStop.{ScriptPathStop}
@@ -39,11 +40,11 @@ module _ (host : HostView) (device : DeviceChange) (file : List ℕ) where
   IsOfNoOffice why = (fault : StoreFault) × (why ≡ script.Refused (store_fault fault))
 
   -- The script was run over the office in a database that was opened so and left so: from each state whose tables the database held, if the
-  -- connection is open in the end. Or its lines were not run to their end. Or nothing was run and nothing was written: the tables were not
+  -- connection is open in the end, and all lines were done if it is strict. Or its lines were not run to their end. Or nothing was run and nothing was written: the tables were not
   -- taken over, and the database has what it had; or they were, and the script cannot be had.
   abbrev pub RunsFile : Bool → Connected → Connected → Result Unit ScriptStop → Type 0
   RunsFile strict found left (Ok x) = (steps : List Step) × IsScript host file steps
-      × ((content : Content) → Holds version content found.committed → IsTrue left.is_open → WritesOver host ⊤ device left.committed steps content)
+      × ((content : Content) → Holds version content found.committed → IsTrue left.is_open → WritesOver host ⊤ device left.committed steps content (AllDone strict))
   RunsFile strict found left (Err (script.Early why)) = (steps : List Step) × IsScript host file steps
       × ((content : Content) → Holds version content found.committed → IsTrue left.is_open → EarlyOver host ⊤ device left.committed strict steps content why)
   RunsFile strict found left (Err why) =

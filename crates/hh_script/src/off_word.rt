@@ -12,8 +12,8 @@ use std::fmt;
 pub struct OffWord {
     /// The place of the word in the line, from 1.
     pub place: usize,
-    /// The word as it stands. It is empty where the word is missing; one that is there and empty
-    /// has the blemish of a doubled blank.
+    /// The word as it is in the line, up to a tab. It is empty where the word is missing; one that is
+    /// there and empty has the blemish of a doubled blank.
     pub text: CutText,
     /// What was expected in its place.
     pub expected: Expected,
@@ -58,7 +58,7 @@ impl OffWord {
     fn at(place: usize, word: &[u8], expected: Expected, is_last: bool) -> OffWord {
         OffWord {
             place,
-            text: CutText::of(word),
+            text: shown_text(word, expected == Expected::Key),
             expected,
             blemish: Blemish::of(word, place == 1, is_last),
         }
@@ -77,6 +77,17 @@ impl OffWord {
     /// Whether the word is missing.
     pub fn is_missing(&self) -> bool {
         self.text.is_empty() && self.blemish.is_none()
+    }
+}
+
+/// A word as it is shown: up to a tab, since a key may be behind it. Of a key only its length is told.
+fn shown_text(word: &[u8], is_key: bool) -> CutText {
+    if is_key {
+        return CutText::of(word);
+    }
+    match word.iter().position(|byte| *byte == b'\t') {
+        Some(tab) => CutText::beginning(&word[..tab + 1]),
+        None => CutText::of(word),
     }
 }
 

@@ -1,7 +1,7 @@
 -- What becomes of the lines of a script, by what its parts do.
-use Rattle.std.proofs.Common.{◌≡◌, ℕ, ◌+◌, ◌<◌, ◌≤◌, Bool, List, [], ◌∷◌, ◌++◌, length, map, take, refl, sym, ap, subst, ◌∙◌, Option, Some, None, Result, Ok, Err, inl, inr, arith}
+use Rattle.std.proofs.Common.{◌≡◌, ℕ, ◌+◌, ◌<◌, ◌≤◌, Bool, false, not, List, [], ◌∷◌, ◌++◌, length, map, take, refl, sym, ap, subst, ◌∙◌, Option, Some, None, Result, Ok, Err, inl, inr, arith}
 use Rattle.std.specs.Result.{IsErrAnd}
-use Rattle.std.specs.Prelude.{IfErr, IsTrue, OnErr, OnOk, slice_index_or}
+use Rattle.std.specs.Prelude.{IfErr, IfOk, IsTrue, OnErr, OnOk, slice_index_or}
 use Rattle.std.specs.Io.KnownBytes.{Appends}
 use Rattle.std.proofs.lemmas.List.{append-nil, append_assoc, length-map, map-append, take-map, take_more}
 use Rattle.hh_devices.specs.DeviceChanges.{DeviceChange, change}
@@ -18,14 +18,15 @@ use Rattle.hh_host.specs.Views.{HostView}
 use Rattle.hh_script.specs.declared.script_line.ScriptLine.{ScriptLine}
 use Rattle.hh_script.specs.Steps.{LoadStep, RunStep, Step, step_of}
 use Rattle.hh_desk.specs.declared.told.Told.{Told}
-use Rattle.hh_desk.specs.Doing.{LeavesRefused, LoadDoes, RunDoes, StandsNow, no_memory}
+use Rattle.hh_desk.specs.declared.told.Told.TheVariants.{Replied, Unreadable}
+use Rattle.hh_desk.specs.Doing.{IsRefusal, LeavesRefused, LoadDoes, RunDoes, StandsNow, no_memory}
 use Rattle.hh_desk.specs.GivingUp.{CountsMore}
 use Rattle.hh_desk.proofs.GivingUpLaws.{more_at_first, more_later}
 use Rattle.hh_session.specs.declared.run.LinesStop.{LinesStop}
 use Rattle.hh_session.specs.declared.run.LinesStop.TheVariants.{Line, Output}
-use Rattle.hh_session.specs.Course.{EarlyConserves, EndsEarly, FirstConserve, IsLineOf, RunsScript, ScriptConserves, ScriptDoes, StepDoes, StopsScript, cut_last, cut_short}
+use Rattle.hh_session.specs.Course.{AllDone, AllDoneButLast, EarlyConserves, EndsEarly, FirstConserve, IsLineOf, LastNotDone, RunsScript, ScriptConserves, ScriptDoes, StepDoes, StopsScript, cut_last, cut_short}
 use Rattle.hh_session.specs.steps.Course.{BeginsLine, RunsStep, StopsStep, TellsLine}
-use Rattle.hh_session.specs.Lines.{told_line}
+use Rattle.hh_session.specs.Lines.{told_done, told_line}
 use Rattle.hh_session.proofs.GivingUpLaws.{script_then, step_then}
 
 -- a load and a run that are given up as memory ran out leave the state
@@ -36,22 +37,29 @@ load_gives_up host fails midnight load s = inr (inl refl, refl)
 pub run_gives_up : (fails : Type 0) (midnight : Midnights) (run : RunStep) (s : State) → RunDoes fails midnight s run no_memory s
 run_gives_up fails midnight run s = inr (inl refl, refl)
 
+-- what is refused is not done
+refused_undone : (told : Told) → IsRefusal told → told_done told ≡ false
+refused_undone (Replied given) refusal = ap not refusal
+refused_undone Unreadable refusal = absurd refusal
+
 -- What a line that is told in a line of its own does, by what it came to and what went out.
 module _ (old new : OfficeView) (device : DeviceChange) (told : Told) (does : State → Told → State → Type 0) (up : (s : State) → does s no_memory s)
     (comes : (s : State) → Stands old s → (t : State) × does s told t × StandsNow old new t) (leaves : LeavesRefused old new told) where
-  pub line_done : TellsLine device told → (s : State) → Stands old s
-      → (text : List ℕ) × (t : State) × IsLineOf (λ given. does s given t) text × Appends device.old device.new text × StandsNow old new t
-  line_done (inl went) s stands = let (t, done, now) = comes s stands in (told_line told, t, (told, done, refl), went, now)
-  line_done (inr (refusal, went)) s stands =
+  given_up : IsRefusal told → (s : State) → Stands old s → StandsNow old new s
+  given_up refusal s stands =
       let same : new ≡ old = leaves refusal in
-      (told_line no_memory, s, (no_memory, up s, refl), went, (subst (λ o. Stands o s) (sym same) stands, ap (λ (o : OfficeView). o.zone) same))
+      (subst (λ o. Stands o s) (sym same) stands, ap (λ (o : OfficeView). o.zone) same)
+
+  pub line_done : (done : Bool) → done ≡ told_done told → TellsLine device told → (s : State) → Stands old s
+      → (text : List ℕ) × (t : State) × IsLineOf (λ given. does s given t) done text × Appends device.old device.new text × StandsNow old new t
+  line_done done is (inl went) s stands = let (t, comes_to, now) = comes s stands in (told_line told, t, (told, comes_to, is, refl), went, now)
+  line_done done is (inr (refusal, went)) s stands =
+      (told_line no_memory, s, (no_memory, up s, is ∙ refused_undone told refusal, refl), went, given_up refusal s stands)
 
   pub line_cut : BeginsLine device told → (s : State) → Stands old s
-      → (text : List ℕ) × (t : State) × IsLineOf (λ given. does s given t) text × AppendsFront device.old device.new text × StandsNow old new t
-  line_cut (inl went) s stands = let (t, done, now) = comes s stands in (told_line told, t, (told, done, refl), went, now)
-  line_cut (inr (refusal, went)) s stands =
-      let same : new ≡ old = leaves refusal in
-      (told_line no_memory, s, (no_memory, up s, refl), went, (subst (λ o. Stands o s) (sym same) stands, ap (λ (o : OfficeView). o.zone) same))
+      → (done : Bool) × (text : List ℕ) × (t : State) × IsLineOf (λ given. does s given t) done text × AppendsFront device.old device.new text × StandsNow old new t
+  line_cut (inl went) s stands = let (t, comes_to, now) = comes s stands in (told_done told, told_line told, t, (told, comes_to, refl, refl), went, now)
+  line_cut (inr (refusal, went)) s stands = (false, told_line no_memory, s, (no_memory, up s, refl, refl), went, given_up refusal s stands)
 
 -- ---- lines one after the other
 
@@ -61,25 +69,41 @@ appends_more (Some xs) None after text line first second = absurd first
 appends_more (Some xs) (Some ys) None text line first second = absurd second
 appends_more (Some xs) (Some ys) (Some zs) text line first second = second ∙ ap (λ bytes. bytes ++ line) first ∙ append_assoc xs text line
 
-module _ (host : HostView) (fails : Type 0) (midnight : Midnights) where
-  does_more : (s t u : State) (steps : List Step) (text : List ℕ) (step : Step) (line : List ℕ) → ScriptDoes host fails midnight s steps text t
-      → StepDoes host fails midnight t step line u → ScriptDoes host fails midnight s (steps ++ step ∷ []) (text ++ line) u
-  does_more s t u [] text step line (none, same) does = (
+-- Whether steps may be done or not, before one more step and with it.
+module _ (host : HostView) (fails : Type 0) (midnight : Midnights) (before after : List Step → Bool → Type 0) (step : Step)
+    (keeps : (behind : List Step) (done : Bool) → before behind done → after (behind ++ step ∷ []) done) where
+  does_more : (s t u : State) (steps : List Step) (text : List ℕ) (done : Bool) (line : List ℕ) → ScriptDoes host fails midnight before s steps text t
+      → after [] done → StepDoes host fails midnight t step done line u → ScriptDoes host fails midnight after s (steps ++ step ∷ []) (text ++ line) u
+  does_more s t u [] text done line (none, same) fits does = (
+    done,
     line,
     u,
     [],
-    subst (λ v. StepDoes host fails midnight v step line u) same does,
+    fits,
+    subst (λ v. StepDoes host fails midnight v step done line u) same does,
     (refl, refl),
     ap (λ bytes. bytes ++ line) none ∙ sym (append-nil line),
   )
-  does_more s t u (first ∷ steps) text step line (line0, v, rest, does0, others, is) does = (
+  does_more s t u (first ∷ steps) text done line (done0, line0, v, rest, fits0, does0, others, is) fits does = (
+    done0,
     line0,
     v,
     rest ++ line,
+    keeps steps done0 fits0,
     does0,
-    does_more v t u steps rest step line others does,
+    does_more v t u steps rest done line others fits does,
     ap (λ bytes. bytes ++ line) is ∙ append_assoc line0 rest line,
   )
+
+-- what is asked of steps that are all done, by the steps behind them, is asked of those but the last
+but_last : (strict : Bool) (step : Step) (behind : List Step) (done : Bool) → AllDone strict behind done → AllDoneButLast strict (behind ++ step ∷ []) done
+but_last strict step [] done fits = fits
+but_last strict step (next ∷ behind) done fits = fits
+
+-- the same where the last is not done
+last_not : (strict : Bool) → IsTrue strict → (step : Step) (behind : List Step) (done : Bool) → AllDone strict behind done → LastNotDone (behind ++ step ∷ []) done
+last_not strict asked step [] done fits = fits asked
+last_not strict asked step (next ∷ behind) done fits = fits asked
 
 -- the last of some steps is cut short
 cut_behind : (steps : List Step) (step : Step) → cut_last (steps ++ step ∷ []) ≡ steps ++ cut_short step ∷ []
@@ -87,10 +111,11 @@ cut_behind [] step = refl
 cut_behind (first ∷ []) step = refl
 cut_behind (first ∷ second ∷ steps) step = ap (λ more. first ∷ more) (cut_behind (second ∷ steps) step)
 
--- The office's store had counted so many refusals at first, so many then, and counts so many in the end.
+-- The office's store had counted so many refusals at first, so many then, and counts so many in the end. The steps so far were run, and all
+-- done where they are strict.
 module _ (host : HostView) (old now new : OfficeView) (first mid last : ℕ)
-    {S : Type 0} (taken : S → Option (List ℕ)) (failures : S → ℕ) (before between after : S)
-    (steps : List Step) (step : Step) (ran : RunsScript host (CountsMore first mid) old now (change taken failures before between) steps) where
+    {S : Type 0} (taken : S → Option (List ℕ)) (failures : S → ℕ) (before between after : S) (strict : Bool)
+    (steps : List Step) (step : Step) (ran : RunsScript host (CountsMore first mid) old now (change taken failures before between) (AllDone strict) steps) where
   -- the office stands for some state after the lines so far
   pub some_between : StandsForSome old → StandsForSome now
   some_between (s, stands) = let (text, t, does, went, (now_stands, zone)) = ran s stands in (t, now_stands)
@@ -100,40 +125,53 @@ module _ (host : HostView) (old now new : OfficeView) (first mid last : ℕ)
     pub up_more : StandsForSome old → first ≤ last
     up_more some = omega (arith, up some, further (some_between some))
 
-    does_both : (s t u : State) (text line : List ℕ) (step : Step) → Stands old s → Stands now t → now.zone ≡ old.zone
-        → ScriptDoes host (CountsMore first mid) (midnight_of old) s steps text t
-        → StepDoes host (CountsMore mid last) (midnight_of now) t step line u
-        → ScriptDoes host (CountsMore first last) (midnight_of old) s (steps ++ step ∷ []) (text ++ line) u
-    does_both s t u text line step stands now_stands zone does done =
-        does_more host (CountsMore first last) (midnight_of old) s t u steps text step line
-        (script_then (CountsMore first mid) (CountsMore first last) (more_at_first first mid last (up (s, stands)) (further (t, now_stands))) host (midnight_of old) s steps text t does)
-        (step_then (CountsMore mid last) (CountsMore first last) (more_later first mid last (up (s, stands)) (further (t, now_stands))) host (midnight_of old) t step line u
-        (subst (λ z. StepDoes host (CountsMore mid last) (midnight_in (plain_zone z)) t step line u) zone done))
+    module _ (may : List Step → Bool → Type 0) (next : Step) (keeps : (behind : List Step) (done : Bool) → AllDone strict behind done → may (behind ++ next ∷ []) done) where
+      does_both : (s t u : State) (text : List ℕ) (done : Bool) (line : List ℕ) → Stands old s → Stands now t → now.zone ≡ old.zone
+          → ScriptDoes host (CountsMore first mid) (midnight_of old) (AllDone strict) s steps text t
+          → may [] done → StepDoes host (CountsMore mid last) (midnight_of now) t next done line u
+          → ScriptDoes host (CountsMore first last) (midnight_of old) may s (steps ++ next ∷ []) (text ++ line) u
+      does_both s t u text done line stands now_stands zone does fits does_now =
+          does_more host (CountsMore first last) (midnight_of old) (AllDone strict) may next keeps s t u steps text done line
+          (script_then (CountsMore first mid) (CountsMore first last) (more_at_first first mid last (up (s, stands)) (further (t, now_stands))) host (midnight_of old) (AllDone strict) s steps text t does)
+          fits
+          (step_then (CountsMore mid last) (CountsMore first last) (more_later first mid last (up (s, stands)) (further (t, now_stands))) host (midnight_of old) t next done line u
+          (subst (λ z. StepDoes host (CountsMore mid last) (midnight_in (plain_zone z)) t next done line u) zone does_now))
 
     -- one more line of a script
-    pub script_more : RunsStep host (CountsMore mid last) now new (change taken failures between after) step
-        → RunsScript host (CountsMore first last) old new (change taken failures before after) (steps ++ step ∷ [])
-    script_more runs s stands =
+    script_next : (may : List Step → Bool → Type 0) (keeps : (behind : List Step) (done : Bool) → AllDone strict behind done → may (behind ++ step ∷ []) done)
+        (done : Bool) → may [] done → RunsStep host (CountsMore mid last) now new (change taken failures between after) step done
+        → RunsScript host (CountsMore first last) old new (change taken failures before after) may (steps ++ step ∷ [])
+    script_next may keeps done fits runs s stands =
         let (text, t, does, went, (now_stands, zone)) = ran s stands in
-        let (line, u, done, line_went, (new_stands, new_zone)) = runs t now_stands in (
+        let (line, u, does_now, line_went, (new_stands, new_zone)) = runs t now_stands in (
           text ++ line,
           u,
-          does_both s t u text line step stands now_stands zone does done,
+          does_both may step keeps s t u text done line stands now_stands zone does fits does_now,
           appends_more (taken before) (taken between) (taken after) text line went line_went,
           (new_stands, new_zone ∙ zone),
         )
 
+    -- a line behind which a script goes on
+    pub script_more : (done : Bool) → (IsTrue strict → IsTrue done) → RunsStep host (CountsMore mid last) now new (change taken failures between after) step done
+        → RunsScript host (CountsMore first last) old new (change taken failures before after) (AllDone strict) (steps ++ step ∷ [])
+    script_more done fits = script_next (AllDone strict) (λ behind d fit. fit) done fits
+
+    -- a line that is not done, behind which a strict script stops
+    pub script_undone : IsTrue strict → RunsStep host (CountsMore mid last) now new (change taken failures between after) step false
+        → RunsScript host (CountsMore first last) old new (change taken failures before after) LastNotDone (steps ++ step ∷ [])
+    script_undone asked = script_next LastNotDone (last_not strict asked step) false refl
+
     -- a line that stops a script
     pub script_stops : (all : List Step) (count : ℕ) → take count all ≡ steps ++ step ∷ [] → StopsStep host (CountsMore mid last) now new (change taken failures between after) step
-        → StopsScript host (CountsMore first last) old new (change taken failures before after) all
+        → StopsScript host (CountsMore first last) old new (change taken failures before after) strict all
     script_stops all count is stops s stands =
         let (text, t, does, went, (now_stands, zone)) = ran s stands in
-        let (line, u, done, (front, rest, cut, line_went), (new_stands, new_zone)) = stops t now_stands in (
+        let (done, line, u, does_now, (front, rest, cut, line_went), (new_stands, new_zone)) = stops t now_stands in (
           count,
           text ++ line,
           u,
-          subst (λ xs. ScriptDoes host (CountsMore first last) (midnight_of old) s xs (text ++ line) u) (sym (ap cut_last is ∙ cut_behind steps step))
-              (does_both s t u text line (cut_short step) stands now_stands zone does done),
+          subst (λ xs. ScriptDoes host (CountsMore first last) (midnight_of old) (AllDoneButLast strict) s xs (text ++ line) u) (sym (ap cut_last is ∙ cut_behind steps step))
+              (does_both (AllDoneButLast strict) (cut_short step) (but_last strict (cut_short step)) s t u text done line stands now_stands zone does tt does_now),
           (
             text ++ front,
             rest,
@@ -144,41 +182,36 @@ module _ (host : HostView) (old now new : OfficeView) (first mid last : ℕ)
         )
 
 -- The office was read after some lines, and its store had counted so many refusals at first, so many after them, and so many later.
-module _ (host : HostView) (old new heard : OfficeView) (same : heard ≡ new) (first last later : ℕ) (device : DeviceChange) (steps : List Step)
-    (up : StandsForSome old → first ≤ last) (further : StandsForSome new → last ≤ later) (runs : RunsScript host (CountsMore first last) old new device steps) where
+module _ (host : HostView) (old new heard : OfficeView) (same : heard ≡ new) (first last later : ℕ) (device : DeviceChange) (may : List Step → Bool → Type 0) (steps : List Step)
+    (up : StandsForSome old → first ≤ last) (further : StandsForSome new → last ≤ later) where
   -- it is as after the lines
-  pub heard_script : RunsScript host (CountsMore first later) old heard device steps
-  heard_script s stands =
+  heard_script : RunsScript host (CountsMore first last) old new device may steps → RunsScript host (CountsMore first later) old heard device may steps
+  heard_script runs s stands =
       let (text, t, does, went, now) = runs s stands in (
         text,
         t,
-        script_then (CountsMore first last) (CountsMore first later) (more_at_first first last later (up (s, stands)) (further (t, now.0))) host (midnight_of old) s steps text t does,
+        script_then (CountsMore first last) (CountsMore first later) (more_at_first first last later (up (s, stands)) (further (t, now.0))) host (midnight_of old) may s steps text t does,
         went,
         subst (λ o. StandsNow old o t) (sym same) now,
       )
 
-  -- the count does not fall
-  pub heard_up : StandsForSome old → first ≤ later
-  heard_up (s, stands) = let (text, t, does, went, now) = runs s stands in omega (arith, up (s, stands), further (t, now.0))
-
 -- The tables of a state that an office stands for add up.
-module _ (conserve : ReachedConserve) (host : HostView) (fails : Type 0) (old new : OfficeView) (device : DeviceChange) (steps : List Step) where
+module _ (conserve : ReachedConserve) (host : HostView) (fails : Type 0) (old new : OfficeView) (device : DeviceChange) where
   sums_now : (t : State) → StandsNow old new t → Conserves (midnight_of old) t new.content
   sums_now t ((reached, is), zone) =
       subst (λ z. Conserves (midnight_in (plain_zone z)) t new.content) zone
       (subst (λ content. Conserves (midnight_of new) t content) (sym is) (conserve (midnight_of new) t reached))
 
-  pub script_conserves : RunsScript host fails old new device steps → ScriptConserves host fails old new steps
-  script_conserves runs s stands = let (text, t, does, went, now) = runs s stands in (text, t, does, sums_now t now)
+  pub script_conserves : (may : List Step → Bool → Type 0) (steps : List Step) → RunsScript host fails old new device may steps → ScriptConserves host fails old new may steps
+  script_conserves may steps runs s stands = let (text, t, does, went, now) = runs s stands in (text, t, does, sums_now t now)
 
-  first_conserve : StopsScript host fails old new device steps → FirstConserve host fails old new steps
-  first_conserve stops s stands = let (count, text, t, does, cut, now) = stops s stands in (count, text, t, does, sums_now t now)
+  first_conserve : (strict : Bool) (steps : List Step) → StopsScript host fails old new device strict steps → FirstConserve host fails old new strict steps
+  first_conserve strict steps stops s stands = let (count, text, t, does, cut, now) = stops s stands in (count, text, t, does, sums_now t now)
 
--- The steps were not run to their end, and the tables of the state after those that were add up.
-module _ (conserve : ReachedConserve) (host : HostView) (fails : Type 0) (old new : OfficeView) (device : DeviceChange) where
-  pub early_conserves : (strict : Bool) (steps : List Step) (why : LinesStop) → EndsEarly host fails old new device strict steps why → EarlyConserves host fails old new steps why
-  early_conserves strict steps Output stops = first_conserve conserve host fails old new device steps stops
-  early_conserves strict steps (Line number) (may, runs) = script_conserves conserve host fails old new device (take number steps) runs
+  -- the steps were not run to their end, and the tables of the state after those that were add up
+  pub early_conserves : (strict : Bool) (steps : List Step) (why : LinesStop) → EndsEarly host fails old new device strict steps why → EarlyConserves host fails old new strict steps why
+  early_conserves strict steps Output stops = first_conserve strict steps stops
+  early_conserves strict steps (Line number) (may, runs) = script_conserves LastNotDone (take number steps) runs
 
 -- ---- results
 
@@ -189,6 +222,15 @@ OnOk-map (Err e) P Q f p = tt
 pub OnErr-map : {T E : Type 0} (r : Result T E) (P Q : Type 0) → (P → Q) → OnErr r P → OnErr r Q
 OnErr-map (Ok x) P Q f p = tt
 OnErr-map (Err e) P Q f p = f p
+
+pub IfOk-map : {T E : Type 0} (r : Result T E) (P Q : T → Type 0) → ((x : T) → P x → Q x) → IfOk r P → IfOk r Q
+IfOk-map (Ok x) P Q f p = f x p
+IfOk-map (Err e) P Q f p = tt
+
+-- what is known of a result, and what is known of its value
+pub ok_both : {T E : Type 0} (r : Result T E) (P : Type 0) (Q R : T → Type 0) → ((x : T) → P → Q x → R x) → OnOk r P → IfOk r Q → IfOk r R
+ok_both (Ok x) P Q R f p q = f x p q
+ok_both (Err e) P Q R f p q = tt
 
 -- the steps of the lines so far and of the next
 pub one_more_step : (lines : List ScriptLine) (i : ℕ) (line : ScriptLine) → i < length lines
@@ -207,33 +249,47 @@ first_steps lines n = take-map step_of n lines
 -- The lines so far were run, then one more, and then the office was read. Its store had counted so many refusals at first, so many after
 -- the lines so far, so many after the one more, and so many later.
 module _ (host : HostView) (old now new heard : OfficeView) (first mid last later : ℕ)
-    {S : Type 0} (taken : S → Option (List ℕ)) (failures : S → ℕ) (before between after : S)
+    {S : Type 0} (taken : S → Option (List ℕ)) (failures : S → ℕ) (before between after : S) (strict : Bool)
     (lines : List ScriptLine) (i : ℕ) (line : ScriptLine) (inside : i < length lines) (is : line ≡ slice_index_or lines i line)
-    (ran : RunsScript host (CountsMore first mid) old now (change taken failures before between) (map step_of (take i lines)))
-    (up : StandsForSome old → first ≤ mid) (further : StandsForSome now → mid ≤ last)
-    (runs : RunsStep host (CountsMore mid last) now new (change taken failures between after) (step_of line))
+    (ran : RunsScript host (CountsMore first mid) old now (change taken failures before between) (AllDone strict) (map step_of (take i lines)))
+    (up : StandsForSome old → first ≤ mid) (further : StandsForSome now → mid ≤ last) (done : Bool)
+    (runs : RunsStep host (CountsMore mid last) now new (change taken failures between after) (step_of line) done)
     (same : heard ≡ new) (more : StandsForSome new → last ≤ later) where
-  ran_more : RunsScript host (CountsMore first last) old new (change taken failures before after) (map step_of (take (i + 1) lines))
-  ran_more =
-      subst (RunsScript host (CountsMore first last) old new (change taken failures before after)) (sym (next_step lines i line inside is))
-      (script_more host old now new first mid last taken failures before between after (map step_of (take i lines)) (step_of line) ran up further runs)
-
   ran_up : StandsForSome old → first ≤ last
-  ran_up = up_more host old now new first mid last taken failures before between after (map step_of (take i lines)) (step_of line) ran up further
+  ran_up = up_more host old now new first mid last taken failures before between after strict (map step_of (take i lines)) (step_of line) ran up further
 
-  pub line_heard : RunsScript host (CountsMore first later) old heard (change taken failures before after) (map step_of (take (i + 1) lines))
-  line_heard = heard_script host old new heard same first last later (change taken failures before after) (map step_of (take (i + 1) lines)) ran_up more ran_more
-
+  -- the count does not fall
   pub line_heard_up : StandsForSome old → first ≤ later
-  line_heard_up = heard_up host old new heard same first last later (change taken failures before after) (map step_of (take (i + 1) lines)) ran_up more ran_more
+  line_heard_up some =
+      let (t, stands) = some_between host old now new first mid last taken failures before between after strict (map step_of (take i lines)) (step_of line) ran some in
+      let (text, u, does, went, (new_stands, zone)) = runs t stands in
+      omega (arith, ran_up some, more (u, new_stands))
 
-  -- strict lines stop behind it
-  pub line_stops : (strict : Bool) → IsTrue strict
+  -- the lines up to it, as they are heard
+  heard_of : (may : List Step → Bool → Type 0)
+      → RunsScript host (CountsMore first last) old new (change taken failures before after) may (map step_of (take i lines) ++ step_of line ∷ [])
+      → RunsScript host (CountsMore first later) old heard (change taken failures before after) may (map step_of (take (i + 1) lines))
+  heard_of may ran_more =
+      subst (RunsScript host (CountsMore first later) old heard (change taken failures before after) may) (sym (next_step lines i line inside is))
+      (heard_script host old new heard same first last later (change taken failures before after) may (map step_of (take i lines) ++ step_of line ∷ []) ran_up more ran_more)
+
+  -- it is done, or the lines are not strict
+  pub line_heard : (IsTrue strict → IsTrue done) → RunsScript host (CountsMore first later) old heard (change taken failures before after) (AllDone strict) (map step_of (take (i + 1) lines))
+  line_heard fits =
+      heard_of (AllDone strict)
+      (script_more host old now new first mid last taken failures before between after strict (map step_of (take i lines)) (step_of line) ran up further done fits runs)
+
+  -- it is not done, and strict lines stop behind it
+  pub line_stops : IsTrue strict → done ≡ false
       → EndsEarly host (CountsMore first later) old heard (change taken failures before after) strict (map step_of lines) (Line (i + 1))
-  line_stops strict asked =
-      let many : length (map step_of lines) ≡ length lines = length-map lines step_of in (
+  line_stops asked undone =
+      let many : length (map step_of lines) ≡ length lines = length-map lines step_of in
+      let runs_undone : RunsStep host (CountsMore mid last) now new (change taken failures between after) (step_of line) false =
+      subst (RunsStep host (CountsMore mid last) now new (change taken failures between after) (step_of line)) undone runs in (
         (asked, omega arith, omega (arith, inside, many)),
-        subst (RunsScript host (CountsMore first later) old heard (change taken failures before after)) (sym (first_steps lines (i + 1))) line_heard,
+        subst (RunsScript host (CountsMore first later) old heard (change taken failures before after) LastNotDone) (sym (first_steps lines (i + 1)))
+            (heard_of LastNotDone
+            (script_undone host old now new first mid last taken failures before between after strict (map step_of (take i lines)) (step_of line) ran up further asked runs_undone)),
       )
 
 -- a fault that is passed on

@@ -1,5 +1,5 @@
 -- When a line of a script is given up for the store, by the store's count.
-use Rattle.std.proofs.Common.{ℕ, ◌≤◌, List, [], ◌∷◌, arith, Result, Ok, Err, inl, inr}
+use Rattle.std.proofs.Common.{ℕ, ◌≤◌, Bool, List, [], ◌∷◌, arith, Result, Ok, Err, inl, inr}
 use Rattle.hh_time.specs.Days.{Midnights}
 use Rattle.hh_states.specs.States.{State}
 use Rattle.hh_office.specs.declared.report.ReportStop.{ReportStop}
@@ -19,19 +19,19 @@ report_up old new (Err Write) same = omega (arith, same)
 
 -- where the store may have failed, it may in more cases
 module _ (fails others : Type 0) (implies : fails → others) (host : HostView) (midnight : Midnights) where
-  pub step_then : (s : State) (step : Step) (text : List ℕ) (t : State) → StepDoes host fails midnight s step text t
-      → StepDoes host others midnight s step text t
-  step_then s (LoadFile load) text t (told, does, is) = (told, load_then fails others implies midnight s host load told t does, is)
-  step_then s (MakeRun run) text t (told, does, is) = (told, run_then fails others implies midnight s run told t does, is)
-  step_then s (WriteReport asked) text t (inl written, same) = (inl written, same)
-  step_then s (WriteReport asked) text t (inr (front, rest, fault, cut, up, is), same) =
-      (inr (front, rest, fault, cut, fault_then fails others implies fault up, is), same)
-  step_then s (Serve line) text t (inl unserved) = inl unserved
-  step_then s (Serve line) text t (inr (port, is, told, (arrivals, readings, brings, many, at, served))) =
-      inr (port, is, told, (arrivals, readings, brings, many, at, served_then fails others implies midnight arrivals readings s t served))
+  pub step_then : (s : State) (step : Step) (done : Bool) (text : List ℕ) (t : State) → StepDoes host fails midnight s step done text t
+      → StepDoes host others midnight s step done text t
+  step_then s (LoadFile load) done text t (told, does, whole, is) = (told, load_then fails others implies midnight s host load told t does, whole, is)
+  step_then s (MakeRun run) done text t (told, does, whole, is) = (told, run_then fails others implies midnight s run told t does, whole, is)
+  step_then s (WriteReport asked) done text t (inl written, same) = (inl written, same)
+  step_then s (WriteReport asked) done text t (inr (undone, (front, rest, fault, cut, up, is)), same) =
+      (inr (undone, (front, rest, fault, cut, fault_then fails others implies fault up, is)), same)
+  step_then s (Serve line) done text t (inl unserved) = inl unserved
+  step_then s (Serve line) done text t (inr (port, is, whole, told, (arrivals, readings, brings, many, at, served))) =
+      inr (port, is, whole, told, (arrivals, readings, brings, many, at, served_then fails others implies midnight arrivals readings s t served))
 
-  pub script_then : (s : State) (steps : List Step) (text : List ℕ) (t : State) → ScriptDoes host fails midnight s steps text t
-      → ScriptDoes host others midnight s steps text t
-  script_then s [] text t does = does
-  script_then s (step ∷ steps) text t (line, between, rest, does, more, is) =
-      (line, between, rest, step_then s step line between does, script_then between steps rest t more, is)
+  pub script_then : (may : List Step → Bool → Type 0) (s : State) (steps : List Step) (text : List ℕ) (t : State)
+      → ScriptDoes host fails midnight may s steps text t → ScriptDoes host others midnight may s steps text t
+  script_then may s [] text t does = does
+  script_then may s (step ∷ steps) text t (done, line, between, rest, fits, does, more, is) =
+      (done, line, between, rest, fits, step_then s step done line between does, script_then may between steps rest t more, is)

@@ -1,5 +1,5 @@
 -- What goes out for a line that asks for a report, by what the office wrote and what was told behind it.
-use Rattle.std.proofs.Common.{◌≡◌, ◌⊎◌, ℕ, List, [], ◌++◌, refl, sym, ap, subst, ◌∙◌, Bool, true, false, Option, Result, Ok, Err, inl, inr}
+use Rattle.std.proofs.Common.{◌≡◌, ℕ, List, [], ◌++◌, refl, sym, ap, subst, ◌∙◌, Bool, true, false, Option, Result, Ok, Err, inl, inr}
 use Rattle.std.specs.Prelude.{MatchBool}
 use Rattle.std.specs.Io.KnownBytes.{Appends}
 use Rattle.std.proofs.lemmas.List.{append_assoc}
@@ -24,7 +24,7 @@ use Rattle.hh_desk.specs.Doing.{StandsNow}
 use Rattle.hh_session.specs.steps.Course.{BeginsLine, RunsStep, StopsStep, TellsLine}
 use Rattle.hh_desk.specs.GivingUp.{CountsMore}
 use Rattle.hh_session.specs.Lines.{refusal_line}
-use Rattle.hh_session.specs.Reporting.{IsGivenUp, report_written}
+use Rattle.hh_session.specs.Reporting.{GoesOut}
 use Rattle.hh_session.specs.steps.Reporting.{BeginsReport, RunsReport}
 use Rattle.hh_session.proofs.CourseLaws.{appends_more}
 use Rattle.hh_desk.proofs.GivingUpLaws.{fault_where}
@@ -33,10 +33,6 @@ use Rattle.hh_desk.proofs.GivingUpLaws.{fault_where}
 pub reached_by : (office : OfficeView) → StandsForSome office → AreReached office.content
 reached_by office (s, stands) = (midnight_of office, s, stands)
 
--- what may be written of a report
-abbrev IsOut : Type 0 → Result (List ℕ) Refusal → List ℕ → Type 0
-IsOut fails report text = (text ≡ report_written report) ⊎ IsGivenUp fails report text
-
 front_behind : (before between after : Option (List ℕ)) (text line : List ℕ) → Appends before between text → AppendsFront between after line → AppendsFront before after (text ++ line)
 front_behind before between after text line went (front, rest, cut, more) =
     (text ++ front, rest, ap (λ bytes. text ++ bytes) cut ∙ sym (append_assoc text front rest), appends_more before between after text front went more)
@@ -44,8 +40,8 @@ front_behind before between after text line went (front, rest, cut, more) =
 -- An output was in this state before, in this once the office was done, and in this in the end.
 module _ {S : Type 0} (taken : S → Option (List ℕ)) (failures : S → ℕ) (before between after : S) where
   pub cut_report : (fails : Type 0) (report : Result (List ℕ) Refusal) → ReportsAs (change taken failures before between) {A = Unit {0}} report (Err Write)
-      → (text : List ℕ) × IsOut fails report text × AppendsFront (taken before) (taken between) text
-  cut_report fails (Ok text) (went, failed) = (text, inl refl, went)
+      → (done : Bool) × (text : List ℕ) × GoesOut fails report done text × AppendsFront (taken before) (taken between) text
+  cut_report fails (Ok text) (went, failed) = (true, text, inl (refl, refl), went)
   cut_report fails (Err why) none = absurd none
 
   -- The store had counted so many refusals before and counts so many.
@@ -54,39 +50,39 @@ module _ {S : Type 0} (taken : S → Option (List ℕ)) (failures : S → ℕ) (
     fails = CountsMore earlier later
 
     -- the refusal of the whole, where it isn't one that gives up
-    refused_as : (b : Bool) → gives_up fault ≡ b → (why : Refusal) → MatchBool b (Unit {0}) (fault ≡ plain_fault why) → IsOut fails (Err why) (refusal_line fault)
-    refused_as true up why is = inr ([], [], fault, refl, fault_where earlier later fault up store, refl)
-    refused_as false up why is = inl (ap refusal_line is)
+    refused_as : (b : Bool) → gives_up fault ≡ b → (why : Refusal) → MatchBool b (Unit {0}) (fault ≡ plain_fault why) → GoesOut fails (Err why) false (refusal_line fault)
+    refused_as true up why is = inr (refl, ([], [], fault, refl, fault_where earlier later fault up store, refl))
+    refused_as false up why is = inl (refl, ap refusal_line is)
 
     pub told_report : (report : Result (List ℕ) Refusal) → ReportsAs (change taken failures before between) {A = Unit {0}} report (Err (Refused fault))
-        → TellsLine (change taken failures between after) (Replied (reply.Refused fault)) → (text : List ℕ) × IsOut fails report text × Appends (taken before) (taken after) text
+        → TellsLine (change taken failures between after) (Replied (reply.Refused fault)) → (text : List ℕ) × GoesOut fails report false text × Appends (taken before) (taken after) text
     told_report (Ok text) ((front, rest, cut, went), (up, same)) (inl told) =
-        (front ++ refusal_line fault, inr (front, rest, fault, cut, fault_where earlier later fault up store, refl), appends_more (taken before) (taken between) (taken after) front (refusal_line fault) went told)
+        (front ++ refusal_line fault, inr (refl, (front, rest, fault, cut, fault_where earlier later fault up store, refl)), appends_more (taken before) (taken between) (taken after) front (refusal_line fault) went told)
     told_report (Ok text) ((front, rest, cut, went), (up, same)) (inr (refusal, told)) =
-        (front ++ refusal_line memory_fault, inr (front, rest, memory_fault, cut, inl refl, refl), appends_more (taken before) (taken between) (taken after) front (refusal_line memory_fault) went told)
+        (front ++ refusal_line memory_fault, inr (refl, (front, rest, memory_fault, cut, inl refl, refl)), appends_more (taken before) (taken between) (taken after) front (refusal_line memory_fault) went told)
     told_report (Err why) (is, (none, same)) (inl told) =
         (refusal_line fault, refused_as (gives_up fault) refl why is, subst (λ b. Appends b (taken after) (refusal_line fault)) none told)
     told_report (Err why) (is, (none, same)) (inr (refusal, told)) =
-        (refusal_line memory_fault, inr ([], [], memory_fault, refl, inl refl, refl), subst (λ b. Appends b (taken after) (refusal_line memory_fault)) none told)
+        (refusal_line memory_fault, inr (refl, ([], [], memory_fault, refl, inl refl, refl)), subst (λ b. Appends b (taken after) (refusal_line memory_fault)) none told)
 
     pub begun_report : (report : Result (List ℕ) Refusal) → ReportsAs (change taken failures before between) {A = Unit {0}} report (Err (Refused fault))
-        → BeginsLine (change taken failures between after) (Replied (reply.Refused fault)) → (text : List ℕ) × IsOut fails report text × AppendsFront (taken before) (taken after) text
+        → BeginsLine (change taken failures between after) (Replied (reply.Refused fault)) → (done : Bool) × (text : List ℕ) × GoesOut fails report done text × AppendsFront (taken before) (taken after) text
     begun_report (Ok text) ((front, rest, cut, went), (up, same)) (inl told) =
-        (front ++ refusal_line fault, inr (front, rest, fault, cut, fault_where earlier later fault up store, refl), front_behind (taken before) (taken between) (taken after) front (refusal_line fault) went told)
+        (false, front ++ refusal_line fault, inr (refl, (front, rest, fault, cut, fault_where earlier later fault up store, refl)), front_behind (taken before) (taken between) (taken after) front (refusal_line fault) went told)
     begun_report (Ok text) ((front, rest, cut, went), (up, same)) (inr (refusal, told)) =
-        (front ++ refusal_line memory_fault, inr (front, rest, memory_fault, cut, inl refl, refl), front_behind (taken before) (taken between) (taken after) front (refusal_line memory_fault) went told)
+        (false, front ++ refusal_line memory_fault, inr (refl, (front, rest, memory_fault, cut, inl refl, refl)), front_behind (taken before) (taken between) (taken after) front (refusal_line memory_fault) went told)
     begun_report (Err why) (is, (none, same)) (inl told) =
-        (refusal_line fault, refused_as (gives_up fault) refl why is, subst (λ b. AppendsFront b (taken after) (refusal_line fault)) none told)
+        (false, refusal_line fault, refused_as (gives_up fault) refl why is, subst (λ b. AppendsFront b (taken after) (refusal_line fault)) none told)
     begun_report (Err why) (is, (none, same)) (inr (refusal, told)) =
-        (refusal_line memory_fault, inr ([], [], memory_fault, refl, inl refl, refl), subst (λ b. AppendsFront b (taken after) (refusal_line memory_fault)) none told)
+        (false, refusal_line memory_fault, inr (refl, ([], [], memory_fault, refl, inl refl, refl)), subst (λ b. AppendsFront b (taken after) (refusal_line memory_fault)) none told)
 
 -- A line that asks for a report is a step of a script, which leaves the office.
 module _ (host : HostView) (fails : Type 0) (old new : OfficeView) (same : new ≡ old) (device : DeviceChange) (step : ReportStep) where
   stays : (s : State) → Stands old s → StandsNow old new s
   stays s stands = (subst (λ o. Stands o s) (sym same) stands, ap (λ (o : OfficeView). o.zone) same)
 
-  pub report_step : RunsReport fails old device step → RunsStep host fails old new device (WriteReport step)
-  report_step runs s stands = let (text, does, went) = runs s stands in (text, s, (does, refl), went, stays s stands)
+  pub report_step : (done : Bool) → RunsReport fails old device step done → RunsStep host fails old new device (WriteReport step) done
+  report_step done runs s stands = let (text, does, went) = runs s stands in (text, s, (does, refl), went, stays s stands)
 
   pub report_stop : BeginsReport fails old device step → StopsStep host fails old new device (WriteReport step)
-  report_stop begins s stands = let (text, does, went) = begins s stands in (text, s, (does, refl), went, stays s stands)
+  report_stop begins s stands = let (done, text, does, went) = begins s stands in (done, text, s, (does, refl), went, stays s stands)

@@ -20,7 +20,7 @@ use Rattle.hh_desk.specs.Doing.{StandsNow}
 use Rattle.hh_desk.specs.GivingUp.{CountsMore}
 use Rattle.hh_session.specs.declared.run.LinesStop.{LinesStop}
 use Rattle.hh_session.specs.declared.run.LinesStop.TheVariants.{Line, Output}
-use Rattle.hh_session.specs.Course.{EndsEarly, RunsScript, ScriptDoes, StopsScript, cut_after}
+use Rattle.hh_session.specs.Course.{AllDoneButLast, EndsEarly, LastNotDone, RunsScript, ScriptDoes, StopsScript, cut_after}
 use Rattle.hh_session.specs.Script.{IsMarketZone, NewOfficeCuts, NewOfficeEnds, NewOfficeWrites}
 use Rattle.hh_session.proofs.GivingUpLaws.{script_then}
 
@@ -60,22 +60,24 @@ module _ (host : HostView) (settings : Settings) (fine : AreSettings settings) (
       conserve (midnight_of first) t (subst (λ z. IsReached (midnight_in (plain_zone z)) t) same reached)
 
   -- what the steps do where a store that counts no refusal may have failed, they do where it never fails
-  never_fails : (ran : List Step) (text : List ℕ) (t : State) → ScriptDoes host (CountsMore 0 0) (midnight_of first) (empty_state settings) ran text t
-      → ScriptDoes host ⊥ (midnight_of first) (empty_state settings) ran text t
-  never_fails ran text t does =
-      script_then (CountsMore 0 0) ⊥ (λ more. absurd (omega (arith, more (omega arith)))) host (midnight_of first) (empty_state settings) ran text t does
+  never_fails : (may : List Step → Bool → Type 0) (ran : List Step) (text : List ℕ) (t : State)
+      → ScriptDoes host (CountsMore 0 0) (midnight_of first) may (empty_state settings) ran text t
+      → ScriptDoes host ⊥ (midnight_of first) may (empty_state settings) ran text t
+  never_fails may ran text t does =
+      script_then (CountsMore 0 0) ⊥ (λ more. absurd (omega (arith, more (omega arith)))) host (midnight_of first) may (empty_state settings) ran text t does
 
-  pub new_office_writes : (steps : List Step) → RunsScript host (CountsMore 0 0) first new device steps → NewOfficeWrites host settings device steps
-  new_office_writes steps runs =
+  pub new_office_writes : (may : List Step → Bool → Type 0) (steps : List Step) → RunsScript host (CountsMore 0 0) first new device may steps
+      → NewOfficeWrites host settings device may steps
+  new_office_writes may steps runs =
       let (text, t, does, went, now) = runs (empty_state settings) (at_first settings fine, stands (midnight_of first)) in
-      (text, (zone, market, (t, never_fails steps text t does, sums_now t now)), went)
+      (text, (zone, market, (t, never_fails may steps text t does, sums_now t now)), went)
 
-  new_office_cuts : (steps : List Step) → StopsScript host (CountsMore 0 0) first new device steps → NewOfficeCuts host settings device steps
-  new_office_cuts steps stops =
+  new_office_cuts : (strict : Bool) (steps : List Step) → StopsScript host (CountsMore 0 0) first new device strict steps → NewOfficeCuts host settings device strict steps
+  new_office_cuts strict steps stops =
       let (count, text, t, does, went, now) = stops (empty_state settings) (at_first settings fine, stands (midnight_of first)) in
-      (count, text, (zone, market, (t, never_fails (cut_after count steps) text t does, sums_now t now)), went)
+      (count, text, (zone, market, (t, never_fails (AllDoneButLast strict) (cut_after count steps) text t does, sums_now t now)), went)
 
   pub new_office_ends : (strict : Bool) (steps : List Step) (why : LinesStop) → (why ≡ Output → HasFailed device)
       → EndsEarly host (CountsMore 0 0) first new device strict steps why → NewOfficeEnds host settings device strict steps why
-  new_office_ends strict steps Output failed stops = (failed refl, new_office_cuts steps stops)
-  new_office_ends strict steps (Line number) failed (may, runs) = (may, new_office_writes (take number steps) runs)
+  new_office_ends strict steps Output failed stops = (failed refl, new_office_cuts strict steps stops)
+  new_office_ends strict steps (Line number) failed (may, runs) = (may, new_office_writes LastNotDone (take number steps) runs)

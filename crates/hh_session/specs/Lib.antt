@@ -1,3 +1,4 @@
+pub mod Came
 pub mod Course
 pub mod Lines
 pub mod Reporting

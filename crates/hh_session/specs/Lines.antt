@@ -1,9 +1,10 @@
 -- What an office tells for the lines of a script.
-use Rattle.std.specs.Prelude.{ℕ, List, [], ◌++◌, codes}
+use Rattle.std.specs.Prelude.{ℕ, Bool, false, not, List, [], ◌++◌, codes}
 use Rattle.hh_names.specs.declared.fault.Fault.{Fault}
 use Rattle.hh_names.specs.FaultText.{fault_text}
 use Rattle.hh_requests.specs.declared.reply.Reply.{Reply}
 use Rattle.hh_requests.specs.declared.reply.Reply.TheVariants as reply
+use Rattle.hh_office.specs.Promises.{is_refused}
 use Rattle.hh_desk.specs.declared.told.Told.{Told}
 use Rattle.hh_desk.specs.declared.told.Told.TheVariants as told
 use Rattle.hh_desk.specs.Lines.{loaded_line, run_line}
@@ -26,3 +27,8 @@ reply_line (reply.Refused fault) = refusal_line fault
 abbrev pub told_line : Told → List ℕ
 told_line (told.Replied given) = reply_line given
 told_line told.Unreadable = codes "fault file\n"
+
+-- what a load or a run came to was done, and was neither refused nor met a fault
+abbrev pub told_done : Told → Bool
+told_done (told.Replied given) = not (is_refused given)
+told_done told.Unreadable = false

@@ -1,5 +1,5 @@
 -- What comes of the lines of a script that ask for a report.
-use Rattle.std.specs.Prelude.{◌≡◌, ◌⊎◌, ℕ, List, [], ◌++◌, Result, Ok, Err}
+use Rattle.std.specs.Prelude.{◌≡◌, ◌⊎◌, ℕ, Bool, true, false, List, [], ◌++◌, Result, Ok, Err}
 use Rattle.hh_time.specs.Days.{Midnights}
 use Rattle.hh_names.specs.declared.fault.Fault.{Fault}
 use Rattle.hh_names.specs.declared.fault.Refusal.{Refusal}
@@ -15,6 +15,11 @@ abbrev pub report_written : Result (List ℕ) Refusal → List ℕ
 report_written (Ok text) = text
 report_written (Err why) = refusal_line (plain_fault why)
 
+-- a report is written, and not refused
+abbrev pub is_written : Result (List ℕ) Refusal → Bool
+is_written (Ok text) = true
+is_written (Err why) = false
+
 -- what may be written of a report before it is given up: a beginning of its text
 abbrev pub report_begun : Result (List ℕ) Refusal → List ℕ
 report_begun (Ok text) = text
@@ -28,8 +33,10 @@ module _ (fails : Type 0) where
       (front rest : List ℕ) × (fault : Fault)
       × (report_begun report ≡ front ++ rest) × GivesUpWhere fails fault × (text ≡ front ++ refusal_line fault)
 
-  -- what a line that asks for a report writes in a state
-  abbrev pub ReportDoes : Midnights → State → ReportStep → List ℕ → Type 0
-  ReportDoes midnight s step text =
-      let report : Result (List ℕ) Refusal = report_for midnight s step.key step.report in
-      (text ≡ report_written report) ⊎ IsGivenUp report text
+  -- this goes out of a report, and it was written to its end or not
+  abbrev pub GoesOut : Result (List ℕ) Refusal → Bool → List ℕ → Type 0
+  GoesOut report done text = ((done ≡ is_written report) × (text ≡ report_written report)) ⊎ ((done ≡ false) × IsGivenUp report text)
+
+  -- whether a line that asks for a report is done in a state, and what it writes
+  abbrev pub ReportDoes : Midnights → State → ReportStep → Bool → List ℕ → Type 0
+  ReportDoes midnight s step done text = GoesOut (report_for midnight s step.key step.report) done text

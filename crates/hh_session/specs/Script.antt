@@ -21,7 +21,7 @@ use Rattle.hh_session.specs.declared.run.LinesStop.{LinesStop}
 use Rattle.hh_session.specs.declared.run.LinesStop.TheVariants.{Line, Output}
 use Rattle.hh_session.specs.declared.script.ScriptStop.{ScriptStop}
 use Rattle.hh_session.specs.declared.script.ScriptStop.TheVariants as stop
-use Rattle.hh_session.specs.Course.{MayStopBehind, ScriptDoes, cut_after}
+use Rattle.hh_session.specs.Course.{AllDone, AllDoneButLast, LastNotDone, MayStopBehind, ScriptDoes, cut_after}
 
 -- the most bytes that a script may have: 16 MiB
 abbrev pub most_script_bytes : ℕ
@@ -35,27 +35,28 @@ IsMarketZone zone = IsPosixZone (codes "GMT0BST,M3.5.0/1,M10.5.0") (plain_zone z
 module _ (host : HostView) (settings : Settings) where
   -- What steps write over a new office of the market's zone, whose tables in the state after them add up: each run's rows,
   -- contracts, charges with shares, the credits of units, and postings. The tables are in memory, so no line tells that a store
-  -- refused.
-  abbrev pub NewOfficeDoes : List Step → List ℕ → Type 0
-  NewOfficeDoes steps text =
+  -- refused. `may` says which steps may have been done, and which may not.
+  abbrev pub NewOfficeDoes : (List Step → Bool → Type 0) → List Step → List ℕ → Type 0
+  NewOfficeDoes may steps text =
       (zone : TimeZone) × IsMarketZone zone
       × (let midnight : Midnights = midnight_in (plain_zone zone) in
-      (t : State) × ScriptDoes host ⊥ midnight (empty_state settings) steps text t × Conserves midnight t (tables_of midnight t))
+      (t : State) × ScriptDoes host ⊥ midnight may (empty_state settings) steps text t × Conserves midnight t (tables_of midnight t))
 
   -- What changes in an output.
   module _ (device : DeviceChange) where
     -- steps were run over a new office, and what they write went out
-    abbrev pub NewOfficeWrites : List Step → Type 0
-    NewOfficeWrites steps = (text : List ℕ) × NewOfficeDoes steps text × Appends device.old device.new text
+    abbrev pub NewOfficeWrites : (List Step → Bool → Type 0) → List Step → Type 0
+    NewOfficeWrites may steps = (text : List ℕ) × NewOfficeDoes may steps text × Appends device.old device.new text
 
     -- the first of the steps were run, the last of them was cut short, and a beginning of what they write went out
-    abbrev pub NewOfficeCuts : List Step → Type 0
-    NewOfficeCuts steps = (count : ℕ) × (text : List ℕ) × NewOfficeDoes (cut_after count steps) text × AppendsFront device.old device.new text
+    abbrev pub NewOfficeCuts : Bool → List Step → Type 0
+    NewOfficeCuts strict steps =
+        (count : ℕ) × (text : List ℕ) × NewOfficeDoes (AllDoneButLast strict) (cut_after count steps) text × AppendsFront device.old device.new text
 
-    -- The steps were not run to their end: the output failed; or they are strict, and those up to a line were run, and no more.
+    -- The steps were not run to their end: the output failed; or they are strict, and those up to a line were run, the first that was not done.
     abbrev pub NewOfficeEnds : Bool → List Step → LinesStop → Type 0
-    NewOfficeEnds strict steps Output = HasFailed device × NewOfficeCuts steps
-    NewOfficeEnds strict steps (Line number) = MayStopBehind strict steps number × NewOfficeWrites (take number steps)
+    NewOfficeEnds strict steps Output = HasFailed device × NewOfficeCuts strict steps
+    NewOfficeEnds strict steps (Line number) = MayStopBehind strict steps number × NewOfficeWrites LastNotDone (take number steps)
 
 -- A script lies at a path of a host.
 module _ (host : HostView) (path : List ℕ) where
@@ -73,9 +74,9 @@ module _ (host : HostView) (path : List ℕ) where
 
   -- An office has these settings, and this changes in an output.
   module _ (settings : Settings) (device : DeviceChange) where
-    -- the script was run, and what it writes went out
-    abbrev pub WritesScript : Type 0
-    WritesScript = (steps : List Step) × IsScript steps × NewOfficeWrites host settings device steps
+    -- the script was run, and what it writes went out; if it is strict, each line was done
+    abbrev pub WritesScript : Bool → Type 0
+    WritesScript strict = (steps : List Step) × IsScript steps × NewOfficeWrites host settings device (AllDone strict) steps
 
     -- why the script is not run, or not to its end: it is not read, and nothing went out; or it ended early
     abbrev pub StopsAt : Bool → ScriptStop → Type 0

@@ -1,5 +1,5 @@
 -- What comes of the lines of a script that serve connections.
-use Rattle.std.specs.Prelude.{◌≡◌, ◌⊎◌, ℕ, List, length, codes}
+use Rattle.std.specs.Prelude.{◌≡◌, ◌⊎◌, ℕ, Bool, true, false, List, length, codes}
 use Rattle.hh_time.specs.Days.{Midnights}
 use Rattle.hh_states.specs.States.{State}
 use Rattle.hh_sockets.specs.Arrivals.{Arrival}
@@ -23,11 +23,11 @@ module _ (host : HostView) (fails : Type 0) (midnight : Midnights) (s : State) (
       × host.ports.brings line.port arrivals × (length arrivals ≡ line.count) × AllTell line.moment readings
       × AreServed fails midnight arrivals readings s t
 
-  -- what a line that serves writes in a state, and the state after it
-  abbrev pub ServeDoes : List ℕ → State → Type 0
-  ServeDoes text t =
-      (host.ports.refuses line.port × (text ≡ no_socket_line) × (t ≡ s))
-      ⊎ ((port : ℕ) × IsPortFor line.port port × (text ≡ listening_line port) × AwaitsAll t)
+  -- whether a line that serves is done in a state, what it writes, and the state after it
+  abbrev pub ServeDoes : Bool → List ℕ → State → Type 0
+  ServeDoes done text t =
+      (host.ports.refuses line.port × (done ≡ false) × (text ≡ no_socket_line) × (t ≡ s))
+      ⊎ ((port : ℕ) × IsPortFor line.port port × (done ≡ true) × (text ≡ listening_line port) × AwaitsAll t)
 
 -- what a line that serves does where its output fails: it awaits no connection
 abbrev pub awaits_none : ServeLine → ServeLine

@@ -27,8 +27,15 @@ pub enum Came {
 }
 
 impl Came {
+    ghost use Rattle.std.specs.Prelude.{◌≡◌, not};
+    ghost use Rattle.hh_office.specs.Promises.{is_refused};
+    ghost use Rattle.hh_session.specs.Came.{was_done};
+    ghost use Rattle.hh_session.specs.Lines.{told_done};
+
     /// What came of a load or of a run.
-    pub(crate) fn of(told: &Told) -> Came {
+    pub(crate) fn of(told: &Told) -> Came
+        ensures { was_done result ≡ told_done told.now }
+    {
         match told {
             Told::Replied(reply) => Came::of_reply(reply),
             Told::Unreadable => Came::Unreadable,
@@ -36,7 +43,9 @@ impl Came {
     }
 
     /// The same of a reply.
-    fn of_reply(reply: &Reply) -> Came {
+    fn of_reply(reply: &Reply) -> Came
+        ensures { was_done result ≡ not (is_refused reply.now) }
+    {
         match reply {
             Reply::Loaded(loaded) => Came::Done { late: loaded.late },
             Reply::Refused(fault) => Came::Refused(*fault),
@@ -49,7 +58,9 @@ impl Came {
     }
 
     /// Whether the line was done.
-    pub fn is_done(&self) -> bool {
+    pub fn was_done(&self) -> bool
+        ensures { result ≡ was_done self.now }
+    {
         match self {
             Came::Done { .. } => true,
             Came::Refused(_) | Came::Unreadable | Came::NoSocket => false,

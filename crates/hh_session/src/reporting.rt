@@ -1,12 +1,13 @@
 //! The lines of a script that ask for a report.
 
-ghost use Rattle.std.specs.Prelude.{◌≡◌, OnErr, OnOk};
+ghost use Rattle.std.specs.Prelude.{◌≡◌, IfOk, OnErr, OnOk};
 ghost use Rattle.hh_devices.specs.DeviceChanges.{change};
 ghost use Rattle.hh_devices.specs.Devices.{Failed};
 ghost use Rattle.hh_office.specs.Views.{IsSure};
 ghost use Rattle.hh_serve.specs.Serves.{CountsUp};
 ghost use Rattle.hh_script.specs.Reports.{report_of};
 ghost use Rattle.hh_desk.specs.GivingUp.{HasRefused};
+ghost use Rattle.hh_session.specs.Came.{was_done};
 ghost use Rattle.hh_session.specs.steps.Reporting.{BeginsReport, RunsReport};
 
 use crate::notes::Came;
@@ -26,8 +27,9 @@ pub(crate) fn write_report<T: Tables, O: Sink>(
     out: &mut O,
 ) -> Result<Came, DeviceFailed>
     ensures done { IsSure T.is_open office.new
-        → OnOk result (RunsReport (HasRefused T.refusals office.old office.new)
-        office.old.seen (change O.taken O.failures out.old out.new) (report_of line.now)) }
+        → IfOk result (λ came. RunsReport (HasRefused T.refusals office.old office.new)
+        office.old.seen (change O.taken O.failures out.old out.new) (report_of line.now)
+        (was_done came)) }
     ensures well { OnOk result (O.failures out.new ≡ O.failures out.old) }
     ensures cut { IsSure T.is_open office.new
         → OnErr result (BeginsReport (HasRefused T.refusals office.old office.new)

@@ -1,13 +1,14 @@
 //! The lines of a script, run one after the other.
 
-ghost use Rattle.std.specs.Prelude.{◌≡◌, map, IfErr, IsErrOf, OnErr, OnOk};
+ghost use Rattle.std.specs.Prelude.{◌≡◌, map, IfErr, IfOk, IsErrOf, OnErr, OnOk};
 ghost use Rattle.hh_devices.specs.DeviceChanges.{change};
 ghost use Rattle.hh_devices.specs.Devices.{Failed};
 ghost use Rattle.hh_office.specs.Views.{IsSure};
 ghost use Rattle.hh_serve.specs.Serves.{CountsUp};
 ghost use Rattle.hh_script.specs.Steps.{step_of};
 ghost use Rattle.hh_desk.specs.GivingUp.{HasRefused};
-ghost use Rattle.hh_session.specs.Course.{EndsEarly, EarlyConserves, RunsScript, ScriptConserves};
+ghost use Rattle.hh_session.specs.Came.{was_done};
+ghost use Rattle.hh_session.specs.Course.{AllDone, EndsEarly, EarlyConserves, RunsScript, ScriptConserves};
 ghost use Rattle.hh_session.specs.steps.Course.{RunsStep, StopsStep};
 
 use crate::notes::{Came, Notes};
@@ -51,8 +52,8 @@ impl From<DeviceFailed> for LinesStop {
 /// # Errors
 ///
 /// `Output` where the output failed or took nothing in this call: the first of the lines were run, and a
-/// beginning of what they write went out. `Line` where strict lines stop: those up to there were run, and
-/// what they write went out.
+/// beginning of what they write went out. `Line` where strict lines stop: those up to there were run, all
+/// but the last were done, and what they write went out.
 pub fn run_lines<T: Tables, H: Host, N: Notes, O: Sink>(
     alloc: Global,
     office: &mut Office<'_, T>,
@@ -65,7 +66,7 @@ pub fn run_lines<T: Tables, H: Host, N: Notes, O: Sink>(
     ensures done { IsSure T.is_open office.new
         → OnOk result (RunsScript (H.view host.now)
         (HasRefused T.refusals office.old office.new) office.old.seen office.new.seen
-        (change O.taken O.failures out.old out.new) (map step_of lines.now)) }
+        (change O.taken O.failures out.old out.new) (AllDone strict) (map step_of lines.now)) }
     ensures well { OnOk result (O.failures out.new ≡ O.failures out.old) }
     ensures cut { IsSure T.is_open office.new
         → IfErr result (EndsEarly (H.view host.now)
@@ -74,11 +75,11 @@ pub fn run_lines<T: Tables, H: Host, N: Notes, O: Sink>(
     ensures sums { IsSure T.is_open office.new
         → OnOk result (ScriptConserves (H.view host.now)
         (HasRefused T.refusals office.old office.new) office.old.seen office.new.seen
-        (map step_of lines.now)) }
+        (AllDone strict) (map step_of lines.now)) }
     ensures sums_cut { IsSure T.is_open office.new
         → IfErr result (EarlyConserves (H.view host.now)
         (HasRefused T.refusals office.old office.new) office.old.seen office.new.seen
-        (map step_of lines.now)) }
+        strict (map step_of lines.now)) }
     ensures failed { IsErrOf result LinesStop.Output
         → Failed (O.failures out.old) (O.failures out.new) }
     ensures refusals_up { IsSure T.is_open office.new → CountsUp T.refusals office.old office.new }
@@ -90,14 +91,14 @@ pub fn run_lines<T: Tables, H: Host, N: Notes, O: Sink>(
         let number = index + 1;
         let came = run_line(alloc, office, host, line, out)?;
         notes.hear(alloc, office, host, number, line, came);
-        if strict && !came.is_done() {
+        if strict && !came.was_done() {
             return Err(LinesStop::Line { number });
         }
     }
     Ok(())
 }
 
-/// Runs a line of a script over an office, writes what comes of it, and answers that.
+/// Runs a line of a script over an office, writes what comes of it, and answers what came of it.
 fn run_line<T: Tables, H: Host, O: Sink>(
     alloc: Global,
     office: &mut Office<'_, T>,
@@ -106,9 +107,9 @@ fn run_line<T: Tables, H: Host, O: Sink>(
     out: &mut O,
 ) -> Result<Came, DeviceFailed>
     ensures done { IsSure T.is_open office.new
-        → OnOk result (RunsStep (H.view host.now)
+        → IfOk result (λ came. RunsStep (H.view host.now)
         (HasRefused T.refusals office.old office.new) office.old.seen office.new.seen
-        (change O.taken O.failures out.old out.new) (step_of line.now)) }
+        (change O.taken O.failures out.old out.new) (step_of line.now) (was_done came)) }
     ensures well { OnOk result (O.failures out.new ≡ O.failures out.old) }
     ensures cut { IsSure T.is_open office.new
         → OnErr result (StopsStep (H.view host.now)

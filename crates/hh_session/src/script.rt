@@ -3,6 +3,7 @@
 ghost use Rattle.std.specs.Prelude.{◌≡◌, ◌≤◌, Some, length, map, IfErr, IfOk, OnOk};
 ghost use Rattle.hh_devices.specs.DeviceChanges.{change};
 ghost use Rattle.hh_script.specs.Steps.{step_of};
+ghost use Rattle.hh_session.specs.Course.{AllDone};
 ghost use Rattle.hh_session.specs.Script.{IsUnread, NewOfficeEnds, NewOfficeWrites, StopsAt, WritesScript, most_script_bytes};
 ghost use Rattle.hh_session.specs.ScriptStops.{IsUnrun};
 
@@ -92,7 +93,7 @@ pub fn run_script<H: Host, N: Notes, O: Sink>(
     out: &mut O,
 ) -> Result<(), ScriptStop>
     ensures done { OnOk result (WritesScript (H.view host.now) path.now settings
-        (change O.taken O.failures out.old out.new)) }
+        (change O.taken O.failures out.old out.new) strict) }
     ensures well { OnOk result (O.failures out.new ≡ O.failures out.old) }
     ensures stopped { IfErr result (StopsAt (H.view host.now) path.now settings
         (change O.taken O.failures out.old out.new) strict) }
@@ -133,7 +134,7 @@ fn run_new_office<H: Host, N: Notes, O: Sink>(
     out: &mut O,
 ) -> Result<(), LinesStop>
     ensures done { OnOk result (NewOfficeWrites (H.view host.now) settings
-        (change O.taken O.failures out.old out.new)
+        (change O.taken O.failures out.old out.new) (AllDone strict)
         (map step_of lines.now)) }
     ensures well { OnOk result (O.failures out.new ≡ O.failures out.old) }
     ensures stopped { IfErr result (NewOfficeEnds (H.view host.now) settings

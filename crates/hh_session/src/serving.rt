@@ -1,11 +1,12 @@
 //! The lines of a script that serve connections.
 
-ghost use Rattle.std.specs.Prelude.{◌≡◌, OnErr, OnOk};
+ghost use Rattle.std.specs.Prelude.{◌≡◌, IfOk, OnErr, OnOk};
 ghost use Rattle.hh_devices.specs.DeviceChanges.{change};
 ghost use Rattle.hh_devices.specs.Devices.{Failed};
 ghost use Rattle.hh_office.specs.Views.{IsSure};
 ghost use Rattle.hh_serve.specs.Serves.{CountsUp};
 ghost use Rattle.hh_desk.specs.GivingUp.{HasRefused};
+ghost use Rattle.hh_session.specs.Came.{was_done};
 ghost use Rattle.hh_session.specs.steps.Serving.{RunsServing, StopsServing};
 
 use crate::notes::Came;
@@ -28,9 +29,9 @@ pub(crate) fn serve_connections<T: Tables, H: Host, O: Sink>(
     out: &mut O,
 ) -> Result<Came, DeviceFailed>
     ensures done { IsSure T.is_open office.new
-        → OnOk result (RunsServing (H.view host.now)
+        → IfOk result (λ came. RunsServing (H.view host.now)
         (HasRefused T.refusals office.old office.new) office.old.seen office.new.seen
-        (change O.taken O.failures out.old out.new) line.now) }
+        (change O.taken O.failures out.old out.new) line.now (was_done came)) }
     ensures well { OnOk result (O.failures out.new ≡ O.failures out.old) }
     ensures cut { IsSure T.is_open office.new
         → OnErr result (StopsServing (H.view host.now)

@@ -1,13 +1,14 @@
 //! How it is told what the lines of a script came to.
 
-ghost use Rattle.std.specs.Prelude.{◌≡◌, OnErr, OnOk};
+ghost use Rattle.std.specs.Prelude.{◌≡◌, IfOk, OnErr, OnOk, false};
 ghost use Rattle.std.specs.Io.KnownBytes.{Appends};
 ghost use Rattle.hh_devices.specs.DeviceChanges.{change};
 ghost use Rattle.hh_devices.specs.Devices.{AppendsFront, Failed};
 ghost use Rattle.hh_requests.specs.declared.reply.Reply.TheVariants.{Refused};
 ghost use Rattle.hh_desk.specs.declared.told.Told.TheVariants.{Replied};
 ghost use Rattle.hh_desk.specs.Doing.{no_memory};
-ghost use Rattle.hh_session.specs.Lines.{told_line};
+ghost use Rattle.hh_session.specs.Came.{was_done};
+ghost use Rattle.hh_session.specs.Lines.{told_done, told_line};
 ghost use Rattle.hh_session.specs.steps.Course.{BeginsLine, TellsLine};
 
 use crate::notes::Came;
@@ -21,6 +22,7 @@ use std::alloc::{AllocError, Global};
 /// place; the others take none. Answers what it came to.
 pub(crate) fn tell<O: Sink>(alloc: Global, told: &Told, out: &mut O) -> Result<Came, DeviceFailed>
     ensures told { OnOk result (TellsLine (change O.taken O.failures out.old out.new) told.now) }
+    ensures came { IfOk result (λ came. was_done came ≡ told_done told.now) }
     ensures well { OnOk result (O.failures out.new ≡ O.failures out.old) }
     ensures cut { OnErr result (BeginsLine (change O.taken O.failures out.old out.new) told.now) }
     ensures failed { OnErr result (Failed (O.failures out.old) (O.failures out.new)) }
@@ -70,6 +72,7 @@ pub(crate) fn tell_refused<O: Sink>(
 ) -> Result<Came, DeviceFailed>
     ensures told { OnOk result (TellsLine (change O.taken O.failures out.old out.new)
         (Replied (Refused fault))) }
+    ensures came { IfOk result (λ came. was_done came ≡ false) }
     ensures well { OnOk result (O.failures out.new ≡ O.failures out.old) }
     ensures cut { OnErr result (BeginsLine (change O.taken O.failures out.old out.new)
         (Replied (Refused fault))) }

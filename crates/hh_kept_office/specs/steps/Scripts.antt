@@ -8,6 +8,7 @@ use Rattle.hh_script.specs.Steps.{Step}
 use Rattle.hh_session.specs.declared.script.ScriptStop.{ScriptStop}
 use Rattle.hh_session.specs.declared.script.ScriptStop.TheVariants as script
 use Rattle.hh_session.specs.Script.{IsScript, IsUnread}
+use Rattle.hh_session.specs.Course.{AllDone}
 use Rattle.hh_database.specs.declared.stop.DatabaseStop.{DatabaseStop}
 use Rattle.hh_database.specs.declared.stop.DatabaseStop.TheVariants as database
 use Rattle.hh_database.specs.Running.{EarlyOver, WritesOver}
@@ -23,7 +24,7 @@ stop_of (database.Refused fault) = script.Refused (store_fault fault)
 -- script cannot be had, and then nothing was run and nothing written.
 abbrev pub RunsFileOver : HostView → DeviceChange → List ℕ → Bool → Content → Connected → Connected → Result Unit ScriptStop → Type 0
 RunsFileOver host device file strict content taken left (Ok x) =
-    (steps : List Step) × IsScript host file steps × (IsTrue left.is_open → WritesOver host ⊤ device left.committed steps content)
+    (steps : List Step) × IsScript host file steps × (IsTrue left.is_open → WritesOver host ⊤ device left.committed steps content (AllDone strict))
 RunsFileOver host device file strict content taken left (Err (script.Early why)) =
     (steps : List Step) × IsScript host file steps × (IsTrue left.is_open → EarlyOver host ⊤ device left.committed strict steps content why)
 RunsFileOver host device file strict content taken left (Err why) =

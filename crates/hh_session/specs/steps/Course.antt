@@ -1,5 +1,5 @@
 -- What the lines of a script do, as the functions behind a line tell it.
-use Rattle.std.specs.Prelude.{◌⊎◌, ℕ, List}
+use Rattle.std.specs.Prelude.{◌⊎◌, ℕ, Bool, List}
 use Rattle.std.specs.Io.KnownBytes.{Appends}
 use Rattle.hh_devices.specs.DeviceChanges.{DeviceChange}
 use Rattle.hh_devices.specs.Devices.{AppendsFront}
@@ -25,12 +25,12 @@ module _ (device : DeviceChange) (told : Told) where
 
 -- What changes in an output. A host may show this of files and ports, and the store may have failed only where this holds.
 module _ (host : HostView) (fails : Type 0) (old new : OfficeView) (device : DeviceChange) where
-  -- a step was run from each state that the office stood for, and what it writes went out
-  abbrev pub RunsStep : Step → Type 0
-  RunsStep step = (s : State) → Stands old s
-      → (text : List ℕ) × (t : State) × StepDoes host fails (midnight_of old) s step text t × Appends device.old device.new text × StandsNow old new t
+  -- a step was run from each state that the office stood for, it was done or not, and what it writes went out
+  abbrev pub RunsStep : Step → Bool → Type 0
+  RunsStep step done = (s : State) → Stands old s
+      → (text : List ℕ) × (t : State) × StepDoes host fails (midnight_of old) s step done text t × Appends device.old device.new text × StandsNow old new t
 
   -- a step was run from each state that the office stood for, it was cut short, and a beginning of what it writes went out
   abbrev pub StopsStep : Step → Type 0
   StopsStep step = (s : State) → Stands old s
-      → (text : List ℕ) × (t : State) × StepDoes host fails (midnight_of old) s (cut_short step) text t × AppendsFront device.old device.new text × StandsNow old new t
+      → (done : Bool) × (text : List ℕ) × (t : State) × StepDoes host fails (midnight_of old) s (cut_short step) done text t × AppendsFront device.old device.new text × StandsNow old new t

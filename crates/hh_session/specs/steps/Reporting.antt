@@ -1,5 +1,5 @@
 -- What a line that reports writes, as the functions behind it tell it.
-use Rattle.std.specs.Prelude.{ℕ, List}
+use Rattle.std.specs.Prelude.{ℕ, Bool, List}
 use Rattle.std.specs.Io.KnownBytes.{Appends}
 use Rattle.hh_devices.specs.DeviceChanges.{DeviceChange}
 use Rattle.hh_devices.specs.Devices.{AppendsFront}
@@ -11,10 +11,11 @@ use Rattle.hh_session.specs.Reporting.{ReportDoes}
 
 -- What changes in an output. The store may have failed only where this holds.
 module _ (fails : Type 0) (office : OfficeView) (device : DeviceChange) (step : ReportStep) where
-  -- what the line writes in each state that the office stands for went out
-  abbrev pub RunsReport : Type 0
-  RunsReport = (s : State) → Stands office s → (text : List ℕ) × ReportDoes fails (midnight_of office) s step text × Appends device.old device.new text
+  -- what the line writes in each state that the office stands for went out, and it was done or not
+  abbrev pub RunsReport : Bool → Type 0
+  RunsReport done = (s : State) → Stands office s → (text : List ℕ) × ReportDoes fails (midnight_of office) s step done text × Appends device.old device.new text
 
   -- a beginning of it went out
   abbrev pub BeginsReport : Type 0
-  BeginsReport = (s : State) → Stands office s → (text : List ℕ) × ReportDoes fails (midnight_of office) s step text × AppendsFront device.old device.new text
+  BeginsReport = (s : State) → Stands office s
+      → (done : Bool) × (text : List ℕ) × ReportDoes fails (midnight_of office) s step done text × AppendsFront device.old device.new text

@@ -1,5 +1,5 @@
 -- What a line that serves connections does, as the function behind it tells it.
-use Rattle.std.specs.Prelude.{ℕ, List}
+use Rattle.std.specs.Prelude.{ℕ, Bool, List}
 use Rattle.std.specs.Io.KnownBytes.{Appends}
 use Rattle.hh_devices.specs.DeviceChanges.{DeviceChange}
 use Rattle.hh_devices.specs.Devices.{AppendsFront}
@@ -13,12 +13,12 @@ use Rattle.hh_session.specs.Serving.{ServeDoes, awaits_none}
 
 -- What changes in an output. A host may show this of files and ports, and the store may have failed only where this holds.
 module _ (host : HostView) (fails : Type 0) (old new : OfficeView) (device : DeviceChange) (line : ServeLine) where
-  -- a line that serves was run from each state that the office stood for, and what it writes went out
-  abbrev pub RunsServing : Type 0
-  RunsServing = (s : State) → Stands old s
-      → (text : List ℕ) × (t : State) × ServeDoes host fails (midnight_of old) s line text t × Appends device.old device.new text × StandsNow old new t
+  -- a line that serves was run from each state that the office stood for, it was done or not, and what it writes went out
+  abbrev pub RunsServing : Bool → Type 0
+  RunsServing done = (s : State) → Stands old s
+      → (text : List ℕ) × (t : State) × ServeDoes host fails (midnight_of old) s line done text t × Appends device.old device.new text × StandsNow old new t
 
   -- a beginning of what it writes went out, and it awaited no connection
   abbrev pub StopsServing : Type 0
   StopsServing = (s : State) → Stands old s
-      → (text : List ℕ) × (t : State) × ServeDoes host fails (midnight_of old) s (awaits_none line) text t × AppendsFront device.old device.new text × StandsNow old new t
+      → (done : Bool) × (text : List ℕ) × (t : State) × ServeDoes host fails (midnight_of old) s (awaits_none line) done text t × AppendsFront device.old device.new text × StandsNow old new t

@@ -4,6 +4,7 @@ use Rattle.hh_devices.specs.DeviceChanges.{change}
 use Rattle.hh_sqlstore.specs.Stores.{content_in}
 use Rattle.hh_script.specs.Steps.{step_of}
 use Rattle.hh_desk.specs.GivingUp.{CountsMore}
+use Rattle.hh_session.specs.Course.{AllDone}
 use Rattle.hh_database.specs.Running.{EarlyOver, WritesOver}
 use Rattle.hh_database.proofs.RunningLaws.{early_held, err_by, if_early, ok_by, writes_held}
 use Rattle.hh_database.proofs.running.run_in_database.Goals as goal
@@ -16,8 +17,8 @@ returns-in-Ok-clause-done g c content held =
     let old = content_in g.S.Store c.in-Ok.tables in
     ok_by _ c.run_over_database.result (λ after writes sure up.
     let db = (state g.S.Store after.connection).committed in
-    writes_held host device db after.refusals steps old content (c.in-Ok.ensures.content content held (sure up))
-    (subst (λ n. WritesOver host (CountsMore n after.refusals) device db steps old) c.in-Ok.ensures.unrefused (writes up)))
+    writes_held host device db after.refusals (AllDone c.args.strict) steps old content (c.in-Ok.ensures.content content held (sure up))
+    (subst (λ n. WritesOver host (CountsMore n after.refusals) device db steps old (AllDone c.args.strict)) c.in-Ok.ensures.unrefused (writes up)))
     c.run_over_database.ensures.done c.run_over_database.ensures.sure
 
 pub returns-in-Ok-clause-cut : goal.returns-in-Ok-clause-cut

@@ -4,6 +4,7 @@ use Rattle.hh_devices.specs.DeviceChanges.{change}
 use Rattle.hh_sqlstore.specs.Stores.{content_in}
 use Rattle.hh_script.specs.Steps.{step_of}
 use Rattle.hh_desk.specs.GivingUp.{CountsMore}
+use Rattle.hh_session.specs.Course.{AllDone}
 use Rattle.hh_database.specs.Running.{EarlyOver, WritesOver}
 use Rattle.hh_database.proofs.RunningLaws.{early_new, err_by, if_early, ok_by, writes_new}
 use Rattle.hh_database.proofs.running.run_in_new_database.Goals as goal
@@ -16,8 +17,8 @@ returns-in-Ok-clause-done g c =
     let old = content_in g.S.Store c.in-Ok.tables in
     ok_by _ c.run_over_database.result (λ after writes sure up.
     let db = (state g.S.Store after.connection).committed in
-    writes_new host device db after.refusals c.args.settings c.are_settings.ensures old (c.in-Ok.ensures.stands (sure up)) steps
-    (subst (λ n. WritesOver host (CountsMore n after.refusals) device db steps old) c.in-Ok.ensures.unrefused (writes up)))
+    writes_new host device db after.refusals c.args.settings c.are_settings.ensures old (c.in-Ok.ensures.stands (sure up)) (AllDone c.args.strict) steps
+    (subst (λ n. WritesOver host (CountsMore n after.refusals) device db steps old (AllDone c.args.strict)) c.in-Ok.ensures.unrefused (writes up)))
     c.run_over_database.ensures.done c.run_over_database.ensures.sure
 
 pub returns-in-Ok-clause-cut : goal.returns-in-Ok-clause-cut

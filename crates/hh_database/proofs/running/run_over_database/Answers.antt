@@ -4,6 +4,7 @@ use Rattle.hh_devices.specs.DeviceChanges.{change}
 use Rattle.hh_sqlstore.specs.Stores.{content_in}
 use Rattle.hh_script.specs.Steps.{step_of}
 use Rattle.hh_desk.specs.GivingUp.{CountsMore}
+use Rattle.hh_session.specs.Course.{AllDone}
 use Rattle.hh_database.specs.Running.{EarlyOver, WritesOver}
 use Rattle.hh_database.proofs.RunningLaws.{early_over, err_then, ok_then, writes_over}
 use Rattle.hh_database.proofs.running.run_over_database.Goals as goal
@@ -16,9 +17,9 @@ returns-in-Ok-clause-done g c up =
     let tables = c.run_over-ran.result.1 in
     let db = (state g.S.Store c.of-after.result.connection).committed in
     let stood : IsTrue (state g.S.Store tables.connection).is_open = subst (λ k. IsTrue (state g.S.Store k).is_open) c.of-after.ensures.connection up in
-    subst (λ n. WritesOver host (CountsMore c.args.tables.refusals n) device db steps (content_in g.S.Store c.args.tables)) (sym c.of-after.ensures.refusals)
+    subst (λ n. WritesOver host (CountsMore c.args.tables.refusals n) device db steps (content_in g.S.Store c.args.tables) (AllDone c.args.strict)) (sym c.of-after.ensures.refusals)
     (writes_over host device db (CountsMore c.args.tables.refusals tables.refusals) c.reached_conserve.ensures (content_in g.S.Store c.args.tables)
-    (content_in g.S.Store tables) (c.of-after.ensures.holds up) steps
+    (content_in g.S.Store tables) (c.of-after.ensures.holds up) (AllDone c.args.strict) steps
     (ok_then c.run_over-ran.result.0 c.in-Ok.field-0 c.in-Ok.is (c.run_over-ran.ensures.done stood)))
 
 pub returns-in-Err-clause-cut : goal.returns-in-Err-clause-cut

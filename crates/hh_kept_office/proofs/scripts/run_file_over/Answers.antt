@@ -5,6 +5,7 @@ use Rattle.hh_devices.specs.DeviceChanges.{change}
 use Rattle.hh_script.specs.Steps.{step_of}
 use Rattle.hh_desk.specs.GivingUp.{CountsMore}
 use Rattle.hh_sqlstore.specs.Stores.{content_in}
+use Rattle.hh_session.specs.Course.{AllDone}
 use Rattle.hh_database.specs.Running.{EarlyOver, WritesOver}
 use Rattle.hh_database.proofs.RunningLaws.{if_early}
 use Rattle.hh_kept_office.specs.Places.{shown_by}
@@ -22,8 +23,8 @@ returns-in-Ok-run_over_database-clause-runs g c =
       steps,
       (c.in-Ok.bytes.items, c.in-Ok.ensures.whole, c.in-Ok.ensures.small, rw c.deref.ensures.value at c.in-Ok-read_script.ensures.lines),
       λ up.
-          subst (λ k. WritesOver host ⊤ device (state g.S.Store k).committed steps content) (sym same)
-          (writes_then (CountsMore c.args.tables.refusals after.refusals) ⊤ (λ more. tt) host device (state g.S.Store after.connection).committed content steps
+          subst (λ k. WritesOver host ⊤ device (state g.S.Store k).committed steps content (AllDone c.args.strict)) (sym same)
+          (writes_then (CountsMore c.args.tables.refusals after.refusals) ⊤ (λ more. tt) host device (state g.S.Store after.connection).committed content (AllDone c.args.strict) steps
           (rw c.deref-2.ensures.value at (c.in-Ok-run_over_database.ensures.done (subst (λ k. IsTrue (state g.S.Store k).is_open) same up)))),
     )
 

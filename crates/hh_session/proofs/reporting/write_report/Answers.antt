@@ -1,11 +1,14 @@
-use Rattle.std.proofs.Common.{Err, subst}
+use Rattle.std.proofs.Common.{Err, subst, sym}
 use Rattle.hh_devices.specs.DeviceChanges.{change}
 use Rattle.hh_states.specs.States.{State}
 use Rattle.hh_office.specs.Promises.{Stands}
 use Rattle.hh_office.specs.Refusals.{CountsReportStop, CountsStoreFault}
 use Rattle.hh_office.specs.Reports.{ReportsAs, report_for}
 use Rattle.hh_office.specs.Views.{midnight_of}
-use Rattle.hh_session.proofs.CourseLaws.{OnErr-map, OnOk-map}
+use Rattle.hh_script.specs.Reports.{report_of}
+use Rattle.hh_desk.specs.GivingUp.{CountsMore}
+use Rattle.hh_session.specs.steps.Reporting.{RunsReport}
+use Rattle.hh_session.proofs.CourseLaws.{OnErr-map, ok_both}
 use Rattle.hh_session.proofs.GivingUpLaws.{report_up}
 use Rattle.hh_session.proofs.ReportingLaws.{reached_by, begun_report, cut_report, told_report}
 use Rattle.hh_session.proofs.reporting.write_report.Goals as goal
@@ -22,12 +25,14 @@ returns-in-Err-Refused-clause-done g c sure =
     let store : (s : State) → Stands c.args.office.now.seen s → CountsStoreFault fault earlier later =
     λ s stands. subst (λ stop. CountsReportStop {A = Unit {0}} (Err stop) earlier later) c.in-Err-Refused.field-0-is
     (c.in-Err-Refused.ensures.refusals_counted sure (midnight_of c.args.office.now.seen, s, stands)) in
-    OnOk-map c.tell_refused.result _ _
-    (λ told s stands.
+    ok_both c.tell_refused.result _ _ _
+    (λ came told undone.
+    subst (RunsReport (CountsMore earlier later) c.args.office.now.seen (change taken failures old c.tell_refused.new.out) (report_of c.args.line.now)) (sym undone)
+    (λ s stands.
     let report = report_for (midnight_of c.args.office.now.seen) s c.args.line.now.key.now c.args.line.now.report in
     told_report taken failures old mid c.tell_refused.new.out fault earlier later (store s stands) report
     (subst (λ stop. ReportsAs (change taken failures old mid) {A = Unit {0}} report (Err stop))
-    c.in-Err-Refused.field-0-is (c.in-Err-Refused.ensures.reports sure s stands)) told) c.tell_refused.ensures.told
+    c.in-Err-Refused.field-0-is (c.in-Err-Refused.ensures.reports sure s stands)) told)) c.tell_refused.ensures.told c.tell_refused.ensures.came
 
 pub returns-in-Err-Refused-clause-cut : goal.returns-in-Err-Refused-clause-cut
 returns-in-Err-Refused-clause-cut g c sure =
