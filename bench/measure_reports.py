@@ -72,10 +72,15 @@ def measure_reports(arguments, peer, folder, day):
         print_table({"settle script": mine, "Rust peer": theirs}, 2)
 
 
+def script_of_whole(folder, day):
+    """The path of a script that loads a day, orders SF, loads the prices again, orders R1 and asks for its reports."""
+    reload = f"load {LATER} {KEY} prices {dearer_prices(folder)}\n"
+    return script_of(folder, "whole", [day, run_line("SF"), reload, run_line("R1"), *report_lines("R1")])
+
+
 def measure_whole(arguments, peer, folder, day):
     again = dearer_prices(folder)
-    reload = f"load {LATER} {KEY} prices {again}\n"
-    script = script_of(folder, "whole", [day, run_line("SF"), reload, run_line("R1"), *report_lines("R1")])
+    script = script_of_whole(folder, day)
     commands = {
         "settle script": [arguments.program, "script", "--operator-key", KEY, script],
         "Rust peer": [peer, "--whole", script],
