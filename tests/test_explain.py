@@ -3,6 +3,7 @@ By commands on a database file, by lines of scripts, and by `settle period`. And
 its form. The texts are put together here, from what a test has written and what docs/formats.md says of each column."""
 import os
 import re
+import shutil
 import subprocess
 import unittest
 
@@ -335,6 +336,15 @@ class Texts(Explained):
                 asked.append((loads, "refused 12 BadHeader", f"{path_in(loads)}: it has no header; expected {header}"))
         self.check(*asked)
 
+    def test_headers_of_parties(self):
+        """They are shown whole where no key stands in the place of the keys."""
+        asked = []
+        for header in ("party,from,to", "party;from;to;key", "party,from,to,Key", f"{HEADERS['parties']},"):
+            loads = self.load("parties", f"{header}\n{GOOD['parties']}\n".encode(), "refused.csv")
+            told = f"{path_in(loads)}: line 1, the header, is {shown(header)}; expected {HEADERS['parties']}"
+            asked.append((loads, "refused 12 BadHeader", told))
+        self.check(*asked)
+
     def test_keys_of_parties_are_not_shown(self):
         """Not in the place of a header either, nor where they are off their form."""
         for rows in ([HEADERS["parties"], GOOD["parties"], "GENCO,2024-02-01,,secret0001"], ["NEWCO,2024-01-01,,secret0001"], [HEADERS["parties"], "NEWCO,2024-01-01,,secret_001"]):
@@ -374,10 +384,10 @@ class Texts(Explained):
 
     def test_a_path_with_a_line_end(self):
         """An explanation is one line all the same: characters that control a terminal are shown as such."""
-        folder = self.room / "two\nlines\x1b\t"
+        folder = self.room / "two\nlines\x1b\t\r"
         folder.mkdir()
         (folder / "p.csv").write_bytes(b"x")
-        path = f"{self.room}/two\\nlines\\x1B\\t"
+        path = f"{self.room}/two\\nlines\\x1B\\t\\r"
         for (name, *words), told in (
             (("load", "--key", OPERATOR, "prices", folder / "p.csv"), f'{path}/p.csv: line 1, the header, is "x"; expected {HEADERS["prices"]}'),
             (("load", "--key", OPERATOR, "prices", folder / "q.csv"), f"{path}/q.csv: {MISSING}"),
@@ -588,6 +598,19 @@ class Unread(Explained):
             explained = settle("script", "--explain", "--operator-key", OPERATOR, str(path))
             self.assertEqual((plain, self.added(plain, explained)), told)
 
+    @unittest.skipUnless(shutil.which("cc"), "no C compiler `cc` is on the path, so the clock was not set back")
+    def test_a_clock_that_tells_no_moment(self):
+        """It is set before 1970. With --at it isn't asked."""
+        library, source = str(self.room / "clock.so"), HOME / "tests" / "early_clock.c"
+        subprocess.run(["cc", "-shared", "-fPIC", "-O1", "-o", library, str(source)], check=True)
+        environment = {**os.environ, "LD_PRELOAD": library}
+        for name in ("load", "run"):
+            key, moment, words = self.commands[name][:2], self.commands[name][2], self.commands[name][3:]
+            found = self.by_command(name, *key, *words, env=environment)
+            self.assertEqual(found, (answer("fault clock"), ["the clock tells no moment; give one with --at"]), name)
+            plain, added = self.by_command(name, *key, moment, *words, env=environment)
+            self.assertEqual((plain[0], added), (0, []), name)
+
     def test_outputs(self):
         """A full one and a closed one."""
         for streams in (">/dev/full", ">&-"):
@@ -659,6 +682,12 @@ class Scripts(Explained):
         ]
         self.assertEqual(added, wanted)
 
+    def test_a_path_with_control_characters(self):
+        """An explanation of a line is one line, too."""
+        path, told = f"{self.room}/a\tb\rc\x1b[2J/p.csv", f"{self.room}/a\\tb\\rc\\x1B[2J/p.csv"
+        plain, added = self.by_command("script", self.file("control", f"load {EARLY} {OPERATOR} prices {path}\n"))
+        self.assertEqual((plain, added), ((0, b"fault file\n", b""), [f"line 1: {told}: {MISSING}"]))
+
     def test_nothing_is_added_where_all_is_done(self):
         asked = [(line, text, None) for line, text in ((self.order("SF"), SETTLED), (self.dearer(), APPLIED))]
         self.check(*asked)
@@ -670,10 +699,10 @@ class Pipes(Explained):
     """A file from a pipe can't be read a second time. What goes out and the status are the same; it is explained by what the
     refusal means, and that this is so."""
 
-    def twice(self, data, *words):
+    def twice(self, data, *words, moment=END, key=OPERATOR):
         made = []
         for more in ((), ("--explain",)):
-            call = [SETTLE, "load", "--db", str(self.database), "--key", OPERATOR, f"--at={END}", *more, *words, "/dev/stdin"]
+            call = [SETTLE, "load", "--db", str(self.database), "--key", key, f"--at={moment}", *more, *words, "/dev/stdin"]
             done = subprocess.run(call, input=data, capture_output=True)
             made.append((done.returncode, done.stdout, done.stderr))
         return made[0], self.added(*made)
@@ -688,6 +717,33 @@ class Pipes(Explained):
             (b"\n" * 1_048_577, "refused 10 FileTooLarge", "the file has too many bytes"),
         ):
             self.assertEqual(self.twice(data, "prices"), (answer(text), [f"/dev/stdin: {told}; {NOT_AGAIN}"]))
+
+    def test_what_each_refusal_means(self):
+        """In words of no row."""
+        parties = [f"P{number},2024-01-01,,party{number:03}" for number in range(399)]
+        for kind, rows, text, told in (
+            ("prices", [f"{DAY},1,1"] * 20_001, "11 TooManyRows", "the file has too many rows"),
+            ("units", ["U1,NEWCO,P,no,2024-01-01,"], "30 UnknownParty row 1", "a party isn't registered"),
+            ("meters", [f"U1,{DAY},1,1,1,0"], "31 UnknownUnit row 1", "the unit isn't registered"),
+            ("meters", ["G1,2023-12-31,1,1,1,0"], "33 NotEffective row 1", "the date is outside a registered range of dates"),
+            ("contracts", [f"C9,GENCO-P,GENCO-P,{DAY},1,1"], "35 SameAccount row 1", "the seller is the buyer"),
+            ("contracts", [f"C1,SUPCO-C,GENCO-P,{DAY},1,1"], "36 ReferenceMoved row 1", "the first row of the reference has another seller or buyer"),
+            ("reallocations", [f"G1,GENCO-P,{DAY},1,1,0"], "37 OwnLead row 1", "the account is the unit's lead account"),
+            ("reallocations", [realloc("SUPCO-P", 60), realloc("SUPCO-C", 41)], "38 OverHundred row 2", "more than 100 percent of the unit would be reallocated"),
+            ("parties", ["GENCO,2024-02-01,,genco0001"], "39 ShrinksRange row 1", "the registered range of dates would shrink"),
+            ("units", ["G1,SUPCO,P,no,2024-01-01,"], "40 UnitMoved row 1", "the unit is registered with another lead account or mark"),
+            ("parties", parties, "42 TooMany row 399", "as many are registered as may be"),
+        ):
+            found = self.twice(text_of(kind, rows), kind, moment=EARLY)
+            self.assertEqual(found, (answer(f"refused {text}"), [f"/dev/stdin: {told}; {NOT_AGAIN}"]))
+
+    def test_a_name_that_is_taken_and_a_wrong_key(self):
+        """The name of the file is `stdin`."""
+        self.assertEqual(self.twice(text_of("prices", [f"{DAY},1,60"]), "prices"), (answer(APPLIED), []))
+        told = f"/dev/stdin: a file of this kind and name was accepted with other bytes; {NOT_AGAIN}"
+        self.assertEqual(self.twice(text_of("prices", [f"{DAY},1,61"]), "prices"), (answer("refused 20 FileChanged"), [told]))
+        told = f"/dev/stdin: {NOT_OPERATORS}; {NOT_AGAIN}"
+        self.assertEqual(self.twice(text_of("prices", [f"{DAY},1,61"]), "prices", key="genco0001"), (answer("refused 60 Forbidden"), [told]))
 
     def test_late_rows(self):
         """How many they are."""
@@ -1010,6 +1066,15 @@ class OffTheirForm(Desk):
         ):
             self.is_told(words.format(key=OPERATOR), f"word {place} {shown(word)}: expected {what}")
 
+    def test_each_report_of_a_run(self):
+        """Of both forms a date and a kind follow."""
+        for form in ("day", "csv"):
+            self.is_told(f"report {OPERATOR} {form}", f"word 4 is missing: expected {DATE}")
+            self.is_told(f"report {OPERATOR} {form} {DAY}", f"word 5 is missing: expected {RUN_KIND}")
+            self.is_told(f"report {OPERATOR} {form} 2024-02-30 SF", f'word 4 "2024-02-30": expected {DATE}')
+            self.is_told(f"report {OPERATOR} {form} {DAY} XX", f'word 5 "XX": expected {RUN_KIND}')
+            self.is_told(f"report {OPERATOR} {form} {DAY} SF SF", 'word 6 "SF" is one too many')
+
     def test_keys_are_not_shown(self):
         for key in ("op-short", "genco_0001", "op-" + "k" * 62, "k" * 65, "parties", "schlüssel1"):
             self.is_told(f"load 5 {key} prices p.csv", f"word 3 of {len(key.encode())} bytes: expected {KEY}")
@@ -1038,6 +1103,13 @@ class OffTheirForm(Desk):
         self.is_told(good.replace(" ", "  ", 1), f'word 2 "": expected {MOMENT}; {BLANKS}')
         self.is_told(f" {good}", f'word 1 "": expected {COMMAND}; {BLANKS}')
         self.is_told(f"{good} ", f'word 6 "" is one too many; {BLANKS}')
+
+    def test_marks_in_other_places(self):
+        """A byte order mark that doesn't begin the line, and a carriage return that doesn't end it, are shown, and no more is
+        said of them."""
+        self.is_told(f"load \ufeff{EARLY} {OPERATOR} prices p.csv", f'word 2 "\\xEF\\xBB\\xBF{EARLY}": expected {MOMENT}')
+        self.is_told(f"load {EARLY}\r {OPERATOR} prices p.csv", f'word 2 "{EARLY}\\r": expected {MOMENT}')
+        self.is_told(f"run {END} {OPERATOR} {DAY}\r SF", f'word 4 "{DAY}\\r": expected {DATE}')
 
     def test_a_script_of_another_system(self):
         """Each line of it ends with CRLF, and the first is told."""

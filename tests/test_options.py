@@ -324,17 +324,17 @@ class Help(OfTheProgram):
 
 # Values off the grammar of each word of each command, beside words that are right, and what its description has to say.
 VALUES = {
-    "--operator-key": (["", "genco0001", "op-short01", "op-" + "k" * 62, "op-settle_1"], ["op-", "8 to 61"]),
-    "--lead-minutes": (["", "1441", "-1", "60.0", "x"], ["0 to 1440"]),
-    "--key": (["", "short", "genco_0001", "k" * 65], ["8 to 64"]),
-    "--at": (["", "x", "5.0", "+5", str(2**63)], ["seconds since 1970-01-01T00:00:00Z"]),
+    "--operator-key": (["", "genco0001", "op-short01", "op-" + "k" * 62, "op-settle_1"], ["op-", "8 to 61 letters or digits"]),
+    "--lead-minutes": (["", "1441", "-1", "60.0", "x"], ["Minutes from deadline to period", "0 to 1440", "60 if none given"]),
+    "--key": (["", "short", "genco_0001", "k" * 65], ["operator's", "party's of 8 to 64 letters or digits"]),
+    "--at": (["", "x", "5.0", "+5", str(2**63)], ["whole seconds since 1970-01-01T00:00:00Z", "clock's"]),
     "load KIND": (["", "party", "Prices", "prices "], ["parties, units, meters, prices, contracts or reallocations"]),
-    "FILE": (["", "data/", "a,b.csv", "a b.csv", "ä.csv", "n" * 65], ["1 to 64"]),
+    "FILE": (["", "data/", "a,b.csv", "a b.csv", "ä.csv", "n" * 65], ["behind the last /", "1 to 64 letters, digits, . _ -"]),
     "DATE": (["", "2024-02-30", "01/07/2024", "2100-01-01"], ["2001-01-01 to 2099-12-31"]),
     "KIND": (["", "XX", "sf", "R4"], ["SF, R1, R2, R3, RF or DF"]),
-    "FORM": (["", "html", "Day", "balance"], ["day", "csv", "balances"]),
-    "--port": (["", "65536", "-1", "http"], ["0 to 65535"]),
-    "--count": (["", "1000001", "-1", "all"], ["0 to 1000000"]),
+    "FORM": (["", "html", "Day", "balance"], ["day or csv of a run, or balances"]),
+    "--port": (["", "65536", "-1", "http"], ["0 to 65535", "with 0 the machine chooses"]),
+    "--count": (["", "1000001", "-1", "all"], ["0 to 1000000;", "1000000 where none is given"]),
 }
 
 
