@@ -265,7 +265,7 @@ class Texts(Explained):
     def test_bytes_that_are_not_printable(self):
         """Bytes are cut, and not their escapes."""
         header = f"{HEADERS['prices']}\n".encode()
-        fields = b"\0\x1f\x7f\x80\xff", "50\u20ac\u2028".encode(), b"\t5\x1b[2J", b"\xfe" * 41, b" 50", b"50\x0b"
+        fields = b"\0\x1f\x7f\x80\xff", "50\u20ac\u2028".encode(), b"\t5\x1b[2J", b"\xfe" * 41, b" 50", b"50\x0b", b"!#~50~"
         self.check(*(self.bad_field("prices", header + f"{DAY},1,".encode() + field + b"\n", 1, 2, 3, field) for field in fields))
 
     def test_lines_of_the_file(self):
@@ -496,10 +496,11 @@ class LateRows(Explained):
         return line, f"applied={count - late} late={late}", told and f"{path_in(line)}: late: {told}"
 
     def test_some_rows(self):
-        reallocations = [f"G1,SUPCO-P,{DAY},{period},1,0" for period in self.PERIODS]
+        """Two files of one name, each under its kind."""
+        reallocations = [f"G1,SUPCO-P,{DAY},{period},1,0" for period in self.PERIODS[:6]]
         self.check(
             self.late("contracts", self.contracts(self.PERIODS), "some.csv", self.THIRD, 4, "rows 2, 5 to 7"),
-            self.late("reallocations", reallocations, "some.csv", self.THIRD, 4, "rows 2, 5 to 7"),
+            self.late("reallocations", reallocations, "some.csv", self.THIRD, 3, "rows 2, 5 to 6"),
         )
 
     def test_one_all_and_none(self):
@@ -1085,7 +1086,7 @@ class OffTheirForm(Desk):
         self.is_told("load x y z", f'word 2 "x": expected {MOMENT}')
 
     def test_long_words_and_other_bytes(self):
-        for word in (b"9" * 40, b"9" * 41, b"\xff\xfe", "ä€".encode(), b'"\\', b"\x00\x7f"):
+        for word in (b"9" * 40, b"9" * 41, b"\xff\xfe", "ä€".encode(), b'"\\', b"\x00\x7f", b"!#~5~"):
             self.is_told(b"load " + word + b" " + f"{OPERATOR} prices p.csv".encode(), f"word 2 {shown(word)}: expected {MOMENT}")
 
     def test_what_is_not_seen(self):
