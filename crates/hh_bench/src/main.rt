@@ -7,8 +7,8 @@ use hh_office_measures::measure_office;
 use hh_refused_memory::{is_refuse, refuse};
 use std::process::ExitCode;
 
-/// The exit status is 0 where all was done and told, 2 for words that form no command, and 1 for everything else, with a
-/// line on standard error.
+/// The exit status is 0 if everything was done and told, 2 for words that form no command, and 1 for
+/// everything else. If it is not 0, a line on standard error tells why.
 fn main(rt: HostRuntime) -> ExitCode {
     match done(&rt) {
         Ok(()) => ExitCode::SUCCESS,

@@ -1,4 +1,4 @@
--- That what is kept beside the tables goes on agreeing with them: its positions and its touched Settlement Periods together.
+-- What is kept beside the tables continues to agree with them: its positions and its touched Settlement Periods.
 use Rattle.std.proofs.Common.{◌≡◌, ◌∙◌, List, [], ◌∷◌, ◌++◌, Bool, true, false, refl, sym, ap, subst}
 use Rattle.std.specs.Prelude.{◌||◌, IsTrue}
 use Rattle.std.specs.Ordering.{eq_by_cmp}
@@ -21,7 +21,7 @@ use Rattle.hh_beside.proofs.DayRuns.{accounted_for_after_runs}
 use Rattle.hh_beside.proofs.PositionLoads.{loads_keep_positions, runs_keep_positions}
 use Rattle.hh_beside.proofs.PositionMade.{made_anew_are_right}
 
--- what is like what agrees agrees
+-- if two are alike and one agrees, the other agrees too
 alike_agrees : (content : Content) (these those : Beside) → AreAlike these those → IsTrue (are_positions_right content.registered those.positions)
     → IsTrue (are_days_accounted_for content those.touched) → IsTrue (agrees content these)
 alike_agrees content these those alike right accounted =
@@ -46,20 +46,20 @@ pub made_anew_agrees : MadeAnewAgrees
 made_anew_agrees content made alike =
     alike_agrees content made (beside_of content) alike (made_anew_are_right content.registered) (accounted_for_where_all_touched content)
 
--- ---- lists of Settlement Periods with more
+-- ---- lists of Settlement Periods with more appended
 
 or_again : (p q r : Bool) → (p || (q || r)) ≡ ((p || q) || r)
 or_again true q r = refl
 or_again false q r = refl
 
--- what is among some and others is among the one or the other
+-- a period is among two lists together if it is among one of them
 pub among_both : (these those : List SettlementPeriod) (at : SettlementPeriod) → is_among (these ++ those) at ≡ (is_among these at || is_among those at)
 among_both [] those at = refl
 among_both (p ∷ these) those at =
     ap (λ b. eq_by_cmp settlement_period_cmp p at || b) (among_both these those at)
     ∙ or_again (eq_by_cmp settlement_period_cmp p at) (is_among these at) (is_among those at)
 
--- the same with more behind them are the same
+-- lists that have the same periods still do with more appended
 pub same_with_more : (these those more : List SettlementPeriod) → HaveTheSame these those → HaveTheSame (these ++ more) (those ++ more)
 same_with_more these those more same at =
     among_both these more at ∙ (ap (λ b. b || is_among more at) (same at) ∙ sym (among_both those more at))

@@ -1,4 +1,4 @@
--- What a Settlement Period that is accounted for holds, and how that depends on what was touched.
+-- The properties of a Settlement Period that is accounted for, and how they depend on which periods were touched.
 use Rattle.std.proofs.Common.{◌≡◌, ℕ, zero, suc, ◌≤◌, List, [], ◌∷◌, ◌++◌, map, refl, sym, ap, subst, ◌∙◌, Bool, true, false, Option, Some, None, arith}
 use Rattle.std.specs.Prelude.{◌==◌, ◌≢◌, ◌||◌, filter}
 use Rattle.std.specs.Cmp.{eq_by_cmp_equiv}
@@ -25,7 +25,7 @@ use Rattle.hh_beside.specs.Keeping.{periods_of_runs}
 use Rattle.hh_beside.proofs.DayTests.{tells_periods}
 
 module _ {X : Type 0} where
-  -- what holds of each holds of the last
+  -- if all elements have a property, so has the last
   pub holds_of_last : (P : X → Type 0) (xs : List X) (x : X) → AllByRecursion P xs → last_of xs ≡ Some x → P x
   holds_of_last P [] x all is = cc
   holds_of_last P (y ∷ []) x all is = subst P (same_one y x is) all.0
@@ -35,17 +35,17 @@ module _ {X : Type 0} where
   holds_of_last P (y ∷ z ∷ xs) x all is = holds_of_last P (z ∷ xs) x all.1 is
 
   module _ (test : X → Bool) where
-    -- each passes where all do
+    -- if all pass, each passes
     pub each_passes : (xs : List X) → list_all test xs ≡ true → AllByRecursion (λ x. test x ≡ true) xs
     each_passes [] all = tt
     each_passes (x ∷ xs) all = let parts = and_parts (test x) (list_all test xs) all in (parts.0, each_passes xs parts.1)
 
-    -- and the other way round
+    -- and conversely
     pub all_pass : (xs : List X) → AllByRecursion (λ x. test x ≡ true) xs → list_all test xs ≡ true
     all_pass [] each = refl
     all_pass (x ∷ xs) each = and_from (test x) (list_all test xs) each.0 (all_pass xs each.1)
 
--- what holds of each number up to a count holds of those from 1 to it
+-- if each number up to a count has a property, so has a number from 1 to the count
 pub numbered : (P : ℕ → Type 0) (count p : ℕ) → 1 ≤ p → p ≤ count → AllByRecursion P (from_one_to count) → P p
 numbered P zero p least most all = absurd (omega arith)
 numbered P (suc n) p least most all =
@@ -69,7 +69,7 @@ module _ (content : Content) (touched : List SettlementPeriod) where
   abbrev pub IsRunAccountedFor : RunKey × Summary → ℕ → Type 0
   IsRunAccountedFor e date = AllByRecursion (λ at. is_accounted_for content touched e.0 at ≡ true) (periods_on date e.1.periods)
 
-  -- so it is of the latest run of each date
+  -- this holds for the latest run of each date
   abbrev pub AreLatestAccountedFor : Type 0
   AreLatestAccountedFor = (date : ℕ) (e : RunKey × Summary) → latest_on content date ≡ Some e → IsRunAccountedFor e date
 
@@ -77,13 +77,13 @@ module _ (content : Content) (touched : List SettlementPeriod) where
   abbrev accounted_for_if : ℕ → Option (RunKey × Summary) → Bool
   accounted_for_if date o = elim o [ None ↦ true | Some run ↦ list_all (is_accounted_for content touched run.0) (periods_on date run.1.periods) ]
 
-  -- the latest run of a date is one of the date
+  -- the latest run of a date is a run of that date
   pub latest_of_date : (date : ℕ) (e : RunKey × Summary) → latest_on content date ≡ Some e → e.0.date ≡ date
   latest_of_date date e is =
       eqb-true e.0.date date
       (holds_of_last (λ x. (x.0.date == date) ≡ true) (filter (λ x. x.0.date == date) content.runs) e (filter-passes (λ x. x.0.date == date) content.runs) is)
 
-  -- what holds of each run holds of the latest of a date
+  -- if each run has a property, so has the latest run of a date
   pub holds_of_latest : (P : RunKey × Summary → Type 0) → AllByRecursion P content.runs → (date : ℕ) (e : RunKey × Summary) → latest_on content date ≡ Some e → P e
   holds_of_latest P all date e is =
       holds_of_last P (filter (λ x. x.0.date == date) content.runs) e (all-filter P (λ x. x.0.date == date) content.runs all) is
@@ -108,14 +108,14 @@ module _ (content : Content) (touched : List SettlementPeriod) where
       every [] = tt
       every (e ∷ es) = (one e.0.date, every es)
 
--- ---- what a period that is accounted for holds
+-- ---- properties of a period that is accounted for
 
--- what was touched or is so, and wasn't touched, is so
+-- if one of two tests holds and the first doesn't, the second does
 pub still : (touched is : Bool) → (touched || is) ≡ true → touched ≡ false → is ≡ true
 still true is accounted untouched = absurd (false_is_not_true (sym untouched))
 still false is accounted untouched = accounted
 
--- a Settlement Period of the latest run of its date that wasn't touched is what it would be settled to now
+-- a Settlement Period of the latest run of its date that wasn't touched is as it would be settled now
 pub untouched_is_still : (content : Content) (touched : List SettlementPeriod) (at : SettlementPeriod) (run : RunKey) (summary : Summary)
     → are_days_accounted_for content touched ≡ true → latest_on content at.date ≡ Some (run, summary) → 1 ≤ at.period → at.period ≤ summary.periods → is_among touched at ≡ false
     → is_still content.registered at (period_of_run content run at.period) ≡ true
@@ -148,7 +148,7 @@ accounted_for_by_the_same content these those same = λ i.
       | Some run ↦ list_all (λ at. same at i || is_still content.registered at (period_of_run content run.0 at.period)) (periods_on e.0.date run.1.periods)
     ]) content.runs
 
--- what is among some is among them and others
+-- a period among the first of two lists is among both together
 pub among_first : (these those : List SettlementPeriod) (at : SettlementPeriod) → is_among these at ≡ true → is_among (these ++ those) at ≡ true
 among_first [] those at is = absurd (false_is_not_true is)
 among_first (p ∷ these) those at is =
@@ -161,7 +161,7 @@ pub among_second : (these those : List SettlementPeriod) (at : SettlementPeriod)
 among_second [] those at is = is
 among_second (p ∷ these) those at is = or_right (eq_by_cmp settlement_period_cmp p at) (is_among (these ++ those) at) (among_second these those at is)
 
--- each of some is among them
+-- each period of a list is among the list
 each_among : (ps : List SettlementPeriod) → AllByRecursion (λ at. is_among ps at ≡ true) ps
 each_among [] = tt
 each_among (p ∷ ps) = (
@@ -169,7 +169,7 @@ each_among (p ∷ ps) = (
   all-weaken (λ at. is_among ps at ≡ true) (λ at. is_among (p ∷ ps) at ≡ true) (λ at. or_right (eq_by_cmp settlement_period_cmp p at) (is_among ps at)) ps (each_among ps),
 )
 
--- each of each block is among all blocks
+-- each period of each block is among all blocks together
 blocks_among : {X : Type 0} (block : X → List SettlementPeriod) (xs : List X) → AllByRecursion (λ x. AllByRecursion (λ at. is_among (flat_map block xs) at ≡ true) (block x)) xs
 blocks_among block [] = tt
 blocks_among block (x ∷ xs) = (

@@ -1,4 +1,4 @@
--- Days that are accounted for are so after a load, with what its rows in time touch.
+-- Days that are accounted for still are after a load, with what its rows in time touch.
 use Rattle.std.proofs.Common.{◌≡◌, List, ◌++◌, map, refl, sym, ap, subst, ◌∙◌, Bool, true, false}
 use Rattle.std.specs.Prelude.{◌&&◌, ◌||◌, filter_map, is_some}
 use Rattle.std.proofs.lemmas.Bool.{or_left, or_right}
@@ -31,13 +31,13 @@ untouched_stays midnight s load at reached can untouched =
     rows_stay at (timetable_at midnight s) (rows_coming load) s.history 1 (rows_valued load.key.kind load.moment load.rows can.file.each) can.accepted (reached_consistent midnight s reached) untouched in
     (stays.price, same_terms at old new stays)
 
--- what was so is so still where the price and what the period would be settled from are the same
+-- a period stays as it would be settled if its price and what it would be settled from stay the same
 still_same : (at : SettlementPeriod) (old new : Registered) → price_of new at ≡ price_of old at → ((accounts : List Account) → terms_for accounts new at ≡ terms_for accounts old at)
     → (s : Settled) → is_still new at s ≡ is_still old at s
 still_same at old new price terms s = λ i.
     (is_some (price i) && is_within_limits (terms (map (λ r. r.account) s.accounts) i)) && is_same_period (settled (terms (map (λ r. r.account) s.accounts) i)) s
 
--- what was touched before is touched with more, and what was so is so still
+-- if what was touched is still touched, and what held still holds, then one of the two still holds if one did
 pub touched_or_still : (touched more was is : Bool) → (touched ≡ true → more ≡ true) → (was ≡ true → is ≡ true) → (touched || was) ≡ true → (more || is) ≡ true
 touched_or_still true more was is still_touched still_so accounted = or_left more is (still_touched refl)
 touched_or_still false more was is still_touched still_so accounted = or_right more is (still_so accounted)

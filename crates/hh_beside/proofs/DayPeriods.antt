@@ -1,4 +1,4 @@
--- The tables of a reached state hold each Settlement Period of each run as the run settled it.
+-- The tables of a reached state have each Settlement Period of each run as the run settled it.
 use Rattle.std.proofs.Common.{◌≡◌, ℕ, List, [], ◌∷◌, map, refl, sym, ap, subst, ◌∙◌, Bool, true, false, cond, Ordering, eq-eqb}
 use Rattle.std.specs.Prelude.{ℤ, neg_ℤ, ◌==◌, ◌&&◌, filter, take}
 use Rattle.std.specs.Cmp.{IsTotalOrder, eq_by_cmp_equiv, nat_cmp_total, tied_itself}
@@ -39,7 +39,7 @@ use Rattle.hh_state_laws.proofs.SettledLaws.{a_share_each, figures_shown}
 use Rattle.hh_beside.specs.Beside.{credit_row, is_credit_of, is_result_of, period_of_run}
 use Rattle.hh_beside.specs.DayLaws.{HoldsPeriods}
 
--- those that pass two tests are those that pass the second of those that pass the first
+-- the elements that pass two tests are those of the first's that pass the second
 passing_both : {X : Type 0} (a b : X → Bool) (xs : List X) → filter (λ x. a x && b x) xs ≡ filter b (filter a xs)
 passing_both a b [] = refl
 passing_both a b (x ∷ xs) =
@@ -48,12 +48,12 @@ passing_both a b (x ∷ xs) =
       | false ↦ passing_both a b xs
     ]
 
--- what stays itself makes the same list
+-- mapping each element to itself leaves the list
 map_itself : {X : Type 0} (xs : List X) → map (λ x. x) xs ≡ xs
 map_itself [] = refl
 map_itself (x ∷ xs) = ap (λ more. x ∷ more) (map_itself xs)
 
--- ---- entries under keys that have a run and a period
+-- ---- entries whose keys have a run and a period
 
 module _ {K V : Type 0} {R : K → K → Ordering} (o : IsTotalOrder R) (exact : (x y : K) → R x y ≡ Equal → x ≡ y) (run_of : K → RunKey) (number_of : K → ℕ)
     (block : RunKey → SettlementPeriod × Settled → List (K × V)) (own_run : (key : RunKey) (q : SettlementPeriod × Settled) → AllByRecursion (λ e. run_of e.0 ≡ key) (block key q))
@@ -67,13 +67,13 @@ module _ {K V : Type 0} {R : K → K → Ordering} (o : IsTotalOrder R) (exact :
     abbrev all_entries : List (K × V)
     all_entries = flat_map (λ r. flat_map (block r.key) (day_of r)) runs
 
-    -- those of a run are the run's
+    -- the entries under a run's key are those of the run
     each_run : NoneAlike have_one_run_key runs → AllByRecursion (λ r. filter (λ e. eq_by_cmp run_key_cmp (run_of e.0) r.key) all_entries ≡ flat_map (block r.key) (day_of r)) runs
     each_run apart =
         own_block (eq_by_cmp run_key_cmp) (eq_by_cmp_equiv run_key_total).refl (eq_by_cmp_equiv run_key_total).symm
         (λ (r : Run). r.key) (λ (e : K × V). run_of e.0) (λ r. flat_map (block r.key) (day_of r)) (λ r. all_blocks (λ e. run_of e.0 ≡ r.key) (block r.key) (own_run r.key) (day_of r)) runs apart
 
-    -- so those of a Settlement Period of a run are read as they were written, where they rise
+    -- so the entries of a Settlement Period of a run are read as they were written, if they rise
     abbrev IsRead : Run → SettlementPeriod × Settled → Type 0
     IsRead r q = Rises R (λ e. e.0) (block r.key q) → filter (λ e. is_of r.key q.0.period e.0) (in_key_order R all_entries) ≡ block r.key q
 
@@ -94,11 +94,11 @@ module _ {K V : Type 0} {R : K → K → Ordering} (o : IsTotalOrder R) (exact :
 abbrev result_block : RunKey → SettlementPeriod × Settled → List (ResultKey × AccountRow)
 result_block key q = map (λ r. (result_key key q.0 r, r)) q.1.accounts
 
--- its credits under the keys of a run
+-- the credits of a settled period under the keys of a run
 abbrev credit_block : RunKey → SettlementPeriod × Settled → List (CreditKey × ℤ)
 credit_block key q = map (λ c. (credit_key key q.0 c, c.credited)) q.1.credits
 
--- the credit that stands under a unit and an account
+-- the credit of a unit and an account
 abbrev credit_under : UnitAccount × ℤ → CreditRow
 credit_under e = record { unit = e.0.0; account = e.0.1; credited = e.1 }
 
@@ -113,7 +113,7 @@ credits_rise key at p =
     (second_below (nat_cmp at.period at.period) (unit_account_cmp e.0 f.0) (tied_itself nat_cmp_total at.period) h))
     es (rising_if_sorted unit_account_cmp es (is_sorted-in_key_order unit_account_total (keyed_credits (credits_of p.units))))))
 
--- what rows show is what they were made of: there is a row for each account
+-- the rows are of the period's accounts: there is a row for each
 pub accounts_settled : (p : PeriodTerms) → map (λ (r : AccountRow). r.account) (settled p).accounts ≡ p.accounts
 accounts_settled p =
     sym (map-map (λ (f : Figures). f.account) figures_of (settled p).accounts)
@@ -148,7 +148,7 @@ module _ (midnight : Midnights) (s : State) where
   abbrev day_of : Run → List (SettlementPeriod × Settled)
   day_of r = settled_by timetable s.history r
 
-  -- no two of them have one number
+  -- no two of them have the same number
   numbers_apart : (r : Run) → NoneAlike (λ (q t : SettlementPeriod × Settled). q.0.period == t.0.period) (day_of r)
   numbers_apart r =
       distinct-map (λ (q t : SettlementPeriod × Settled). q.0.period == t.0.period) (settled_at (seen_by timetable s.history r)) (periods_of midnight r)
@@ -168,14 +168,14 @@ module _ (midnight : Midnights) (s : State) where
   credits_own_period key q =
       all-map (λ (e : CreditKey × ℤ). e.0.period ≡ q.0.period) (λ c. (credit_key key q.0 c, c.credited)) q.1.credits (all_of (λ _. q.0.period ≡ q.0.period) (λ _. refl) q.1.credits)
 
-  -- what the tables hold of a Settlement Period of a run, under the keys of results and of credits
+  -- the entries that the tables have of a Settlement Period of a run: of results and of credits
   abbrev HasResults : Run → SettlementPeriod × Settled → Type 0
   HasResults r q = Rises result_key_cmp (λ e. e.0) (result_block r.key q) → filter (is_result_of r.key q.0.period) (tables_of midnight s).results ≡ result_block r.key q
 
   abbrev HasCredits : Run → SettlementPeriod × Settled → Type 0
   HasCredits r q = Rises credit_key_cmp (λ e. e.0) (credit_block r.key q) → filter (is_credit_of r.key q.0.period) (tables_of midnight s).credits ≡ credit_block r.key q
 
-  -- a Settlement Period of a run is held as the run settled it
+  -- the tables have a Settlement Period of a run as the run settled it
   abbrev IsHeld : Run → SettlementPeriod → Type 0
   IsHeld r at = period_of_run (tables_of midnight s) r.key at.period ≡ settled (terms_at (seen_by timetable s.history r) at)
 
@@ -198,7 +198,7 @@ module _ (midnight : Midnights) (s : State) where
       (each_period result_key_total exact_result_keys (λ k. k.run) (λ k. k.period) result_block results_own_run results_own_period day_of s.runs r results (numbers_apart r))
       (each_period credit_key_total exact_credit_keys (λ k. k.run) (λ k. k.period) credit_block credits_own_run credits_own_period day_of s.runs r credits (numbers_apart r))))
 
--- the tables of a reached state hold each Settlement Period of each run as the run settled it
+-- the tables of a reached state have each Settlement Period of each run as the run settled it
 pub holds_periods : HoldsPeriods
 holds_periods midnight s reached =
     let apart : NoneAlike have_one_run_key s.runs = runs_distinct midnight s reached in

@@ -1,4 +1,4 @@
--- Each unit from which a Settlement Period that is accounted for, and was not touched, holds a credit has a reading in it.
+-- In a Settlement Period that is accounted for and was not touched, each unit from which it has a credit has a reading.
 use Rattle.std.proofs.Common.{◌≡◌, ℕ, List, [], ◌∷◌, map, sym, ap, subst, Option, Some, Ordering}
 use Rattle.std.specs.Prelude.{ℤ, is_some, IsSome}
 use Rattle.std.specs.FinMap.{put}
@@ -26,7 +26,7 @@ use Rattle.hh_beside.proofs.DayAccountedFor.{untouched_is_still}
 use Rattle.hh_beside.proofs.DayTests.{tells_periods}
 
 module _ {K V : Type 0} (R : K → K → Ordering) (P : K → Type 0) where
-  -- what holds of the keys of rows and of one that is put among them holds of all keys then
+  -- if the keys of rows have a property, and one more key has it, so have the keys after that one is put
   keys-put : (k : K) (v : V) (es : List (K × V)) → P k → AllByRecursion (λ e. P e.0) es → AllByRecursion (λ e. P e.0) (put R k v es)
   keys-put k v [] own all = (own, tt)
   keys-put k v (e ∷ es) own all = elim (R k e.0) as (λ r. AllByRecursion (λ f. P f.0) (by_order r ((k, v) ∷ e ∷ es) ((e.0, v) ∷ es) (e ∷ put R k v es))) [
@@ -35,25 +35,25 @@ module _ {K V : Type 0} (R : K → K → Ordering) (P : K → Type 0) where
     | Greater ↦ (all.0, keys-put k v es own all.1)
   ]
 
-  -- and so of all keys once rows are put in order
+  -- so the keys have it after sorting
   keys-ordered : (es : List (K × V)) → AllByRecursion (λ e. P e.0) es → AllByRecursion (λ e. P e.0) (in_key_order R es)
   keys-ordered [] all = tt
   keys-ordered (e ∷ es) all = keys-put e.0 e.1 (in_key_order R es) all.0 (keys-ordered es all.1)
 
 module _ (P : List ℕ → Type 0) where
-  -- what holds of each unit holds of the unit of each credit
+  -- if each unit has a property, so has the unit of each credit
   of_credits : (units : List BmUnit) → AllByRecursion (λ u. P u.unit) units → AllByRecursion (λ c. P c.unit) (credits_of units)
   of_credits [] all = tt
   of_credits (u ∷ units) all =
       all-append (λ c. P c.unit) (unit_credits u) (credits_of units) (all-weaken (λ c. c.unit ≡ u.unit) (λ c. P c.unit) (λ c is. subst P (sym is) all.0) (unit_credits u) (own_credits u)) (of_credits units all.1)
 
-  -- also once the credits are in order
+  -- also after the credits are sorted
   of_ordered : (credits : List CreditRow) → AllByRecursion (λ c. P c.unit) credits → AllByRecursion (λ c. P c.unit) (in_credit_order credits)
   of_ordered credits all =
       all-map (λ (c : CreditRow). P c.unit) (λ (e : UnitAccount × ℤ). record { unit = e.0.0; account = e.0.1; credited = e.1 }) (in_key_order unit_account_cmp (keyed_credits credits))
       (keys-ordered unit_account_cmp (λ k. P k.0) (keyed_credits credits) (all-map (λ (e : UnitAccount × ℤ). P e.0.0) (λ (c : CreditRow). ((c.unit, c.account), c.credited)) credits all))
 
--- each unit from which a Settlement Period credits has a reading
+-- each unit from which a Settlement Period has a credit has a reading
 credited_by_readings : (tables : Registered) (at : SettlementPeriod) (accounts : List Account)
     → AllByRecursion (λ c. IsSome (reading_of tables (record { unit = c.unit; at = at }))) (settled (terms_for accounts tables at)).credits
 credited_by_readings tables at accounts =

@@ -1,4 +1,4 @@
--- A Settlement Period that no row in time touches has its price still, and is settled from what it was, but for its accounts.
+-- A Settlement Period that no row in time touches keeps its price, and would be settled from the same as before with the same accounts.
 use Rattle.std.proofs.Common.{◌≡◌, ℕ, ◌+◌, List, [], ◌∷◌, ◌++◌, map, refl, sym, ap, subst, ◌∙◌, Bool, true, false, cond, Option, Some, None, Ordering, append_assoc}
 use Rattle.std.specs.Prelude.{ℤ, filter, filter_map, is_some, not, option_map, T, IsTrue}
 use Rattle.std.specs.Cmp.{IsTotalOrder, eq_by_cmp_equiv}
@@ -55,15 +55,15 @@ use Rattle.hh_state_laws.proofs.PutLaws.{stays-put_new}
 use Rattle.hh_beside.specs.Beside.{is_among, terms_for}
 use Rattle.hh_beside.specs.Keeping.{touched_by}
 
--- ---- tables into which a row is put
+-- ---- tables after a row is put
 
--- what is made of what is found under a key, if anything is
+-- the value made of what is found under a key, if anything is found
 abbrev made : {K V B : Type 0} → K → (K × V → Option B) → Option V → Option B
 made k g None = None
 made k g (Some u) = g (k, u)
 
 module _ {K V : Type 0} {R : K → K → Ordering} (o : IsTotalOrder R) where
-  -- under the key of each entry something is found
+  -- the key of each entry is found
   each_there : (es : List (K × V)) → AllByRecursion (λ e. is_some (find R e.0 es) ≡ true) es
   each_there [] = tt
   each_there (e ∷ es) = (
@@ -76,7 +76,7 @@ module _ {K V : Type 0} {R : K → K → Ordering} (o : IsTotalOrder R) where
       or_first false v found there = there
 
   module _ (exact : (x y : K) → R x y ≡ Equal → x ≡ y) (k : K) (v : V) where
-    -- of entries whose keys pass a test a row whose key doesn't changes nothing
+    -- putting a row whose key doesn't pass changes nothing in the entries whose keys pass
     pub passing-put : (passes : K → Bool) → passes k ≡ false → (es : List (K × V)) → filter (λ e. passes e.0) (put R k v es) ≡ filter (λ e. passes e.0) es
     passing-put passes off [] = ap (λ b. cond b ((k, v) ∷ []) []) off
     passing-put passes off (e ∷ es) =
@@ -89,7 +89,7 @@ module _ {K V : Type 0} {R : K → K → Ordering} (o : IsTotalOrder R) where
           | Greater ↦ λ is. ap (λ more. cond (passes e.0) (e ∷ more) more) (passing-put passes off es)
         ] refl
 
-    -- a row of which is made what was made of its key's row before changes nothing of what is made of all
+    -- if the same is made of a row as of its key's row before, putting it changes nothing in what is made of all rows
     made-put : {B : Type 0} (g : K × V → Option B) (es : List (K × V)) → T (is_sorted R es) → g (k, v) ≡ made k g (find R k es) → filter_map g (put R k v es) ≡ filter_map g es
     made-put g [] up same = ap (λ b. cons_option b []) same
     made-put g (e ∷ es) up same =
@@ -103,7 +103,7 @@ module _ {K V : Type 0} {R : K → K → Ordering} (o : IsTotalOrder R) where
         ] refl same
 
 module _ {X Y : Type 0} where
-  -- what is made of those that pass
+  -- mapping the elements that pass
   made_of_passing : (f : X → Option Y) (test : X → Bool) (xs : List X) → filter_map f (filter test xs) ≡ filter_map (λ x. cond (test x) (f x) None) xs
   made_of_passing f test [] = refl
   made_of_passing f test (x ∷ xs) =
@@ -112,17 +112,17 @@ module _ {X Y : Type 0} where
         | false ↦ made_of_passing f test xs
       ]
 
-  -- the same is made of all where the same is made of each
+  -- if two maps give the same for each element, they give the same list
   made_the_same : (f g : X → Option Y) (xs : List X) → AllByRecursion (λ x. f x ≡ g x) xs → filter_map f xs ≡ filter_map g xs
   made_the_same f g [] same = refl
   made_the_same f g (x ∷ xs) same = λ i. cons_option (same.0 i) (made_the_same f g xs same.1 i)
 
--- nothing is nothing, whether a test passes or not
+-- None is None, whether a test passes or not
 nothing_if : {B : Type 0} (nothing : Option B) (b : Bool) → cond b nothing nothing ≡ nothing
 nothing_if nothing true = refl
 nothing_if nothing false = refl
 
--- marks that are the same are one
+-- marks that are the same are equal
 one_mark : (a b : Bool) → is_same_mark a b ≡ true → a ≡ b
 one_mark true b same = sym same
 one_mark false true same = cc
@@ -130,13 +130,13 @@ one_mark false false same = refl
 
 -- ---- a Settlement Period that stays
 
--- two Registered have the same of a Settlement Period: its price, and what it is settled from but for its accounts
+-- two Registered have the same for a Settlement Period: its price, and what it is settled from except the accounts
 pub record IsPeriodSame (at : SettlementPeriod) (old new : Registered) : Type 0 where
   pub price : price_of new at ≡ price_of old at
   pub units : filter_map (unit_at new at) (units_on new at.date) ≡ filter_map (unit_at old at) (units_on old at.date)
   pub contracts : rows_in_force new at ≡ rows_in_force old at
 
--- so it would be settled from the same if it had the same accounts
+-- so with the same accounts it would be settled from the same
 pub same_terms : (at : SettlementPeriod) (old new : Registered) → IsPeriodSame at old new → (accounts : List Account) → terms_for accounts new at ≡ terms_for accounts old at
 same_terms at old new same accounts = rw same.price (rw same.units (rw same.contracts refl))
 
@@ -145,28 +145,28 @@ abbrev pub Misses : SettlementPeriod → Option SettlementPeriod → Type 0
 Misses at None = Unit {0}
 Misses at (Some p) = eq_by_cmp settlement_period_cmp p at ≡ false
 
--- what an accepted row leaves of a Settlement Period that it doesn't touch
+-- an accepted row leaves a Settlement Period that it doesn't touch as it is
 module _ (tables : Registered) (consistent : AreConsistent tables) (at : SettlementPeriod) where
-  -- nothing is changed
+  -- the case that nothing changes
   same : IsPeriodSame at tables tables
   same = record { price = refl; units = refl; contracts = refl }
 
-  -- another Settlement Period is another also the other way round
+  -- two Settlement Periods that differ differ in either order
   turned : (p : SettlementPeriod) → eq_by_cmp settlement_period_cmp p at ≡ false → eq_by_cmp settlement_period_cmp at p ≡ false
   turned p apart = (eq_by_cmp_equiv settlement_period_total).symm at p ∙ apart
 
-  -- a unit's row: a reading is only of a unit that is effective, and what it is settled from stays
+  -- a unit's row: only an effective unit can have a reading, and what it is settled from stays the same
   module _ (r : UnitRow) where
-    -- what a unit with this id is settled from, if the date is its and it has this reading
+    -- what a unit with this id is settled from, if its range has the date and it has this reading
     abbrev made_with : Option Reading → UnitRegistration → Option BmUnit
     made_with o u = cond (holds u.range at.date) (option_map (unit_with tables at (r.unit, u)) o) None
 
-    -- so of a unit that is known, if it is
+    -- the same for a unit that may be known
     abbrev made_of_known : Option Reading → Option UnitRegistration → Option BmUnit
     made_of_known o None = None
     made_of_known o (Some u) = made_with o u
 
-    -- what any unit is settled from, if the date is its
+    -- what any unit is settled from, if its range has the date
     abbrev of_date : List ℕ × UnitRegistration → Option BmUnit
     of_date e = cond (holds e.1.range at.date) (unit_at tables at e) None
 
@@ -179,7 +179,7 @@ module _ (tables : Registered) (consistent : AreConsistent tables) (at : Settlem
       unmet : NoneMet (unit_refusals (whole_standing tables) r)
       unmet = none_met (unit_refusals (whole_standing tables) r) accepted
 
-      -- of the new registration is made what is made of the known one, where the date is the known one's
+      -- the new registration gives the same as the known one, if the known one's range has the date
       as_known : (reading : Reading) (u : UnitRegistration) → find bytes_cmp r.unit tables.units ≡ Some u → IsTrue (holds u.range at.date) → made_with (Some reading) r.registration ≡ made_with (Some reading) u
       as_known reading u known held =
           let inside : IsTrue (is_inside u.range r.registration.range) =
@@ -239,7 +239,7 @@ module _ (tables : Registered) (consistent : AreConsistent tables) (at : Settlem
     contracts = refl;
   }
 
-  -- a contract's row that is late or of another Settlement Period: references in force stay fixed
+  -- a contract's row that is late or of another Settlement Period: the references of contracts in force stay fixed
   module _ (in_time : Bool) (r : ContractRow) where
     abbrev new : Registered
     new = with_row in_time (row.Contract r) tables
@@ -286,7 +286,7 @@ module _ (tables : Registered) (consistent : AreConsistent tables) (at : Settlem
           passing-put reallocation_key_total exact_reallocation_keys r.key r.reallocation (λ (k : ReallocationKey). eq_by_cmp unit_period_cmp k.unit_period key)
           (second_part (bytes_cmp r.key.unit_period.unit unit) (settlement_period_cmp r.key.unit_period.at at) (apart refl)) tables.reallocations
 
--- a row of any kind that is accepted leaves as it is what no row in time touches
+-- an accepted row of any kind leaves a period as it is if no row in time touches it
 row_stays : (at : SettlementPeriod) (timetable : Timetable) (moment : ℤ) (r : Row) (tables : Registered) → AreConsistent tables
     → first_met (refusals_of (whole_standing tables) (timing_of timetable (accepted_at moment r)) r) ≡ None
     → (is_in_time timetable (accepted_at moment r) ≡ true → Misses at (touched_by r))
@@ -299,16 +299,16 @@ row_stays at timetable moment (row.Contract r) tables consistent accepted misses
 row_stays at timetable moment (row.Reallocation r) tables consistent accepted misses =
     with_reallocation tables consistent at (is_before_deadline timetable moment r.key.unit_period.at) r misses
 
--- what stays and stays again has stayed
+-- a period that stays the same twice stays the same
 stays_twice : (at : SettlementPeriod) (a b c : Registered) → IsPeriodSame at a b → IsPeriodSame at b c → IsPeriodSame at a c
 stays_twice at a b c here there = record { price = there.price ∙ here.price; units = there.units ∙ here.units; contracts = there.contracts ∙ here.contracts }
 
--- what isn't among some and one more is another than the one, and not among the some
+-- a period that is not among some and one more is not that one, and not among the some
 not_among : (at : SettlementPeriod) (o : Option SettlementPeriod) (ps : List SettlementPeriod) → is_among (cons_option o ps) at ≡ false → Misses at o × (is_among ps at ≡ false)
 not_among at None ps none = (tt, none)
 not_among at (Some p) ps none = or_parts (eq_by_cmp settlement_period_cmp p at) (is_among ps at) none
 
--- of rows that come one after the other each misses what those in time don't touch
+-- if the rows in time don't touch a period, the first row doesn't, and the rest don't
 misses_each : (at : SettlementPeriod) (timetable : Timetable) (a : Accepted) (rows : History) → is_among (filter_map touched_by (timely_rows timetable (a ∷ rows))) at ≡ false
     → (is_in_time timetable a ≡ true → Misses at (touched_by a.row)) × (is_among (filter_map touched_by (timely_rows timetable rows)) at ≡ false)
 misses_each at timetable a rows none =
@@ -319,7 +319,7 @@ misses_each at timetable a rows none =
       | false ↦ λ late untouched. (λ timely. absurd (false_is_not_true (sym late ∙ timely)), untouched)
     ] refl none
 
--- rows that come one after the other, none of them refused, leave as it is what those in time don't touch
+-- rows that are all accepted leave a period as it is if those of them in time don't touch it
 pub rows_stay : (at : SettlementPeriod) (timetable : Timetable) (rows history : History) (n : ℕ) → AllByRecursion (λ a. IsRow a.row) rows → first_fault timetable history n rows ≡ None
     → AreConsistent (registered_in timetable history) → is_among (filter_map touched_by (timely_rows timetable rows)) at ≡ false
     → IsPeriodSame at (registered_in timetable history) (registered_in timetable (history ++ rows))

@@ -1,4 +1,4 @@
--- Days that are accounted for are so after a run, which leaves no period of its date touched.
+-- Days that are accounted for still are after a run, after which no period of its date is touched.
 use Rattle.std.proofs.Common.{◌≡◌, ℕ, List, [], ◌∷◌, ◌++◌, length, map, refl, sym, ap, subst, ◌∙◌, Bool, true, false, cond, Option, Some, None, Ordering, arith, eq-eqb, take_all}
 use Rattle.std.specs.Prelude.{ℤ, ◌==◌, ◌&&◌, ◌||◌, filter, is_none, is_some, not, option_map}
 use Rattle.std.specs.Cmp.{Equal-is, IsTotalOrder, unsigned_tied}
@@ -49,24 +49,24 @@ use Rattle.hh_beside.proofs.DayTests.{tells_periods}
 
 -- ---- lists
 
--- the last of what is made is made of the last
+-- the last element of a mapped list is the mapped last element
 last_made : {X Y : Type 0} (f : X → Y) (xs : List X) → last_of (map f xs) ≡ option_map f (last_of xs)
 last_made f [] = refl
 last_made f (x ∷ []) = refl
 last_made f (x ∷ y ∷ xs) = last_made f (y ∷ xs)
 
--- one that comes last is the last
+-- an element that is appended is the last
 last_pushed : {X : Type 0} (xs : List X) (x : X) → last_of (xs ++ x ∷ []) ≡ Some x
 last_pushed [] x = refl
 last_pushed (y ∷ []) x = refl
 last_pushed (y ∷ z ∷ xs) x = last_pushed (z ∷ xs) x
 
--- what holds of each holds of one that comes last
+-- if all elements have a property, so has the one that was appended
 holds_of_pushed : {X : Type 0} (P : X → Type 0) (xs : List X) (x : X) → AllByRecursion P (xs ++ x ∷ []) → P x
 holds_of_pushed P [] x all = all.0
 holds_of_pushed P (y ∷ xs) x all = holds_of_pushed P xs x all.1
 
--- rows whose keys do not pass a test change nothing of those that do
+-- putting rows whose keys don't pass a test changes nothing in the rows whose keys pass
 passing-put_all : {K V : Type 0} {R : K → K → Ordering} → IsTotalOrder R → ((x y : K) → R x y ≡ Equal → x ≡ y) → (passes : K → Bool) (rows es : List (K × V))
     → AllByRecursion (λ e. passes e.0 ≡ false) rows → filter (λ e. passes e.0) (put_all R rows es) ≡ filter (λ e. passes e.0) es
 passing-put_all o exact passes [] es off = refl
@@ -75,11 +75,11 @@ passing-put_all {R = R} o exact passes (e ∷ rows) es off =
 
 -- ---- dates
 
--- runs of two dates are two
+-- runs of different dates differ
 other_run : (a b : RunKey) → (a.date == b.date) ≡ false → eq_by_cmp run_key_cmp a b ≡ false
 other_run a b apart = first_part (nat_cmp a.date b.date) _ (unsigned_tied a.date b.date ∙ apart)
 
--- without the Settlement Periods of a date those of another date stay
+-- taking out the Settlement Periods of a date leaves those of another date
 among_left : (date : ℕ) (at : SettlementPeriod) → (at.date == date) ≡ false → (ps : List SettlementPeriod) → is_among ps at ≡ true → is_among (filter (λ p. not (p.date == date)) ps) at ≡ true
 among_left date at apart [] is = absurd (false_is_not_true is)
 among_left date at apart (p ∷ ps) is =
@@ -96,12 +96,12 @@ among_left date at apart (p ∷ ps) is =
 
 -- ---- a period that was just settled
 
--- what is not absent is there
+-- an option that is not None has a value
 there_if : {X : Type 0} (o : Option X) → is_none o ≡ false → is_some o ≡ true
 there_if None there = absurd (false_is_not_true (sym there))
 there_if (Some x) there = refl
 
--- a Settlement Period that has a price and passes no limit is still what it is settled to
+-- a Settlement Period that was settled, has a price and passes no limit is as it would be settled now
 just_settled : (tables : Registered) (at : SettlementPeriod) (s : Settled) → s ≡ settled (terms_at tables at) → is_none (price_of tables at) ≡ false → not (is_within_limits (terms_at tables at)) ≡ false
     → is_still tables at s ≡ true
 just_settled tables at s is priced within =
@@ -128,13 +128,13 @@ module _ (midnight : Midnights) (s : State) (key : RunKey) where
   left touched = filter (λ at. not (at.date == key.date)) touched
 
   module _ (effect : after ≡ effect_of_run written content) where
-    -- what the tables hold of another date stays: its latest run
+    -- the latest run of another date stays the same in the tables
     other_latest : (date : ℕ) → (key.date == date) ≡ false → latest_on after date ≡ latest_on content date
     other_latest date apart =
         ap (λ (c : Content). latest_on c date) effect
         ∙ ap last_of (passing-put run_key_total exact_run_keys key written.summary (λ (k : RunKey). k.date == date) apart content.runs)
 
-    -- and each Settlement Period of a run
+    -- and so does each Settlement Period of a run of another date
     other_period : (run : RunKey) (period : ℕ) → (key.date == run.date) ≡ false → period_of_run after run period ≡ period_of_run content run period
     other_period run period apart =
         ap (λ (c : Content). period_of_run c run period) effect
@@ -172,11 +172,11 @@ module _ (midnight : Midnights) (s : State) (key : RunKey) where
     abbrev run : Run
     run = new_run s key
 
-    -- a run's kind and summary, of those under its key
+    -- the kind and summary of a run, from its key and summary
     abbrev shown : RunKey × Summary → RunKind × Summary
     shown e = (e.0.kind, e.1)
 
-    -- of the latest run of the run's date the tables hold the run's kind and summary
+    -- the latest run of the run's date in the tables has the run's kind and summary
     own_shown : option_map shown (latest_on after key.date) ≡ Some (shown (key, new_summary midnight s key))
     own_shown =
         let summarized : Option Run × Run → RunKind × Summary = λ r. (r.1.key.kind, summary_after (timetable_at midnight s) s.history r.0 r.1) in
@@ -191,7 +191,7 @@ module _ (midnight : Midnights) (s : State) (key : RunKey) where
         ∙ map-append summarized (filter of_date (runs_with_former s)) ((former, run) ∷ []))
         ∙ last_pushed (map summarized (filter of_date (runs_with_former s))) (summarized (former, run))
 
-    -- each Settlement Period of the run is what it would be settled to now
+    -- each Settlement Period of the run is as it would be settled now
     own_still : AllByRecursion (λ at. is_still after.registered at (period_of_run after key at.period) ≡ true) (periods_on key.date (period_count midnight key.date))
     own_still =
         let saw : Registered = seen_by (timetable_at midnight s) s.history run in

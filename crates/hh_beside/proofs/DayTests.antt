@@ -1,4 +1,4 @@
--- The tests of equal rows, credits and settled periods tell what is equal.
+-- The tests of equal rows, credits and settled periods hold exactly for equal ones.
 use Rattle.std.proofs.Common.{◌≡◌, List, [], ◌∷◌, refl, sym, ap, ◌∙◌, Bool}
 use Rattle.std.specs.Bool.{Decides}
 use Rattle.std.specs.Cmp.{Equal-is}
@@ -12,21 +12,21 @@ use Rattle.hh_names.proofs.AccountLaws.{account_total, exact_accounts}
 use Rattle.hh_beside.specs.Beside.{is_same_credit, is_same_period, is_same_row}
 use Rattle.hh_beside.specs.DayLaws.{TellsCredits, TellsPeriods, TellsRows}
 
--- the test of equal accounts tells equal ones
+-- the test of equal accounts holds exactly for equal ones
 tells_accounts : (a b : Account) → Decides (is_same_account a b) (a ≡ b)
 tells_accounts a b = (
   λ same. exact_accounts a b ((Equal-is (account_cmp a b)).0 same),
   λ one. ap (is_same_account a) (sym one) ∙ (eq_by_cmp_equiv account_total).refl a,
 )
 
--- two lists that begin alike and go on alike are alike
+-- lists that are equal have equal first elements, and equal rests
 first_same : {X : Type 0} (x y : X) (xs ys : List X) → x ∷ xs ≡ y ∷ ys → x ≡ y
 first_same x y xs ys one = cc
 
 rest_same : {X : Type 0} (x y : X) (xs ys : List X) → x ∷ xs ≡ y ∷ ys → xs ≡ ys
 rest_same x y xs ys one = cc
 
--- a test of equal elements makes a test of equal lists
+-- a test that holds exactly for equal elements gives one for equal lists
 tells_lists : {X : Type 0} (test : X → X → Bool) → ((x y : X) → Decides (test x y) (x ≡ y)) → (xs ys : List X) → Decides (pointwise test xs ys) (xs ≡ ys)
 tells_lists test tells [] [] = (λ same. refl, λ one. refl)
 tells_lists test tells [] (y ∷ ys) = (λ same. cc, λ one. cc)

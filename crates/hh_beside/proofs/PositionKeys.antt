@@ -1,4 +1,4 @@
--- The order of the keys of positions is total, and tells each two apart.
+-- The order of the keys of positions is total, and two keys that it finds equal are the same.
 use Rattle.std.proofs.Common.{◌≡◌, refl, ap, ◌∙◌, Ordering}
 use Rattle.std.specs.Prelude.{◌&&◌}
 use Rattle.std.specs.Cmp.{IsTotalOrder, eq_by_cmp_equiv, on_total, then_total}
@@ -21,12 +21,12 @@ pub exact_position_keys : CmpEqualImpliesEq position_key_cmp
 exact_position_keys a b h =
     ap (λ (p : SettlementPeriod × Account). record { at = p.0; account = p.1 }) (exact_pairs settlement_period_cmp account_cmp exact_settlement_periods exact_accounts (a.at, a.account) (b.at, b.account) h)
 
--- two parts tie where each does
+-- two keys are equal if both their parts are
 is_eq-then : (a b : Ordering) → is_eq (ordering_then a b) ≡ (is_eq a && is_eq b)
 is_eq-then Less b = refl
 is_eq-then Equal b = refl
 is_eq-then Greater b = refl
 
--- two positions are of one key where their Settlement Periods are one and their accounts are one
+-- two positions have the same key if their Settlement Periods and their accounts are the same
 pub one_key : (a b : PositionKey) → eq_by_cmp position_key_cmp b a ≡ (eq_by_cmp settlement_period_cmp a.at b.at && is_same_account a.account b.account)
 one_key a b = (eq_by_cmp_equiv position_key_total).symm b a ∙ is_eq-then (settlement_period_cmp a.at b.at) (account_cmp a.account b.account)

@@ -38,7 +38,7 @@ module _ {K V : Type 0} {R : K → K → Ordering} (o : IsTotalOrder R) where
   not_below k [] h = refl
   not_below k (e ∷ es) h = ap (λ r. cond (is_eq r) (Some e.1) (find R k es)) (less _ (first _ _ h)) ∙ not_below k es (second _ _ h)
 
-  -- what is found behind the first of a table is found in the whole
+  -- what is found after the first row of a table is found in the whole table
   found_behind : (e : K × V) (es : List (K × V)) → T (below_all R e.0 es) → (k : K) (v : V) → find R k es ≡ Some v → find R k (e ∷ es) ≡ Some v
   found_behind e es below k v found =
       elim (eq_by_cmp R k e.0) as (λ b. eq_by_cmp R k e.0 ≡ b → cond b (Some e.1) (find R k es) ≡ Some v) [
@@ -48,7 +48,7 @@ module _ {K V : Type 0} {R : K → K → Ordering} (o : IsTotalOrder R) where
         | false ↦ λ other. found
       ] refl
 
-  -- a test that each row that is found passes is passed by each row of a table
+  -- if each row that is found passes a test, each row of a table passes it
   pub all-found : (test : K × V → Bool) (es : List (K × V)) → T (is_sorted R es) → ((k : K) (v : V) → find R k es ≡ Some v → T (test (k, v))) → T (list_all test es)
   all-found test [] up each = tt
   all-found test (e ∷ es) up each =
@@ -56,7 +56,7 @@ module _ {K V : Type 0} {R : K → K → Ordering} (o : IsTotalOrder R) where
       (all-found test es (second _ _ up) (λ k v found. each k v (found_behind e es (first _ _ up) k v found)))
 
 module _ (tables : Registered) where
-  -- a position that is right is of its net position, and the other way round
+  -- a position is right exactly if it is of its net position
   right_is : (key : PositionKey) (p : Position) → T (is_right tables (key, p)) → IsOf (net_position tables key) p
   right_is key (Known n) h = exact_signed n (net_position tables key) (equal (int_cmp n (net_position tables key)) (true_from _ h))
   right_is key Lost h = tt
@@ -65,7 +65,7 @@ module _ (tables : Registered) where
   is_then_right key (Known n) h = subst (λ z. T (int_eq n z)) h (from_true _ (int_eq_equiv.refl n))
   is_then_right key Lost h = tt
 
-  -- so is each that is found where all are right
+  -- if all positions are right, so is each that is found
   found_right : (positions : Table PositionKey Position) → T (list_all (is_right tables) positions) → (key : PositionKey) (p : Position) → find position_key_cmp key positions ≡ Some p
       → IsOf (net_position tables key) p
   found_right [] all key p found = cc
@@ -85,7 +85,7 @@ module _ (positions : Table PositionKey Position) where
   both_there : (r : ContractRow) → T (has_positions positions r) → HasBoth positions r.key.at r.contract.counterparties
   both_there r h = (true_from _ (first _ _ h), true_from _ (second _ _ h))
 
-  -- under a key that has no position a row with both comes to nothing
+  -- a row whose seller and buyer have positions contributes nothing to a key that has none
   nothing_for : (key : PositionKey) → find position_key_cmp key positions ≡ None → (r : ContractRow) → T (has_positions positions r) → part_of_row key r ≡ pos 0
   nothing_for key none r h =
       let has = both_there r h in
@@ -110,7 +110,7 @@ module _ (positions : Table PositionKey Position) where
   nothing_in_all key none (r ∷ rows) h = λ i. nothing_for key none r (first _ _ h) i +ℤ nothing_in_all key none rows (second _ _ h) i
 
   module _ (tables : Registered) where
-    -- what rows in force have, contracts in force have
+    -- if the rows in force have both positions, so have the contracts in force
     pub of_contracts : (es : Table ContractKey ℤ) → T (list_all (has_positions positions) (filter_map (row_in_force tables) es)) → (key : ContractKey) → IsSome (find contract_key_cmp key es)
         → (c : Counterparties) → find bytes_cmp key.reference tables.references ≡ Some c → HasBoth positions key.at c
     of_contracts [] h key there c fixed = cc
@@ -130,7 +130,7 @@ module _ (positions : Table PositionKey Position) where
               ] h) key is c fixed
         ] refl there
 
-    -- and the other way round
+    -- and conversely
     of_rows : (es : Table ContractKey ℤ) → ((key : ContractKey) → IsSome (find contract_key_cmp key es) → (c : Counterparties) → find bytes_cmp key.reference tables.references ≡ Some c → HasBoth positions key.at c)
         → T (list_all (has_positions positions) (filter_map (row_in_force tables) es))
     of_rows [] each = tt
@@ -144,7 +144,7 @@ module _ (positions : Table PositionKey Position) where
               both _ _ (both _ _ (from_true _ has.0) (from_true _ has.1)) rest
         ] refl
 
--- what right positions are: a table, each of its net position, with one for the seller and the buyer of each contract in force
+-- right positions: a table, each of its net position, with positions of the seller and buyer of each contract in force
 pub record AreRight (tables : Registered) (positions : Table PositionKey Position) : Type 0 where
   pub table : T (is_sorted position_key_cmp positions)
   pub nets : AreOf (net_position tables) positions
@@ -155,7 +155,7 @@ module _ (tables : Registered) (positions : Table PositionKey Position) where
   abbrev rows_now : List ContractRow
   rows_now = filter_map (row_in_force tables) tables.contracts
 
-  -- positions that are right are so
+  -- positions that pass the test are right
   pub right_are : IsTrue (are_positions_right tables positions) → AreRight tables positions
   right_are right =
       let sorted : T (is_sorted position_key_cmp positions) = first _ _ (from_true _ right) in
@@ -171,7 +171,7 @@ module _ (tables : Registered) (positions : Table PositionKey Position) where
         named = of_contracts positions tables tables.contracts named;
       }
 
-  -- and the other way round
+  -- and conversely
   pub are_right : AreRight tables positions → IsTrue (are_positions_right tables positions)
   are_right are =
       true_from _ (both _ _ are.table (both _ _

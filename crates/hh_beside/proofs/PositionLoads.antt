@@ -39,11 +39,11 @@ use Rattle.hh_beside.proofs.PositionLists.{AreRight, HasBoth, are_right, right_a
 use Rattle.hh_beside.proofs.PositionNets.{AreFixed, late_fixed, late_same, own_reference, reference_stays, timely_fixed, timely_more}
 use Rattle.hh_beside.proofs.PositionTables.{IsOf, buys-with_replaced, sells-with_replaced, stays-with_replaced, with_contract_are, with_replaced_table}
 
--- a position that is known is its net position
+-- a known position is its net position
 pub known_is_net : KnownIsNet
 known_is_net tables positions key net right known = subst (IsOf (net_position tables key)) known ((right_are tables positions right).nets key)
 
--- the positions after a row that is in time or not
+-- the positions after a row, by whether the row is in time
 abbrev positions_after : Row → Bool → Table ContractKey ℤ → Table PositionKey Position → Table PositionKey Position
 positions_after (row.Contract r) true volumes positions = with_replaced (replaced_by r volumes) r positions
 positions_after (row.Contract r) false volumes positions = positions
@@ -53,7 +53,7 @@ positions_after (row.Meter r) in_time volumes positions = positions
 positions_after (row.Price r) in_time volumes positions = positions
 positions_after (row.Reallocation r) in_time volumes positions = positions
 
--- rows one after the other are the first and then the others
+-- the positions after several rows are those after the first and then the others
 one_row : (in_time : Bool) (r : Row) (rows : List Row) (tables : Registered) (positions : Table PositionKey Position)
     → positions_with (cond in_time (r ∷ rows) rows) tables.contracts positions ≡ positions_with rows (with_row in_time r tables).contracts (positions_after r in_time tables.contracts positions)
 one_row true (row.Party r) rows tables positions = refl
@@ -74,7 +74,7 @@ abbrev IsUnmoved : Registered → Row → Type 0
 IsUnmoved tables (row.Contract r) = is_moved (find bytes_cmp r.key.reference tables.references) r.contract.counterparties ≡ false
 IsUnmoved tables _ = Unit {0}
 
--- an accepted row has
+-- this holds for an accepted row
 unmoved : (tables : Registered) (timing : Timing) (r : Row) → first_met (refusals_of (whole_standing tables) timing r) ≡ None → IsUnmoved tables r
 unmoved tables timing (row.Party r) accepted = tt
 unmoved tables timing (row.Unit r) accepted = tt
@@ -85,7 +85,7 @@ unmoved tables timing (row.Reallocation r) accepted = tt
 
 module _ (tables : Registered) (positions : Table PositionKey Position) (fixed : AreFixed tables) (are : AreRight tables positions) where
   module _ (r : ContractRow) where
-    -- the positions of contracts in force by the references then
+    -- the seller and buyer of each contract in force have positions, by the references after the row
     named_then : (key : ContractKey) → IsSome (find contract_key_cmp key tables.contracts)
         → (c : Counterparties) → find bytes_cmp key.reference (with_row false (row.Contract r) tables).references ≡ Some c → HasBoth positions key.at c
     named_then key there c is =
@@ -102,7 +102,7 @@ module _ (tables : Registered) (positions : Table PositionKey Position) (fixed :
       named = named_then;
     }
 
-    -- a row in time changes its seller's and its buyer's
+    -- a row in time changes the positions of its seller and its buyer
     with_timely : is_moved (find bytes_cmp r.key.reference tables.references) r.contract.counterparties ≡ false → T (is_sorted contract_key_cmp tables.contracts)
         → AreRight (with_row true (row.Contract r) tables) (with_replaced (replaced_by r tables.contracts) r positions)
     with_timely same sorted =
@@ -120,7 +120,7 @@ module _ (tables : Registered) (positions : Table PositionKey Position) (fixed :
               (stays-with_replaced old r positions (record { at = k.at; account = c.seller }) both.0, stays-with_replaced old r positions (record { at = k.at; account = c.buyer }) both.1));
         }
 
-  -- so with a row of any kind
+  -- the same for a row of any kind
   with_any : (in_time : Bool) (r : Row) → IsUnmoved tables r → T (is_sorted contract_key_cmp tables.contracts) → AreRight (with_row in_time r tables) (positions_after r in_time tables.contracts positions)
   with_any in_time (row.Party r) same sorted = record { table = are.table; nets = are.nets; named = are.named }
   with_any in_time (row.Unit r) same sorted = record { table = are.table; nets = are.nets; named = are.named }
@@ -144,7 +144,7 @@ still_fixed tables fixed in_time (row.Reallocation r) same = fixed
 contracts_rise : (timetable : Timetable) (history : History) → T (is_sorted contract_key_cmp (registered_in timetable history).contracts)
 contracts_rise timetable history = is_sorted-in_key_order contract_key_total (latest contract_key_cmp (entries_of contract_entry (filter (is_in_time timetable) history)))
 
--- the fault of the first row that is refused: this row's, or a later one's
+-- the fault of the first row that is refused: of this row, or of a later one
 abbrev told : ℕ → Option Refusal → Option Fault → Option Fault
 told n why later = elim why [ Some r ↦ Some (row_fault r n) | None ↦ later ]
 
@@ -158,7 +158,7 @@ first_timely timetable a rows =
       | false ↦ refl
     ]
 
--- positions that are right are so after rows of which none is refused
+-- right positions stay right after rows that are all accepted
 rows_right : (timetable : Timetable) (rows history : History) (n : ℕ) (positions : Table PositionKey Position) → first_fault timetable history n rows ≡ None
     → AreFixed (registered_in timetable history) → AreRight (registered_in timetable history) positions
     → AreRight (registered_in timetable (history ++ rows)) (positions_with (timely_rows timetable rows) (registered_in timetable history).contracts positions)
@@ -188,7 +188,7 @@ rows_right timetable (a ∷ rows) history n positions none fixed are =
           (subst (AreRight (registered_in timetable ((history ++ a ∷ []) ++ rows))) one rest)
     ] refl none
 
--- so they are after an accepted load
+-- and so after an accepted load
 pub loads_keep_positions : LoadsKeepPositions
 loads_keep_positions midnight s load positions reached can right =
     let timetable : Timetable = timetable_at midnight s in
@@ -197,6 +197,6 @@ loads_keep_positions midnight s load positions reached can right =
     (rows_right timetable (rows_coming load) s.history 1 positions can.accepted (λ key there. ap is_some (consistent.contracts key there).fixed)
     (right_are (registered_in timetable s.history) positions right))
 
--- a run leaves them
+-- a run leaves them as they are
 pub runs_keep_positions : RunsKeepPositions
 runs_keep_positions midnight s key positions right = right

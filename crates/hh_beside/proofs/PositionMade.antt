@@ -24,7 +24,7 @@ use Rattle.hh_beside.proofs.PositionNets.{net_is_rows, part_of_row}
 use Rattle.hh_beside.proofs.PositionTables.{AreOf, Has, buys-with_replaced, less_nothing, part, same_nets, sells-with_replaced, stays-with_replaced, with_contract_are, with_replaced_table}
 use Rattle.hh_beside.proofs.PositionWrites.{found_changed}
 
--- a row more and the rows after it
+-- one more row, and the rows after it
 first_and_rest : (net first rest : ℤ) (key : PositionKey) (r : ContractRow) → first ≡ part r.key.at r.contract.counterparties (r.contract.volume -ℤ pos 0) key
     → (net +ℤ first) +ℤ rest ≡ net +ℤ (part_of_row key r +ℤ rest)
 first_and_rest net first rest key r is =
@@ -47,12 +47,12 @@ made_table : (rows : List ContractRow) (positions : Table PositionKey Position) 
 made_table [] positions h = h
 made_table (r ∷ rows) positions h = made_table rows (with_replaced None r positions) (with_replaced_table None r positions h)
 
--- a position stays
+-- a key that has a position keeps one
 stays-made : (rows : List ContractRow) (positions : Table PositionKey Position) (q : PositionKey) → Has positions q → Has (positions_of rows positions) q
 stays-made [] positions q h = h
 stays-made (r ∷ rows) positions q h = stays-made rows (with_replaced None r positions) q (stays-with_replaced None r positions q h)
 
--- each seller and each buyer has one
+-- each seller and each buyer has a position
 made_named : (rows : List ContractRow) (positions : Table PositionKey Position) → T (list_all (has_positions (positions_of rows positions)) rows)
 made_named [] positions = tt
 made_named (r ∷ rows) positions =
@@ -73,7 +73,7 @@ made_anew_are_right tables =
       named = of_contracts positions tables tables.contracts (made_named rows []);
     })
 
--- what is found, or else nothing, is what is found
+-- an option, or otherwise None, is the option
 or_nothing : (found : Option Position) → option_or found None ≡ found
 or_nothing None = refl
 or_nothing (Some position) = refl

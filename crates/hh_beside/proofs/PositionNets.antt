@@ -1,4 +1,4 @@
--- Net positions as sums over the contracts in force, and what an accepted row changes of them.
+-- Net positions as sums over the contracts in force, and how an accepted row changes them.
 use Rattle.std.proofs.Common.{◌≡◌, ℕ, List, [], ◌∷◌, refl, ap, sym, ◌∙◌, true, false, cond, Option, Some, None, Ordering, arith}
 use Rattle.std.specs.Prelude.{ℤ, pos, ◌+ℤ◌, ◌-ℤ◌, filter, filter_map, is_some, option_map, IsSome, T}
 use Rattle.std.specs.Cmp.{IsTotalOrder, eq_by_cmp_equiv}
@@ -32,16 +32,16 @@ use Rattle.hh_beside.specs.Beside.{net_position}
 use Rattle.hh_beside.specs.Keeping.{replaced_by}
 use Rattle.hh_beside.proofs.PositionTables.{less_nothing, part, part-minus, some_stays}
 
--- what a volume comes to under a key by its seller and buyer, if they are known
+-- the part of a volume that counts under a key, by its seller and buyer if they are known
 abbrev part_by : Option Counterparties → SettlementPeriod → ℤ → PositionKey → ℤ
 part_by None at volume key = pos 0
 part_by (Some c) at volume key = part at c volume key
 
--- what a contract in force comes to under a key
+-- the part of a contract in force that counts under a key
 abbrev part_in : Table (List ℕ) Counterparties → PositionKey → ContractKey × ℤ → ℤ
 part_in references key e = part_by (find bytes_cmp e.0.reference references) e.0.at e.1 key
 
--- what a contract row comes to under a key
+-- the part of a contract row that counts under a key
 abbrev pub part_of_row : PositionKey → ContractRow → ℤ
 part_of_row key r = part r.key.at r.contract.counterparties r.contract.volume key
 
@@ -50,7 +50,7 @@ abbrev pub row_by : ContractKey × ℤ → Counterparties → ContractRow
 row_by e c = record { key = e.0; contract = record { counterparties = c; volume = e.1 } }
 
 module _ (tables : Registered) (key : PositionKey) where
-  -- the contract rows of the key's Settlement Period come to what all come to under the key
+  -- the sum over the contract rows of the key's Settlement Period is the sum of the parts of all rows under the key
   sold_is_part : (es : Table ContractKey ℤ) →
       total (λ (r : ContractRow). net_kwh_of key.account r.contract) (filter_map (row_in_force tables) (filter (λ e. eq_by_cmp settlement_period_cmp e.0.at key.at) es))
       ≡ total (part_of_row key) (filter_map (row_in_force tables) es)
@@ -79,7 +79,7 @@ module _ (tables : Registered) (key : PositionKey) where
             ]
       ] refl
 
-  -- which is what the contracts themselves come to
+  -- which is the sum of the parts of the contracts themselves
   part_is_of : (es : Table ContractKey ℤ) → total (part_of_row key) (filter_map (row_in_force tables) es) ≡ total (part_in tables.references key) es
   part_is_of [] = refl
   part_is_of (e ∷ es) =
@@ -97,7 +97,7 @@ module _ (tables : Registered) (key : PositionKey) where
   net_is_parts : net_position tables key ≡ total (part_in tables.references key) tables.contracts
   net_is_parts = net_is_rows ∙ part_is_of tables.contracts
 
--- two sums over a table are one where they are for each key in it
+-- two sums over a table are the same if they are for each key in it
 total-within : {K V : Type 0} {R : K → K → Ordering} → IsTotalOrder R → (f g : K × V → ℤ) (es : List (K × V)) → ((k : K) (v : V) → IsSome (find R k es) → f (k, v) ≡ g (k, v))
     → total f es ≡ total g es
 total-within o f g [] same = refl
@@ -109,7 +109,7 @@ total-within {R = R} o f g (e ∷ es) same =
 abbrev pub AreFixed : Registered → Type 0
 AreFixed tables = (key : ContractKey) → IsSome (find contract_key_cmp key tables.contracts) → IsSome (find bytes_cmp key.reference tables.references)
 
--- where each is, and a contract row whose reference is not moved comes
+-- the references of contracts in force are fixed, and a contract row comes whose reference keeps its seller and buyer
 module _ (tables : Registered) (fixed : AreFixed tables) (r : ContractRow) where
   abbrev new_references : Table (List ℕ) Counterparties
   new_references = put_new bytes_cmp (Some (r.key.reference, r.contract.counterparties)) tables.references
@@ -124,7 +124,7 @@ module _ (tables : Registered) (fixed : AreFixed tables) (r : ContractRow) where
     | Some c ↦ λ is some. ap is_some (reference_stays reference c is)
   ] refl h
 
-  -- what is in force comes to the same by the references then
+  -- by the references after the row, what is in force has the same net positions
   pub late_same : (key : PositionKey) → net_position (with_row false (row.Contract r) tables) key ≡ net_position tables key
   late_same key =
       net_is_parts (with_row false (row.Contract r) tables) key
@@ -143,29 +143,29 @@ module _ (tables : Registered) (fixed : AreFixed tables) (r : ContractRow) where
   late_fixed key there = is_some_stays key.reference (fixed key there)
 
   module _ (unmoved : is_moved (find bytes_cmp r.key.reference tables.references) r.contract.counterparties ≡ false) where
-    -- the row's seller and buyer are those of its reference then
+    -- the row's seller and buyer are those of its reference after the row
     pub own_reference : find bytes_cmp r.key.reference new_references ≡ Some r.contract.counterparties
     own_reference = fixed_by_row tables r.key.reference r.contract.counterparties unmoved
 
-    -- a contract row in time is in force: its reference is fixed
+    -- the reference of each contract in force is still fixed after a contract row in time
     pub timely_fixed : AreFixed (with_row true (row.Contract r) tables)
     timely_fixed =
         keys-put_in_time contract_key_total exact_contract_keys (λ k. IsSome (find bytes_cmp k.reference new_references)) true r.key r.contract.volume tables.contracts
         (ap is_some own_reference) late_fixed
 
     module _ (key : PositionKey) where
-      -- what each contract comes to by the references then
+      -- the part of each contract, by the references after the row
       abbrev then_part : ContractKey × ℤ → ℤ
       then_part = part_in new_references key
 
-      -- what a volume of the row's contract comes to
+      -- the part of a volume of the row's contract
       abbrev own : ℤ → ℤ
       own v = part r.key.at r.contract.counterparties v key
 
       own_is : (v : ℤ) → then_part (r.key, v) ≡ own v
       own_is v = ap (λ o. part_by o r.key.at v key) own_reference
 
-      -- the row in the place of another of its key
+      -- the sum after the row replaces the one of its key
       abbrev new_total : ℤ
       new_total = total then_part (put contract_key_cmp r.key r.contract.volume tables.contracts)
 
@@ -189,7 +189,7 @@ module _ (tables : Registered) (fixed : AreFixed tables) (r : ContractRow) where
       put_again : (new old own_new own_old own_more : ℤ) → new +ℤ own_old ≡ old +ℤ own_new → own_more ≡ own_new -ℤ own_old → new ≡ old +ℤ own_more
       put_again new old own_new own_old own_more e f = omega (arith, ints)
 
-      -- it adds the part of what its volume is more
+      -- the row adds the part of the growth of its volume
       pub timely_more : T (is_sorted contract_key_cmp tables.contracts) → net_position (with_row true (row.Contract r) tables) key
           ≡ net_position tables key +ℤ part r.key.at r.contract.counterparties (r.contract.volume -ℤ volume_of (replaced_by r tables.contracts)) key
       timely_more sorted =

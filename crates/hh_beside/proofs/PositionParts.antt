@@ -1,4 +1,4 @@
--- Positions that are changed before a table, parts of what is in force, and parts of the positions.
+-- Changed positions that are read before a table, parts of what is in force, and parts of the positions.
 use Rattle.std.proofs.Common.{◌≡◌, List, [], ◌∷◌, refl, ap, sym, ◌∙◌, cond, Option, Some, None}
 use Rattle.std.specs.Prelude.{ℤ, pos, ◌-ℤ◌, option_map, unwrap_or}
 use Rattle.std.specs.FinMap.{find, put}
@@ -36,12 +36,12 @@ moved_once_changed changed positions key volume h k =
 
 -- ---- parts of what is in force
 
--- the volume of a contract row's key is one in both
+-- both have the same volume under the key of a contract row
 abbrev IsOneVolume : Table ContractKey ℤ → Table ContractKey ℤ → Row → Type 0
 IsOneVolume volumes others (row.Contract r) = find contract_key_cmp r.key volumes ≡ find contract_key_cmp r.key others
 IsOneVolume volumes others _ = Unit {0}
 
--- it is so in two registers that agree on the row
+-- this holds for two registers that agree on the row
 one_volume : (whole part : Registered) (r : Row) → AgreesOn whole part r → IsOneVolume part.contracts whole.contracts r
 one_volume whole part (row.Party r) agrees = tt
 one_volume whole part (row.Unit r) agrees = tt
@@ -50,7 +50,7 @@ one_volume whole part (row.Price r) agrees = tt
 one_volume whole part (row.Contract r) agrees = agrees.3
 one_volume whole part (row.Reallocation r) agrees = tt
 
--- and with a volume more in both
+-- and it still does after the same volume is put into both
 module _ (volumes others : Table ContractKey ℤ) (key : ContractKey) (volume : ℤ) where
   still_one : (r : Row) → IsOneVolume volumes others r → IsOneVolume (put contract_key_cmp key volume volumes) (put contract_key_cmp key volume others) r
   still_one (row.Party r) one = tt
@@ -68,7 +68,7 @@ module _ (volumes others : Table ContractKey ℤ) (key : ContractKey) (volume : 
   all_still_one [] all = tt
   all_still_one (r ∷ rows) all = (still_one r all.0, all_still_one rows all.1)
 
--- so the positions after rows are the same by both
+-- so both give the same positions after rows
 by_both : (rows : List Row) (volumes others : Table ContractKey ℤ) (positions : Table PositionKey Position) → AllByRecursion (IsOneVolume volumes others) rows
     → positions_with rows volumes positions ≡ positions_with rows others positions
 by_both [] volumes others positions all = refl
@@ -92,16 +92,16 @@ parts_give_positions rows whole part positions all =
 
 -- ---- parts of the positions
 
--- once a volume is added to a position that is the same in the part and in the whole
+-- a volume is added to a position that is the same in the part and in the whole
 module _ (whole part : Table PositionKey Position) (key : PositionKey) (volume : ℤ) (same : position_in part key ≡ position_in whole key) where
-  -- each other that was the same is
+  -- then each other position that was the same still is
   same_once_moved : (q : PositionKey) → position_in part q ≡ position_in whole q → position_in (with_moved key volume part) q ≡ position_in (with_moved key volume whole) q
   same_once_moved q one =
       position_in-moved key volume part q
       ∙ (λ i. cond (eq_by_cmp position_key_cmp q key) (position_plus volume (same i)) (one i))
       ∙ sym (position_in-moved key volume whole q)
 
-  -- and those of a row that were are
+  -- and so are the positions that a row needs
   agrees_once_moved : (r : Row) → AgreesOnPositions whole part r → AgreesOnPositions (with_moved key volume whole) (with_moved key volume part) r
   agrees_once_moved (row.Party r) agrees = tt
   agrees_once_moved (row.Unit r) agrees = tt
@@ -118,14 +118,14 @@ module _ (whole part : Table PositionKey Position) (key : PositionKey) (volume :
   all_agree_once_moved [] all = tt
   all_agree_once_moved (r ∷ rows) all = (agrees_once_moved r all.0, all_agree_once_moved rows all.1)
 
-  -- where the part makes the whole of a table, it does so then
+  -- if putting the part into a table gives the whole, it still does
   makes_once_moved : (table : Table PositionKey Position) → IsTable position_key_cmp table → IsTable position_key_cmp part → put_all position_key_cmp part table ≡ whole
       → put_all position_key_cmp (with_moved key volume part) table ≡ with_moved key volume whole
   makes_once_moved table h k makes =
       one_more_changed part table key (position_plus volume (position_in part key)) k h
       ∙ (λ i. put position_key_cmp key (position_plus volume (same i)) (makes i))
 
--- a part that makes the whole of a table does so after rows for which it serves
+-- if putting a part into a table gives the whole, it still does after rows for which the part serves
 serves : (rows : List Row) (volumes : Table ContractKey ℤ) (table whole part : Table PositionKey Position) → IsTable position_key_cmp table → IsTable position_key_cmp part
     → put_all position_key_cmp part table ≡ whole → AllByRecursion (AgreesOnPositions whole part) rows
     → put_all position_key_cmp (positions_with rows volumes part) table ≡ positions_with rows volumes whole
@@ -148,12 +148,12 @@ serves (row.Contract r ∷ rows) volumes table whole part h k makes all =
     (all_agree_once_moved all_sold sold buys (pos 0 -ℤ more) then_same rows (all_agree_once_moved whole part sells more all.0.0 rows all.1))
 serves (row.Reallocation r ∷ rows) volumes table whole part h k makes all = serves rows volumes table whole part h k makes all.1
 
--- what is found in a part or else in its whole is found in the whole
+-- what is found in a part, or otherwise in its whole, is what is found in the whole
 found_either : (found here : Option Position) → ((p : Position) → found ≡ Some p → here ≡ Some p) → option_or found here ≡ here
 found_either None here same = refl
 found_either (Some p) here same = sym (same p refl)
 
--- a part makes its whole of it
+-- putting a part into its whole gives the whole
 part_makes : (whole part : Table PositionKey Position) → IsTable position_key_cmp whole → IsTable position_key_cmp part → ArePartOf whole part → put_all position_key_cmp part whole ≡ whole
 part_makes whole part h k inside =
     same_entries position_key_cmp position_key_total exact_position_keys (put_all position_key_cmp part whole) whole

@@ -1,4 +1,4 @@
--- The volumes of positions that are known are in range: at most 100,000,000 MWh in size.
+-- The volumes of known positions are in range: at most 100,000,000 MWh in size.
 use Rattle.std.proofs.Common.{◌≡◌, List, [], ◌∷◌, refl, true, false, cond, arith}
 use Rattle.std.specs.Prelude.{ℤ, pos, ◌+ℤ◌, ◌-ℤ◌, ◌≤ℤ◌, unwrap_or, Option, None, Some}
 use Rattle.std.specs.FinMap.{find, put}
@@ -35,7 +35,7 @@ between low high z is =
     at_most : (a b : ℤ) → int_le a b ≡ true → a ≤ℤ b
     at_most a b h = grind (arith, ints)
 
--- a net volume's position is in range
+-- the position of a net volume is in range
 position_of_in_range : (net : ℤ) → IsInRange (position_of net)
 position_of_in_range net =
     elim (is_between net_volumes.least net_volumes.most net) as (λ b. is_between net_volumes.least net_volumes.most net ≡ b → IsInRange (cond b (Known net) Lost)) [
@@ -75,7 +75,7 @@ made_in_range (r ∷ rows) positions all = made_in_range rows (with_replaced Non
 pub made_anew_in_range : MadeAnewInRange
 made_anew_in_range rows = made_in_range rows [] tt
 
--- what is found is in range where all is, and so is what is not found
+-- if all positions are in range, so is the position of any key, found or not
 found_in_range : (key : PositionKey) (positions : Table PositionKey Position) → AreInRange positions → IsInRange (position_in positions key)
 found_in_range key [] all = (omega (arith, ints), omega (arith, ints))
 found_in_range key (e ∷ positions) all =

@@ -1,4 +1,4 @@
--- The net volumes of a Settlement Period sum to zero, and positions that are known give them.
+-- The net volumes of a Settlement Period sum to zero, and known positions give them.
 use Rattle.std.proofs.Common.{◌≡◌, ◌≢◌, ℕ, ◌<◌, List, [], ◌∷◌, length, get_or, map, refl, ap, sym, subst, ◌∙◌, true, false, cond, Some, inl, inr, arith}
 use Rattle.std.specs.Prelude.{ℤ, pos, neg_ℤ, ◌+ℤ◌, Contains, filter, filter_map, is_some, option_map, IsSome, T}
 use Rattle.std.specs.Cmp.{Equal-is, eq_by_cmp_equiv, tied_itself}
@@ -44,9 +44,9 @@ use Rattle.hh_beside.proofs.PositionLists.{right_are}
 use Rattle.hh_beside.proofs.PositionNets.{row_by}
 use Rattle.hh_beside.proofs.PositionTables.{AreOf, IsOf, some_stays}
 
--- over accounts in order, none of which stands twice
+-- accounts in order, none of which occurs twice
 module _ (accounts : List Account) (up : IsStrictlySortedBy account_cmp accounts) where
-  -- no other place of the accounts is the account's
+  -- no other place has the account
   others_differ : (d : Account) (k j : ℕ) → k < length accounts → j < length accounts → j ≢ k → is_same_account (get_or accounts k d) (get_or accounts j d) ≡ false
   others_differ d k j inside among ne = elim (cases_lt k j) [
     | inl lt ↦ ap is_eq (rises account_cmp accounts up k j d lt among)
@@ -55,7 +55,7 @@ module _ (accounts : List Account) (up : IsStrictlySortedBy account_cmp accounts
         ∙ ap ordering_reverse (rises account_cmp accounts up j k d (omega arith) inside))
   ]
 
-  -- an amount of one of them comes up once
+  -- an amount of one of them counts once
   once : (b : Account) → Contains accounts b → (amount : ℤ) → total (λ a. of_account a b amount) accounts ≡ amount
   once b (k, inside, is) amount =
       counts_once (is_same_account b) (λ a. amount) accounts b k inside
@@ -66,7 +66,7 @@ module _ (accounts : List Account) (up : IsStrictlySortedBy account_cmp accounts
   abbrev AreAmong : Counterparties → Type 0
   AreAmong c = Contains accounts c.seller × Contains accounts c.buyer
 
-  -- then what its seller sells its buyer buys
+  -- what the seller of such a contract sells, its buyer buys
   one_contract : (c : Contract) → AreAmong c.counterparties → total (λ a. net_kwh_of a c) accounts ≡ pos 0
   one_contract c (sells, buys) =
       total-plus (λ a. of_account a c.counterparties.seller c.volume) (λ a. neg_ℤ (of_account a c.counterparties.buyer c.volume)) accounts
@@ -74,7 +74,7 @@ module _ (accounts : List Account) (up : IsStrictlySortedBy account_cmp accounts
       ∙ ap (λ z. c.volume +ℤ neg_ℤ z) (once c.counterparties.buyer buys c.volume)
       ∙ +ℤ_invr c.volume
 
-  -- and so it is with all contracts together
+  -- so all contracts together sum to zero
   all_rows : (rows : List ContractRow) → AllByRecursion (λ r. AreAmong r.contract.counterparties) rows → total (λ r. total (λ a. net_kwh_of a r.contract) accounts) rows ≡ pos 0
   all_rows [] among = refl
   all_rows (r ∷ rows) among = λ i. one_contract r.contract among.0 i +ℤ all_rows rows among.1 i
@@ -83,12 +83,12 @@ module _ (tables : Registered) (at : SettlementPeriod) where
   abbrev accounts_then : List Account
   accounts_then = accounts_on tables at.date
 
-  -- an account whose party is effective on the date is there
+  -- an account whose party is effective on the date is among the accounts
   effective_there : (a : Account) (date : ℕ) → date ≡ at.date → IsPartyEffective tables a.party date → Contains accounts_then a
   effective_there a date is effective =
       account_there at.date tables.parties a effective.registration effective.registered (ap (holds effective.registration.range) (sym is) ∙ effective.holding)
 
-  -- the sellers and buyers of the contracts in force are there
+  -- the sellers and buyers of the contracts in force are among the accounts
   rows_among : (es : Table ContractKey ℤ) → ((key : ContractKey) → IsSome (find contract_key_cmp key es) → HasCounterparties tables key)
       → AllByRecursion (λ r. Contains accounts_then r.contract.counterparties.seller × Contains accounts_then r.contract.counterparties.buyer)
       (filter_map (row_in_force tables) (filter (λ e. eq_by_cmp settlement_period_cmp e.0.at at) es))
@@ -117,7 +117,7 @@ module _ (tables : Registered) (at : SettlementPeriod) where
 pub positions_sum_to_zero : PositionsSumToZero
 positions_sum_to_zero tables at consistent = zero_over tables at consistent
 
--- a position that is known gives its net volume
+-- a known position gives its net volume
 volume_is : (net : ℤ) (p : Position) → T (is_known p) → IsOf net p → volume_in p ≡ net
 volume_is net (Known n) known is = is
 volume_is net Lost known is = absurd known

@@ -1,4 +1,4 @@
--- Tables of positions and the net volumes that they are of, with one more volume and with one more contract row.
+-- Tables of positions with their net volumes, after one more volume and after one more contract row.
 use Rattle.std.proofs.Common.{◌≡◌, refl, ap, sym, subst, ◌∙◌, Bool, true, false, cond, Option, Some, arith}
 use Rattle.std.specs.Prelude.{ℤ, pos, ◌+ℤ◌, ◌-ℤ◌, ◌&&◌, is_some, unwrap_or, IsSome, T}
 use Rattle.std.specs.Cmp.{Equal-is, eq_by_cmp_equiv}
@@ -27,20 +27,20 @@ abbrev pub IsOf : ℤ → Position → Type 0
 IsOf net (Known n) = n ≡ net
 IsOf net Lost = Unit {0}
 
--- the position of each key is of its net volume; where there is none the net volume is zero
+-- the position of each key is of its net volume; a key without a position has the net volume 0
 abbrev pub AreOf : (PositionKey → ℤ) → Table PositionKey Position → Type 0
 AreOf nets positions = (key : PositionKey) → IsOf (nets key) (position_in positions key)
 
--- a net volume's position is of it
+-- the position of a net volume is of that volume
 position_of_is : (net : ℤ) → IsOf net (position_of net)
 position_of_is net = elim (is_between net_volumes.least net_volumes.most net) as (λ b. IsOf net (cond b (Known net) Lost)) [ true ↦ refl | false ↦ tt ]
 
--- and so it is with a volume more
+-- and still is after a volume is added
 plus_is : (net volume : ℤ) (p : Position) → IsOf net p → IsOf (net +ℤ volume) (position_plus volume p)
 plus_is net volume Lost h = tt
 plus_is net volume (Known n) h = subst (λ z. IsOf (z +ℤ volume) (position_of (n +ℤ volume))) h (position_of_is (n +ℤ volume))
 
--- what is found under one key, or else
+-- the value under one key, or otherwise the default
 unwrap_or-cond : {X : Type 0} (b : Bool) (x d : X) (o : Option X) → unwrap_or (cond b (Some x) o) d ≡ cond b x (unwrap_or o d)
 unwrap_or-cond true x d o = refl
 unwrap_or-cond false x d o = refl
@@ -52,11 +52,11 @@ position_in-moved key volume positions q =
     ap (λ o. unwrap_or o (Known (pos 0))) (find-put position_key_cmp position_key_total q key new positions)
     ∙ unwrap_or-cond (eq_by_cmp position_key_cmp q key) new (Known (pos 0)) (find position_key_cmp q positions)
 
--- positions are of equal net volumes
+-- positions stay of net volumes that are equal to theirs
 pub same_nets : (nets others : PositionKey → ℤ) (positions : Table PositionKey Position) → ((q : PositionKey) → nets q ≡ others q) → AreOf nets positions → AreOf others positions
 same_nets nets others positions same are q = subst (λ z. IsOf z (position_in positions q)) (same q) (are q)
 
--- a volume that is added to one position is added to its net volume
+-- adding a volume to one position adds it to its net volume
 moved_are : (nets : PositionKey → ℤ) (key : PositionKey) (volume : ℤ) (positions : Table PositionKey Position) → AreOf nets positions
     → AreOf (λ q. nets q +ℤ cond (eq_by_cmp position_key_cmp q key) volume (pos 0)) (with_moved key volume positions)
 moved_are nets key volume positions are q =
@@ -70,16 +70,16 @@ moved_are nets key volume positions are q =
       | false ↦ λ other. subst (λ z. IsOf z (position_in positions q)) (sym (+ℤ_idr (nets q))) (are q)
     ] refl)
 
--- nothing taken off
+-- taking off 0
 pub less_nothing : (v : ℤ) → v -ℤ pos 0 ≡ v
 less_nothing v = omega (arith, ints)
 
--- what a volume between two accounts in a Settlement Period comes to under a key
+-- the part of a volume between two accounts in a Settlement Period that counts under a key
 abbrev pub part : SettlementPeriod → Counterparties → ℤ → PositionKey → ℤ
 part at c volume key =
     cond (eq_by_cmp settlement_period_cmp at key.at) (net_kwh_of key.account (record { counterparties = c; volume = volume })) (pos 0)
 
--- it is what it adds for the seller and takes off for the buyer
+-- the part is what is added for the seller and taken off for the buyer
 two_moves : (net volume : ℤ) (here sells buys : Bool) →
     (net +ℤ cond (here && sells) volume (pos 0)) +ℤ cond (here && buys) (pos 0 -ℤ volume) (pos 0)
     ≡ net +ℤ cond here (cond sells volume (pos 0) -ℤ cond buys volume (pos 0)) (pos 0)
@@ -98,7 +98,7 @@ part_is at c volume net q =
     +ℤ cond (one_key (record { at = at; account = c.buyer }) q i) (pos 0 -ℤ volume) (pos 0))
     ∙ two_moves net volume (eq_by_cmp settlement_period_cmp at q.at) (is_same_account c.seller q.account) (is_same_account c.buyer q.account)
 
--- the parts of two volumes differ by the part of what they differ by
+-- the difference of the parts of two volumes is the part of their difference
 pub part-minus : (at : SettlementPeriod) (c : Counterparties) (v w : ℤ) (q : PositionKey) → part at c (v -ℤ w) q ≡ part at c v q -ℤ part at c w q
 part-minus at c v w q = by_cases (eq_by_cmp settlement_period_cmp at q.at) (is_same_account c.seller q.account) (is_same_account c.buyer q.account)
   where
@@ -115,14 +115,14 @@ part-minus at c v w q = by_cases (eq_by_cmp settlement_period_cmp at q.at) (is_s
 abbrev pub Has : Table PositionKey Position → PositionKey → Type 0
 Has positions key = IsSome (find position_key_cmp key positions)
 
--- what is found is found with a row more
+-- a key that is found is still found with one more row
 pub some_stays : {X : Type 0} (b : Bool) (x : X) (o : Option X) → IsSome o → IsSome (cond b (Some x) o)
 some_stays true x o h = refl
 some_stays false x o h = h
 
--- once a volume is added to one position
+-- after a volume is added to one position
 module _ (key : PositionKey) (volume : ℤ) (positions : Table PositionKey Position) where
-  -- the position then
+  -- the new position
   abbrev new_position : Position
   new_position = position_plus volume (position_in positions key)
 
@@ -130,21 +130,21 @@ module _ (key : PositionKey) (volume : ℤ) (positions : Table PositionKey Posit
   pub moved_table : T (is_sorted position_key_cmp positions) → T (is_sorted position_key_cmp (with_moved key volume positions))
   moved_table = is_sorted-put position_key_cmp position_key_total key new_position positions
 
-  -- those that there were are there
+  -- the keys that had positions still have them
   stays-moved : (q : PositionKey) → Has positions q → Has (with_moved key volume positions) q
   stays-moved q h =
       ap is_some (find-put position_key_cmp position_key_total q key new_position positions)
       ∙ some_stays (eq_by_cmp position_key_cmp q key) new_position (find position_key_cmp q positions) h
 
-  -- and the one is
+  -- and the key has one
   has-moved : Has (with_moved key volume positions) key
   has-moved =
       ap is_some (find-put position_key_cmp position_key_total key key new_position positions)
       ∙ ap (λ b. is_some (cond b (Some new_position) (find position_key_cmp key positions))) ((eq_by_cmp_equiv position_key_total).refl key)
 
--- once a contract row comes in the place of another
+-- after a contract row replaces another
 module _ (old : Option ContractRow) (new : ContractRow) (positions : Table PositionKey Position) where
-  -- by how much its volume is more
+  -- the growth of the volume
   abbrev more : ℤ
   more = new.contract.volume -ℤ volume_of old
 
@@ -155,7 +155,7 @@ module _ (old : Option ContractRow) (new : ContractRow) (positions : Table Posit
   abbrev buys : PositionKey
   buys = position_key new new.contract.counterparties.buyer
 
-  -- the part of what its volume is more is added
+  -- the part of the growth is added
   pub with_contract_are : (nets : PositionKey → ℤ) → AreOf nets positions
       → AreOf (λ q. nets q +ℤ part new.key.at new.contract.counterparties (new.contract.volume -ℤ volume_of old) q) (with_replaced old new positions)
   with_contract_are nets are =
@@ -166,7 +166,7 @@ module _ (old : Option ContractRow) (new : ContractRow) (positions : Table Posit
   pub with_replaced_table : T (is_sorted position_key_cmp positions) → T (is_sorted position_key_cmp (with_replaced old new positions))
   with_replaced_table h = moved_table buys (pos 0 -ℤ more) (with_moved sells more positions) (moved_table sells more positions h)
 
-  -- those that there were are there
+  -- the keys that had positions still have them
   pub stays-with_replaced : (q : PositionKey) → Has positions q → Has (with_replaced old new positions) q
   stays-with_replaced q h = stays-moved buys (pos 0 -ℤ more) (with_moved sells more positions) q (stays-moved sells more positions q h)
 

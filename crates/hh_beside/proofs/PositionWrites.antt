@@ -46,7 +46,7 @@ written_are_after (row.Contract r ∷ rows) volumes positions =
     written_are_after rows (put contract_key_cmp r.key r.contract.volume volumes) (with_replaced (replaced_by r volumes) r positions)
 written_are_after (row.Reallocation r ∷ rows) volumes positions = written_are_after rows volumes positions
 
--- what is found of changed positions, or else in the table
+-- what is found in changed positions, or otherwise in the table
 pub found_changed : (changed positions : Table PositionKey Position) (key : PositionKey) → T (is_sorted position_key_cmp changed)
     → find position_key_cmp key (put_all position_key_cmp changed positions) ≡ option_or (find position_key_cmp key changed) (find position_key_cmp key positions)
 found_changed [] positions key h = refl

@@ -1,5 +1,5 @@
 -- What a store keeps beside the tables of an office, so that a run settles again only what has changed: the contract position of
--- each account, and the Settlement Periods that have been touched since the latest run of their date. And whether that agrees with
+-- each account, and the Settlement Periods that have been touched since the latest run of their date. Also whether these agree with
 -- the tables.
 use Rattle.std.specs.Prelude.{ℕ, ◌==◌, ℤ, List, [], ◌∷◌, map, filter, filter_map, Bool, true, false, ◌&&◌, ◌||◌, is_some, Option, Some, None}
 use Rattle.std.specs.Cmp.Lexicographic.{pointwise}
@@ -57,7 +57,7 @@ abbrev pub is_same_period : Settled → Settled → Bool
 is_same_period s t =
     pointwise is_same_row s.accounts t.accounts && pointwise is_same_credit s.credits t.credits && int_eq s.residual t.residual
 
--- ---- a Settlement Period of a run, as the tables hold it
+-- ---- a Settlement Period of a run, as the tables have it
 
 -- the row is of this run and period
 abbrev pub is_result_of : RunKey → ℕ → ResultKey × AccountRow → Bool
@@ -82,13 +82,13 @@ module _ (content : Content) where
       settled_as (map (λ e. e.1) (filter (is_result_of run period) content.results))
       (map credit_row (filter (is_credit_of run period) content.credits))
 
--- ---- what agrees
+-- ---- agreeing with the tables
 
 -- what a Settlement Period would be settled from if these were the accounts of its date
 abbrev pub terms_for : List Account → Registered → SettlementPeriod → PeriodTerms
 terms_for accounts tables at = record (terms_at tables at) { accounts = accounts }
 
--- what these accounts would now settle a Settlement Period to is this, and nothing is missing or too large
+-- settled now for the same accounts, a Settlement Period would be this; it has a price and passes no limit
 abbrev pub is_still : Registered → SettlementPeriod → Settled → Bool
 is_still tables at s =
     let terms : PeriodTerms = terms_for (map (λ r. r.account) s.accounts) tables at in
@@ -98,7 +98,7 @@ is_still tables at s =
 abbrev pub net_position : Registered → PositionKey → ℤ
 net_position tables key = total (λ r. net_kwh_of key.account r.contract) (rows_in_force tables key.at)
 
--- a position is what the contracts in force come to, if it is known
+-- a position is the sum of the contracts in force, if it is known
 abbrev pub is_right : Registered → PositionKey × Position → Bool
 is_right tables (key, Known net) = int_eq net (net_position tables key)
 is_right tables (key, Lost) = true
@@ -116,11 +116,11 @@ are_positions_right tables positions =
     && (list_all (is_right tables) positions && list_all (has_positions positions) (filter_map (row_in_force tables) tables.contracts))
 
 module _ (content : Content) (touched : List SettlementPeriod) where
-  -- a Settlement Period of a run is accounted for: it was touched, or is what it would be settled to now
+  -- a Settlement Period of a run is accounted for: it was touched, or it is as it would be settled now
   abbrev pub is_accounted_for : RunKey → SettlementPeriod → Bool
   is_accounted_for run at = is_among touched at || is_still content.registered at (period_of_run content run at.period)
 
-  -- a date is accounted for: each Settlement Period of its latest run is, if there is one
+  -- a date is accounted for: if it has a run, each Settlement Period of its latest run is accounted for
   abbrev pub is_day_accounted_for : ℕ → Bool
   is_day_accounted_for date = elim (latest_on content date) [
     | None ↦ true

@@ -1,4 +1,4 @@
--- What a Settlement Period that is accounted for holds, and that the days of runs stay accounted for.
+-- Properties of Settlement Periods that are accounted for; and the days of runs stay accounted for.
 use Rattle.std.specs.Prelude.{◌≡◌, ◌==◌, ◌≤◌, ℤ, List, ◌++◌, map, filter, filter_map, not, Some, IsSome, IsTrue, IsFalse}
 use Rattle.std.specs.Bool.{Decides}
 use Rattle.std.specs.List.{AllByRecursion}
@@ -20,7 +20,7 @@ use Rattle.hh_states.specs.Steps.{CanLoad, CanRun, IsReached, Load, after_load, 
 use Rattle.hh_beside.specs.Beside.{are_days_accounted_for, is_among, is_same_credit, is_same_period, is_same_row, latest_on, period_of_run, terms_for}
 use Rattle.hh_beside.specs.Keeping.{periods_of_runs, touched_by}
 
--- the tests of equal rows, credits and settled periods tell what is equal
+-- the tests of equal rows, credits and settled periods hold exactly for equal ones
 abbrev pub TellsRows : Type 0
 TellsRows = (r q : AccountRow) → Decides (is_same_row r q) (r ≡ q)
 
@@ -30,8 +30,8 @@ TellsCredits = (c d : CreditRow) → Decides (is_same_credit c d) (c ≡ d)
 abbrev pub TellsPeriods : Type 0
 TellsPeriods = (s t : Settled) → Decides (is_same_period s t) (s ≡ t)
 
--- Where days are accounted for, a Settlement Period of the latest run of its date that was not touched, and whose accounts are those
--- of the date now, holds what the rows as they stand settle to, and passes no limit.
+-- Let days be accounted for. Take a Settlement Period of the latest run of its date that was not touched, and whose accounts are those
+-- of the date now. It is as the rows would settle it now, and it passes no limit.
 abbrev pub UntouchedIsSettled : Type 0
 UntouchedIsSettled = (content : Content) (touched : List SettlementPeriod) (at : SettlementPeriod) (run : RunKey) (summary : Summary)
     → IsTrue (are_days_accounted_for content touched) → latest_on content at.date ≡ Some (run, summary)
@@ -40,14 +40,14 @@ UntouchedIsSettled = (content : Content) (touched : List SettlementPeriod) (at :
     → (period_of_run content run at.period ≡ settled (terms_at content.registered at))
     × IsTrue (is_within_limits (terms_at content.registered at))
 
--- whatever its accounts are, such a Settlement Period has a price
+-- such a Settlement Period has a price, whatever its accounts are
 abbrev pub UntouchedHasPrice : Type 0
 UntouchedHasPrice = (content : Content) (touched : List SettlementPeriod) (at : SettlementPeriod) (run : RunKey) (summary : Summary)
     → IsTrue (are_days_accounted_for content touched) → latest_on content at.date ≡ Some (run, summary)
     → 1 ≤ at.period → at.period ≤ summary.periods → IsFalse (is_among touched at)
     → IsSome (price_of content.registered at)
 
--- and each unit from which it holds a credit has a reading
+-- and each unit from which it has a credit has a reading
 abbrev pub UntouchedHasReadings : Type 0
 UntouchedHasReadings = (content : Content) (touched : List SettlementPeriod) (at : SettlementPeriod) (run : RunKey) (summary : Summary)
     → IsTrue (are_days_accounted_for content touched) → latest_on content at.date ≡ Some (run, summary)
@@ -55,7 +55,7 @@ UntouchedHasReadings = (content : Content) (touched : List SettlementPeriod) (at
     → AllByRecursion (λ c. IsSome (reading_of content.registered (record { unit = c.unit; at = at })))
     (period_of_run content run at.period).credits
 
--- a Settlement Period is among these exactly where it is among those
+-- a Settlement Period is among these exactly if it is among those
 abbrev pub HaveTheSame : List SettlementPeriod → List SettlementPeriod → Type 0
 HaveTheSame these those = (at : SettlementPeriod) → is_among these at ≡ is_among those at
 
@@ -64,27 +64,27 @@ abbrev pub AccountedForByTheSame : Type 0
 AccountedForByTheSame = (content : Content) (these those : List SettlementPeriod) → HaveTheSame these those
     → are_days_accounted_for content these ≡ are_days_accounted_for content those
 
--- where each Settlement Period of each run was touched, days are accounted for
+-- if each Settlement Period of each run was touched, days are accounted for
 abbrev pub AccountedForWhereAllTouched : Type 0
 AccountedForWhereAllTouched = (content : Content)
     → IsTrue (are_days_accounted_for content (periods_of_runs content.runs))
 
--- the tables of a state that the machine reaches hold each Settlement Period of each run as the run settled it
+-- the tables of a state that the machine reaches have each Settlement Period of each run as the run settled it
 abbrev pub HoldsPeriods : Type 0
 HoldsPeriods = (midnight : Midnights) (s : State) → IsReached midnight s
     → AllByRecursion (λ r. AllByRecursion (λ at.
     period_of_run (tables_of midnight s) r.key at.period ≡ settled (terms_at (seen_by (timetable_at midnight s) s.history r) at))
     (periods_of midnight r)) s.runs
 
--- days that are accounted for in a state that the machine reaches are so after a run that it makes, which leaves no period of its
--- date touched
+-- In a state that the machine reaches, days that are accounted for still are after a run that it makes. After the run no period of its
+-- date is touched.
 abbrev pub AccountedForAfterRuns : Type 0
 AccountedForAfterRuns = (midnight : Midnights) (s : State) (moment : ℤ) (key : RunKey) (touched : List SettlementPeriod)
     → IsReached midnight s → CanRun midnight s moment key → IsTrue (are_days_accounted_for (tables_of midnight s) touched)
     → IsTrue (are_days_accounted_for (tables_of midnight (after_run s key)) (filter (λ at. not (at.date == key.date)) touched))
 
--- A Settlement Period that no row in time of an accepted load touches has the price that it had, and would be settled from what it
--- would have been, whatever its accounts are.
+-- A Settlement Period that no row in time of an accepted load touches keeps its price, and would be settled from the same as before,
+-- whatever its accounts are.
 abbrev pub UntouchedStays : Type 0
 UntouchedStays = (midnight : Midnights) (s : State) (load : Load) (at : SettlementPeriod) → IsReached midnight s
     → CanLoad midnight s load → IsFalse (is_among (filter_map touched_by (load_writes midnight s load).rows) at)
@@ -92,8 +92,8 @@ UntouchedStays = (midnight : Midnights) (s : State) (load : Load) (at : Settleme
     × ((accounts : List Account) → terms_for accounts (registered_at midnight (after_load midnight s load)) at
     ≡ terms_for accounts (registered_at midnight s) at)
 
--- days that are accounted for in a state that the machine reaches are so after a load that it accepts, with what its rows in time
--- touch
+-- In a state that the machine reaches, days that are accounted for still are after a load that it accepts, with what its rows in time
+-- touch.
 abbrev pub AccountedForAfterLoads : Type 0
 AccountedForAfterLoads = (midnight : Midnights) (s : State) (load : Load) (touched : List SettlementPeriod) → IsReached midnight s
     → CanLoad midnight s load → IsTrue (are_days_accounted_for (tables_of midnight s) touched)

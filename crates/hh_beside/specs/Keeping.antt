@@ -1,4 +1,4 @@
--- What a load and a run change of what is kept beside the tables, and what is kept beside tables that were taken over.
+-- What a load and a run change in what is kept beside the tables, and what is first kept beside tables that had nothing beside them.
 use Rattle.std.specs.Prelude.{◌==◌, ℤ, List, [], ◌∷◌, ◌++◌, filter, filter_map, not, Option, Some, None, option_map}
 use Rattle.std.specs.FinMap.{find, put}
 use Rattle.std.specs.List.{flat_map}
@@ -21,7 +21,7 @@ use Rattle.hh_states.specs.DaySettlement.{periods_on}
 use Rattle.hh_states.specs.PeriodSettlement.{row_in_force}
 use Rattle.hh_beside.specs.Beside.{Beside}
 
--- the Settlement Period that a row in time touches, if it touches one: registrations touch none
+-- the Settlement Period that a row in time touches, if it touches one; registrations touch none
 abbrev pub touched_by : Row → Option SettlementPeriod
 touched_by (row.Party r) = None
 touched_by (row.Unit r) = None
@@ -30,25 +30,25 @@ touched_by (row.Price r) = Some r.at
 touched_by (row.Contract r) = Some r.key.at
 touched_by (row.Reallocation r) = Some r.key.unit_period.at
 
--- the contract row that this one takes the place of, by the volumes in force: a reference's seller and buyer never change
+-- the contract row that this one replaces, by the volumes in force; a reference's seller and buyer never change
 abbrev pub replaced_by : ContractRow → Table ContractKey ℤ → Option ContractRow
 replaced_by r volumes = option_map (λ v. record r { contract = record r.contract { volume = v } }) (find contract_key_cmp r.key volumes)
 
--- the positions after rows in time come one after the other, where these volumes are in force before them
+-- the positions after rows in time, one after another; these volumes are in force before them
 abbrev pub positions_with : List Row → Table ContractKey ℤ → Table PositionKey Position → Table PositionKey Position
 positions_with [] volumes positions = positions
 positions_with (row.Contract r ∷ rows) volumes positions =
     positions_with rows (put contract_key_cmp r.key r.contract.volume volumes) (with_replaced (replaced_by r volumes) r positions)
 positions_with (_ ∷ rows) volumes positions = positions_with rows volumes positions
 
--- after a load
+-- what is kept after a load
 abbrev pub beside_with_load : LoadWrites → Registered → Beside → Beside
 beside_with_load w tables beside = record {
   positions = positions_with w.rows tables.contracts beside.positions;
   touched = filter_map touched_by w.rows ++ beside.touched;
 }
 
--- after a run: the periods of its date are as it settled them
+-- what is kept after a run: no period of its date is touched
 abbrev pub beside_with_run : RunWrites → Beside → Beside
 beside_with_run w beside = record beside { touched = filter (λ at. not (at.date == w.key.date)) beside.touched }
 
@@ -65,7 +65,7 @@ positions_by tables = positions_of (filter_map (row_in_force tables) tables.cont
 abbrev pub periods_of_runs : Table RunKey Summary → List SettlementPeriod
 periods_of_runs runs = flat_map (λ e. periods_on e.0.date e.1.periods) runs
 
--- beside tables that were kept alone so far: the positions by all contracts in force, and each Settlement Period of each run is
+-- what is first kept beside tables: the positions by all contracts in force, and each Settlement Period of each run as
 -- touched
 abbrev pub beside_of : Content → Beside
 beside_of content = record {

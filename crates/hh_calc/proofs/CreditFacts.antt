@@ -1,4 +1,4 @@
--- What credits come to, and the machine's words that hold it.
+-- The amounts of credits, and that they fit the machine's words.
 use Rattle.std.proofs.Common.{◌≡◌, ℕ, ◌+◌, ◌*◌, ◌^◌, ◌<◌, ◌≤◌, List, [], ◌∷◌, ◌++◌, length, get_or, take, map, refl, sym, ap, ◌∙◌, arith, FitsSigned, to_z, of_z, add-one}
 use Rattle.std.specs.Prelude.{ℤ, pos, negsuc, ◌+ℤ◌, ◌-ℤ◌, ◌*ℤ◌, unsigned_abs}
 use Rattle.std.specs.Int.{w64, w128}
@@ -23,7 +23,7 @@ use Rattle.hh_calc.specs.Terms.{BmUnit}
 use Rattle.hh_calc.proofs.SumLaws.{total-more}
 use Rattle.hh_calc.proofs.WordFacts.{long_word, word}
 
--- a word holds an amount of at most this size
+-- a word has the value of an amount, which is at most so large
 pub record Holds (held amount : ℤ) (most : ℕ) : Type 0 where
   pub is : held ≡ amount
   pub small : unsigned_abs amount ≤ most
@@ -62,19 +62,19 @@ module _ (a x b y : ℤ) (m n : ℕ) (h : Holds a x m) (k : Holds b y n) where
       let right : unsigned_abs y ≤ n = k.small in
       record { is = λ i. h.is i -ℤ k.is i; small = omega (arith, ints) }
 
--- sizes of what a credit is reckoned from
+-- the sizes of the numbers that a credit is computed from
 pub percent_most : (v : ℤ) → IsBetween (pos 0) (pos 10_000_000) v → unsigned_abs v ≤ 10 ^ 7
 percent_most v (low, high) = omega (arith, ints)
 
 pub multiplier_most : (v : ℤ) → IsBetween (pos 0) (pos 20_000_000) v → unsigned_abs v ≤ 2 * 10 ^ 7
 multiplier_most v (low, high) = omega (arith, ints)
 
--- a credit is rounded from its size in 10^-7 ticks
+-- a credit is rounded from its amount in 10^-7 ticks
 pub near_size : (x : ℤ) → unsigned_abs x ≤ 6 * 10 ^ 21 → unsigned_abs (near x (pos (10 ^ 7))) ≤ 10 ^ 15
 near_size (pos n) le = omega arith
 near_size (negsuc n) le = omega (arith, ints)
 
--- A subsidiary's credit, from numbers of 64 bits that are widened.
+-- The amount of a subsidiary's credit, from numbers of 64 bits that are widened.
 module _ (metered balancing percent : ℤ) (m b p : ℤ) (hm : Holds m metered (10 ^ 7)) (hb : Holds b balancing (10 ^ 7)) (hp : Holds p percent (10 ^ 7)) where
   pub held_percentage : Holds (word (m -ℤ b) *ℤ p) ((metered -ℤ balancing) *ℤ percent) (2 * 10 ^ 14)
   held_percentage = held_times _ _ _ _ (2 * 10 ^ 7) (10 ^ 7) (held_word _ _ _ (held_minus _ _ _ _ (10 ^ 7) (10 ^ 7) hm hb) (omega arith)) hp
@@ -88,7 +88,7 @@ module _ (metered balancing percent : ℤ) (m b p : ℤ) (hm : Holds m metered (
       pub held_amount : Holds (word (word (word (m -ℤ b) *ℤ p) +ℤ word (f *ℤ pos (10 ^ 7))) *ℤ t) ((((metered -ℤ balancing) *ℤ percent) +ℤ (fixed *ℤ pos (10 ^ 7))) *ℤ tlm) (6 * 10 ^ 21)
       held_amount = held_times _ _ _ _ (3 * 10 ^ 14) (2 * 10 ^ 7) (held_word _ _ _ held_part (omega arith)) ht
 
--- that amount is small enough to be rounded, and rounded it is the credit
+-- that amount is small enough to be rounded; rounded, it is the credit
 pub held_limit : (held amount : ℤ) → Holds held amount (6 * 10 ^ 21) → unsigned_abs held ≤ 10 ^ 30
 held_limit held amount h = let small : unsigned_abs amount ≤ 6 * 10 ^ 21 = h.small in rw h.is (omega arith)
 
@@ -98,7 +98,7 @@ held_credit result held amount fits e h = record {
   small = near_size amount h.small;
 }
 
--- Credit after credit: the subsidiaries of a unit so far.
+-- The credits of a unit's subsidiaries, one after another.
 abbrev pub credit_of : BmUnit → Subsidiary → CreditRow
 credit_of u s = record { unit = u.unit; account = s.account; credited = subsidiary_credit u s }
 
@@ -112,7 +112,7 @@ module _ (u : BmUnit) (i : ℕ) (s : Subsidiary) (inside : i < length u.subsidia
       ∙ append_assoc start (map (credit_of u) (take i u.subsidiaries)) (credit_of u (get_or u.subsidiaries i s) ∷ [])
       ∙ ap (λ rows. start ++ rows) (sym (map_more (credit_of u) u.subsidiaries i s inside))
 
-  -- the rest is less by the credit
+  -- the rest, less one more credit
   pub rest_more : (rest credit : ℤ) → rest ≡ loss_adjusted u -ℤ total (subsidiary_credit u) (take i u.subsidiaries) → credit ≡ subsidiary_credit u s
       → rest -ℤ credit ≡ loss_adjusted u -ℤ total (subsidiary_credit u) (take (i + 1) u.subsidiaries)
   rest_more rest credit before same =
@@ -129,7 +129,7 @@ module _ (u : BmUnit) (i : ℕ) (s : Subsidiary) (inside : i < length u.subsidia
       let here : unsigned_abs (subsidiary_credit u (get_or u.subsidiaries i s)) ≤ 10 ^ 15 = rw (sym (same ∙ ap (subsidiary_credit u) is)) le in
       All-more (λ x. unsigned_abs (subsidiary_credit u x) ≤ 10 ^ 18) u.subsidiaries i s inside before (omega arith)
 
--- what the machine's word holds of the rest
+-- the rest as a machine's word
 pub rest_word : (i : ℕ) (rest credit : ℤ) → i ≤ most_subsidiaries → unsigned_abs rest ≤ 2 * 10 ^ 14 + i * 10 ^ 15 → unsigned_abs credit ≤ 10 ^ 15
     → Holds (word (rest -ℤ word credit)) (rest -ℤ credit) (2 * 10 ^ 14 + (i + 1) * 10 ^ 15)
 rest_word i rest credit few le le' =

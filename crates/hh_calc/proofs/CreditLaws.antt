@@ -1,4 +1,4 @@
--- The credits of units are to accounts that are named.
+-- The credits of units are to named accounts.
 use Rattle.std.proofs.Common.{List, [], ◌∷◌, map}
 use Rattle.std.specs.Prelude.{All}
 use Rattle.std.proofs.lemmas.List.Elements.{All-append, All-cons, All-map, All-nil}
@@ -11,7 +11,7 @@ use Rattle.hh_calc.specs.steps.Ready.{IsCreditNamed}
 use Rattle.hh_calc.specs.Terms.{BmUnit}
 
 module _ (accounts : List Account) where
-  -- so are the accounts of its credits
+  -- if a unit's accounts are named, so are those of its credits
   pub unit_named : (u : BmUnit) → IsUnitNamed accounts u → All (IsCreditNamed accounts) (unit_credits u)
   unit_named u h =
       let to_subsidiary : Subsidiary → CreditRow = λ s. record { unit = u.unit; account = s.account; credited = subsidiary_credit u s } in

@@ -1,4 +1,4 @@
--- Small reallocations, computed.
+-- Small reallocations, computed examples.
 use Rattle.std.proofs.Common.{◌≡◌, [], ◌∷◌, refl}
 use Rattle.std.specs.Prelude.{ℤ, pos, negsuc, false}
 use Rattle.hh_names.specs.declared.account.Account.{Account}
@@ -24,7 +24,7 @@ module _ (lead account : Account) where
   third_to_lead : lead_credit (unit (pos 10_000) (pos 10_123_457) (pos 1_000) third) ≡ pos 65_802_473_537
   third_to_lead = refl
 
-  -- half of 1 kWh: the half tick goes away from zero, and the lead account has the rest
+  -- half of 1 kWh: the half tick is rounded away from zero, and the lead account has the rest
   abbrev half : Subsidiary
   half = reallocation (pos 5_000_000) (pos 0)
 

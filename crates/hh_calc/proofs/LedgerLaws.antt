@@ -1,11 +1,13 @@
--- Unit after unit: the sums of accounts over units.
-use Rattle.std.proofs.Common.{◌≡◌, ℕ, ◌+◌, ◌<◌, Bool, true, false, cond, List, [], ◌∷◌, ◌++◌, ◌-◌, ◌*◌, ◌≤◌, length, get_or, take, drop, map, replicate, refl, sym, ap, ◌∙◌, arith, length-append}
-use Rattle.std.specs.Prelude.{pos, ◌+ℤ◌, not, sum_by, All}
+-- The sums of accounts over units, one unit after another.
+use Rattle.std.proofs.Common.{◌≡◌, ℕ, ◌+◌, ◌<◌, Bool, true, false, cond, List, [], ◌∷◌, ◌++◌, ◌-◌, ◌*◌, ◌≤◌, length, get_or, take, drop, map, replicate, refl, sym, ap, ◌∙◌, arith, subst, length-append}
+use Rattle.std.specs.Prelude.{pos, ◌+ℤ◌, not, sum_by, All, IsPermutation}
+use borrow.Rule.Slice.PartMut.{mid_of, put_mid}
 use Rattle.std.proofs.Math.IntN.{+ℤ_idl}
-use Rattle.std.proofs.Math.Seq.{drop-append_seam}
+use Rattle.std.proofs.Math.Seq.{drop-append_seam, take-append_seam}
 use Rattle.std.proofs.lemmas.List.{append-nil, length-map, take_all, take_more}
 use Rattle.std.proofs.lemmas.List.Concat.{flat_map-append}
 use Rattle.std.proofs.lemmas.List.Elements.{filter_more, All-replicate}
+use Rattle.std.proofs.lemmas.List.Sorted.{length_permutation, IsPermutation-append_left, IsPermutation-put_mid, IsPermutation-trans}
 use Rattle.std.proofs.lemmas.List.Sums.{sum_by-append}
 use Rattle.hh_num.specs.Totals.{total}
 use Rattle.hh_num.proofs.TotalLaws.{total-append}
@@ -35,14 +37,19 @@ unit_step u a s = λ j. record {
     turned false = refl
 
 module _ (units : List BmUnit) (i : ℕ) (u : BmUnit) (inside : i < length units) (is : u ≡ get_or units i u) where
-  -- the credits of one unit more
+  -- the credits of one more unit
   pub credits_next : credits_of (take (i + 1) units) ≡ credits_of (take i units) ++ unit_credits u
   credits_next =
       ap credits_of (take_more units i u inside)
       ∙ flat_map-append unit_credits (take i units) (get_or units i u ∷ [])
       ∙ ap (λ rows. credits_of (take i units) ++ rows) (append-nil (unit_credits (get_or units i u)) ∙ ap unit_credits (sym is))
 
-  -- those that weigh
+  -- the same with the credits in any order
+  pub credits_placed : (rows new : List CreditRow) → IsPermutation (credits_of (take i units)) rows → IsPermutation (rows ++ unit_credits u) new → IsPermutation (credits_of (take (i + 1) units)) new
+  credits_placed rows new so_far placed =
+      rw credits_next (IsPermutation-trans _ _ _ (IsPermutation-append_left (unit_credits u) (credits_of (take i units)) rows so_far) placed)
+
+  -- the credits that weigh
   weighing_next : credits_of (weighing (take (i + 1) units)) ≡ credits_of (weighing (take i units)) ++ credits_of (cond (not u.interconnector) (u ∷ []) [])
   weighing_next =
       ap credits_of (filter_more (λ v. not v.interconnector) units i u inside)
@@ -59,7 +66,7 @@ module _ (units : List BmUnit) (i : ℕ) (u : BmUnit) (inside : i < length units
       one true = refl
       one false = ap (sum_by (weight_of a)) (append-nil (unit_credits u))
 
-  -- the sums over one unit more
+  -- the sums over one more unit
   pub units_step : (a : Account) → with_unit u a (unit_sums (take i units) a) ≡ unit_sums (take (i + 1) units) a
   units_step a = λ j. record {
     credited = (sym (ap (total (credited_of a)) credits_next ∙ total-append (credited_of a) (credits_of (take i units)) (unit_credits u))) j;
@@ -73,14 +80,26 @@ pub sums_start : (accounts : List Account) → replicate (length accounts) no_su
 sums_start [] = refl
 sums_start (a ∷ accounts) = λ i. no_sums ∷ sums_start accounts i
 
--- the credits that a unit appended are those behind the ones before
+-- the credits that a unit appended are those behind the earlier ones
 pub appended : (old new more : List CreditRow) (first : ℕ) → first ≡ length old → new ≡ old ++ more → take (length new - first) (drop first new) ≡ more
 appended old new more first is e =
     let long : length new ≡ length old + length more = ap length e ∙ length-append old more in
     let behind : drop first new ≡ more = (λ i. drop (is i) (e i)) ∙ drop-append_seam old more in
     ap (take (length new - first)) behind ∙ take_all (length new - first) more (omega arith)
 
--- a unit has few credits
+-- the credits behind the first ones are sorted and written back: all credits are still the same ones
+pub reordered : (made rows part beneath : List CreditRow) (first n : ℕ) → rows ≡ made → length rows ≡ n
+    → IsPermutation (mid_of first (length rows - first) rows) part
+    → let whole = put_mid first (length rows - first) rows part in IsPermutation made (take n (whole ++ drop (length whole) beneath))
+reordered made rows part beneath first n is long placed =
+    let whole = put_mid first (length rows - first) rows part in
+    let same : IsPermutation rows whole = IsPermutation-put_mid first (length rows - first) rows part placed in
+    let count : length whole ≡ n = length_permutation rows whole same ∙ long in
+    let read : take n (whole ++ drop (length whole) beneath) ≡ whole =
+    ap (λ k. take k (whole ++ drop (length whole) beneath)) (sym count) ∙ take-append_seam whole (drop (length whole) beneath) in
+    rw read (subst (λ rows. IsPermutation rows whole) is same)
+
+-- a unit has at most 800 credits
 few_credits : (u : BmUnit) → HasFewSubsidiaries u → length (unit_credits u) ≤ most_subsidiaries + 1
 few_credits u few =
     let long : length (unit_credits u) ≡ length u.subsidiaries + 1 = length-append (map (credit_of u) u.subsidiaries) _ ∙ ap (λ n. n + 1) (length-map u.subsidiaries (credit_of u)) in
@@ -110,7 +129,7 @@ contracts_after p old new e changed = changed (unit_sums p.units) e ∙ (λ i. m
     one : (a : Account) → with_net_by p.accounts p.contracts a (unit_sums p.units a) ≡ period_sums p a
     one a = λ j. record (unit_sums p.units a) { contracts = +ℤ_idl (net_contracts p a) j }
 
--- sums that have nothing are within any size
+-- sums of 0 are within any size
 pub none_within : (accounts : List Account) (most : ℕ) (sums : List AccountSums) → sums ≡ replicate (length accounts) no_sums → All (IsWithin most) sums
 none_within accounts most sums e =
     rw e (All-replicate (IsWithin most) (length accounts) no_sums (record { credited = omega arith; balancing = omega arith; contracts = omega arith; weight = omega arith }))

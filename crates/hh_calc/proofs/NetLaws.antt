@@ -1,4 +1,4 @@
--- What accounts sell less what they buy: it comes to nothing over all of them, and is alike by rows and by net volumes.
+-- What accounts sell less what they buy: its sum over all accounts is zero, and rows and net volumes give the same.
 use Rattle.std.proofs.Common.{◌≡◌, ℕ, zero, suc, ◌<◌, Bool, true, false, cond, List, [], ◌∷◌, length, get_or, map, refl, sym, ap, subst, ◌∙◌, arith, inl, inr}
 use Rattle.std.specs.Prelude.{◌≢◌, ℤ, pos, neg_ℤ, ◌+ℤ◌, ◌-ℤ◌, ◌*ℤ◌, ◌&&◌, nat_le, All, Contains}
 use Rattle.std.specs.List.{list_all, zip}
@@ -34,18 +34,18 @@ total-ticks f (x ∷ xs) = ap (λ z. (f x *ℤ ticks_per_kwh) +ℤ z) (total-tic
     both : (a b : ℤ) → (a *ℤ ticks_per_kwh) +ℤ (b *ℤ ticks_per_kwh) ≡ (a +ℤ b) *ℤ ticks_per_kwh
     both a b = omega (arith, ints)
 
--- what is read inside a list is the same whatever is read past its end
+-- reading inside a list does not depend on the default for reading past its end
 get_or-default : {X : Type 0} (xs : List X) (k : ℕ) (d e : X) → k < length xs → get_or xs k d ≡ get_or xs k e
 get_or-default [] k d e inside = absurd (omega arith)
 get_or-default (x ∷ xs) zero d e inside = refl
 get_or-default (x ∷ xs) (suc k) d e inside = get_or-default xs k d e (omega arith)
 
--- what is alike at each place is alike as a list
+-- lists are equal if their elements at each place are
 map-alike : {X Y : Type 0} (f g : X → Y) (xs : List X) → ((k : ℕ) (d : X) → k < length xs → f (get_or xs k d) ≡ g (get_or xs k d)) → map f xs ≡ map g xs
 map-alike f g [] alike = refl
 map-alike f g (x ∷ xs) alike = λ i. alike 0 x (omega arith) i ∷ map-alike f g xs (λ k d lt. alike (suc k) d (omega arith)) i
 
--- what a contract is for an account in ticks is what it is in kWh
+-- a contract's amount for an account is the same in ticks as in kWh
 net_ticks : (a : Account) (c : Contract) → net_kwh_of a c *ℤ ticks_per_kwh ≡ net_of a c
 net_ticks a c = by (is_same_account c.counterparties.seller a) (is_same_account c.counterparties.buyer a)
   where
@@ -56,7 +56,7 @@ net_ticks a c = by (is_same_account c.counterparties.seller a) (is_same_account 
     by false false = omega (arith, ints)
 
 module _ (accounts : List Account) (up : AreAccountsInOrder accounts) where
-  -- no other place of the accounts is the account's
+  -- no other place has the account
   others_differ : (d : Account) (k j : ℕ) → k < length accounts → j < length accounts → j ≢ k
       → is_same_account (get_or accounts k d) (get_or accounts j d) ≡ false
   others_differ d k j inside among ne = elim (cases_lt k j) [
@@ -66,21 +66,21 @@ module _ (accounts : List Account) (up : AreAccountsInOrder accounts) where
         ∙ ap ordering_reverse (rises account_cmp accounts up j k d (omega arith) inside))
   ]
 
-  -- an amount of a named account comes up once over the accounts
+  -- an amount of a named account counts once over the accounts
   spread : (b : Account) → Contains accounts b → (amount : ℤ) → total (λ a. of_account a b amount) accounts ≡ amount
   spread b (k, inside, is) amount =
       counts_once (is_same_account b) (λ a. amount) accounts b k inside
       (ap is_eq (ap (account_cmp b) is ∙ tied_itself account_total b))
       (λ j among ne. ap (λ c. is_same_account c (get_or accounts j b)) (sym is) ∙ others_differ b k j inside among ne)
 
-  -- each account has an amount, and that of one of them counts for it alone
+  -- if each account has an amount, only that of one account counts for it
   own : (f : Account → ℤ) (k : ℕ) (d : Account) → k < length accounts
       → total (λ b. of_account (get_or accounts k d) b (f b)) accounts ≡ f (get_or accounts k d)
   own f k d inside =
       counts_once (λ b. is_same_account b (get_or accounts k d)) f accounts d k inside (ap is_eq (tied_itself account_total (get_or accounts k d)))
       (λ j among ne. others_differ d j k among inside (λ e. ne (sym e)))
 
-  -- a contract is for its seller what it is against its buyer
+  -- the seller's amount of a contract and the buyer's sum to zero
   one_contract : (amount : Contract → ℤ) (c : Contract) → IsContractNamed accounts c
       → total (λ a. of_account a c.counterparties.seller (amount c) -ℤ of_account a c.counterparties.buyer (amount c)) accounts ≡ pos 0
   one_contract amount c (sells, buys) =
@@ -108,7 +108,7 @@ module _ (accounts : List Account) (up : AreAccountsInOrder accounts) where
       let stands : e ≡ (get_or accounts k d.0, get_or nets k d.1) = get_or-zip accounts nets k d inside (omega arith) in
       (k, inside, get_or-default accounts k e.0 d.0 inside ∙ sym (ap (λ (x : Account × ℤ). x.0) stands))
 
-  -- and so do the accounts' net contracts
+  -- so the accounts' net contracts sum to zero
   pub contracts_sum : (contracts : ContractTerms) → AreContractsReady accounts contracts → total (net_by accounts contracts) accounts ≡ pos 0
   contracts_sum (Rows rows) named = total-swap net_of accounts rows ∙ all_contracts contracted rows named
   contracts_sum (Net nets) ready =
@@ -122,7 +122,7 @@ module _ (accounts : List Account) (up : AreAccountsInOrder accounts) where
   pub nets_sum : (rows : List Contract) → All (IsContractNamed accounts) rows → total (net_kwh rows) accounts ≡ pos 0
   nets_sum rows named = total-swap net_kwh_of accounts rows ∙ all_contracts (λ c. c.volume) rows named
 
-  -- an account has the same net contracts by rows and by net volumes
+  -- an account has the same net contracts by rows as by net volumes
   nets_alike : (contracts : ContractTerms) (k : ℕ) (d : Account) → k < length accounts
       → net_by accounts (netted_contracts accounts contracts) (get_or accounts k d) ≡ net_by accounts contracts (get_or accounts k d)
   nets_alike (Net nets) k d inside = refl
@@ -142,7 +142,7 @@ module _ (p : PeriodTerms) (up : AreInOrder p) where
   sums_alike : (k : ℕ) (d : Account) → k < length p.accounts → period_sums (netted p) (get_or p.accounts k d) ≡ period_sums p (get_or p.accounts k d)
   sums_alike k d inside = λ i. record (period_sums p (get_or p.accounts k d)) { contracts = nets_alike p.accounts up p.contracts k d inside i }
 
-  -- a period has the same figures by rows and by net volumes
+  -- a period has the same figures by rows as by net volumes
   pub figures_alike : all_figures (netted p) ≡ all_figures p
   figures_alike = map-alike (figures (netted p)) (figures p) p.accounts (λ k d inside i. figures_with (get_or p.accounts k d) (sums_alike k d inside i))
     where
@@ -155,7 +155,7 @@ module _ (p : PeriodTerms) (up : AreInOrder p) where
       ap neg_ℤ (sym (total-map (λ (f : Figures). f.charge) (figures (netted p)) p.accounts) ∙ ap (total (λ (f : Figures). f.charge)) figures_alike
       ∙ total-map (λ (f : Figures). f.charge) (figures p) p.accounts)
 
-  -- and passes the same limits
+  -- and the same limits hold
   pub limits_alike : is_within_limits (netted p) ≡ is_within_limits p
   limits_alike = λ i. all_within_alike i && is_at_most greatest_cash (residual_alike i)
     where
@@ -166,7 +166,7 @@ module _ (p : PeriodTerms) (up : AreInOrder p) where
           (λ k d inside i. are_within (figures_from (get_or p.accounts k d) (sums_alike k d inside i) p.price) && nat_le (sums_alike k d inside i).weight greatest_energy))
           ∙ list_all-map (λ b. b) (is_account_within p) p.accounts
 
--- net volumes of rows are such as a period may have, where each is in its range
+-- the net volumes of rows may be settled, if each is in its range
 pub netted_ready : (p : PeriodTerms) (rows : List Contract) → p.contracts ≡ Rows rows → IsReady p → All IsNetVolume (map (net_kwh rows) p.accounts) → IsReady (netted p)
 netted_ready p rows are ready small =
     let named : All (IsContractNamed p.accounts) rows = subst (AreContractsReady p.accounts) are ready.1.1 in

@@ -1,4 +1,4 @@
--- Keys that rise: where a search finds them.
+-- Keys that rise, and where a search finds them.
 use Rattle.std.proofs.Common.{◌≡◌, ℕ, zero, suc, ◌+◌, ◌<◌, List, [], ◌∷◌, length, get_or, ap, ◌∙◌, arith, Ordering, inl, inr}
 use Rattle.std.proofs.lemmas.Bool.{cases_lt}
 use Rattle.std.specs.List.{Contains}
@@ -19,12 +19,12 @@ module _ {K : Type 0} (R : K → K → Ordering) where
   rises (k ∷ keys) up (suc i) (suc j) d lt in' = rises keys up.1 i j d (omega arith) (omega arith)
 
 module _ {K : Type 0} {R : K → K → Ordering} (o : IsTotalOrder R) where
-  -- a binary search may be made among them
+  -- the keys are in the order that a binary search requires
   pub searchable : (keys : List K) → IsStrictlySortedBy R keys → (x : K) → IsNonDecreasingBy (λ y. ordering_index (R y x)) keys
   searchable keys up x = searchable_from_sorted o (λ y. y) keys x (λ k d low high.
       ap is_lt (o.antisymm (get_or keys (k + 1) d) (get_or keys k d) ∙ ap ordering_reverse (rises R keys up k (k + 1) d (omega arith) high)))
 
-  -- and a key that stands among them is found
+  -- a key that is among them is found
   pub found : (keys : List K) (x : K) (i : ℕ) → Contains keys x → IsPartitionPoint (λ y. R y x ≡ Less) (λ y. R y x ≡ Greater) keys i → ⊥
   found keys x i (k, in', is) (below, above) =
       let same : R (get_or keys k x) x ≡ Equal = ap (λ y. R y x) is ∙ tied_itself o x in

@@ -23,7 +23,7 @@ use Rattle.hh_calc.specs.Terms.{PeriodTerms, Settled, BmUnit}
 use Rattle.hh_calc.proofs.NetLaws.{contracts_sum}
 use Rattle.hh_calc.proofs.SpreadLaws.{counted, counts_once, total-IsPermutation, total-flat_map}
 
--- The credits from a unit sum to its loss-adjusted volume; where they do not count, to zero.
+-- The credits from a unit sum to its loss-adjusted volume, or to zero if they do not count.
 unit_credits_sum : (u : BmUnit) (do_count : Bool)
     → total (λ s. cond do_count (subsidiary_credit u s) (pos 0)) u.subsidiaries +ℤ cond do_count (lead_credit u) (pos 0) ≡ cond do_count (loss_adjusted u) (pos 0)
 unit_credits_sum u true =
@@ -31,11 +31,11 @@ unit_credits_sum u true =
     ∙ -ℤ-+ℤ_cancel (loss_adjusted u) (total (subsidiary_credit u) u.subsidiaries)
 unit_credits_sum u false = +ℤ_idr (total (λ (s : Subsidiary). pos 0) u.subsidiaries) ∙ total-zero u.subsidiaries
 
--- a credit, where it is from the unit of this name
+-- a credit, if it is from the unit of this name
 abbrev credited_under : List ℕ → CreditRow → ℤ
 credited_under name = counted (λ c. bytes_eq c.unit name) (λ c. c.credited)
 
--- under a unit's name count all its credits, and under any other none
+-- the credits under a unit's name are all those of the unit, and no others
 credits_under : (name : List ℕ) (u : BmUnit) → total (credited_under name) (unit_credits u) ≡ counted (λ v. bytes_eq v.unit name) loss_adjusted u
 credits_under name u =
     let given : Subsidiary → CreditRow = λ s. record { unit = u.unit; account = s.account; credited = subsidiary_credit u s } in
@@ -64,24 +64,24 @@ credits_sum p s distinct settled k d inside =
         ])
 
 module _ (p : PeriodTerms) (s : Settled) (settled : IsSettled p s) where
-  -- the rows sum to what the figures do
+  -- sums over the rows are sums over the figures
   rows_sum : (f : Figures → ℤ) → total (λ r. f (figures_of r)) s.accounts ≡ total (λ a. f (figures p a)) p.accounts
   rows_sum f = sym (total-map f figures_of s.accounts) ∙ ap (total f) settled.rows ∙ total-map f (figures p) p.accounts
 
-  -- charges and shares together sum to zero, where the shares sum to the residual
+  -- charges and shares together sum to zero, if the shares sum to the residual
   cash_sum : SumsTo (residual p) (shares_shown s.accounts) → total paid_by s.accounts ≡ pos 0
   cash_sum shares =
       total-plus (λ (r : AccountRow). r.charge) (λ r. r.share) s.accounts
       ∙ (λ i. rows_sum (λ f. f.charge) i +ℤ (sym (total-map (λ x. x) (λ r. r.share) s.accounts) ∙ shares) i)
       ∙ +ℤ_invr (total (λ a. (figures p a).charge) p.accounts)
 
--- a residual that is not zero is some account's
+-- a residual other than zero is shared by at least one account
 some_account : (accounts : List Account) (f : Account → ℤ) (g : Account → ℕ) → neg_ℤ (total f accounts) ≢ pos 0 → 0 < length (map g accounts)
 some_account [] f g differs = absurd (differs refl)
 some_account (a ∷ accounts) f g differs = omega arith
 
--- What a settled period adds up to: contracts to zero, the credits from each unit to its loss-adjusted volume, cash to zero;
--- and its shares are quotas rounded.
+-- What a settled period adds up to: contracts sum to zero, the credits from each unit to its loss-adjusted volume, and cash
+-- to zero. Its shares are quotas, rounded.
 pub adds_up : (p : PeriodTerms) (s : Settled) → AreInOrder p → AreNamed p → IsSettled p s → AddsUp p s
 adds_up p s up named settled = record {
   contracts = rows_sum p s settled (λ f. f.contracts) ∙ contracts_sum p.accounts up p.contracts named.1;

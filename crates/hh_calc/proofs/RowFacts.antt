@@ -17,7 +17,7 @@ use Rattle.hh_calc.specs.steps.Limits.{kept_where}
 use Rattle.hh_calc.specs.steps.Sums.{greatest_sum, IsWithin}
 use Rattle.hh_calc.proofs.WordFacts.{long_word, word}
 
--- an amount that a limit let through, or did not
+-- an amount that is within a limit, and one that is past it
 pub in_limit : (most : ℕ) (x word v : ℤ) (r : Option ℤ) → r ≡ cond (is_at_most most word) (Some word) None → word ≡ x → r ≡ Some v → (v ≡ x) × (is_at_most most x ≡ true)
 in_limit most x word v r e same some = go (is_at_most most word) refl (sym e ∙ some)
   where
@@ -32,7 +32,7 @@ past_limit most x word r e same none = go (is_at_most most word) refl (sym e ∙
     go true k h = cc h
     go false k h = ap (is_at_most most) (sym same) ∙ k
 
--- the imbalance, as the machine's words hold it
+-- the imbalance as the machine's words compute it
 pub imbalance_word : (s : AccountSums) → IsWithin greatest_sum s
     → word (word (word s.credited -ℤ word s.balancing) -ℤ word s.contracts) ≡ imbalance_of s
 imbalance_word s small =
@@ -45,7 +45,7 @@ imbalance_word s small =
     ∙ ap (λ z. word (z -ℤ s.contracts)) (long_word (s.credited -ℤ s.balancing) first)
     ∙ long_word ((s.credited -ℤ s.balancing) -ℤ s.contracts) all
 
--- the energy's price, turned round: it stays far below the limits of rounding
+-- minus the energy times the price, as the words compute it; it is small enough to be rounded
 pub charge_word : (imbalance price wide wide' : ℤ) → unsigned_abs imbalance ≤ 10 ^ 17 → unsigned_abs price ≤ 10 ^ 10 → wide ≡ imbalance → wide' ≡ price
     → let amount : ℤ = to_z w128 (of_z w128 (pos 0 -ℤ to_z w128 (of_z w128 (to_z w128 (of_z w128 wide) *ℤ to_z w128 (of_z w128 wide'))))) in
     (amount ≡ neg_ℤ (imbalance *ℤ price)) × (unsigned_abs amount ≤ 10 ^ 30)
@@ -74,19 +74,19 @@ price_size p (low, high) = omega (arith, ints)
 pub at_most : (most : ℕ) (x : ℤ) → is_at_most most x ≡ true → unsigned_abs x ≤ most
 at_most most x h = grind (arith, nat_tests)
 
--- a word of 128 bits is itself
+-- a number that fits 128 bits is its word
 pub cash_word : (x : ℤ) → mag x < 2 ^ 127 → to_z w128 (of_z w128 x) ≡ x
 cash_word x h = to_z-of_z w128 x (record { sfits = h })
 
--- the sum of an account, as a word holds it
+-- an account's sum fits a word
 pub sum_held : (x : ℤ) → unsigned_abs x ≤ greatest_sum → word x ≡ x
 sum_held x le = long_word x (omega arith)
 
--- nothing is kept of what does not pass
+-- nothing is kept if the test fails
 pub none_kept : {A : Type 0} (r : Option A) (test : Bool) (value : A) → r ≡ None → test ≡ false → r ≡ kept_where test value
 none_kept r test value none past = none ∙ ap (λ b. cond b (Some value) None) (sym past)
 
--- figures that are those of the sums, and pass no limit, are kept
+-- the figures from the sums are kept if they pass no limit
 pub figures_kept : (account : Account) (sums : AccountSums) (price : ℤ) (credited balancing contracts imbalance charge : ℤ)
     → credited ≡ sums.credited → balancing ≡ sums.balancing → contracts ≡ sums.contracts → imbalance ≡ imbalance_of sums → charge ≡ charge_for (imbalance_of sums) price
     → are_within (figures_from account sums price) ≡ true

@@ -1,4 +1,4 @@
--- Row after row: the accounts of a period so far.
+-- The accounts of a period, row after row.
 use Rattle.std.proofs.Common.{◌≡◌, ℕ, ◌+◌, ◌*◌, ◌^◌, ◌<◌, ◌≤◌, Bool, true, false, Option, Some, None, List, [], ◌∷◌, ◌++◌, length, get_or, take, map, refl, sym, ap, ◌∙◌, arith, add-one}
 use Rattle.std.specs.Prelude.{ℤ, neg_ℤ, ◌-ℤ◌, unsigned_abs}
 use Rattle.std.proofs.Math.IntN.{neg_ℤ-+ℤ}
@@ -20,7 +20,7 @@ use Rattle.hh_calc.proofs.RowFacts.{at_most}
 use Rattle.hh_calc.proofs.SumLaws.{total-more}
 use Rattle.hh_calc.proofs.WordFacts.{long_word, word}
 
--- what is kept passed, and is the value
+-- a kept value passed the test
 pub kept_some : {A : Type 0} (r : Option A) (test : Bool) (value v : A) → r ≡ kept_where test value → r ≡ Some v → (v ≡ value) × (test ≡ true)
 kept_some r true value v e some = (sym (cc (sym e ∙ some)), refl)
 kept_some r false value v e some = cc (sym e ∙ some)
@@ -34,25 +34,25 @@ module _ (p : PeriodTerms) (place : ℕ) (account : Account) (inside : place < l
   pub sums_read : (sums : List AccountSums) → sums ≡ map (period_sums p) p.accounts → get_or sums place no_sums ≡ period_sums p account
   sums_read sums e = ap (λ l. get_or l place no_sums) e ∙ get_or-map (period_sums p) p.accounts place account no_sums inside ∙ ap (period_sums p) (sym is)
 
-  -- Its figures from them are its figures in the period.
+  -- The figures from these sums are the account's figures in the period.
   pub figures_read : (sums : List AccountSums) → sums ≡ map (period_sums p) p.accounts → (price : ℤ) → price ≡ p.price
       → figures_from account (get_or sums place no_sums) price ≡ figures p account
   figures_read sums e price same = λ i. figures_from account (sums_read sums e i) (same i)
 
-  -- One account past the limits decides.
+  -- If one account is past the limits, not all are within them.
   pub past_account : is_account_within p account ≡ false → are_accounts_within p p.accounts ≡ false
   past_account past = list_all_at (is_account_within p) p.accounts place account inside (ap (is_account_within p) (sym is) ∙ past)
 
-  -- One account more within them.
+  -- One more account is within the limits.
   pub account_more : are_accounts_within p (take place p.accounts) ≡ true → is_account_within p account ≡ true → are_accounts_within p (take (place + 1) p.accounts) ≡ true
   account_more h k = list_all_more (is_account_within p) p.accounts place account inside ∙ and_from _ _ h (ap (is_account_within p) (sym is) ∙ k)
 
--- one value more of a list that is mapped
+-- the mapped list with one more value
 pub map_next : {A X : Type 0} (f : A → X) (rows : List A) (place : ℕ) (row : A) → place < length rows → row ≡ get_or rows place row
     → (items : List X) (x : X) → items ≡ map f (take place rows) → x ≡ f row → (new : List X) → new ≡ items ++ x ∷ [] → new ≡ map f (take (place + 1) rows)
 map_next f rows place row inside is items x so_far same new e = e ∙ (λ i. so_far i ++ (same ∙ ap f is) i ∷ []) ∙ sym (map_more f rows place row inside)
 
--- one row more that shows the next value of a list
+-- the rows with one more, which shows the next value of a list
 pub shown_next : {R X : Type 0} (f : R → X) (xs : List X) (place : ℕ) (d x : X) → place < length xs → x ≡ get_or xs place d
     → (rows : List R) (row : R) → map f rows ≡ take place xs → f row ≡ x → (new : List R) → new ≡ rows ++ row ∷ [] → map f new ≡ take (place + 1) xs
 shown_next f xs place d x inside is rows row so_far same new e =
@@ -71,7 +71,7 @@ charge_size f h = at_most greatest_cash f.charge (and_parts _ _ h).1
 pub residual_size : (place : ℕ) (residual charge : ℤ) → unsigned_abs residual ≤ place * greatest_cash → unsigned_abs charge ≤ greatest_cash → unsigned_abs (residual -ℤ charge) ≤ (place + 1) * greatest_cash
 residual_size place residual charge small le = rw (add-one, suc-mul place greatest_cash) (omega (arith, ints))
 
--- what the machine's words hold of it
+-- the residual as the machine's words compute it
 pub residual_word : (held wide residual charge : ℤ) → held ≡ residual → wide ≡ charge → unsigned_abs residual ≤ 10 ^ 35 → unsigned_abs charge ≤ greatest_cash
     → word (held -ℤ word wide) ≡ residual -ℤ charge
 residual_word held wide residual charge same same' small small' =

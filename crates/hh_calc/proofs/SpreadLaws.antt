@@ -1,4 +1,4 @@
--- Sums of an amount that counts at one place, of the parts of rows and in another order.
+-- Three kinds of sums: of an amount that counts at one place, over the parts of rows, and in another order.
 use Rattle.std.proofs.Common.{◌≡◌, ℕ, zero, suc, ◌+◌, ◌<◌, Bool, true, false, cond, List, [], ◌∷◌, length, get_or, refl, sym, ap, ◌∙◌, arith}
 use Rattle.std.specs.Prelude.{◌≢◌, ℤ, pos, negsuc, ◌+ℤ◌, ◌-ℤ◌, sum_by}
 use Rattle.std.specs.List.{flat_map}
@@ -11,16 +11,16 @@ use Rattle.hh_num.specs.Totals.{total}
 use Rattle.hh_num.proofs.TotalLaws.{total-append}
 
 module _ {X : Type 0} (test : X → Bool) (f : X → ℤ) where
-  -- an amount that counts where the test holds
+  -- an amount that counts if the test holds
   abbrev pub counted : X → ℤ
   counted x = cond (test x) (f x) (pos 0)
 
-  -- where the test holds nowhere, nothing counts
+  -- if the test holds at no place, the sum is 0
   none_counts : (xs : List X) (d : X) → ((j : ℕ) → j < length xs → test (get_or xs j d) ≡ false) → total counted xs ≡ pos 0
   none_counts [] d never = refl
   none_counts (x ∷ xs) d never = λ i. cond (never 0 (omega arith) i) (f x) (pos 0) +ℤ none_counts xs d (λ j lt. never (suc j) (omega arith)) i
 
-  -- where the test holds at one place alone, the sum is the amount of that place
+  -- if the test holds at exactly one place, the sum is the amount at that place
   pub counts_once : (xs : List X) (d : X) (k : ℕ) → k < length xs → test (get_or xs k d) ≡ true
       → ((j : ℕ) → j < length xs → j ≢ k → test (get_or xs j d) ≡ false) → total counted xs ≡ f (get_or xs k d)
   counts_once [] d k inside is others = absurd (omega arith)
@@ -36,7 +36,7 @@ pub total-flat_map : {X Y : Type 0} (f : Y → ℤ) (parts : X → List Y) (xs :
 total-flat_map f parts [] = refl
 total-flat_map f parts (x ∷ xs) = total-append f (parts x) (flat_map parts xs) ∙ ap (λ z. total f (parts x) +ℤ z) (total-flat_map f parts xs)
 
--- what a number is above zero, and below
+-- by how much a number is above zero, and by how much below
 abbrev above : ℤ → ℕ
 above (pos n) = n
 above (negsuc n) = 0
@@ -51,7 +51,7 @@ above-below (pos n) = omega (arith, ints)
 above-below (negsuc n) = omega (arith, ints)
 
 module _ {X : Type 0} (f : X → ℤ) where
-  -- and so is a sum
+  -- and a sum is the difference of the two sums
   above_and_below : (xs : List X) → total f xs ≡ pos (sum_by (λ x. above (f x)) xs) -ℤ pos (sum_by (λ x. below (f x)) xs)
   above_and_below [] = refl
   above_and_below (x ∷ xs) =

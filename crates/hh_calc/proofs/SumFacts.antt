@@ -11,7 +11,7 @@ sum_word held amount few small =
     let both : unsigned_abs (held +ℤ amount) ≤ 15 * 10 ^ 37 = omega (arith, ints) in
     (λ i. word (long_word held (omega arith) i +ℤ long_word amount (omega arith) i)) ∙ long_word (held +ℤ amount) both
 
--- what the machine's words hold of a sum of net volumes
+-- the sum of net volumes as the machine's words compute it
 pub nets_word : (held wide sum net : ℤ) → held ≡ sum → wide ≡ net → unsigned_abs sum ≤ 10 ^ 35 → unsigned_abs net ≤ 10 ^ 11
     → word (held +ℤ word wide) ≡ sum +ℤ net
 nets_word held wide sum net same same' small small' =

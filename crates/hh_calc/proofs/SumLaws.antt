@@ -33,7 +33,7 @@ apart a to x held other =
       weight = (w ∙ ap (λ t. held.weight + cond t x.weight 0) (sym other)) i;
     }
 
--- and those of the account itself do
+-- amounts of the account itself count
 own : (a to : Account) (x held : AccountSums) → is_same_account to a ≡ true → sums_plus held x ≡ with_amounts to x a held
 own a to x held same = λ i. record {
   credited = held.credited +ℤ cond (sym same i) x.credited (pos 0);
@@ -42,13 +42,13 @@ own a to x held same = λ i. record {
   weight = held.weight + cond (sym same i) x.weight 0;
 }
 
--- amounts of an account that comes before all do not count
+-- amounts of an account that comes before all others do not count for them
 none_before : (accounts : List Account) (to : Account) → AllByRecursion (λ a. account_cmp to a ≡ Less) accounts
     → (f : Account → AccountSums) (x : AccountSums) → map f accounts ≡ map (λ a. with_amounts to x a (f a)) accounts
 none_before [] to later f x = refl
 none_before (a ∷ accounts) to later f x = λ i. apart a to x (f a) (ap is_eq later.0) i ∷ none_before accounts to later.1 f x i
 
--- amounts that are added at an account's place count for that account alone
+-- amounts added at an account's place count only for that account
 pub added_once : (accounts : List Account) → IsStrictlySortedBy account_cmp accounts
     → (place : ℕ) (to : Account) → place < length accounts → HoldsAt (λ a. a ≡ to) accounts place
     → (f : Account → AccountSums) (x d : AccountSums)
@@ -65,7 +65,7 @@ added_once (a ∷ accounts) up (suc place) to inside is f x d =
     let above : account_cmp to a ≡ Greater = account_total.antisymm to a ∙ ap ordering_reverse below in
     λ i. apart a to x (f a) (ap is_eq above) i ∷ added_once accounts up.1 place to (omega arith) is f x d i
 
--- a change, and one more after it
+-- two changes, one after the other
 pub changed_on : (accounts : List Account) (first second both : Account → AccountSums → AccountSums) → ((a : Account) (s : AccountSums) → second a (first a s) ≡ both a s)
     → (start old new : List AccountSums) → AreChanged accounts first start old → AreChanged accounts second old new → AreChanged accounts both start new
 changed_on accounts first second both same start old new h k = λ had e. k (λ a. first a (had a)) (h had e) ∙ (λ i. map (λ a. same a (had a) i) accounts)
@@ -75,7 +75,7 @@ pub unchanged : (accounts : List Account) (change : Account → AccountSums → 
     → (sums : List AccountSums) → AreChanged accounts change sums sums
 unchanged accounts change same sums = λ had e. e ∙ (λ i. map (λ a. same a (had a) i) accounts)
 
--- growth, and more growth after it
+-- two growths, one after the other
 pub grown_on : (n m k : ℕ) → k ≡ n + m → (start old new : List AccountSums) → AreGrown n start old → AreGrown m old new → AreGrown k start new
 grown_on n m k same start old new h g = λ most small.
     let e : (most + n) + m ≡ most + k = omega arith in
@@ -113,7 +113,7 @@ sum_by-more f rows i row inside is =
     alone : (n : ℕ) → n + 0 ≡ n
     alone n = omega arith
 
--- nothing counts for nobody
+-- an amount of 0 adds nothing
 pub of_none : (a to : Account) → of_account a to (pos 0) ≡ pos 0
 of_none a to = elim (is_same_account to a) as (λ t. cond t (pos 0) (pos 0) ≡ pos 0) [ true ↦ refl | false ↦ refl ]
 
@@ -138,7 +138,7 @@ no_credits weighs a s = λ j. record { credited = sym (+ℤ_idr s.credited) j; b
 pub no_contracts : (a : Account) (s : AccountSums) → s ≡ with_contracts [] a s
 no_contracts a s = λ j. record { credited = s.credited; balancing = s.balancing; contracts = sym (+ℤ_idr s.contracts) j; weight = s.weight }
 
--- Credit after credit.
+-- One more credit.
 module _ (weighs : Bool) (credits : List CreditRow) (i : ℕ) (credit : CreditRow) (inside : i < length credits) (is : credit ≡ get_or credits i credit) where
   weight_step : (a : Account) (n : ℕ) → (n + cond weighs (sum_by (weight_of a) (take i credits)) 0) + cond (is_same_account credit.account a) (cond weighs (unsigned_abs credit.credited) 0) 0
       ≡ n + cond weighs (sum_by (weight_of a) (take (i + 1) credits)) 0
@@ -156,7 +156,7 @@ module _ (weighs : Bool) (credits : List CreditRow) (i : ℕ) (credit : CreditRo
     weight = weight_step a s.weight j;
   }
 
--- Contract after contract.
+-- One more contract.
 pub contract_step : (contracts : List Contract) (i : ℕ) (contract : Contract) → i < length contracts → contract ≡ get_or contracts i contract
     → (a : Account) (s : AccountSums) → with_contract contract a (with_contracts (take i contracts) a s) ≡ with_contracts (take (i + 1) contracts) a s
 contract_step contracts i contract inside is a s = λ j. record {
@@ -186,11 +186,11 @@ sold_and_bought c a s =
 pub no_nets : (a : Account) (s : AccountSums) → s ≡ with_nets [] a s
 no_nets a s = λ j. record { credited = s.credited; balancing = s.balancing; contracts = sym (+ℤ_idr s.contracts) j; weight = s.weight }
 
--- a list beside another of its length is as long
+-- a list paired with another of its length is as long
 pub length-beside : {A B : Type 0} (ks : List A) (vs : List B) → length vs ≡ length ks → length (zip ks vs) ≡ length ks
 length-beside {A} {B} ks vs e = sym (length-map (zip ks vs) (λ (p : A × B). p.0)) ∙ ap length (firsts-zip ks vs e)
 
--- Net volume after net volume.
+-- One more net volume.
 module _ (accounts : List Account) (nets : List ℤ) (own : length nets ≡ length accounts) (i : ℕ) (account : Account) (kwh : ℤ)
     (inside : i < length accounts) (is : account ≡ get_or accounts i account) (is_net : kwh ≡ get_or nets i kwh) where
   pub net_step : (a : Account) (s : AccountSums) → with_amounts account (contract_amounts (kwh *ℤ ticks_per_kwh)) a (with_nets (take i (zip accounts nets)) a s)
@@ -207,6 +207,6 @@ module _ (accounts : List Account) (nets : List ℤ) (own : length nets ≡ leng
         weight = weight_of_none a account s.weight j;
       }
 
--- what holds of each row holds of one that is read
+-- if all rows have a property, the row that is read has it
 pub all_read : {X : Type 0} (P : X → Type 0) (rows : List X) (i : ℕ) (row : X) → All P rows → i < length rows → row ≡ get_or rows i row → P row
 all_read P rows i row all inside is = subst P (sym is) (all i row inside)

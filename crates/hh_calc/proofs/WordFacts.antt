@@ -7,7 +7,7 @@ use Rattle.std.proofs.lemmas.Int.{ints, to_z-of_z}
 use Rattle.hh_num.specs.Ranges.{IsBetween}
 use Rattle.hh_calc.specs.steps.Sums.{greatest_volume}
 
--- a number as a word of 128 bits holds it
+-- a number as a word of 128 bits
 abbrev pub word : ℤ → ℤ
 word x = to_z w128 (of_z w128 x)
 
@@ -20,11 +20,11 @@ volume_size v (low, high) = omega (arith, ints)
 pub net_size : (v : ℤ) → IsBetween (neg_ℤ (pos (10 ^ 11))) (pos (10 ^ 11)) v → unsigned_abs v ≤ 10 ^ 11
 net_size v (low, high) = omega (arith, ints)
 
--- a volume in ticks, as a word holds it
+-- a volume in ticks fits a word
 pub held_volume : (v held : ℤ) → held ≡ v → unsigned_abs held ≤ greatest_volume → word held ≡ v
 held_volume v held same le = long_word held (omega arith) ∙ same
 
--- a volume in ticks, turned round
+-- and so does minus the volume
 pub turned_word : (v held : ℤ) → held ≡ v → unsigned_abs held ≤ greatest_volume → word (pos 0 -ℤ word held) ≡ neg_ℤ v
 turned_word v held same le =
     let turned : pos 0 -ℤ word held ≡ neg_ℤ held = +ℤ_idl (neg_ℤ (word held)) ∙ ap neg_ℤ (long_word held (omega arith)) in

@@ -1,5 +1,5 @@
 -- The settlement of one period, in the shape of the Balancing and Settlement Code's Section T (credited energy, imbalance, residual cashflow); the
--- formulas and numbers are this office's own. Energy is in ticks, 10^10 to the MWh, cash in pence, positive where the account pays.
+-- formulas and numbers are this office's own. Energy is in ticks, 10^10 to the MWh, cash in pence, positive if the account pays.
 use Rattle.std.specs.Prelude.{ℕ, ◌^◌, unsigned_abs, ℤ, pos, neg_ℤ, ◌+ℤ◌, ◌-ℤ◌, ◌*ℤ◌, List, [], ◌∷◌, ◌++◌, map, filter, not, sum_by, if◌then◌else◌}
 use Rattle.std.specs.List.{flat_map, zip}
 use Rattle.hh_num.specs.Quantities.{hundred_percent}
@@ -31,17 +31,17 @@ loss_adjusted u = u.reading.metered *ℤ u.reading.tlm
 abbrev pub balanced : BmUnit → ℤ
 balanced u = u.reading.balancing *ℤ u.reading.tlm
 
--- what is reallocated to a subsidiary, in kWh times the units of a percentage: its percentage of the metered energy less the
--- balancing volume, and its fixed volume
+-- the volume that is reallocated to a subsidiary, in kWh times units of a percentage: its percentage of the metered volume less
+-- the balancing volume, and its fixed volume
 abbrev pub reallocated : BmUnit → Subsidiary → ℤ
 reallocated u s =
     ((u.reading.metered -ℤ u.reading.balancing) *ℤ s.reallocation.percent) +ℤ (s.reallocation.fixed *ℤ hundred_percent)
 
--- what a subsidiary is credited with: that volume, loss-adjusted and rounded
+-- the energy that a subsidiary is credited with: that volume, loss-adjusted and rounded
 abbrev pub subsidiary_credit : BmUnit → Subsidiary → ℤ
 subsidiary_credit u s = near (reallocated u s *ℤ u.reading.tlm) hundred_percent
 
--- what the lead account keeps: the exact rest of the loss-adjusted volume
+-- the energy that the lead account is credited with: the exact rest of the loss-adjusted volume
 abbrev pub lead_credit : BmUnit → ℤ
 lead_credit u = loss_adjusted u -ℤ total (subsidiary_credit u) u.subsidiaries
 
@@ -55,7 +55,7 @@ unit_credits u =
 abbrev pub credits_of : List BmUnit → List CreditRow
 credits_of units = flat_map unit_credits units
 
--- the units whose credits weigh: those of no interconnector
+-- the units whose credits weigh: those that are no interconnector units
 abbrev pub weighing : List BmUnit → List BmUnit
 weighing units = filter (λ u. not u.interconnector) units
 
@@ -64,19 +64,19 @@ abbrev pub contracted : Contract → ℤ
 contracted c = c.volume *ℤ ticks_per_kwh
 
 module _ (a : Account) where
-  -- an amount that counts only where it is for this account
+  -- an amount, if it is for this account, or 0
   abbrev pub of_account : Account → ℤ → ℤ
   of_account other amount = if is_same_account other a then amount else pos 0
 
-  -- a credit, where it is to the account
+  -- a credit, if it is to the account
   abbrev pub credited_of : CreditRow → ℤ
   credited_of c = of_account c.account c.credited
 
-  -- the size of a credit, where it is to the account
+  -- the size of a credit, if it is to the account
   abbrev pub weight_of : CreditRow → ℕ
   weight_of c = if is_same_account c.account a then unsigned_abs c.credited else 0
 
-  -- the balancing volume of a unit, where the account leads the unit
+  -- the balancing volume of a unit, if the account leads the unit
   abbrev pub balancing_of : BmUnit → ℤ
   balancing_of u = of_account u.lead (balanced u)
 
@@ -84,7 +84,7 @@ module _ (a : Account) where
   abbrev pub net_of : Contract → ℤ
   net_of c = of_account c.counterparties.seller (contracted c) -ℤ of_account c.counterparties.buyer (contracted c)
 
-  -- a net volume, where it is the account's
+  -- a net volume, if it is the account's
   abbrev pub net_entry_of : Account × ℤ → ℤ
   net_entry_of e = of_account e.0 (e.1 *ℤ ticks_per_kwh)
 
@@ -93,8 +93,8 @@ abbrev pub net_by : List Account → ContractTerms → Account → ℤ
 net_by accounts (Rows rows) a = total (net_of a) rows
 net_by accounts (Net nets) a = total (net_entry_of a) (zip accounts nets)
 
--- What an account has from these units alone: credited energy is a sum over the credits, balancing volume over the units, and its
--- weight over the sizes of the credits that weigh.
+-- What an account has from these units alone. Its credited energy is a sum over the credits, its balancing volume a sum over the
+-- units, and its weight a sum over the sizes of the credits that weigh.
 abbrev pub unit_sums : List BmUnit → Account → AccountSums
 unit_sums units a = record {
   credited = total (credited_of a) (credits_of units);
@@ -103,11 +103,11 @@ unit_sums units a = record {
   weight = sum_by (weight_of a) (credits_of (weighing units));
 }
 
--- the energy that an account was credited with beyond its balancing volume and its net contracts
+-- the imbalance: the credited energy of an account less its balancing volume and its net contracts
 abbrev pub imbalance_of : AccountSums → ℤ
 imbalance_of sums = (sums.credited -ℤ sums.balancing) -ℤ sums.contracts
 
--- what is paid for an imbalance: positive by the account, negative to it
+-- the charge for an imbalance: positive if the account pays, negative if it is paid
 abbrev pub charge_for : ℤ → ℤ → ℤ
 charge_for imbalance price = near (neg_ℤ (imbalance *ℤ price)) price_units_per_penny
 
@@ -123,11 +123,11 @@ figures_from account sums price = record {
 }
 
 module _ (p : PeriodTerms) where
-  -- the net contracts of an account in the period, in ticks: what it sells by the contracts less what it buys
+  -- the net contracts of an account in the period, in ticks: what it sells less what it buys
   abbrev pub net_contracts : Account → ℤ
   net_contracts a = net_by p.accounts p.contracts a
 
-  -- the sums of an account over the period: what it has from the units, and its net contracts
+  -- the sums of an account over the period: those from the units, and its net contracts
   abbrev pub period_sums : Account → AccountSums
   period_sums a = record (unit_sums p.units a) { contracts = net_contracts a }
 
@@ -155,7 +155,7 @@ module _ (p : PeriodTerms) where
   abbrev pub AreSharesRounded : List ℤ → Type 0
   AreSharesRounded = AreQuotasRounded residual (effective weights)
 
--- ---- net volumes in the place of rows
+-- ---- net volumes instead of rows
 
 -- what an account sells by a contract less what it buys, in kWh
 abbrev pub net_kwh_of : Account → Contract → ℤ
@@ -167,11 +167,11 @@ net_kwh_of a c =
 abbrev pub net_kwh : List Contract → Account → ℤ
 net_kwh rows a = total (net_kwh_of a) rows
 
--- the accounts' net volumes in the place of rows
+-- the contracts as net volumes of the accounts
 abbrev pub netted_contracts : List Account → ContractTerms → ContractTerms
 netted_contracts accounts (Rows rows) = Net (map (net_kwh rows) accounts)
 netted_contracts accounts (Net nets) = Net nets
 
--- a period with its accounts' net volumes in the place of its rows
+-- a period with its contracts as net volumes of the accounts
 abbrev pub netted : PeriodTerms → PeriodTerms
 netted p = record p { contracts = netted_contracts p.accounts p.contracts }

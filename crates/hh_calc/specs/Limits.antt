@@ -25,7 +25,7 @@ are_within f =
     && is_at_most greatest_energy f.imbalance && is_at_most greatest_cash f.charge
 
 module _ (p : PeriodTerms) where
-  -- no figure of an account passes a limit, nor does its weight
+  -- neither a figure nor the weight of an account passes a limit
   abbrev pub is_account_within : Account → Bool
   is_account_within a = are_within (figures p a) && nat_le (period_sums p a).weight greatest_energy
 

@@ -1,4 +1,4 @@
--- What a period is settled under.
+-- When a period may be settled.
 use Rattle.std.specs.Prelude.{◌≡◌, ℕ, ◌≢◌, ◌≤◌, ℤ, pos, List, length, All, AllPairs, Contains}
 use Rattle.std.specs.List.Sorted.{IsStrictlySortedBy}
 use Rattle.hh_num.specs.Quantities.{net_volumes}
@@ -14,7 +14,7 @@ use Rattle.hh_calc.specs.Terms.{BmUnit, ContractTerms, Net, PeriodTerms, Rows}
 abbrev pub most_subsidiaries : ℕ
 most_subsidiaries = 799
 
--- a unit has at most 799 subsidiaries: all accounts of the market but its lead
+-- a unit has at most 799 subsidiaries: all accounts of the market except its lead account
 abbrev pub HasFewSubsidiaries : BmUnit → Type 0
 HasFewSubsidiaries u = length u.subsidiaries ≤ most_subsidiaries
 
@@ -22,7 +22,7 @@ HasFewSubsidiaries u = length u.subsidiaries ≤ most_subsidiaries
 abbrev pub IsNetVolume : ℤ → Type 0
 IsNetVolume kwh = IsBetween net_volumes.least net_volumes.most kwh
 
--- each of the accounts has a net volume, and what some sell others buy
+-- there is a net volume for each account, and they sum to zero
 pub record AreNetsReady (accounts : List Account) (nets : List ℤ) : Type 0 where
   pub each : length nets ≡ length accounts
   pub even : total (λ kwh. kwh) nets ≡ pos 0
@@ -34,7 +34,7 @@ HasNetVolumes (Rows rows) = Unit {0}
 HasNetVolumes (Net nets) = All IsNetVolume nets
 
 module _ (accounts : List Account) where
-  -- the accounts rise in account order, so that none stands twice
+  -- the accounts rise in account order, so none occurs twice
   abbrev pub AreAccountsInOrder : Type 0
   AreAccountsInOrder = IsStrictlySortedBy account_cmp accounts
 
@@ -54,7 +54,7 @@ module _ (accounts : List Account) where
   abbrev pub IsContractNamed : Contract → Type 0
   IsContractNamed c = IsNamed c.counterparties.seller × IsNamed c.counterparties.buyer
 
-  -- the seller and the buyer of each row are some of these; net volumes stand one for each of these, and come to zero
+  -- the seller and the buyer of each row are among these accounts; or there is a net volume for each account, and they sum to zero
   abbrev pub AreContractsReady : ContractTerms → Type 0
   AreContractsReady (Rows rows) = All IsContractNamed rows
   AreContractsReady (Net nets) = AreNetsReady accounts nets
@@ -63,15 +63,15 @@ module _ (p : PeriodTerms) where
   abbrev pub AreInOrder : Type 0
   AreInOrder = AreAccountsInOrder p.accounts
 
-  -- each lead, subsidiary, seller and buyer is one of the accounts; net volumes stand one for each of them, and come to zero
+  -- each lead, subsidiary, seller and buyer is among the accounts; net volumes are one for each account, and sum to zero
   abbrev pub AreNamed : Type 0
   AreNamed = All (IsUnitNamed p.accounts) p.units × AreContractsReady p.accounts p.contracts
 
-  -- no unit stands twice
+  -- no unit occurs twice
   abbrev pub AreUnitsDistinct : Type 0
   AreUnitsDistinct = AllPairs (λ u v. u.unit ≢ v.unit) p.units
 
-  -- no unit has more subsidiaries than the most
+  -- no unit has more than 799 subsidiaries
   abbrev pub AreSubsidiariesFew : Type 0
   AreSubsidiariesFew = All HasFewSubsidiaries p.units
 

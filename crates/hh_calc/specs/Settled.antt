@@ -1,4 +1,4 @@
--- What a settled period holds, and what it adds up to.
+-- What a settled period contains, and what it adds up to.
 use Rattle.std.specs.Prelude.{◌≡◌, ℤ, pos, ◌+ℤ◌, List, map, filter, All, IsPermutation, IsSorted}
 use Rattle.std.specs.declared.cmp.Ordering.{Ordering}
 use Rattle.std.specs.Ordering.{on, then_cmp}
@@ -23,11 +23,11 @@ credit_cmp = then_cmp (on (λ c. c.unit) bytes_cmp) (on (λ c. c.account) accoun
 abbrev pub figures_of : AccountRow → Figures
 figures_of row = record { account = row.account; credited = row.credited; balancing = row.balancing; contracts = row.contracts; imbalance = row.imbalance; charge = row.charge }
 
--- what an account pays by its row, negative where it is paid: its charge and its share
+-- what an account pays by its row, negative if it is paid: its charge and its share
 abbrev pub paid_by : AccountRow → ℤ
 paid_by row = row.charge +ℤ row.share
 
--- what a row moves for an account: what is paid by it, where the row is the account's
+-- what a row moves for an account: the pence paid by the row, if the row is the account's
 abbrev pub moved_by_row : Account → AccountRow → ℤ
 moved_by_row a row = of_account a row.account (paid_by row)
 
@@ -35,7 +35,7 @@ moved_by_row a row = of_account a row.account (paid_by row)
 abbrev pub shares_shown : List AccountRow → List ℤ
 shares_shown rows = map (λ r. r.share) rows
 
--- the rows hold the figures and the shares of the accounts in order, the credits are those of the units in order, and the
+-- the rows have the figures and the shares of the accounts in order, the credits are those of the units and are sorted, and the
 -- residual is the period's
 pub record IsSettled (p : PeriodTerms) (s : Settled) : Type 0 where
   pub rows : map figures_of s.accounts ≡ all_figures p
@@ -48,12 +48,12 @@ pub record IsSettled (p : PeriodTerms) (s : Settled) : Type 0 where
 abbrev pub SharesDepartLeast : PeriodTerms → Settled → Type 0
 SharesDepartLeast p s = DepartsLeast (residual p) (effective (weights p)) (shares_shown s.accounts)
 
--- the credits from a unit among these add up to its loss-adjusted volume
+-- among these credits, those from a unit add up to its loss-adjusted volume
 abbrev pub IsUnitCredited : List CreditRow → BmUnit → Type 0
 IsUnitCredited credits u = total (λ c. c.credited) (filter (λ c. bytes_eq c.unit u.unit) credits) ≡ loss_adjusted u
 
--- What a settled period adds up to: contracts come to zero over the accounts, the credits from each unit to its loss-adjusted
--- volume (if no unit stands twice), charges and shares together to zero; and each share is its account's quota rounded.
+-- What a settled period adds up to: contracts sum to zero over the accounts, the credits from each unit to its loss-adjusted
+-- volume (if no unit occurs twice), and charges and shares together to zero. Each share is its account's quota, rounded.
 pub record AddsUp (p : PeriodTerms) (s : Settled) : Type 0 where
   pub contracts : total (λ r. r.contracts) s.accounts ≡ pos 0
   pub credits : AreUnitsDistinct p → All (IsUnitCredited s.credits) p.units

@@ -21,12 +21,12 @@ abbrev pub bm_unit : List ℕ → Account → Bool → Reading → List Subsidia
 bm_unit unit lead interconnector reading subsidiaries =
     record { unit = unit; lead = lead; interconnector = interconnector; reading = reading; subsidiaries = subsidiaries }
 
--- the contracts of a period: the volumes in force, or in account order what each account sells by them less what it buys, in kWh
+-- the contracts of a period: the volumes in force, or in account order what each account sells less what it buys, in kWh
 pub data ContractTerms : Type 0 where
   Rows : List Contract → ContractTerms
   Net : List ℤ → ContractTerms
 
--- the contracts that the code holds
+-- the contracts as the code has them
 abbrev pub contracts_given : given.Contracts → ContractTerms
 contracts_given (given.TheVariants.Rows rows) = Rows rows.items
 contracts_given (given.TheVariants.Net nets) = Net nets.items
@@ -50,6 +50,6 @@ pub record Settled : Type 0 where
 abbrev pub settled_period : List AccountRow → List CreditRow → ℤ → Settled
 settled_period accounts credits residual = record { accounts = accounts; credits = credits; residual = residual }
 
--- a settled period of these rows: its residual is minus the sum of the charges
+-- the settled period of these rows: its residual is minus the sum of the charges
 abbrev pub settled_as : List AccountRow → List CreditRow → Settled
 settled_as rows credits = settled_period rows credits (neg_ℤ (total (λ r. r.charge) rows))

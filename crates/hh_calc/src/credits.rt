@@ -11,7 +11,7 @@ use crate::result::CreditRow;
 use hh_num::{Ticks, round_div};
 use std::alloc::AllocError;
 
-/// The whole of a volume, as a percentage in its units.
+/// 100 percent, in the units of a percentage.
 const HUNDRED_PERCENT: i128 = 10_000_000;
 
 /// The loss-adjusted volume of a unit, in ticks (Section T).
@@ -23,7 +23,7 @@ fn loss_adjusted_volume(unit: &UnitData) -> i128
     i128::from(reading.metered.units()) * i128::from(reading.tlm.units())
 }
 
-/// What a subsidiary is credited with from a unit, in ticks (Section T).
+/// The energy that a subsidiary is credited with from a unit, in ticks (Section T).
 fn credit_to(unit: &UnitData, subsidiary: &Subsidiary) -> i128
     ensures credit { result ≡ subsidiary_credit unit.now subsidiary.now }
     ensures size { unsigned_abs result ≤ 10 ^ 15 }
@@ -59,6 +59,17 @@ pub(crate) fn push_credits(credits: &mut Vec<CreditRow>, unit: &UnitData) -> Res
     Ok(())
 }
 
+/// Moves the last of these credits to its place in account order, if the others are in that order.
+pub(crate) fn put_last_in_place(credits: &mut [CreditRow])
+    ensures { IsPermutation credits.old credits.new }
+{
+    let Some((last, others)) = credits.split_last() else {
+        return;
+    };
+    let place = others.partition_point(|credit| credit.account.cmp(&last.account).is_lt());
+    credits[place..].rotate_right(1);
+}
+
 /// The credits in the order of their units' bytes, then of their accounts.
 pub(crate) fn sorted_credits(mut credits: Vec<CreditRow>) -> Vec<CreditRow>
     ensures same { IsPermutation credits.items result.items }
@@ -68,7 +79,8 @@ pub(crate) fn sorted_credits(mut credits: Vec<CreditRow>) -> Vec<CreditRow>
     credits
 }
 
-/// Puts credits in the order of their units' bytes, then of their accounts.
+/// Sorts credits by their units' bytes, then by their accounts. Credits that are in order already are
+/// gone through only once.
 fn sort_credits(credits: &mut [CreditRow])
     ensures same { IsPermutation credits.old credits.new }
     ensures ordered { IsSorted credit_cmp credits.new }

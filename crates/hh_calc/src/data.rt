@@ -1,4 +1,4 @@
-//! What a period is settled from.
+//! The data that a period is settled from.
 
 ghost use Rattle.std.specs.Prelude.{◌≡◌};
 ghost use Rattle.hh_calc.specs.Terms.{bm_unit, contracts_given, period_terms};
@@ -14,13 +14,13 @@ pub struct Subsidiary {
     pub reallocation: Reallocation,
 }
 
-/// A BM Unit in a period: its lead account, whether it is an interconnector's, its reading and its
+/// A BM Unit in a period: its lead account, whether it is an interconnector unit, its reading and its
 /// subsidiaries.
 #[derive(Debug, Drop)]
 pub struct UnitData {
     unit: UnitId,
     lead: Account,
-    /// Where the lead account is looked for first among the accounts of the period.
+    /// The place where the lead account is looked for first among the accounts of the period.
     near: usize,
     interconnector: bool,
     reading: Reading,
@@ -57,7 +57,7 @@ impl UnitData {
     }
 
     /// The same unit, whose lead account is looked for at this place first among the accounts of the
-    /// period. It may be any: a wrong place costs time alone.
+    /// period. Any place will do: a wrong one only costs time.
     pub fn with_lead_near(self, place: usize) -> UnitData
         ensures { result ≡ self }
     {
@@ -79,14 +79,14 @@ impl UnitData {
         self.unit
     }
 
-    /// The account of its Lead Party that its side names.
+    /// The account of its Lead Party on the side that the unit has.
     pub fn lead(&self) -> Account
         ensures { result ≡ self.now.lead }
     {
         self.lead
     }
 
-    /// Whether it is an interconnector's, and its credits weigh nothing.
+    /// Whether it is an interconnector unit. The credits of such a unit weigh nothing.
     pub fn is_interconnector(&self) -> bool
         ensures { result ≡ self.now.interconnector }
     {
@@ -108,8 +108,8 @@ impl UnitData {
     }
 }
 
-/// What is sold and bought in a period: the contract volumes in force, or the net volume of each
-/// account, in account order. Both settle alike.
+/// The contracts of a period: the volumes in force, or the net volume of each account, in account order.
+/// Both give the same settlement.
 #[derive(Debug, Drop)]
 pub enum Contracts {
     Rows(Vec<Contract>),

@@ -1,13 +1,13 @@
-//! The credits of a period, and the sums of its accounts, which are made together.
+//! The credits of a period and the sums of its accounts, which are computed together.
 
-ghost use Rattle.std.specs.Prelude.{◌≡◌, ◌+◌, ◌*◌, ◌++◌, [], length, map, replicate, All, IfOk, OnOk};
+ghost use Rattle.std.specs.Prelude.{◌≡◌, ◌+◌, ◌*◌, ◌++◌, [], length, map, replicate, All, IfOk, IsPermutation, OnOk};
 ghost use Rattle.hh_calc.specs.Formulas.{credits_of, unit_credits, unit_sums};
 ghost use Rattle.hh_calc.specs.Terms.{contracts_given};
 ghost use Rattle.hh_calc.specs.steps.Formulas.{all_sums};
 ghost use Rattle.hh_calc.specs.Ready.{AreAccountsInOrder, AreContractsReady, AreInOrder, AreNamed, AreSubsidiariesFew, HasFewSubsidiaries, IsUnitNamed};
 ghost use Rattle.hh_calc.specs.steps.Sums.{greatest_credit, greatest_sum, greatest_unit_sum, greatest_volume, no_sums, with_net_by, with_unit, AreChanged, AreGrown, IsWithin};
 
-use crate::credits::push_credits;
+use crate::credits::{push_credits, put_last_in_place};
 use crate::data::{Contracts, PeriodData, UnitData};
 use crate::result::CreditRow;
 use crate::sums::{
@@ -16,15 +16,16 @@ use crate::sums::{
 use hh_names::Account;
 use std::alloc::{AllocError, Global};
 
-/// The credits from the units of a period, in their order, and the sums of its accounts, in account
-/// order.
+/// The credits from the units of a period, one unit's after another's, and the sums of its
+/// accounts, in account order.
 #[derive(Drop)]
 pub(crate) struct Ledger {
     pub credits: Vec<CreditRow>,
     pub sums: Vec<AccountSums>,
 }
 
-/// Appends the credits from a unit, and adds them and its balancing volume to the sums.
+/// Appends the credits from a unit, and adds them and its balancing volume to the sums. The credits are
+/// in account order if the unit's subsidiaries are.
 fn add_unit(
     accounts: &[Account],
     unit: &UnitData,
@@ -36,7 +37,8 @@ fn add_unit(
     requires few { HasFewSubsidiaries unit.now }
     requires each { length sums.old ≡ length accounts.now }
     requires room { All (IsWithin greatest_sum) sums.old }
-    ensures credits { OnOk result (credits.new.items ≡ credits.old.items ++ unit_credits unit.now) }
+    ensures credits { let made = credits.old.items ++ unit_credits unit.now in
+        OnOk result (IsPermutation made credits.new.items) }
     ensures added { OnOk result (AreChanged accounts.now (with_unit unit.now) sums.old sums.new) }
     ensures grown { let credits_grow = length (unit_credits unit.now) * greatest_credit in
         OnOk result (AreGrown (credits_grow + greatest_volume) sums.old sums.new) }
@@ -52,11 +54,11 @@ fn add_unit(
         amounts_of_balancing(unit),
         sums,
     );
+    put_last_in_place(&mut credits[first..]);
     Ok(())
 }
 
-/// Appends the credits from units, and adds them and the balancing volumes to sums that have nothing
-/// yet.
+/// Appends the credits from units, and adds them and the balancing volumes to sums that are still 0.
 fn add_units(
     accounts: &[Account],
     units: &[UnitData],
@@ -68,7 +70,7 @@ fn add_units(
     requires few { All HasFewSubsidiaries units.now }
     requires none { credits.old.items ≡ [] }
     requires start { sums.old ≡ replicate (length accounts.now) no_sums }
-    ensures credits { OnOk result (credits.new.items ≡ credits_of units.now) }
+    ensures credits { OnOk result (IsPermutation (credits_of units.now) credits.new.items) }
     ensures sums { OnOk result (sums.new ≡ map (unit_sums units.now) accounts.now) }
     ensures small { OnOk result (All (IsWithin greatest_unit_sum) sums.new) }
 {
@@ -78,7 +80,7 @@ fn add_units(
     Ok(())
 }
 
-/// Adds to the sums of each account what it sells less what it buys, by rows or by its net volume.
+/// Adds to the sums of each account what it sells less what it buys, from the rows or its net volume.
 fn add_net_contracts(accounts: &[Account], contracts: &Contracts, sums: &mut [AccountSums])
     requires ordered { AreAccountsInOrder accounts.now }
     requires ready { AreContractsReady accounts.now (contracts_given contracts.now) }
@@ -95,7 +97,7 @@ fn add_net_contracts(accounts: &[Account], contracts: &Contracts, sums: &mut [Ac
 }
 
 /// Appends the credits of a period, and adds them, the balancing volumes and the contracts to sums
-/// that have nothing yet.
+/// that are still 0.
 fn add_period(
     period: &PeriodData,
     credits: &mut Vec<CreditRow>,
@@ -106,7 +108,7 @@ fn add_period(
     requires few { AreSubsidiariesFew period.now }
     requires none { credits.old.items ≡ [] }
     requires start { sums.old ≡ replicate (length period.now.accounts) no_sums }
-    ensures credits { OnOk result (credits.new.items ≡ credits_of period.now.units) }
+    ensures credits { OnOk result (IsPermutation (credits_of period.now.units) credits.new.items) }
     ensures sums { OnOk result (sums.new ≡ all_sums period.now) }
     ensures small { OnOk result (All (IsWithin greatest_sum) sums.new) }
 {
@@ -115,7 +117,7 @@ fn add_period(
     Ok(())
 }
 
-/// How many credits units give: one to each subsidiary, and one to the lead account.
+/// How many credits units have: one to each subsidiary, and one to the lead account.
 fn credit_count(units: &[UnitData]) -> usize {
     units.iter().fold(0, |count: usize, unit| {
         count
@@ -129,7 +131,8 @@ pub(crate) fn ledger_of(alloc: Global, period: &PeriodData) -> Result<Ledger, Al
     requires ordered { AreInOrder period.now }
     requires named { AreNamed period.now }
     requires few { AreSubsidiariesFew period.now }
-    ensures credits { IfOk result (λ l. l.credits.items ≡ credits_of period.now.units) }
+    ensures credits { let made = credits_of period.now.units in
+        IfOk result (λ l. IsPermutation made l.credits.items) }
     ensures sums { IfOk result (λ l. l.sums.items ≡ all_sums period.now) }
     ensures small { IfOk result (λ l. All (IsWithin greatest_sum) l.sums.items) }
 {

@@ -1,4 +1,4 @@
-//! Where an account stands among the accounts of a period.
+//! The place of an account among the accounts of a period.
 
 ghost use Rattle.std.specs.Prelude.{◌≡◌, ◌<◌, length, true, IfSome, IsNone};
 ghost use Rattle.std.specs.List.{HoldsAt};
@@ -6,8 +6,8 @@ ghost use Rattle.hh_calc.specs.Ready.{AreAccountsInOrder, IsNamed};
 
 use hh_names::Account;
 
-/// Where an account stands among these, if it is one of them. It is looked for at a place first, which
-/// may be any.
+/// The place of an account among these, if it is one of them. Looks at the place `near` first, which may
+/// be any.
 pub(crate) fn place_of(accounts: &[Account], account: &Account, near: usize) -> Option<usize>
     requires { AreAccountsInOrder accounts.now }
     ensures inside { IfSome result (λ place. place < length accounts.now) }
@@ -23,7 +23,7 @@ pub(crate) fn place_of(accounts: &[Account], account: &Account, near: usize) -> 
     }
 }
 
-/// Whether an account stands at a place among these.
+/// Whether an account is at a place among these.
 fn is_at(accounts: &[Account], account: &Account, place: usize) -> bool
     ensures inside { result ≡ true → place < length accounts.now }
     ensures place { result ≡ true → HoldsAt (λ a. a ≡ account.now) accounts.now place }

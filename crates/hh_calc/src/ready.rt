@@ -16,7 +16,7 @@ use std::cmp::Ordering;
 /// The most subsidiaries that a unit may have.
 const MOST_SUBSIDIARIES: usize = 799;
 
-/// Whether an account stands before another.
+/// Whether an account comes before another.
 fn is_before(account: &Account, other: &Account) -> bool
     ensures { IsTrue result ↔ (account_cmp account.now other.now ≡ Less) }
 {
@@ -35,7 +35,7 @@ fn are_in_order(accounts: &[Account]) -> bool
     true
 }
 
-/// Whether an account is one of these. It is looked for at a place first, which may be any.
+/// Whether an account is one of these. Looks at the place `near` first, which may be any.
 fn is_named(accounts: &[Account], account: &Account, near: usize) -> bool
     requires { AreAccountsInOrder accounts.now }
     ensures { IsTrue result ↔ IsNamed accounts.now account.now }
@@ -59,7 +59,7 @@ fn are_subsidiaries_named(accounts: &[Account], subsidiaries: &[Subsidiary]) -> 
     true
 }
 
-/// Whether the lead account and the subsidiaries of a unit are some of these accounts.
+/// Whether the lead account and the subsidiaries of a unit are among these accounts.
 fn is_unit_named(accounts: &[Account], unit: &UnitData) -> bool
     requires { AreAccountsInOrder accounts.now }
     ensures { IsTrue result ↔ IsUnitNamed accounts.now unit.now }
@@ -68,7 +68,7 @@ fn is_unit_named(accounts: &[Account], unit: &UnitData) -> bool
         && are_subsidiaries_named(accounts, unit.subsidiaries())
 }
 
-/// Whether the lead account and the subsidiaries of each unit are some of these accounts.
+/// Whether the lead account and the subsidiaries of each unit are among these accounts.
 fn are_units_named(accounts: &[Account], units: &[UnitData]) -> bool
     requires { AreAccountsInOrder accounts.now }
     ensures { IsTrue result ↔ All (IsUnitNamed accounts.now) units.now }
@@ -81,7 +81,7 @@ fn are_units_named(accounts: &[Account], units: &[UnitData]) -> bool
     true
 }
 
-/// Whether no unit has more subsidiaries than the most.
+/// Whether no unit has more than 799 subsidiaries.
 fn are_subsidiaries_few(units: &[UnitData]) -> bool
     ensures { IsTrue result ↔ All HasFewSubsidiaries units.now }
 {
@@ -93,7 +93,7 @@ fn are_subsidiaries_few(units: &[UnitData]) -> bool
     true
 }
 
-/// Whether the seller and the buyer of a contract are some of these accounts.
+/// Whether the seller and the buyer of a contract are among these accounts.
 fn is_contract_named(accounts: &[Account], contract: &Contract) -> bool
     requires { AreAccountsInOrder accounts.now }
     ensures { IsTrue result ↔ IsContractNamed accounts.now contract.now }
@@ -102,7 +102,7 @@ fn is_contract_named(accounts: &[Account], contract: &Contract) -> bool
         && is_named(accounts, &contract.counterparties.buyer, 0)
 }
 
-/// Whether the seller and the buyer of each contract are some of these accounts.
+/// Whether the seller and the buyer of each contract are among these accounts.
 fn are_contracts_named(accounts: &[Account], contracts: &[Contract]) -> bool
     requires { AreAccountsInOrder accounts.now }
     ensures { IsTrue result ↔ All (IsContractNamed accounts.now) contracts.now }
@@ -127,7 +127,7 @@ fn sum_of_nets(nets: &[NetKwh]) -> i128
     sum
 }
 
-/// Whether each account has a net volume, and what some sell others buy.
+/// Whether there is a net volume for each account, and they sum to zero.
 fn are_nets_ready(accounts: &[Account], nets: &[NetKwh]) -> bool
     ensures { IsTrue result ↔ AreNetsReady accounts.now nets.now }
 {
@@ -146,9 +146,9 @@ fn are_contracts_ready(accounts: &[Account], contracts: &Contracts) -> bool
 }
 
 impl PeriodData {
-    /// Whether the period may be settled: the accounts rise in account order, each lead,
-    /// subsidiary, seller and buyer is one of them, and no unit has more than 799 subsidiaries. Net
-    /// volumes stand one for each account, and come to zero.
+    /// Whether the period may be settled. The accounts rise in account order. Each lead, subsidiary,
+    /// seller and buyer is among them. No unit has more than 799 subsidiaries. Net volumes are one for
+    /// each account, and sum to zero.
     pub fn is_ready(&self) -> bool
         ensures { IsTrue result ↔ IsReady self.now }
     {

@@ -22,7 +22,7 @@ pub struct AccountRow {
     pub share: Pence,
 }
 
-/// What an account has in a period but for its share of the residual: energy in ticks, cash in
+/// The figures of an account in a period, without its share of the residual: energy in ticks, cash in
 /// pence.
 #[derive(Clone, Copy, Debug, PartialEq, Eq)]
 pub struct Figures {
@@ -34,7 +34,7 @@ pub struct Figures {
     pub charge: Pence,
 }
 
-/// What an account is credited with from a unit: energy in ticks.
+/// The energy that an account is credited with from a unit, in ticks.
 #[derive(Clone, Copy, Debug, PartialEq, Eq)]
 pub struct CreditRow {
     pub unit: UnitId,
@@ -74,8 +74,8 @@ impl PeriodResult {
         }
     }
 
-    /// The settled period of these rows and credits: its residual is minus the sum of the charges. `None`
-    /// only where that is no amount of cash, for the rows up to some place.
+    /// The settled period of these rows and credits. Its residual is minus the sum of the charges. `None`
+    /// only if that sum is out of the range of cash for the rows up to some place.
     pub fn of_rows(accounts: Vec<AccountRow>, credits: Vec<CreditRow>) -> Option<PeriodResult>
         ensures { IfSome result (λ r. r ≡ settled_as accounts.items credits.items) }
     {
@@ -87,7 +87,7 @@ impl PeriodResult {
         })
     }
 
-    /// The same once more. `Err` only where memory is refused.
+    /// A copy. `Err` only if memory is refused.
     pub fn copy(&self, alloc: Global) -> Result<PeriodResult, AllocError>
         ensures { IfOk result (λ copied. copied ≡ self.now) }
     {
@@ -121,7 +121,7 @@ impl PeriodResult {
     }
 }
 
-/// Minus the sum of the charges of these rows, if it is an amount of cash for the rows up to each place.
+/// Minus the sum of the charges of these rows, if it is in the range of cash for the rows up to each place.
 fn residual_of(rows: &[AccountRow]) -> Option<Pence>
     ensures { IfSome result (λ residual. residual ≡ neg_ℤ (total (λ r. r.charge) rows.now)) }
 {

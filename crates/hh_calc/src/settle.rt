@@ -25,7 +25,7 @@ const GREATEST_ENERGY: u128 = 100_000_000_000_000_000;
 /// The greatest charge of an account, and the greatest residual of a period, in pence.
 const GREATEST_CASH: u128 = 1_000_000_000_000;
 
-/// Ticks times price units to the penny.
+/// How many products of a tick and a unit of the price make a penny.
 const PRICE_UNITS_PER_PENNY: i128 = 10_000_000_000_000;
 
 /// An energy, if its size is within the limit of a run.
@@ -83,7 +83,7 @@ fn figures_within(account: Account, sums: AccountSums, price: Price) -> Option<F
     })
 }
 
-/// The charge for an imbalance, in pence: what the account pays, negative where it is paid.
+/// The charge for an imbalance, in pence: what the account pays, negative if it is paid.
 fn charge_of(imbalance: Ticks, price: Price) -> i128
     requires { unsigned_abs imbalance ≤ greatest_energy }
     ensures { result ≡ charge_for imbalance price }
@@ -103,8 +103,8 @@ struct Charged {
     residual: i128,
 }
 
-/// The figures of the accounts from their sums, their weights, and the residual: minus the sum of
-/// their charges.
+/// The figures of the accounts from their sums, their weights, and the residual, which is minus the sum
+/// of their charges.
 fn charged_accounts(
     alloc: Global,
     period: &PeriodData,
@@ -178,14 +178,13 @@ fn rows_of(
 /// Settles a period: the figures and the share of each account in account order, the credits from
 /// each unit, and the residual cashflow (Section T; shares are profile).
 ///
-/// The accounts rise in account order, and each lead, subsidiary, seller and buyer is one of them;
-/// no unit has more than 799 subsidiaries. Net volumes stand one for each account, and come to
-/// zero.
+/// The accounts rise in account order, and each lead, subsidiary, seller and buyer is among them.
+/// No unit has more than 799 subsidiaries. Net volumes are one for each account, and sum to zero.
 ///
 /// # Errors
 ///
-/// `TooLarge`, 55, exactly where a figure, a weight or the residual passes a limit of a run;
-/// `Memory`, 90, if memory runs out.
+/// `TooLarge`, 55, exactly if a figure, a weight or the residual passes a limit of a run.
+/// `Memory`, 90, if memory is refused.
 pub fn settle_period(alloc: Global, period: &PeriodData) -> Result<PeriodResult, CalcFault>
     requires ordered { AreInOrder period.now }
     requires named { AreNamed period.now }

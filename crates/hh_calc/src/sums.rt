@@ -13,10 +13,10 @@ use crate::result::CreditRow;
 use hh_names::{Account, Contract};
 use hh_num::NetKwh;
 
-/// Ticks to the kWh.
+/// How many ticks a kWh has.
 const TICKS_PER_KWH: i128 = 10_000_000;
 
-/// The sums of one account, or what is added to them: all in ticks.
+/// The sums of one account, or what is added to them, all in ticks.
 #[derive(Clone, Copy)]
 pub(crate) struct AccountSums {
     pub credited: i128,
@@ -28,7 +28,7 @@ pub(crate) struct AccountSums {
 }
 
 impl AccountSums {
-    /// The sums of an account that has nothing yet.
+    /// The sums of an account before anything is added.
     pub(crate) const NONE: AccountSums = AccountSums {
         credited: 0,
         balancing: 0,
@@ -61,7 +61,7 @@ fn add_at(sums: &mut [AccountSums], place: usize, amounts: AccountSums)
     sums[place] = sums_with(sums[place], amounts);
 }
 
-/// Adds amounts to the sums of an account, which is looked for at a place first.
+/// Adds amounts to the sums of an account. Looks for the account at the place `near` first.
 pub(crate) fn add_to(
     accounts: &[Account],
     account: &Account,
@@ -101,8 +101,8 @@ fn amounts_of_credit(credit: &CreditRow, weighs: bool) -> AccountSums
     }
 }
 
-/// Adds each credit to its account's sums; its size too, where the credits weigh. The accounts are looked
-/// for at a place first.
+/// Adds each credit to its account's sums, and its size to the account's weight if the credits weigh.
+/// Looks for each account at the place `near` first.
 pub(crate) fn add_credits(
     accounts: &[Account],
     credits: &[CreditRow],
@@ -130,7 +130,7 @@ pub(crate) fn add_credits(
     }
 }
 
-/// The balancing volume of a unit, as what it adds to its lead account's sums.
+/// What a unit's balancing volume adds to its lead account's sums.
 pub(crate) fn amounts_of_balancing(unit: &UnitData) -> AccountSums
     ensures amounts { result ≡ balancing_amounts (balanced unit.now) }
     ensures small { IsWithin greatest_volume result }
@@ -150,7 +150,7 @@ fn contracted_volume(contract: &Contract) -> i128
     i128::from(contract.volume.units()) * TICKS_PER_KWH
 }
 
-/// A contracted volume, as what it adds to its account's sums.
+/// What a contracted volume adds to its account's sums.
 fn amounts_of_contract(volume: i128) -> AccountSums
     requires { unsigned_abs volume ≤ greatest_volume }
     ensures amounts { result ≡ contract_amounts volume }
@@ -203,7 +203,7 @@ pub(crate) fn add_contracts(accounts: &[Account], contracts: &[Contract], sums: 
     }
 }
 
-/// A net volume, as what it adds to its account's sums.
+/// What a net volume adds to its account's sums.
 fn amounts_of_net(net: NetKwh) -> AccountSums
     ensures amounts { result ≡ contract_amounts (net *ℤ ticks_per_kwh) }
     ensures small { IsWithin greatest_credit result }
@@ -214,7 +214,7 @@ fn amounts_of_net(net: NetKwh) -> AccountSums
     }
 }
 
-/// Adds to the sums of each account its net volume: accounts and net volumes stand in one order.
+/// Adds to the sums of each account its net volume. Accounts and net volumes are in the same order.
 pub(crate) fn add_nets(accounts: &[Account], nets: &[NetKwh], sums: &mut [AccountSums])
     requires ordered { AreAccountsInOrder accounts.now }
     requires own { length nets.now ≡ length accounts.now }

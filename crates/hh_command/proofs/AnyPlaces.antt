@@ -1,4 +1,4 @@
--- A line is done, and stops, of which nothing is known of the databases' paths.
+-- How a line is done, and how it stops, if nothing is known about the paths of databases
 use Rattle.std.proofs.Common.{Bool, Ok, Err, inl, inr, List}
 use Rattle.clap.specs.Words.{Text}
 use Rattle.hh_devices.specs.DeviceChanges.{DeviceChange}

@@ -1,4 +1,4 @@
--- How words end, by how the line that they form does.
+-- How words end, given how the line that they form ends
 use Rattle.std.proofs.Common.{◌≡◌, Bool, List, Some, inr}
 use Rattle.clap.specs.Words.{Text}
 use Rattle.hh_devices.specs.DeviceChanges.{DeviceChange}

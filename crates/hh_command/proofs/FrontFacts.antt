@@ -1,4 +1,4 @@
--- The front of a file that has more bytes than a file may have tells all that the whole file does.
+-- If a file is larger than allowed, its beginning tells all that the whole file does.
 use Rattle.std.proofs.Common.{◌≡◌, ◌<◌, ℕ, List, [], ◌∷◌, length, take, Result, Ok, Err, cond, refl, sym, ap, ◌∙◌, arith, Bool, true, false, ltb}
 use Rattle.std.proofs.lemmas.Bool.{lt-ltb, ltb-false, ltb-true}
 use Rattle.std.proofs.lemmas.List.{length-take-le, take_all}
@@ -16,13 +16,13 @@ use Rattle.hh_period.specs.declared.rejection.Input.TheVariants.{Contracts, Mete
 use Rattle.hh_period.specs.Outcome.{period_outcome, priced, read_from, settled_text, Outcome, ◌>>=◌}
 use Rattle.hh_period.specs.Rows.{accepted_rows, period_of}
 
--- the text that what two files read as and a price come to
+-- the outcome of a period, given what its two files read as and the price
 abbrev outcome_of : Result (List PeriodMeterRow) Fault → Result (List PeriodContractRow) Fault → List ℕ → Outcome (List ℕ)
 outcome_of meters contracts price = (read_from Meter meters >>= (λ meter_rows. read_from Contracts contracts >>= (λ rows. read_from Contracts (accepted_rows rows) >>= (λ contract_rows. priced (price_value price) >>= (λ value. Ok (period_of meter_rows contract_rows value)))))) >>= settled_text
 
 module _ (most : ℕ) (enough : most_bytes < most) where
   module _ {Row : Type 0} (forms : List (FileForm Row)) (bytes : List ℕ) where
-    -- a file that is read whole is itself, and of a larger one too many bytes are read
+    -- if all of a file is read, the front is the file; if the file is larger, the front has too many bytes as well
     rows_of-front : rows_of forms (take most bytes) ≡ rows_of forms bytes
     unfolding rows_of
     rows_of-front = go (ltb most (length bytes)) refl
@@ -36,7 +36,7 @@ module _ (most : ℕ) (enough : most_bytes < most) where
             ap (λ t. cond t (Err (plain_fault FileTooLarge)) (rows_under forms (records_of (take most bytes)))) cut
             ∙ sym (ap (λ t. cond t (Err (plain_fault FileTooLarge)) (rows_under forms (records_of bytes))) whole)
 
-  -- so the fronts of two files come to what the files do
+  -- so the fronts of two files have the same outcome as the files
   pub period_outcome-front : (meter contracts price : List ℕ) → period_outcome (take most meter) (take most contracts) price ≡ period_outcome meter contracts price
   period_outcome-front meter contracts price =
       λ i. outcome_of (rows_of-front (period_meter_form ∷ []) meter i) (rows_of-front (period_contract_form ∷ []) contracts i) price

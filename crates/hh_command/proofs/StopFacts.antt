@@ -1,4 +1,4 @@
--- How a line stops, or is done, by what was read of its files.
+-- How a line stops or is done, given what was read of its files.
 use Rattle.std.proofs.Common.{◌≡◌, ◌<◌, ℕ, List, Option, Some, Bool, true, false, inl, inr, Result, Ok, Err, IfErr, take, refl, sym, ap, subst, ◌∙◌}
 use Rattle.std.specs.Result.{IsErrAnd}
 use Rattle.hh_devices.specs.DeviceChanges.{DeviceChange, HasFailed}
@@ -39,14 +39,14 @@ ByRefusal-map : (r : Refusal) (P Q R : Type 0) → (Q → R) → ByRefusal r P Q
 ByRefusal-map refusal.Memory P Q R f p = p
 ByRefusal-map r P Q R f q = f q
 
--- these bytes were read of a path: the front of what it may read as
+-- `front` was read at a path: the beginning of what the file may read as
 abbrev pub IsFrontOf : (List ℕ → Option (List ℕ) → Type 0) → ℕ → List ℕ → List ℕ → Type 0
 IsFrontOf reads most path front = (all : List ℕ) × reads path (Some all) × (front ≡ take most all)
 
--- The files of a line were read so far that a file that is too large is known.
+-- Enough was read of each file of a line to notice a file that is too large.
 module _ (host : HostView) (most : ℕ) (enough : most_bytes < most) (meter contracts price : List ℕ)
     (m c : List ℕ) (meter_read : IsFrontOf host.reads most meter m) (contracts_read : IsFrontOf host.reads most contracts c) where
-  -- what the bytes that were read come to, the line does
+  -- the line has the same outcome as the bytes that were read
   comes_to : (outcome : Outcome (List ℕ)) → period_outcome m c price ≡ outcome → ComesTo host meter contracts price outcome
   comes_to outcome is = (
     meter_read.0,
@@ -59,9 +59,9 @@ module _ (host : HostView) (most : ℕ) (enough : most_bytes < most) (meter cont
   pub done_by_period : (device : DeviceChange) → Writes (period_outcome m c price) device → DoesPeriod host meter contracts price device
   done_by_period device (text, is, went) = (text, comes_to (Ok text) is, went)
 
-  -- What changes in an output.
+  -- `device` is the change of an output.
   module _ (device : DeviceChange) where
-    -- a period's fault, as its contract tells it
+    -- what the contract of a period says about its fault
     pub record IsPeriodFault (fault : PeriodFault) : Type 0 where
       pub refused : (e : Rejection) → fault ≡ Refused e → Refuses rejections e (period_outcome m c price)
       pub untouched : (e : Rejection) → fault ≡ Refused e → device.new ≡ device.old
@@ -81,17 +81,17 @@ module _ (host : HostView) (most : ℕ) (enough : most_bytes < most) (meter cont
 
 -- ---- a line of a script that is off its form
 
--- why a script is not run at a path
+-- why a script at a path is not run
 abbrev stop_in : Result Unit ScriptPathStop → ScriptStop
 stop_in (Err (at.Script why)) = why
 stop_in _ = script.File
 
--- it was its own doing
+-- the reason comes from the script itself
 abbrev is_own : Result Unit ScriptPathStop → Bool
 is_own (Err (at.Script why)) = true
 is_own _ = false
 
--- a script of which a line is off its form was not read
+-- if a line of a script is off its form, the script was not read
 unread_off : (host : HostView) (file : Text) (device : DeviceChange) (strict : Bool) (found left : Connected) (ended : Result Unit ScriptStop) (n : ℕ) (word : OffWord)
     → Err (at.Script (script.Off n word)) ≡ script_at ended → RunsFile host device file strict found left ended → IsUnread host file (script.Off n word)
 unread_off host file device strict found left (Ok x) n word is runs = let bad : script.Off n word ≡ script.File = ap stop_in is in cc bad
@@ -110,7 +110,7 @@ ends_off host file device strict places path n word (inr (inl (is, absent, kept)
 ends_off host file device strict places path n word (inr (inr (present, (found, left, ended, opens, closes, is, runs)))) =
     unread_off host file device strict found left ended n word is runs
 
--- A line stops as one of a script that is off its form, of which this is told: the words are wrong.
+-- A line stops because a line of its script is off its form, and `told` holds: the words are wrong.
 module _ (host : HostView) (places : Places) (strict : Bool) (words : List Text) (out : DeviceChange) (told : ℕ → OffWord → Type 0) where
   abbrev pub IsOfOff : Type 0
   IsOfOff = (file : Text) × (line : ℕ) × (word : OffWord) × IsOfScript words file × IsUnread host file (script.Off line word) × told line word
@@ -139,7 +139,7 @@ module _ (host : HostView) (places : Places) (strict : Bool) (words : List Text)
       let of : other ≡ word = cc same in
       (file, n, other, inr (path, is), ends_off host file out strict places path n other ends, subst (λ m. told m other) (sym number) (subst (told line) (sym of) tells))
 
-  -- no other command on a database has lines
+  -- no other command on a database runs a script
   not_off : {A : Type 0} (why : PathStop) (line : ℕ) (word : OffWord) → path_stop why ≡ stop.Off line word → A
   not_off path.Exists line word same = cc same
   not_off path.NoFile line word same = cc same

@@ -8,7 +8,7 @@ use Rattle.hh_command.specs.declared.stop.Stop.TheVariants as stop
 use Rattle.hh_command.specs.Stops.{Tells, TellsOff, stop_status}
 use Rattle.hh_command.specs.steps.Stops.{IsOffAnd, TellsStop}
 
--- it is a line of a script off its form, whose number is told
+-- it is a script's line that is off its form, and the line's number is told
 pub off_and_told : (device : DeviceChange) (s : Stop) → stop_status s ≡ 2 → TellsStop device s → IsOffAnd (TellsOff device) s
 off_and_told device (stop.Refused e) two told = absurd (omega arith)
 off_and_told device stop.File two told = absurd (omega arith)
@@ -32,7 +32,7 @@ one_and_told device stop.NoClock one told = told
 one_and_told device (stop.Line number) one told = told
 one_and_told device (stop.Off line word) one told = absurd (omega arith)
 
--- one text went out behind another
+-- if one text was written and then another, both were written, one after the other
 pub appends_more : (before between after : Option (List ℕ)) (text line : List ℕ) → Appends before between text → Appends between after line → Appends before after (text ++ line)
 appends_more None between after text line first second = tt
 appends_more (Some xs) None after text line first second = absurd first

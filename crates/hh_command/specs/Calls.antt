@@ -1,4 +1,4 @@
--- What a call of the program comes to, whose words no contract knows.
+-- How a call of the program ends. No contract knows its words.
 use Rattle.std.specs.Prelude.{◌≡◌, ◌⊎◌, Bool, List}
 use Rattle.std.specs.Io.KnownBytes.{Appends}
 use Rattle.clap.specs.Words.{Text}
@@ -12,29 +12,29 @@ use Rattle.hh_command.specs.declared.stop.Stop.{Stop}
 use Rattle.hh_command.specs.declared.stop.Stop.TheVariants as stop
 use Rattle.hh_command.specs.Stops.{DoesWords, Stops, Tells, UnlessExplained}
 
--- a device has what it had, and did not fail
+-- nothing was written to a device, and it did not fail
 abbrev pub IsSilent : DeviceChange → Type 0
 IsSilent device = (device.new ≡ device.old) × IsWell device
 
--- the program's version went out
+-- the program's version was written
 abbrev pub TellsVersion : DeviceChange → Type 0
 TellsVersion out = Appends out.old out.new version
 
--- the output failed, a beginning of the version went out, and that is told
+-- the output failed, a beginning of the version was written, and the fault is told
 abbrev pub StopsVersion : DeviceChange → DeviceChange → Type 0
 StopsVersion out err = HasFailed out × AppendsFront out.old out.new version × Tells err stop.Output
 
--- a call ends so before its words are a line: its key file cannot be read, or memory was refused
+-- a call stops before its words are a line: its key file cannot be read, or memory was refused
 abbrev pub IsBeforeWords : Stop → Type 0
 IsBeforeWords s = (s ≡ stop.File) ⊎ (s ≡ stop.Refused memory_rejection)
 
--- some words form a line, and it was done; or the version went out
+-- some words formed a line and it was done, or the version was written
 abbrev pub IsDone : DeviceChange → DeviceChange → Type 0
 IsDone out err =
     ((words : List Text) × (strict : Bool) × (explain : Bool) × DoesWords any_view any_places strict words out × UnlessExplained explain (IsSilent err))
     ⊎ (TellsVersion out × IsSilent err)
 
--- some words form a line that stops so; or what comes before them does; or the version did not go out
+-- some words formed a line and it stopped; or the call stopped before its words were a line; or the version could not be written
 abbrev pub IsStopped : DeviceChange → DeviceChange → Type 0
 IsStopped out err =
     ((words : List Text) × (strict : Bool) × (explain : Bool) × Stops any_view any_places strict explain words out err)

@@ -1,4 +1,4 @@
--- Why a command stops, by the faults of its parts.
+-- Why a command stops, given the fault of one of its parts.
 use Rattle.std.specs.Prelude.{None}
 use Rattle.hh_inputs.specs.declared.inputs.InputFault.{InputFault}
 use Rattle.hh_inputs.specs.declared.inputs.InputFault.TheVariants.{Unreadable, Memory}
@@ -11,17 +11,17 @@ use Rattle.hh_period.specs.Outcome.{memory_rejection}
 use Rattle.hh_command.specs.declared.stop.Stop.{Stop}
 use Rattle.hh_command.specs.declared.stop.Stop.TheVariants as stop
 
--- why a command stops whose file gives no bytes
+-- why a command stops if the bytes of a file cannot be had
 abbrev pub input_stop : InputFault → Stop
 input_stop Unreadable = stop.File
 input_stop Memory = stop.Refused memory_rejection
 
--- why a command stops whose period has a fault
+-- why a command stops if its period has a fault
 abbrev pub period_stop : PeriodFault → Stop
 period_stop (period.Refused e) = stop.Refused e
 period_stop period.Write = stop.Output
 
--- why a command stops whose script is not run, or not to its end
+-- why a command stops if its script is not run, or not to its end
 abbrev pub script_stop : ScriptStop → Stop
 script_stop script.File = stop.File
 script_stop (script.Off line word) = stop.Off line word

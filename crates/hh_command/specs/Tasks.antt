@@ -20,12 +20,12 @@ use Rattle.hh_command.specs.Stopping.{script_stop}
 use Rattle.hh_command.specs.declared.stop.Stop.{Stop}
 use Rattle.hh_command.specs.declared.stop.Stop.TheVariants as stop
 
--- a moment is the one that was given, or any that the clock may tell
+-- a moment is the one that was given; if none was given, it is any that the clock may tell
 abbrev pub IsMoment : Option ℤ → ℤ → Type 0
 IsMoment None moment = Unit {0}
 IsMoment (Some given) moment = moment ≡ given
 
--- a task asks this of an office
+-- what a task asks of an office
 abbrev pub AsksOfOffice : Task → ErrandStep → Type 0
 AsksOfOffice (ToLoad l) step =
     (moment : ℤ) × IsMoment l.at moment × (step ≡ Load (record { moment = moment; key = l.key; kind = l.kind; path = l.path; name = l.name }))
@@ -35,13 +35,13 @@ AsksOfOffice (ToServe s) step = step ≡ Serve (record { at = s.at; port = s.por
 AsksOfOffice (ToInit settings) step = ⊥
 AsksOfOffice (ToRunScript file) step = ⊥
 
--- the moment of a task is asked of the clock
+-- the clock is asked for the moment of a task
 abbrev pub AsksClock : Task → Type 0
 AsksClock (ToLoad l) = l.at ≡ None
 AsksClock (ToRun r) = r.at ≡ None
 AsksClock _ = ⊥
 
--- why a command stops that was asked at a path
+-- why a command stops, given why its errand at a path stopped
 abbrev pub path_stop : PathStop → Stop
 path_stop path.Exists = stop.Exists
 path_stop path.NoFile = stop.NoFile
@@ -50,15 +50,15 @@ path_stop (path.Errand errand.Unreadable) = stop.File
 path_stop (path.Errand errand.NoSocket) = stop.NoSocket
 path_stop (path.Errand errand.Output) = stop.Output
 
--- why a command stops whose script was to be run at a path
+-- why a command stops, given why its script at a path was not run to its end
 abbrev pub script_path_stop : ScriptPathStop → Stop
 script_path_stop at.NoFile = stop.NoFile
 script_path_stop (at.Unopened fault) = stop.Refused (record { fault = store_fault fault; input = None })
 script_path_stop (at.Script why) = script_stop why
 
--- A host may show this of files and ports, these are the databases at its paths, and this changes in an output.
+-- `host` is what a host may show about files and ports, `places` are the databases at its paths, and `device` is the change of an output.
 module _ (host : HostView) (places : Places) (path : Text) (device : DeviceChange) where
-  -- a task of an errand ends so at a path
+  -- a task that asks something of the office at a path ends with this result
   abbrev pub EndsAsked : Task → Result Unit PathStop → Type 0
   EndsAsked task result = (step : ErrandStep) × AsksOfOffice task step × EndsAt places path device host step result
 
@@ -68,11 +68,11 @@ module _ (host : HostView) (places : Places) (path : Text) (device : DeviceChang
   DoesTask strict (ToRunScript file) = EndsScript host device file strict places path (Ok tt)
   DoesTask strict task = EndsAsked task (Ok tt)
 
-  -- a task of an errand stops so, or because the clock told no moment, and then nothing was written
+  -- a task that asks something of an office stops for this reason, or because the clock told no moment; in that case nothing was written
   abbrev pub StopsAsked : Task → Stop → Type 0
   StopsAsked task s = ((why : PathStop) × (s ≡ path_stop why) × EndsAsked task (Err why)) ⊎ ((s ≡ stop.NoClock) × AsksClock task × (device.new ≡ device.old))
 
-  -- a task stops so; a script may be strict
+  -- a task stops for this reason; a script may be strict
   abbrev pub StopsTask : Bool → Task → Stop → Type 0
   StopsTask strict (ToInit settings) s = (why : PathStop) × (s ≡ path_stop why) × MakesAt places path device settings (Err why)
   StopsTask strict (ToRunScript file) s = (why : ScriptPathStop) × (s ≡ script_path_stop why) × EndsScript host device file strict places path (Err why)

@@ -1,6 +1,6 @@
-//! Explanations: one line on the standard error for each refusal, each fault and the late rows of a file.
-//! No contract says what they hold. A file that was refused is read anew for them, and so are the tables of
-//! a database.
+//! Explanations: one line on the standard error for each refusal, for each fault and for the late rows of a
+//! file. No contract says what they contain. To explain a refusal, the refused file is read again, and so
+//! are the tables of a database.
 
 ghost use Rattle.std.specs.Prelude.{◌≡◌};
 ghost use Rattle.hh_office.specs.Views.{IsSure};
@@ -28,16 +28,16 @@ use hh_words::{Command, DatabaseTask, DatabaseWords, LoadWords, PeriodWords};
 use sqlite::Connection;
 use std::alloc::{AllocError, Global};
 
-/// The most bytes that are read of a file.
+/// The most bytes that are read of a file: one more than is allowed, so that a larger file is noticed.
 const MOST_READ: usize = MOST_BYTES + 1;
 
-/// What is told of a file whose bytes are needed again, and can't be had.
+/// What is told if the bytes of a file are needed again but can't be read again.
 const NOT_AGAIN: &str = "it can't be read a second time";
 
-/// A text, if there is one to tell.
+/// A text, if there is anything to tell.
 pub(crate) type Explanation = Result<Option<String>, AllocError>;
 
-/// Explains what came of the lines of a script, in a text that is told when they have been run.
+/// Collects the explanations of a script's lines. They are told after the lines have run.
 #[derive(Drop)]
 pub(crate) struct Explaining<D> {
     pub(crate) host: D,
@@ -59,7 +59,7 @@ impl<D: DatabaseHost> Notes for Explaining<D> {
     }
 }
 
-/// Adds an explanation of a line of a script, where there is one.
+/// Adds the explanation of a line of a script, if it has one.
 fn push_line(
     alloc: Global,
     text: &mut String,
@@ -73,7 +73,7 @@ fn push_line(
     Ok(())
 }
 
-/// What came of a line of a script, explained.
+/// Explains what came of a line of a script.
 fn of_line<T: Tables, D: DatabaseHost>(
     alloc: Global,
     office: &mut Office<'_, T>,
@@ -107,7 +107,7 @@ fn of_line<T: Tables, D: DatabaseHost>(
     }
 }
 
-/// How many readings are missing, where a run is refused for that.
+/// How many readings are missing, if the run is refused for missing readings.
 fn missing_in<T: Tables>(office: &mut Office<'_, T>, run: &RunKey, fault: &Fault) -> Option<u64>
     ensures same { IsSure T.is_open office.new → office.new.seen ≡ office.old.seen }
     ensures refusals_up { IsSure T.is_open office.new → CountsUp T.refusals office.old office.new }
@@ -119,7 +119,7 @@ fn missing_in<T: Tables>(office: &mut Office<'_, T>, run: &RunKey, fault: &Fault
     }
 }
 
-/// What came of a line of a script, explained without its office.
+/// Explains what came of a line of a script, if its office is not needed for that.
 fn of_files<D: DatabaseHost>(
     alloc: Global,
     host: &D,
@@ -139,7 +139,7 @@ fn of_files<D: DatabaseHost>(
     }
 }
 
-/// The late rows of a file.
+/// Explains the late rows of a file.
 fn of_late_rows<D: DatabaseHost>(
     alloc: Global,
     host: &D,
@@ -161,7 +161,7 @@ fn of_late_rows<D: DatabaseHost>(
     Ok(Some(late_rows(alloc, &file, lead_minutes, late)?))
 }
 
-/// Why a file of rows is refused.
+/// Explains why a file of rows is refused.
 fn of_refused_file<D: DatabaseHost>(
     alloc: Global,
     host: &D,
@@ -181,7 +181,7 @@ fn of_refused_file<D: DatabaseHost>(
     Ok(Some(load_refused(alloc, &file, fault)?))
 }
 
-/// Why a file can't be read.
+/// Explains why a file can't be read.
 fn of_unreadable<H: Host>(alloc: Global, host: &H, path: &str) -> Explanation {
     match host.why_unreadable(alloc, path)? {
         Some(why) => Ok(Some(format!(in alloc; "{path}: {why}")?)),
@@ -189,7 +189,7 @@ fn of_unreadable<H: Host>(alloc: Global, host: &H, path: &str) -> Explanation {
     }
 }
 
-/// Why a port can't be listened on.
+/// Explains why a port can't be listened on.
 fn of_port<H: Host>(alloc: Global, host: &H, port: u16) -> Explanation {
     match host.why_not_listening(alloc, port)? {
         Some(why) => Ok(Some(format!(in alloc; "port {port}: {why}")?)),
@@ -197,7 +197,7 @@ fn of_port<H: Host>(alloc: Global, host: &H, port: u16) -> Explanation {
     }
 }
 
-/// Explains what was done of a command: the late rows of a file that was loaded.
+/// Explains what was done for a command: it tells the late rows of a file that was loaded.
 pub(crate) fn explain_done<S: Rising, D: DatabaseHost<Connection = Connection<S>>, E: Sink>(
     alloc: Global,
     host: &D,
@@ -211,7 +211,7 @@ pub(crate) fn explain_done<S: Rising, D: DatabaseHost<Connection = Connection<S>
     }
 }
 
-/// The late rows of a file that was loaded into the office at a path.
+/// Explains the late rows of a file that was loaded into the office at a path.
 fn of_loaded<S: Rising, D: DatabaseHost<Connection = Connection<S>>>(
     alloc: Global,
     host: &D,
@@ -231,7 +231,7 @@ fn of_loaded<S: Rising, D: DatabaseHost<Connection = Connection<S>>>(
     }
 }
 
-/// Why a command stops.
+/// Explains why a command stops.
 pub(crate) fn of_stop<S: Rising, D: DatabaseHost<Connection = Connection<S>>>(
     alloc: Global,
     host: &D,
@@ -250,12 +250,12 @@ pub(crate) fn of_stop<S: Rising, D: DatabaseHost<Connection = Connection<S>>>(
     }
 }
 
-/// A text of no values.
+/// An explanation that is always the same text.
 fn plain(alloc: Global, text: &str) -> Explanation {
     Ok(Some(String::from_str(alloc, text)?))
 }
 
-/// What is so at the path of a command's database.
+/// Tells what was found at the path of a command's database.
 fn at_path(alloc: Global, command: &Command<'_>, what: &str) -> Explanation {
     match command {
         Command::OnDatabase(words) => {
@@ -266,7 +266,7 @@ fn at_path(alloc: Global, command: &Command<'_>, what: &str) -> Explanation {
     }
 }
 
-/// Why a command is refused.
+/// Explains why a command is refused.
 fn of_rejection<S: Rising, D: DatabaseHost<Connection = Connection<S>>>(
     alloc: Global,
     host: &D,
@@ -280,7 +280,7 @@ fn of_rejection<S: Rising, D: DatabaseHost<Connection = Connection<S>>>(
     }
 }
 
-/// Why a command on a database is refused.
+/// Explains why a command on a database is refused.
 fn of_task<S: Rising, D: DatabaseHost<Connection = Connection<S>>>(
     alloc: Global,
     host: &D,
@@ -303,7 +303,7 @@ fn of_task<S: Rising, D: DatabaseHost<Connection = Connection<S>>>(
     }
 }
 
-/// How many readings are missing, where a run of the office at a path is refused for that.
+/// How many readings are missing, if the run of the office at a path is refused for missing readings.
 fn missing_at<S: Rising, D: DatabaseHost<Connection = Connection<S>>>(
     alloc: Global,
     host: &D,
@@ -317,7 +317,7 @@ fn missing_at<S: Rising, D: DatabaseHost<Connection = Connection<S>>>(
     }
 }
 
-/// Why a command's file can't be read.
+/// Explains why a command's file can't be read.
 fn of_file<H: Host>(alloc: Global, host: &H, command: &Command<'_>) -> Explanation {
     match command {
         Command::Period(words) => match of_unreadable(alloc, host, words.meter)? {
@@ -336,7 +336,7 @@ fn of_file<H: Host>(alloc: Global, host: &H, command: &Command<'_>) -> Explanati
     }
 }
 
-/// Why a command's port can't be listened on.
+/// Explains why a command's port can't be listened on.
 fn of_socket<H: Host>(alloc: Global, host: &H, command: &Command<'_>) -> Explanation {
     match command {
         Command::OnDatabase(words) => match &words.task {
@@ -351,7 +351,7 @@ fn of_socket<H: Host>(alloc: Global, host: &H, command: &Command<'_>) -> Explana
     }
 }
 
-/// The files of a period, where they can be read more than once.
+/// The two files of a period, if they can be read more than once.
 fn bodies_again<D: DatabaseHost>(
     alloc: Global,
     host: &D,
@@ -362,7 +362,7 @@ fn bodies_again<D: DatabaseHost>(
     Some((meter, contracts))
 }
 
-/// Why a period is refused.
+/// Explains why a period is refused.
 fn of_period<D: DatabaseHost>(
     alloc: Global,
     host: &D,
@@ -401,7 +401,7 @@ pub(crate) fn explain_unreadable<H: Host, E: Sink>(
     let _ = tell(alloc, err, of_unreadable(alloc, host, path));
 }
 
-/// Tells an explanation, where there is one.
+/// Tells an explanation, if there is one.
 pub(crate) fn tell<E: Sink>(
     alloc: Global,
     err: &mut E,

@@ -1,10 +1,10 @@
-//! Why the words of the command line are not had.
+//! Why the words of the command line can't be used.
 
 use std::alloc::AllocError;
 use std::io;
 use std::io::ErrorKind;
 
-/// Why the words of the command line are not had.
+/// Why the words of the command line can't be used.
 #[derive(Clone, Copy, Debug, PartialEq, Eq)]
 pub(crate) enum NoWords {
     /// One of them is not text (UTF-8).

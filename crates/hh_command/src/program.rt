@@ -1,4 +1,4 @@
-//! One line of words, from its reading to the exit status.
+//! One line of words, from reading it to the exit status.
 
 ghost use Rattle.std.specs.Prelude.{◌≡◌, ◌≢◌, ◌≤◌, ◌<◌, ◌⊎◌, Bool, IfErr, OnOk, List, false, map, string_bytes, true};
 ghost use Rattle.clap.specs.Words.{Text};
@@ -35,33 +35,34 @@ use std::rt::Env;
 /// The exit status of a command that was done.
 const DONE: u8 = 0;
 
-/// What is told of words that are not text.
+/// What is told about words that are not text.
 const NOT_TEXT: &str = "words that are not text (UTF-8)\n";
 
-/// The most bytes that are read of a file: one more than a file may have, so that a larger one is
-/// told, and an endless one ends.
+/// The most bytes that are read of a file: one more than is allowed. So a file that is too large is
+/// noticed, and reading ends even if the file is endless.
 const MOST_READ: usize = MOST_BYTES + 1;
 
 /// The most bytes that are read of a key file.
 const MOST_KEY_BYTES: usize = 4_096;
 
-/// Runs the line of words that the program was called with, as `command` does (profile). No contract
-/// knows which words these are. Options are taken off them first, and a key file's key is put in its
-/// place; `--version` alone is answered with the program's version. Words that are not text are told as
-/// such, with status 2.
+/// Runs the line of words that the program was called with, as `command` does (profile). No contract knows
+/// which words these are. Options are removed first. If a key file is named, its key takes the place of its
+/// name. `--version` alone is answered with the program's version. Words that are not text are reported
+/// with status 2.
 pub fn run<O: Sink, E: Sink>(rt: &HostRuntime, out: &mut O, err: &mut E) -> u8
     ensures status { result ≤ 2 }
 
-    // Some words form a line, and it was done; or the version went out.
+    // Some words formed a line, and it was done; or the version was written.
     ensures done { result ≡ 0 → IsDone (change O.taken O.failures out.old out.new)
         (change E.taken E.failures err.old err.new) }
     ensures well { result ≡ 0 → O.failures out.new ≡ O.failures out.old }
 
-    // Some words form a line that stops so, or what comes before them stops so.
+    // Some words formed a line and it stopped with status 1; or the call stopped before its words were a
+    // line.
     ensures stopped { result ≡ 1 → IsStopped (change O.taken O.failures out.old out.new)
         (change E.taken E.failures err.old err.new) }
 
-    // Some words form no line, or a line of their script is off its form; or words are not text.
+    // Some words formed no line; or a line of their script is off its form; or words are not text.
     ensures told { let told = change E.taken E.failures err.old err.new in
         result ≡ 2 → ((words : List Text) × (explain : Bool) × AreWrong any_view explain words told)
         ⊎ IsTold told not_text_line }
@@ -74,13 +75,13 @@ pub fn run<O: Sink, E: Sink>(rt: &HostRuntime, out: &mut O, err: &mut E) -> u8
     }
 }
 
-/// The words that the program was called with, its own name in front.
+/// The words that the program was called with, beginning with its own name.
 fn arguments<R: Env + AllocGlobal>(rt: &R) -> Result<Vec<String>, NoWords> {
     let words = env::args(rt)?.collect(rt.alloc())?;
     Ok(words)
 }
 
-/// Tells the program's version, where the output does not fail.
+/// Writes the program's version, and tells it if the output fails.
 fn tell_version<O: Sink, E: Sink>(alloc: Global, out: &mut O, err: &mut E) -> u8
     ensures status { result ≤ 1 }
     ensures done { result ≡ 0 → TellsVersion (change O.taken O.failures out.old out.new) }
@@ -95,7 +96,7 @@ fn tell_version<O: Sink, E: Sink>(alloc: Global, out: &mut O, err: &mut E) -> u8
     }
 }
 
-/// Runs a line of words, of which some are options. `--version` alone is answered with the version.
+/// Runs a line of words that may begin with options. `--version` alone is answered with the version.
 fn run_words<O: Sink, E: Sink>(rt: &HostRuntime, words: &[String], out: &mut O, err: &mut E) -> u8
     ensures status { result ≤ 2 }
     ensures done { result ≡ 0 → IsDone (change O.taken O.failures out.old out.new)
@@ -117,7 +118,7 @@ fn run_words<O: Sink, E: Sink>(rt: &HostRuntime, words: &[String], out: &mut O, 
     }
 }
 
-/// Runs a line of words, in which a file may be named for a key.
+/// Runs a line of words in which a file may be named that holds the key.
 fn run_keyed<O: Sink, E: Sink>(
     rt: &HostRuntime,
     words: &[String],
@@ -145,7 +146,7 @@ fn run_keyed<O: Sink, E: Sink>(
     }
 }
 
-/// Words with the key in the place of the file at a path.
+/// The words, with the key that the file at `path` holds in the place of the path.
 fn words_with_key(rt: &HostRuntime, words: &[String], path: &str) -> Result<Vec<String>, Stop>
     ensures { IfErr result IsBeforeWords }
 {
@@ -154,7 +155,7 @@ fn words_with_key(rt: &HostRuntime, words: &[String], path: &str) -> Result<Vec<
     Ok(with_key(alloc, words, key_in_file(&bytes))?)
 }
 
-/// Tells why a file with a key gives none.
+/// Tells why a key file gives no key.
 fn stop_at_key<E: Sink>(rt: &HostRuntime, path: &str, explain: bool, stop: Stop, err: &mut E) -> u8
     requires { IsBeforeWords stop }
     ensures status { result ≡ 1 }
@@ -169,8 +170,8 @@ fn stop_at_key<E: Sink>(rt: &HostRuntime, path: &str, explain: bool, stop: Stop,
     status
 }
 
-/// Runs one line of words on this machine, as `command_on` does. Of files, ports and the clock of a
-/// machine no contract knows anything.
+/// Runs one line of words on this machine, as `command_on` does. No contract knows anything about the
+/// files, the ports and the clock of a machine.
 pub fn command<O: Sink, E: Sink>(
     rt: &HostRuntime,
     words: &[String],
@@ -197,7 +198,7 @@ pub fn command<O: Sink, E: Sink>(
     command_anywhere(rt.alloc(), &machine, words, options, out, err)
 }
 
-/// The same as `command_on`, with nothing said of the databases' paths.
+/// The same as `command_on`, but its contract says nothing about the paths of databases.
 fn command_anywhere<
     S: Rising,
     D: DatabaseHost<Connection = Connection<S>> + Copy,
@@ -219,11 +220,12 @@ fn command_anywhere<
     command_on(alloc, host, words, options, out, err)
 }
 
-/// Runs one line of words, the program's own name in front, over a host and two sinks, and answers the
-/// exit status (profile): 0 done, 1 refused or a fault of a file or of the output, or a strict script that
-/// a line stopped, 2 wrong words, a line of a script off its form, or a call for help. What ends it is told
-/// on `err`; where `err` fails, the status alone tells it. With explanations each refusal, each fault and
-/// the late rows of a file are explained on `err` too; what goes out and the status are the same.
+/// Runs one line of words, which begins with the program's own name, over a host and two sinks, and answers
+/// the exit status (profile). Status 0: done. Status 1: refused, or a fault of a file or of the output, or
+/// a strict script that one of its lines stopped. Status 2: wrong words, a line of a script off its form,
+/// or a call for help. The reason is told on `err`; if `err` fails, only the status tells it. If
+/// explanations are asked for, each refusal, each fault and the late rows of a file are also explained on
+/// `err`. What is written to `out` and the status are the same with explanations as without.
 pub fn command_on<S: Rising, D: DatabaseHost<Connection = Connection<S>> + Copy, O: Sink, E: Sink>(
     alloc: Global,
     host: &D,
@@ -234,7 +236,7 @@ pub fn command_on<S: Rising, D: DatabaseHost<Connection = Connection<S>> + Copy,
 ) -> u8
     ensures status { result ≤ 2 }
 
-    // Done is what the words ask for, and nothing is said on `err` then.
+    // What the words ask for was done, and nothing is told on `err`.
     ensures done { result ≡ 0 → DoesWords (D.view host.now)
         (places_of D.finds D.refuses D.opens D.closes D.discards (shown_by S.Store) host.now)
         options.strict (map string_bytes words.now)
@@ -242,14 +244,14 @@ pub fn command_on<S: Rising, D: DatabaseHost<Connection = Connection<S>> + Copy,
     ensures well { result ≡ 0 → O.failures out.new ≡ O.failures out.old }
     ensures silent { result ≡ 0 → UnlessExplained options.explain (err.new ≡ err.old) }
 
-    // A stop is one that the words, the files and `out` have, and it is told, unless `err` failed.
+    // The words, the files and `out` determine why it stopped. The reason was told, unless `err` failed.
     ensures stopped { result ≡ 1 → Stops (D.view host.now)
         (places_of D.finds D.refuses D.opens D.closes D.discards (shown_by S.Store) host.now)
         options.strict options.explain (map string_bytes words.now)
         (change O.taken O.failures out.old out.new) (change E.taken E.failures err.old err.new) }
 
-    // Words that form no line are told, and so is the number of a script's line that is off its form,
-    // unless `err` failed.
+    // It was told that the words form no line, or which line of the script is off its form, unless `err`
+    // failed.
     ensures wrong { result ≡ 2 → AreWrong (D.view host.now) options.explain
         (map string_bytes words.now) (change E.taken E.failures err.old err.new) }
     ensures untouched { result ≡ 2 → out.new ≡ out.old }
@@ -261,7 +263,7 @@ pub fn command_on<S: Rising, D: DatabaseHost<Connection = Connection<S>> + Copy,
     }
 }
 
-/// Does what a line of words asks for, and tells why where it stops, with explanations or without.
+/// Does what a line of words asks for, with explanations or without. If it stops, the reason is told.
 fn run_command<S: Rising, D: DatabaseHost<Connection = Connection<S>> + Copy, O: Sink, E: Sink>(
     alloc: Global,
     host: &D,
@@ -293,7 +295,7 @@ fn run_command<S: Rising, D: DatabaseHost<Connection = Connection<S>> + Copy, O:
     }
 }
 
-/// Does what a line of words asks for, and tells why where it stops.
+/// Does what a line of words asks for. If it stops, the reason is told.
 fn run_plainly<S: Rising, D: DatabaseHost<Connection = Connection<S>>, O: Sink, E: Sink>(
     alloc: Global,
     host: &D,
@@ -324,7 +326,7 @@ fn run_plainly<S: Rising, D: DatabaseHost<Connection = Connection<S>>, O: Sink, 
     }
 }
 
-/// The same, with explanations.
+/// Does the same as `run_plainly`, with explanations.
 fn run_explained<S: Rising, D: DatabaseHost<Connection = Connection<S>> + Copy, O: Sink, E: Sink>(
     alloc: Global,
     host: &D,
@@ -396,7 +398,7 @@ fn perform<S: Rising, D: DatabaseHost<Connection = Connection<S>>, N: Notes, O: 
     }
 }
 
-/// Does what `period` is given, by so many bytes of each file.
+/// Does what `period` asks for, and reads at most `most` bytes of each file.
 fn settle_files<H: Host, O: Sink>(
     alloc: Global,
     host: &H,

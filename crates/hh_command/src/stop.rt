@@ -1,4 +1,4 @@
-//! Why a command stops, and with which status.
+//! Why a command stops, and with which exit status.
 
 ghost use Rattle.std.specs.Prelude.{◌≡◌};
 ghost use Rattle.hh_period.specs.Outcome.{memory_rejection};
@@ -14,30 +14,31 @@ use hh_script::OffWord;
 use hh_session::{LinesStop, ScriptStop};
 use std::alloc::AllocError;
 
-/// The exit status of a command that was refused, or met a fault of a file, a port, the clock or the output.
+/// The exit status of a command that was refused, or that met a fault of a file, a port, the clock or the
+/// output.
 const REFUSED: u8 = 1;
 
 /// The exit status of wrong words, of a line of a script off its form, or of a call for help.
 pub(crate) const WRONG_WORDS: u8 = 2;
 
-/// Why a command stops with a line on the standard error.
+/// Why a command stops. One line on the standard error tells it.
 #[derive(Clone, Copy, Debug, PartialEq, Eq)]
 pub enum Stop {
-    /// What it was given is refused.
+    /// What the command was given is refused.
     Refused(Rejection),
     /// A file can't be read.
     File,
     /// The output failed.
     Output,
-    /// An office was to be made where there is something already.
+    /// An office was to be made at a path where there is something already.
     Exists,
-    /// There is nothing where an office was to be found.
+    /// There is nothing at the path of an office.
     NoFile,
     /// Nothing listens on the port.
     NoSocket,
     /// The machine's clock tells no moment.
     NoClock,
-    /// A line of a script is off its form, and this word of it.
+    /// A line of a script is off its form, and `word` is its first word that is.
     Off { line: usize, word: OffWord },
     /// A line of a strict script was refused or met a fault.
     Line { number: usize },
@@ -50,7 +51,7 @@ impl Stop {
         Stop::Refused(Rejection::of(Refusal::Memory))
     }
 
-    /// The exit status of a command that stops so.
+    /// The exit status of a command that stops for this reason.
     pub(crate) fn status(&self) -> u8
         ensures { result ≡ stop_status self.now }
     {

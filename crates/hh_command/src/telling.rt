@@ -15,8 +15,8 @@ use hh_words::USAGE;
 use itoa::Buffer;
 use std::alloc::{AllocError, Global};
 
-/// Tells what is wrong with words, where the device for it does not fail, and how the program is
-/// used, where nothing is said.
+/// Tells what is wrong with words, unless `err` fails. If `text` is empty, it tells how the program is
+/// used.
 pub(crate) fn wrong<E: Sink>(err: &mut E, text: &str) -> u8
     ensures status { result ≡ 2 }
     ensures told { IsTold (change E.taken E.failures err.old err.new) (told_text text.now) }
@@ -25,14 +25,14 @@ pub(crate) fn wrong<E: Sink>(err: &mut E, text: &str) -> u8
     WRONG_WORDS
 }
 
-/// What is told of wrong words: a text, or how the program is used in the place of an empty one.
+/// What is told about wrong words: the text, or how the program is used if the text is empty.
 fn told_text(text: &str) -> &str
     ensures { result.now ≡ told_text text.now }
 {
     if text.is_empty() { USAGE } else { text }
 }
 
-/// Tells why a command stops, where the device for it does not fail, and answers the status of that.
+/// Tells why a command stops, unless `err` fails, and answers the exit status.
 pub(crate) fn stopped<E: Sink>(alloc: Global, err: &mut E, stop: Stop) -> u8
     ensures status { result ≡ stop_status stop }
     ensures one { result ≡ 1 → HasStatusOne stop
@@ -45,7 +45,7 @@ pub(crate) fn stopped<E: Sink>(alloc: Global, err: &mut E, stop: Stop) -> u8
     status
 }
 
-/// Tells why a command stops, where the device for it does not fail.
+/// Tells why a command stops, unless `err` fails.
 fn tell<E: Sink>(alloc: Global, err: &mut E, stop: Stop)
     ensures { TellsStop (change E.taken E.failures err.old err.new) stop }
 {
@@ -70,7 +70,8 @@ fn write_stop<E: Sink>(alloc: Global, err: &mut E, stop: Stop) -> Result<(), Dev
     }
 }
 
-/// Writes which line of a script is off its form, and then which word of it, if there is memory for that.
+/// Writes which line of a script is off its form, and then which word of it, if there is memory for the
+/// second text.
 fn write_off<S: Sink>(
     alloc: Global,
     sink: &mut S,
@@ -88,7 +89,7 @@ fn write_off<S: Sink>(
     }
 }
 
-/// Writes what is so of a line of a script. Takes no memory.
+/// Writes `what` after the number of a script's line. Takes no memory.
 fn write_line<S: Sink>(sink: &mut S, line: usize, what: &[u8]) -> Result<(), DeviceFailed>
     ensures failed { OnErr result (Failed (S.failures sink.old) (S.failures sink.new)) }
     ensures well { OnOk result (S.failures sink.new ≡ S.failures sink.old) }
@@ -101,7 +102,7 @@ fn write_line<S: Sink>(sink: &mut S, line: usize, what: &[u8]) -> Result<(), Dev
     write_whole(sink, what)
 }
 
-/// Writes a rejection's line, or that of memory where memory runs out for the line itself.
+/// Writes the line of a rejection. If memory runs out for that line, it writes the line of refused memory.
 fn write_rejection<S: Sink>(
     alloc: Global,
     sink: &mut S,

@@ -1,10 +1,10 @@
-//! What is replied to files and runs.
+//! Replies to files and runs.
 
 use hh_names::Refusal;
 use hh_requests::{Loaded, Reply};
 use hh_runs::{RunKey, Summary};
 
-/// What a reply says of a file or a run.
+/// What a reply says about a file or a run.
 #[derive(Clone, Copy, Debug, PartialEq, Eq)]
 pub enum Answer {
     Loaded(Loaded),
@@ -25,7 +25,7 @@ impl Answer {
         }
     }
 
-    /// Whether the store refused for another cause than memory.
+    /// Whether the store refused for another reason than memory.
     pub fn is_stop(&self) -> bool {
         match self {
             Answer::Refused(refusal) => *refusal == Refusal::Store,

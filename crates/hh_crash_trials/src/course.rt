@@ -1,4 +1,4 @@
-//! What has to come of the requests.
+//! What should come of the requests.
 
 use crate::answer::Answer;
 use crate::disks::{Caches, Failing, new_disks, open};
@@ -24,20 +24,20 @@ use std::alloc::Global;
 /// More bytes than the balances have.
 const ROOM: usize = 200;
 
-/// The requests, and what has to come of them.
+/// The requests, and what should come of them.
 #[derive(Drop)]
 pub struct Course {
     settings: Settings,
     requests: Vec<(i64, Request)>,
     /// The right answers.
     answers: Vec<Answer>,
-    /// The rows of the tables of a new office, then those behind each request.
+    /// The rows of the tables of a new office, and then those after each request.
     rows: Vec<Vec<u8>>,
 }
 
 impl Course {
-    /// What comes of the requests over tables in memory: they get the right answers. Tables in a database answer and tell the
-    /// same, and have these rows.
+    /// What comes of the requests over tables in memory, which must give the right answers. Tables in a
+    /// database must answer and tell the same, and their rows are noted here.
     pub fn new(alloc: Global) -> Result<Course, Trouble> {
         let right = right_answers(alloc)?;
         let mut course = Course {
@@ -55,7 +55,7 @@ impl Course {
         Ok(course)
     }
 
-    /// Notes what has to have come of so many of the requests.
+    /// Notes what must have come of the first `count` requests.
     fn go_to(&mut self, alloc: Global, count: usize) -> Result<(), Trouble> {
         let tables = PlainTables::new(alloc, self.settings);
         let (stage, _tables) = stage_of(alloc, tables, &self.requests, count);
@@ -66,8 +66,8 @@ impl Course {
         Ok(())
     }
 
-    /// Asks an office from the request at a place on, and in the end for the balances. Where the store refused first, if it
-    /// did: each answer before has to be the right one.
+    /// Asks an office the requests from a place on, and then for the balances. Answers where the store
+    /// refused first, if it did. Each answer before that must be the right one.
     pub fn ask<T: Tables>(
         &self,
         alloc: Global,
@@ -97,7 +97,7 @@ impl Course {
         self.settings
     }
 
-    /// Sees that the tables of a database are those of a new office.
+    /// Checks that the tables of a database are those of a new office.
     pub fn see_new<S: Alter>(
         &self,
         alloc: Global,
@@ -109,7 +109,7 @@ impl Course {
         Ok(())
     }
 
-    /// Sees that nothing failed again, and that the tables of a database are those behind all requests.
+    /// Checks that nothing failed again, and that the tables of a database are those after all requests.
     pub fn see_end<S: Alter>(
         &self,
         alloc: Global,
@@ -123,7 +123,8 @@ impl Course {
         Ok(())
     }
 
-    /// Whether the tables of a database are those behind the request at a place, and not those before it.
+    /// Whether the tables of a database are those after the request at a place. Otherwise they must be
+    /// those before it.
     pub fn is_behind<S: Alter>(
         &self,
         alloc: Global,
@@ -141,14 +142,14 @@ impl Course {
     }
 }
 
-/// What came of some of the requests: the answers to them, and what the tables tell then.
+/// What came of some of the requests: the answers, and what the tables tell afterwards.
 #[derive(Drop, PartialEq, Eq)]
 struct Stage {
     answers: Vec<Answer>,
     told: Vec<u8>,
 }
 
-/// What comes of so many of the requests over these tables, which come back.
+/// What comes of the first `count` requests over these tables. The tables are returned.
 fn stage_of<T: Tables>(
     alloc: Global,
     tables: T,
@@ -172,7 +173,7 @@ fn stage_with(
     })
 }
 
-/// The answers to so many of the requests.
+/// The answers to the first `count` requests.
 fn answers_of<T: Tables>(
     alloc: Global,
     office: &mut Office<'_, T>,
@@ -186,7 +187,8 @@ fn answers_of<T: Tables>(
     Ok(answers)
 }
 
-/// The rows of the tables of an office in a database behind so many of the requests, of which the same has to come.
+/// The rows of the tables of an office in a database after the first `count` requests. The database must
+/// tell the same as the tables in memory.
 fn rows_at(
     alloc: Global,
     settings: Settings,
@@ -223,7 +225,7 @@ fn rows_behind<S: Alter>(
     }
 }
 
-/// The rows of the tables of an office, of which the right thing has to have come.
+/// The rows of the tables of an office, if the right thing came of it.
 fn rows_if<S: Alter>(
     alloc: Global,
     connection: &mut Connection<S>,
@@ -237,7 +239,7 @@ fn rows_if<S: Alter>(
     Err(Trouble::Told(count))
 }
 
-/// Asks an office for the balances, which have to be the right ones. Whether the store refused.
+/// Asks an office for the balances, which must be right. Answers whether the store refused.
 fn ask_balances<T: Tables>(
     alloc: Global,
     office: &mut Office<'_, T>,

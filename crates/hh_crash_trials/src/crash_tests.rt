@@ -1,8 +1,10 @@
-//! What no clause says of files that are opened again: behind a disk that failed at any of its calls an office's tables are those
-//! before the request that met it or those behind it, and the office goes on from there.
+//! Tests of what no clause says about files that are opened again. After a disk failed at any of its calls,
+//! an office's tables are those before the request that met the failure or those after it, and the office
+//! goes on from there.
 //!
-//! With small caches a disk fails so often that the rounds are made in shares, a test each. Each share has failures in each request:
-//! as many calls in a row fail in a request as it makes of the disk, and these are more than there are shares.
+//! With small caches a disk fails so often that the rounds are made in shares, one test for each. Each
+//! share has failures in each request: in a request as many calls in a row fail as it makes of the disk,
+//! which are more than there are shares.
 
 use crate::disks::{Caches, Failing};
 use crate::stops::Stops;
@@ -11,7 +13,7 @@ use std::fmt::Debug;
 use std::io;
 use std::test::Fail;
 
-/// Tells in which parts a disk failed, or what is wrong with a sweep. No part counts then.
+/// Tells in which parts a disk failed, or what is wrong with a sweep. In the latter case no part counts.
 fn told<E: Debug + Copy>(rt: &HostRuntime, swept: Result<Stops, E>) -> io::Result<Stops> {
     println!(rt; "{swept:?}")?;
     Ok(swept.unwrap_or(Stops::NONE))

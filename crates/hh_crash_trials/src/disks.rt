@@ -1,11 +1,11 @@
-//! Disks in memory, of which one may fail, and databases over them.
+//! Disks in memory, one of which may fail, and databases over them.
 
 use sqlite::{Connection, FileStore, Files, Options};
 use sqlite_disk::{Crash, Disk, Fuse, Memory};
 use std::alloc::Global;
 use std::io;
 
-/// A disk in memory that lets so many calls pass and fails each one behind them.
+/// A disk in memory that lets a number of calls pass and fails each later one.
 pub type FusedDisk = Fuse<Memory>;
 
 /// Which of the two files of a database is on a disk that fails.
@@ -18,9 +18,9 @@ pub enum Failing {
 /// How much of a database is kept in memory.
 #[derive(Clone, Copy, Debug, PartialEq, Eq)]
 pub enum Caches {
-    /// As much as the program keeps: the file of a small database is written where it is closed.
+    /// As much as the program keeps: the file of a small database is written when it is closed.
     Large,
-    /// So little that pages are written, and the log is copied into the file of the database, in the midst of requests.
+    /// So little that pages are written, and the log is copied into the database's file, during requests.
     Small,
 }
 
@@ -38,16 +38,16 @@ impl Caches {
     }
 }
 
-/// What a machine loses where it stops.
+/// What a machine loses when it stops.
 #[derive(Clone, Copy, Debug, PartialEq, Eq)]
 pub enum Loss {
     /// Nothing that was written.
     Nothing,
-    /// All that was not synced.
+    /// Everything that was not synced.
     Unsynced,
 }
 
-/// New disks, of which one lets so many calls pass.
+/// New disks, one of which lets `calls` calls pass.
 pub fn new_disks(alloc: Global, failing: Failing, calls: u64) -> Files<FusedDisk> {
     let (log, db) = match failing {
         Failing::Log => (calls, u64::MAX),
@@ -59,7 +59,7 @@ pub fn new_disks(alloc: Global, failing: Failing, calls: u64) -> Files<FusedDisk
     }
 }
 
-/// New disks that hold what these hold behind such a loss.
+/// New disks with what these disks have after this loss.
 pub fn left_by(
     alloc: Global,
     stopped: &mut Files<FusedDisk>,
@@ -75,7 +75,7 @@ pub fn left_by(
     })
 }
 
-/// A disk that holds what another does, and does not fail.
+/// A disk with the bytes of another, which does not fail.
 fn copied(alloc: Global, disk: &FusedDisk) -> io::Result<FusedDisk> {
     let mut memory = Memory::new(alloc);
     memory.write_at(0, disk.inner().bytes())?;
@@ -83,7 +83,7 @@ fn copied(alloc: Global, disk: &FusedDisk) -> io::Result<FusedDisk> {
     Ok(Fuse::new(memory, u64::MAX))
 }
 
-/// Opens the database over two disks, which come back where it is not opened.
+/// Opens the database over two disks. The disks are returned if it is not opened.
 pub fn open<D: Disk + Drop>(
     alloc: Global,
     files: Files<D>,

@@ -1,7 +1,9 @@
-//! Disks that stop: an office's database over two disks in memory, of which one fails each call behind so many, and the
-//! database opened again from what they hold then: tests of what no clause says of files that are opened again.
+//! Disks that stop: an office's database over two disks in memory, one of which fails each call after a
+//! number of calls. Then the database is opened again from what the disks have. The tests cover what no
+//! clause says about files that are opened again.
 //!
-//! They stand in a crate of their own, since the tests of a crate are proved with all of it once more.
+//! They are in a crate of their own, because the tests of a crate are proved with all of the crate once
+//! more.
 #![tactic(auto)]
 
 #[cfg(test)]

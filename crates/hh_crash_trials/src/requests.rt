@@ -1,4 +1,5 @@
-//! What is asked of the office: the market's files, a contract twice more, its run, a price and the next run.
+//! What is asked of the office: the market's files, a contract twice more, its run, a price, and the next
+//! run.
 
 use crate::trouble::Trouble;
 use hh_names::FileName;
@@ -12,10 +13,10 @@ use std::alloc::Global;
 /// How many requests there are.
 pub const REQUESTS: usize = 10;
 
-/// The balances behind them all, in pence.
+/// The balances after all of them, in pence.
 pub const BALANCES: &str = "account,moved_pence\nGENCO-P,45\nGENCO-C,0\nSUPCO-P,0\nSUPCO-C,-45\n";
 
-/// What is asked behind the market's files.
+/// What is asked after the market's files.
 #[derive(Clone, Copy)]
 enum Step {
     File(Arrival),
@@ -31,8 +32,8 @@ struct Arrival {
     text: &'static str,
 }
 
-/// The contract of the first period comes twice more, in time: a second before its notification closes, and, with the volume
-/// that it had at first, at an earlier moment.
+/// The contract of the first period comes twice more, in time: a second before its notification closes; and
+/// then, with the volume that it had at first, at an earlier moment.
 const STEPS: [Step; 5] = [
     Step::File(Arrival {
         moment: 1_719_784_799,
@@ -68,7 +69,7 @@ pub fn all_requests(alloc: Global) -> Result<Vec<(i64, Request)>, Trouble> {
     Ok(requests)
 }
 
-/// Puts what is asked behind the market's files.
+/// Adds what is asked after the market's files.
 fn put_steps(alloc: Global, requests: &mut Vec<(i64, Request)>) -> Result<(), Trouble> {
     let day = run().ok_or(Trouble::Word)?;
     for step in &STEPS {
@@ -77,7 +78,7 @@ fn put_steps(alloc: Global, requests: &mut Vec<(i64, Request)>) -> Result<(), Tr
     Ok(())
 }
 
-/// What is asked in a step, and when. Its run is of this date.
+/// The request of a step, and when it is made. A run is of this date.
 fn request_of(
     alloc: Global,
     step: &Step,

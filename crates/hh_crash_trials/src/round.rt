@@ -1,4 +1,4 @@
-//! One round: the requests until a disk fails, and what is found and asked again behind it.
+//! One round: the requests until a disk fails, and what is found and asked again after that.
 
 use crate::course::Course;
 use crate::disks::{Caches, Failing, FusedDisk, Loss, left_by, new_disks, open};
@@ -13,15 +13,17 @@ use sqlite::{Alter, Connection, FileStore, Files};
 use sqlite_disk::Disk;
 use std::alloc::Global;
 
-/// In which part a disk failed, if one did, and whether what met it was done all the same, with each loss.
+/// In which part a disk failed, if it did, and whether what met the failure was done all the same, for each
+/// loss.
 #[derive(Clone, Copy, Debug, PartialEq, Eq)]
 pub struct Round {
     pub stop: Option<Part>,
     pub done: [bool; 2],
 }
 
-/// Makes a new office on disks of which one lets so many calls pass, asks it all, and closes it, up to the first failure that is
-/// told. Then what the disks hold is opened, with each loss, and all that is left is asked.
+/// Makes a new office on disks, one of which lets `calls` calls pass, asks it all requests and closes it,
+/// up to the first failure that is told. Then what the disks have is opened, for each loss, and all that is
+/// left is asked.
 pub fn make_round(
     alloc: Global,
     course: &Course,
@@ -42,7 +44,7 @@ pub fn make_round(
     })
 }
 
-/// Goes as far as the disks let it. They come back.
+/// Goes on until a disk fails. The disks are returned.
 fn until_stop<D: Disk + Drop>(
     alloc: Global,
     course: &Course,
@@ -63,7 +65,7 @@ fn until_stop<D: Disk + Drop>(
     }
 }
 
-/// Makes a new office in a database, and asks it all.
+/// Makes a new office in a database, and asks it all requests.
 fn made_and_asked<S: Alter>(
     alloc: Global,
     course: &Course,
@@ -76,7 +78,7 @@ fn made_and_asked<S: Alter>(
     }
 }
 
-/// Asks an office over these tables from the request at a place on.
+/// Asks an office over these tables the requests from a place on.
 fn asked_from<S: Alter>(
     alloc: Global,
     course: &Course,
@@ -88,7 +90,8 @@ fn asked_from<S: Alter>(
     (stop, office.into_tables().into_connection())
 }
 
-/// Opens what the disks hold behind a stop, and goes on from there. Whether what met it was done.
+/// Opens what the disks have after a stop, and goes on from there. Answers whether what met the stop was
+/// done.
 fn behind_stop(
     alloc: Global,
     course: &Course,
@@ -108,7 +111,8 @@ fn behind_stop(
     done
 }
 
-/// The office of a database is a new one, or there is none, and a new one is made. Whether it was there.
+/// Checks that the office in a database is a new one. If there is none, a new one is made. Answers whether
+/// it was there.
 fn found_new<S: Rising>(
     alloc: Global,
     course: &Course,
@@ -129,7 +133,7 @@ fn found_new<S: Rising>(
     }
 }
 
-/// Sees that these tables are those of a new office.
+/// Checks that these tables are those of a new office.
 fn checked_new<S: Alter>(
     alloc: Global,
     course: &Course,
@@ -140,8 +144,8 @@ fn checked_new<S: Alter>(
     (checked, connection)
 }
 
-/// The tables of a database are those before the request at a place or those behind it. It and those behind it are asked then.
-/// Whether they were those behind it.
+/// Checks that the tables of a database are those before the request at a place or those after it. Then
+/// this request and the later ones are asked. Answers whether the tables were those after it.
 fn found<S: Rising>(
     alloc: Global,
     course: &Course,
@@ -163,8 +167,8 @@ fn found<S: Rising>(
     }
 }
 
-/// Asks the office of a database from the request at a place on. Nothing fails now, and the tables are those behind all requests
-/// then.
+/// Asks the office in a database the requests from a place on. Nothing may fail now, and the tables must be
+/// those after all requests.
 fn asked_again<S: Rising>(
     alloc: Global,
     course: &Course,

@@ -1,11 +1,12 @@
-//! The rows of an office's tables, as its database has them.
+//! The rows of an office's tables, as they are in its database.
 
 use hh_keyed_rows::RowFault;
 use sqlite::types::ValueRef;
 use sqlite::{Alter, Connection, Row};
 use std::alloc::{AllocError, Global};
 
-/// What selects the rows of each table in the order of their keys: also of those that keep what no call of the tables tells.
+/// The queries for the rows of each table in the order of their keys. They include the tables that no call
+/// of the office's tables tells.
 const SELECTS: [&str; 16] = [
     "SELECT * FROM settings ORDER BY id",
     "SELECT * FROM parties ORDER BY party",
@@ -55,7 +56,7 @@ fn put_row(bytes: &mut Vec<u8>, row: &Row) -> Result<(), RowFault> {
     Ok(())
 }
 
-/// Appends a value behind the letter of its type, and a text behind its length.
+/// Appends a value after the letter of its type, and a text after its length.
 fn put_value(bytes: &mut Vec<u8>, value: ValueRef<'_>) -> Result<(), AllocError> {
     match value {
         ValueRef::Null => bytes.extend_from_slice(b"n"),

@@ -1,4 +1,4 @@
-//! Where stops came.
+//! Where stops occurred.
 
 use crate::requests::REQUESTS;
 
@@ -9,13 +9,14 @@ pub enum Part {
     Making,
     /// The request at a place is answered.
     Request(usize),
-    /// The balances are told.
+    /// The office is asked for the balances.
     Balances,
     /// It is closed.
     Closing,
 }
 
-/// How many stops came in each part, and behind how many of them what met the stop was done all the same, with each loss.
+/// How many stops occurred in each part, and after how many of them what met the stop was done all the
+/// same, for each loss.
 #[derive(Clone, Copy, Debug, PartialEq, Eq)]
 pub struct Stops {
     making: u32,
@@ -34,7 +35,7 @@ impl Stops {
         done: [0; 2],
     };
 
-    /// Counts a stop, and whether what met it was done, with each loss.
+    /// Counts a stop, and whether what met it was done, for each loss.
     pub fn count(&mut self, part: Part, done: [bool; 2]) {
         match part {
             Part::Making => add_one(&mut self.making),
@@ -51,12 +52,12 @@ impl Stops {
         }
     }
 
-    /// Whether the making and the closing met stops.
+    /// Whether making and closing met stops.
     pub fn are_at_both_ends(&self) -> bool {
         self.making > 0 && self.closing > 0
     }
 
-    /// Whether each request met one.
+    /// Whether each request met a stop.
     pub fn are_in_each_request(&self) -> bool {
         self.requests.iter().all(|count| *count > 0)
     }

@@ -1,4 +1,4 @@
-//! Rounds, with more calls of a disk in each.
+//! Rounds in which more and more calls of a disk pass.
 
 use crate::course::Course;
 use crate::disks::{Caches, Failing};
@@ -10,8 +10,8 @@ use std::alloc::Global;
 /// More rounds than any share of a sweep has.
 const MOST_ROUNDS: u32 = 100_000;
 
-/// The rounds of a sweep fall into so many shares, and one of them is made. A share begins with the round that lets so many
-/// calls pass, and has each round behind it that lets as many calls more pass as there are shares.
+/// The rounds of a sweep are divided into shares, and one share is made. It begins with the round that lets
+/// `first` calls pass. In each further round, as many calls more pass as there are shares.
 #[derive(Clone, Copy, Debug)]
 pub struct Share {
     pub first: u64,
@@ -31,7 +31,7 @@ pub struct Broken {
     pub trouble: Trouble,
 }
 
-/// Makes round after round of a share, until none fails. In which parts one failed.
+/// Makes round after round of a share, until no disk fails. Answers in which parts one failed.
 pub fn stops_of(
     alloc: Global,
     failing: Failing,

@@ -1,4 +1,4 @@
-//! What the tables of an office tell of all that the market's files and runs name.
+//! What the tables of an office tell about everything that the market's files and runs name.
 
 use crate::trouble::Trouble;
 use hh_devices::MemorySink;
@@ -16,7 +16,7 @@ use std::fmt::Debug;
 /// More bytes than any report has.
 const ROOM: usize = 40_000;
 
-/// A text in the making.
+/// A text that is being written.
 #[derive(Drop)]
 struct Text {
     alloc: Global,
@@ -24,7 +24,7 @@ struct Text {
 }
 
 impl Text {
-    /// Appends what is told of a value.
+    /// Appends a value as text.
     fn tell<V: Debug>(&mut self, value: &V) -> Result<(), AllocError> {
         let text = format!(in self.alloc; "{value:?}\n")?;
         self.put(text.as_bytes())
@@ -60,7 +60,7 @@ pub fn told_by<T: Tables>(
     Ok(text.bytes)
 }
 
-/// What they tell of a run: the runs of its date, and its two reports where it is there.
+/// Appends what they tell about a run: the runs of its date, and its two reports if it exists.
 fn tell_run<T: Tables>(tables: &mut T, run: &RunKey, text: &mut Text) -> Result<(), Trouble> {
     let runs = tables.runs(run.date)?;
     text.tell(&runs)?;
@@ -76,7 +76,7 @@ fn tell_run<T: Tables>(tables: &mut T, run: &RunKey, text: &mut Text) -> Result<
     Ok(())
 }
 
-/// What they tell of a file, and of what its rows name.
+/// Appends what they tell about a file, and about what its rows name.
 fn tell_file<T: Tables>(tables: &mut T, upload: &Upload, text: &mut Text) -> Result<(), Trouble> {
     text.tell(&tables.file(upload.kind, &upload.name)?)?;
     let rows = match read_file(text.alloc, upload.kind, upload.body.as_slice()) {
@@ -91,7 +91,7 @@ fn tell_file<T: Tables>(tables: &mut T, upload: &Upload, text: &mut Text) -> Res
     Ok(())
 }
 
-/// What they, and the register of a row's file, tell of what the row names.
+/// Appends what they, and the register for a row's file, tell about what the row names.
 fn tell_row<T: Tables>(
     tables: &mut T,
     register: &Register,
@@ -117,7 +117,7 @@ fn tell_row<T: Tables>(
     }
 }
 
-/// What they tell of a party, and of what was posted to its accounts.
+/// Appends what they tell about a party, and about what was posted to its accounts.
 fn tell_party<T: Tables>(tables: &mut T, row: &PartyRow, text: &mut Text) -> Result<(), Trouble> {
     text.tell(&tables.party(&row.party)?)?;
     text.tell(&tables.key_known(row.registration.key.as_bytes())?)?;
@@ -131,7 +131,7 @@ fn tell_party<T: Tables>(tables: &mut T, row: &PartyRow, text: &mut Text) -> Res
     Ok(())
 }
 
-/// What they tell of an account's contracts on a date.
+/// Appends what they tell about an account's contracts on a date.
 fn tell_contracts<T: Tables>(
     tables: &mut T,
     account: &Account,

@@ -11,25 +11,25 @@ use std::io;
 pub enum Trouble {
     /// Memory was refused.
     Memory,
-    /// A disk with no fuse failed.
+    /// A disk without a fuse failed.
     Disk,
-    /// A database over disks with no fuse failed, or an office over them refused.
+    /// A database over disks without a fuse failed, or an office over them refused.
     Store,
     /// A word of the trial is off its form.
     Word,
-    /// The request at a place got another answer than the right one.
+    /// The request at a place got a wrong answer.
     Answered(usize),
-    /// The balances are not the right ones.
+    /// The balances are wrong.
     Balances,
-    /// The store refused again, over disks with no fuse.
+    /// The store refused again, over disks without a fuse.
     StoppedAgain(Part),
-    /// The office over tables in memory gave other answers than the right ones.
+    /// The office over tables in memory gave wrong answers.
     Worked,
-    /// Behind the request at a place two kinds of tables tell different things.
+    /// After the request at a place, the two kinds of tables tell different things.
     Told(usize),
-    /// The tables are neither those before the request at a place nor those behind it.
+    /// The tables are neither those before the request at a place nor those after it.
     Tables(usize),
-    /// Each of so many rounds met a stop.
+    /// All of a great number of rounds met a stop.
     Endless,
 }
 

@@ -9,7 +9,7 @@ use hh_requests::Loaded;
 use hh_runs::{RunKey, RunKind, Summary};
 use std::alloc::Global;
 
-/// How many rows each file has that comes before the first run. None of them is late.
+/// How many rows each file has that comes before the first run. No row is late.
 const ROWS: [u32; 7] = [2, 2, 1, 96, 48, 1, 1];
 
 /// The residuals of the two runs, in pence.
@@ -27,7 +27,7 @@ pub fn right_answers(alloc: Global) -> Result<Vec<Answer>, Trouble> {
     Ok(answers)
 }
 
-/// The answer to a file of which all rows are applied.
+/// The answer to a file whose rows are all applied.
 fn loaded(applied: u32) -> Answer {
     Answer::Loaded(Loaded { applied, late: 0 })
 }

@@ -1,4 +1,4 @@
--- Lines that are run over an office, by the content of its tables before and after them.
+-- Lines that are run over an office, given the content of its tables before and after them.
 use Rattle.std.proofs.Common.{◌≡◌, Bool, List, subst, sym, take}
 use Rattle.jiff.specs.declared.tz.timezone.TimeZone.{TimeZone}
 use Rattle.jiff.specs.Words.{plain_zone}
@@ -22,7 +22,7 @@ module _ (host : HostView) (fails : Type 0) (zone : TimeZone) (market : IsMarket
   abbrev first : OfficeView
   first = record { zone = zone; content = old }
 
-  -- the tables that the office hands back stand for what it stood for
+  -- the tables that the office returns represent the state that the office represented
   stands_now : (t : State) → StandsNow first last t → StandsFor (midnight_in (plain_zone zone)) new t
   stands_now t (now, zoned) =
       subst (λ z. StandsFor (midnight_in (plain_zone z)) new t) zoned (subst (λ c. StandsFor (midnight_of last) c t) (sym same) now)

@@ -1,4 +1,4 @@
--- What lines come to over an office whose tables stand in a database, by what the database holds after them.
+-- What comes of lines over an office whose tables are kept in a database, given what the database contains after them.
 use Rattle.std.proofs.Common.{◌≡◌, ℕ, ◌<◌, Bool, List, Result, Ok, Err, subst, sym, arith, take}
 use Rattle.std.specs.Prelude.{IfErr, IfOk, MatchResult, OnOk}
 use Rattle.jiff.specs.Words.{plain_zone}
@@ -27,7 +27,7 @@ use Rattle.hh_database.specs.declared.stop.DatabaseStop.TheVariants.{Early, Refu
 use Rattle.hh_database.specs.Running.{CutsFrom, CutsNew, CutsOver, EarlyNew, EarlyOver, HoldsState, IfEarly, WritesFrom, WritesNew, WritesOver}
 use Rattle.hh_database.specs.steps.Running.{EarlyBetween, RunsOver, StopsOver}
 
--- ---- what a result comes to
+-- ---- what follows from a result
 
 module _ {A E : Type 0} where
   pub ok_then : {P : Type 0} (r : Result A E) (x : A) → r ≡ Ok x → OnOk r P → P
@@ -44,14 +44,14 @@ module _ {A E : Type 0} where
   err_by Q (Ok x) gives first second = tt
   err_by Q (Err e) gives first second = gives e first second
 
--- ---- what lines come to
+-- ---- what comes of lines
 
 -- a count that has risen from none is above none
 risen : (count : ℕ) → CountsMore 0 count → 0 < count
 risen count more = more (omega arith)
 
 module _ (host : HostView) (device : DeviceChange) (db : Database) where
-  -- Lines were run over tables of one content, and left tables of another, which the database holds.
+  -- Lines were run over tables with content `old`, and left tables with content `new`, which the database contains.
   module _ (fails : Type 0) (conserve : ReachedConserve) (old new : Content) (holds : Holds version new db) where
     holds_state : (midnight : Midnights) (t : State) → StandsFor midnight new t → HoldsState midnight t db
     holds_state midnight t (reached, is) = record {
@@ -82,7 +82,7 @@ module _ (host : HostView) (device : DeviceChange) (db : Database) where
     early_over strict steps Output stops = cuts_over strict steps stops
     early_over strict steps (Line number) (may, runs) = (may, writes_over LastNotDone (take number steps) runs)
 
-  -- The office had refused nothing before, and has refused so many calls then.
+  -- The office had refused nothing before, and has refused `count` calls now.
   module _ (count : ℕ) where
     writes_where : (may : List Step → Bool → Type 0) (steps : List Step) (midnight : Midnights) (s : State)
         → WritesFrom host (CountsMore 0 count) device db steps may s midnight → WritesFrom host (0 < count) device db steps may s midnight
@@ -100,7 +100,7 @@ module _ (host : HostView) (device : DeviceChange) (db : Database) where
       held,
     )
 
-    -- the content that the office was taken over with is that which the database held
+    -- the office was taken over with the content that the database had
     pub writes_held : (may : List Step → Bool → Type 0) (steps : List Step) (old content : Content) → old ≡ content
         → WritesOver host (CountsMore 0 count) device db steps old may → WritesOver host (0 < count) device db steps content may
     writes_held may steps old content same (zone, market, writes) =
@@ -118,7 +118,7 @@ module _ (host : HostView) (device : DeviceChange) (db : Database) where
     early_held strict steps old content same Output cuts = cuts_held strict steps old content same cuts
     early_held strict steps old content same (Line number) (may, writes) = (may, writes_held LastNotDone (take number steps) old content same writes)
 
-    -- a new office stands for the empty state
+    -- a new office represents the empty state
     module _ (settings : Settings) (fine : AreSettings settings) (old : Content) (stands : (midnight : Midnights) → old ≡ tables_of midnight (empty_state settings)) where
       pub writes_new : (may : List Step → Bool → Type 0) (steps : List Step) → WritesOver host (CountsMore 0 count) device db steps old may
           → WritesNew host (0 < count) device db steps settings may
@@ -137,7 +137,7 @@ module _ (host : HostView) (device : DeviceChange) (db : Database) where
       early_new strict steps Output cuts = cuts_new strict steps cuts
       early_new strict steps (Line number) (may, writes) = (may, writes_new LastNotDone (take number steps) writes)
 
--- what is known of lines that were not run to their end
+-- what is known about lines that were not run to their end
 pub if_early : (stop : DatabaseStop) (P Q : LinesStop → Type 0) → ((why : LinesStop) → P why → Q why) → IfEarly stop P → IfEarly stop Q
 if_early (Early why) P Q then known = then why known
 if_early (Refused fault) P Q then known = tt

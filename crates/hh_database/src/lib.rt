@@ -1,4 +1,4 @@
-//! Scripts that are run over an office whose tables stand in a database.
+//! Scripts that are run over an office whose tables are kept in a database.
 #![tactic(auto)]
 
 mod over;

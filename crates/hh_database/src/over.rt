@@ -17,8 +17,8 @@ use hh_store::Tables;
 use hh_time::london;
 use std::alloc::Global;
 
-/// Runs lines over an office in the zone of the market that has these tables, as `run_lines` does, and
-/// hands the tables back.
+/// Runs lines over an office with these tables, in the zone of the market, as `run_lines` does, and returns
+/// the tables.
 pub(crate) fn run_over<T: Tables, H: Host, N: Notes, O: Sink>(
     alloc: Global,
     tables: T,

@@ -1,4 +1,4 @@
-//! The lines of a script, run over an office whose tables stand in a database.
+//! The lines of a script, run over an office whose tables are kept in a database.
 
 ghost use Rattle.std.specs.Prelude.{◌≡◌, ◌≢◌, ◌<◌, map, IfErr, IfOk, IsTrue, MatchResult, OnOk};
 ghost use Rattle.sqlite.specs.Held.{state};
@@ -30,14 +30,15 @@ use hh_store::StoreFault;
 use sqlite::{Alter, Connection};
 use std::alloc::Global;
 
-/// Makes the tables of an office with these settings in a database that has none, runs the lines of a
-/// script over the office, one after the other, and writes what comes of each, as `run_lines` does. A
-/// line is told 91 only where the database has refused a call of the office.
+/// Makes the tables of an office with these settings in an empty database. Then it runs the lines of a
+/// script over the office, one after the other, and writes what comes of each, as `run_lines` does. A line
+/// is told 91 only if the database has refused a call of the office. The connection is returned in any
+/// case.
 ///
 /// # Errors
 ///
-/// `Refused` where the tables are not made: nothing is written, and the database has what it had.
-/// `Early` as of `run_lines`. The connection comes back.
+/// `Refused`: the tables are not made, nothing is written, and the database is as it was. `Early` as for
+/// `run_lines`.
 pub fn run_in_new_database<S: Alter, H: Host, N: Notes, O: Sink>(
     alloc: Global,
     connection: Connection<S>,
@@ -74,13 +75,13 @@ pub fn run_in_new_database<S: Alter, H: Host, N: Notes, O: Sink>(
     }
 }
 
-/// Runs the lines of a script over the office whose tables a database has, one after the other, and
-/// writes what comes of each, as `run_lines` does. A line is told 91 only where the database has refused a
+/// Runs the lines of a script over the office whose tables are in a database, one after the other, and
+/// writes what comes of each, as `run_lines` does. A line is told 91 only if the database has refused a
 /// call of the office.
 ///
 /// # Errors
 ///
-/// As of `run_in_new_database`. `Refused` where the tables are not taken over.
+/// As for `run_in_new_database`. `Refused` if the tables are not taken over.
 pub fn run_in_database<S: Rising, H: Host, N: Notes, O: Sink>(
     alloc: Global,
     connection: Connection<S>,
@@ -116,7 +117,7 @@ pub fn run_in_database<S: Rising, H: Host, N: Notes, O: Sink>(
     }
 }
 
-/// What comes of lines that are not run, since the tables are refused.
+/// What comes of lines that are not run, because the tables are refused.
 fn not_run<S: Alter>(refused: (StoreFault, Connection<S>)) -> (DatabaseStop, AfterUse<S>)
     ensures stop { result.0 ≡ DatabaseStop.Refused refused.0 }
     ensures connection { result.1.connection ≡ refused.1 }
@@ -130,12 +131,12 @@ fn not_run<S: Alter>(refused: (StoreFault, Connection<S>)) -> (DatabaseStop, Aft
 }
 
 /// Runs the lines of a script over an office with these tables, one after the other, and writes what comes
-/// of each, as `run_lines` does. A line is told 91 only where the database has refused a call of the office.
-/// The tables' connection comes back.
+/// of each, as `run_lines` does. A line is told 91 only if the database has refused a call of the office.
+/// The tables' connection is returned.
 ///
 /// # Errors
 ///
-/// `Early` as of `run_lines`.
+/// `Early` as for `run_lines`.
 pub fn run_over_database<S: Alter, H: Host, N: Notes, O: Sink>(
     alloc: Global,
     tables: SqlTables<S>,

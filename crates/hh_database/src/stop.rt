@@ -1,4 +1,5 @@
-//! What an office leaves of a database, and why the lines of a script are not run, or not to their end.
+//! What is left of a database after an office used it, and why the lines of a script are not run, or not to
+//! their end.
 
 ghost use Rattle.std.specs.Prelude.{◌≡◌, IsTrue};
 ghost use Rattle.sqlite.specs.Held.{state};
@@ -11,15 +12,15 @@ use hh_sqlstore::SqlTables;
 use hh_store::StoreFault;
 use sqlite::{Alter, Connection};
 
-/// What an office leaves that was used over a database: the connection, and how often the database has
-/// refused the office for another cause than memory.
+/// What is left after an office used a database: the connection, and how often the database has refused the
+/// office for another reason than memory.
 pub struct AfterUse<S: Alter> {
     pub connection: Connection<S>,
     pub refusals: u64,
 }
 
 impl<S: Alter> AfterUse<S> {
-    /// What tables leave that the office no longer stands over.
+    /// What is left of tables that no office uses any more.
     pub fn of(tables: SqlTables<S>) -> AfterUse<S>
         ensures connection { result.connection ≡ tables.connection }
         ensures refusals { result.refusals ≡ tables.refusals }

@@ -1,4 +1,4 @@
--- The accounts whose rows a settled period and a run hold.
+-- The accounts that have rows in a settled period and in a run.
 use Rattle.std.proofs.Common.{◌≡◌, ℕ, List, [], ◌∷◌, ◌++◌, length, map, refl, sym, ap, ◌∙◌, arith}
 use Rattle.std.specs.Prelude.{ℤ}
 use Rattle.std.specs.List.{AllByRecursion, flat_map}
@@ -22,14 +22,14 @@ use Rattle.hh_states.specs.States.{State}
 use Rattle.hh_states.specs.Steps.{IsReached, timetable_at}
 use Rattle.hh_day.specs.Headline.{SettlesEachAccount, account_in}
 
--- rows are those of their figures' accounts, where there are as many shares
+-- rows are of the accounts of their figures, if there are as many shares
 accounts_of_rows : (fs : List Figures) (shares : List ℤ) → length fs ≡ length shares
     → map (λ (r : AccountRow). r.account) (account_rows fs shares) ≡ map (λ (f : Figures). f.account) fs
 accounts_of_rows [] shares same = refl
 accounts_of_rows (f ∷ fs) [] same = absurd (omega arith)
 accounts_of_rows (f ∷ fs) (x ∷ shares) same = ap (λ t. f.account ∷ t) (accounts_of_rows fs shares (omega arith))
 
--- figures are those of the accounts that they are made for
+-- figures are of the accounts for which they are computed
 accounts_of_figures : (p : PeriodTerms) (accounts : List Account) → map (λ (f : Figures). f.account) (map (figures p) accounts) ≡ accounts
 accounts_of_figures p [] = refl
 accounts_of_figures p (a ∷ accounts) = ap (λ t. a ∷ t) (accounts_of_figures p accounts)
@@ -64,7 +64,7 @@ module _ (tables : Registered) (date : ℕ) where
       ∙ (λ i. (with_number n rows ∙ ap (map (λ a. (n, a))) (accounts_settled (terms_at tables (numbered n)))) i ++ rows_of_periods numbers i)
 
 module _ (midnight : Midnights) (s : State) where
-  -- what holds by the rows of each run's settled periods
+  -- what is required of the rows of each run's settled periods
   settles_each : (runs : List Run)
       → AllByRecursion (λ (r : Run). results_in (tables_of midnight s) r.key ≡ rows_by_period (settled_by (timetable_at midnight s) s.history r)) runs
       → AllByRecursion (SettlesEachAccount midnight s (tables_of midnight s)) runs

@@ -1,4 +1,4 @@
--- The sums of the headline, put together.
+-- The headline sums, put together.
 use Rattle.std.proofs.Common.{◌≡◌, List, [], ◌∷◌, refl, sym, ◌∙◌, true, false, cond}
 use Rattle.std.specs.Prelude.{ℤ, ◌+ℤ◌, is_some, Some}
 use Rattle.std.specs.List.{AllByRecursion}
@@ -13,7 +13,7 @@ use Rattle.hh_states.specs.Sums.{CashSumsToZero, ContractsSumToZero, EachUnitCre
 use Rattle.hh_day.specs.Headline.{ReachedConserve}
 use Rattle.hh_day.proofs.AccountLaws.{each_account_settled}
 
--- amounts that are the same for each run come to the same over the latest runs of all dates
+-- if two amounts are the same for each run, their sums over the latest runs of all dates are the same
 same_over_latest : (f g : Run → ℤ) (runs : List Run) → AllByRecursion (λ r. f r ≡ g r) runs → total f (latest_runs runs) ≡ total g (latest_runs runs)
 same_over_latest f g [] same = refl
 same_over_latest f g (r ∷ runs) same =
@@ -23,7 +23,7 @@ same_over_latest f g (r ∷ runs) same =
       | false ↦ λ i. same.0 i +ℤ rest i
     ]
 
--- the sums of the headline hold of the tables of each reached state
+-- the headline sums hold for the tables of each reached state
 pub reached_conserve : HoldsResults → ContractsSumToZero → CashSumsToZero → EachUnitCredited → PostingsTotal → DayNetsFromResults → RunPostingsSumToZero → ReachedConserve
 reached_conserve held contracts cash credited posted from_results balanced midnight s reached = record {
   accounts = each_account_settled midnight s held reached;

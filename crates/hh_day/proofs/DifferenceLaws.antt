@@ -1,4 +1,4 @@
--- What differs between two settlements of a day depends on the day nets of accounts alone.
+-- The differences between two settlements of a day depend only on the day nets of accounts.
 use Rattle.std.proofs.Common.{◌≡◌, List, [], ◌∷◌, ◌++◌, map, refl, sym, ap, subst, ◌∙◌, Bool, true, false, cond, not, Option, Some, None, Ordering}
 use Rattle.std.specs.Prelude.{ℤ, pos, ◌-ℤ◌, filter, is_some, unwrap_or, T}
 use Rattle.std.specs.FinMap.{find, is_sorted, put}
@@ -20,7 +20,7 @@ module _ {K V : Type 0} {R : K → K → Ordering} (exact : (x y : K) → R x y 
   abbrev HasItsValue : K × V → Type 0
   HasItsValue e = e.1 ≡ value e.0
 
-  -- a further entry with its value leaves it so
+  -- putting an entry that has the value of its key keeps this property
   put_keeps_values : (k : K) (es : List (K × V)) → AllByRecursion HasItsValue es → AllByRecursion HasItsValue (put R k (value k) es)
   put_keeps_values k [] own = (refl, tt)
   put_keeps_values k (e ∷ es) own =
@@ -30,7 +30,7 @@ module _ {K V : Type 0} {R : K → K → Ordering} (exact : (x y : K) → R x y 
         | Greater ↦ λ is. (own.0, put_keeps_values k es own.1)
       ] refl
 
-  -- so entries with their values have them in the order of their keys
+  -- so such entries have it after sorting
   all_have_their_values : {W : Type 0} (es : List (K × W)) → AllByRecursion HasItsValue (in_key_order R (map (λ e. (e.0, value e.0)) es))
   all_have_their_values [] = tt
   all_have_their_values (e ∷ es) = put_keeps_values e.0 (in_key_order R (map (λ x. (x.0, value x.0)) es)) (all_have_their_values es)
@@ -40,7 +40,7 @@ module _ {K V : Type 0} {R : K → K → Ordering} (exact : (x y : K) → R x y 
   tested_by_key passes [] own = refl
   tested_by_key passes (e ∷ es) own = λ i. cond (passes (own.0 i)) (e ∷ tested_by_key passes es own.1 i) (tested_by_key passes es own.1 i)
 
-  -- what is found of a key is its value, where the key is there
+  -- a key that is found has its own value
   found_value : {W : Type 0} (q : K) (es : List (K × W)) → find R q (map (λ e. (e.0, value e.0)) es) ≡ cond (is_some (find R q es)) (Some (value q)) None
   found_value q [] = refl
   found_value q (e ∷ es) =
@@ -50,7 +50,7 @@ module _ {K V : Type 0} {R : K → K → Ordering} (exact : (x y : K) → R x y 
         | false ↦ λ apart. found_value q es
       ] refl
 
--- what is not found in two lists together is found in neither
+-- a key that is not found in two lists together is found in neither
 found_in_neither : {K V : Type 0} (R : K → K → Ordering) (q : K) (es fs : List (K × V)) → find R q (es ++ fs) ≡ None → (find R q es ≡ None) × (find R q fs ≡ None)
 found_in_neither R q [] fs none = (refl, none)
 found_in_neither R q (e ∷ es) fs none =
@@ -59,12 +59,12 @@ found_in_neither R q (e ∷ es) fs none =
       | false ↦ λ is. found_in_neither R q es fs is
     ] none
 
--- a change, if it is another than 0
+-- a change, if it is not 0
 abbrev change_shown : ℤ → Option ℤ
 change_shown z = cond (not (int_eq z (pos 0))) (Some z) None
 
 module _ (old new : DayNets) where
-  -- whether an account's net is another than before
+  -- whether an account's net has changed
   abbrev has_changed : Account → Bool
   has_changed a = not (int_eq (net_change old new a) (pos 0))
 
@@ -72,18 +72,18 @@ module _ (old new : DayNets) where
   abbrev all_changes : DayNets
   all_changes = in_key_order account_cmp (map (with_change old new) (new ++ old))
 
-  -- what differs are the changes of accounts whose nets are others than before
+  -- the differences are the changes of the accounts whose nets have changed
   differences_by_account : differences old new ≡ where_key account_cmp has_changed all_changes
   differences_by_account =
       tested_by_key exact_accounts (net_change old new) (λ z. not (int_eq z (pos 0))) all_changes (all_have_their_values exact_accounts (net_change old new) (new ++ old))
 
-  -- the accounts of what differs rise
+  -- the accounts of the differences rise
   differences_rise : T (is_sorted account_cmp (differences old new))
   differences_rise =
       subst (λ es. T (is_sorted account_cmp es)) (sym differences_by_account)
       (is_sorted-where_key account_cmp has_changed all_changes (is_sorted-in_key_order account_total (map (with_change old new) (new ++ old))))
 
-  -- what differs for an account is its change
+  -- the difference that is found for an account is its change
   found_difference : (a : Account) → find account_cmp a (differences old new) ≡ change_shown (net_change old new a)
   found_difference a =
       ap (find account_cmp a) differences_by_account
@@ -98,7 +98,7 @@ module _ (old new : DayNets) where
         | Some z ↦ λ is. refl
       ] refl
 
--- what differs is the same where each account has the same nets
+-- the differences are the same if each account has the same nets
 pub same_differences : (old new also_old also_new : DayNets) → ((a : Account) → day_net_of old a ≡ day_net_of also_old a) → ((a : Account) → day_net_of new a ≡ day_net_of also_new a)
     → differences old new ≡ differences also_old also_new
 same_differences old new also_old also_new same_old same_new =

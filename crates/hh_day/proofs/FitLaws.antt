@@ -44,7 +44,7 @@ use Rattle.hh_day.proofs.WriteLaws.{of_the_last, of_those_that_pass, settles_the
 
 -- rows of small turnovers
 module _ {K : Type 0} (rows : List (K × AccountRow)) (small : AreTurnoversSmall rows) where
-  -- what an account pays by the first of them is a day net
+  -- what an account pays by the first of these rows is in the range of day nets
   first_fit : (a : Account) (n : ℕ) → IsBetween day_cash.least day_cash.most (total (λ e. moved_by_row a e.1) (take n rows))
   first_fit a n =
       let size : K × AccountRow → ℕ = λ e. unsigned_abs (moved_by_row a e.1) in
@@ -52,7 +52,7 @@ module _ {K : Type 0} (rows : List (K × AccountRow)) (small : AreTurnoversSmall
       let whole : sum_by size rows ≤ greatest_turnover = small a in
       is_day_net (total (λ e. moved_by_row a e.1) (take n rows)) (sum_by size (take n rows)) (total_by_sizes (λ (e : K × AccountRow). moved_by_row a e.1) (take n rows)) (omega arith)
 
-  -- so is the net of an account by the rows so far with what the next row moves for it
+  -- so is its net by the rows so far and the next row
   pub next_fits : (i : ℕ) (e : K × AccountRow) (nets : DayNets) → i < length rows → e ≡ get_or rows i e → AreNetsOf (take i rows) nets
       → IsBetween day_cash.least day_cash.most (day_net_of nets e.1.account +ℤ paid_by e.1)
   next_fits i e nets inside is so_far =
@@ -62,7 +62,7 @@ module _ {K : Type 0} (rows : List (K × AccountRow)) (small : AreTurnoversSmall
       ∙ (λ j. sym (so_far a) j +ℤ cond ((eq_by_cmp_equiv account_total).refl a j) (paid_by e.1) (pos 0)))
       (first_fit a (i + 1))
 
--- an account's turnover by the rows of settled periods, under whichever of two kinds of keys they stand
+-- an account's turnover by the rows of settled periods, which is the same under either kind of key
 pub turnover_by_entries : (run : RunKey) (a : Account) (day : List (SettlementPeriod × Settled)) → sum_by (λ e. unsigned_abs (moved_by_row a e.1)) (result_entries run day) ≡ turnover_in a (rows_by_period day)
 turnover_by_entries run a [] = refl
 turnover_by_entries run a (q ∷ day) =
@@ -72,7 +72,7 @@ turnover_by_entries run a (q ∷ day) =
     ∙ sym (sum_by-made (λ (e : ℕ × AccountRow). size e.1) (λ r. (q.0.period, r)) q.1.accounts)) i + turnover_by_entries run a day i)
     ∙ sym (sum_by-append (λ (e : ℕ × AccountRow). size e.1) (map (λ r. (q.0.period, r)) q.1.accounts) (rows_by_period day))
 
--- what holds of each of a list holds of its last
+-- if all elements of a list have a property, so has the last
 last_has : {X : Type 0} (P : X → Type 0) (xs : List X) (x : X) → AllByRecursion P (xs ++ x ∷ []) → P x
 last_has P [] x all = all.0
 last_has P (y ∷ xs) x all = last_has P xs x all.1
@@ -87,7 +87,7 @@ fits_fields summary within =
     record { periods = omega arith; accounts = omega arith; residual = (omega (arith, ints), omega (arith, ints)); postings = omega arith }
 
 module _ (midnight : Midnights) (s : State) (moment : ℤ) (key : RunKey) (reached : IsReached midnight s) (can : CanRun midnight s moment key) where
-  -- the state after a run is reached
+  -- the state after the run is reached
   run_reached : IsReached midnight (after_run s key)
   run_reached = by_run s moment key reached can
 
@@ -97,11 +97,11 @@ module _ (midnight : Midnights) (s : State) (moment : ℤ) (key : RunKey) (reach
       last_has (λ (r : Run). turnover_in a (rows_by_period (settled_by (timetable_at midnight s) s.history r)) ≤ greatest_turnover) s.runs (new_run s key)
       (turnovers midnight (after_run s key) a run_reached)
 
-  -- the turnover of an account in a run, if there is one, is small by the tables
+  -- the turnover of an account in a run, if there is one, is small by the rows in the tables
   abbrev IsSmall : Account → Option Run → Type 0
   IsSmall a o = turnover_in a (elim o [ None ↦ [] | Some r ↦ results_in (tables_of midnight s) r.key ]) ≤ greatest_turnover
 
-  -- and so are those in the run of the date before it, if there is one
+  -- so are the turnovers in the run of the date before it, if there is one
   former_small : TurnoversWithin → HoldsResults → (a : Account)
       → IsSmall a (latest_run key.date s.runs)
   former_small turnovers held a =

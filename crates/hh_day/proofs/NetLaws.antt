@@ -1,4 +1,4 @@
--- What accounts pay by rows, in all.
+-- The sums of what accounts pay by rows.
 use Rattle.std.proofs.Common.{◌≡◌, ℕ, ◌+◌, ◌<◌, List, [], ◌∷◌, ◌++◌, map, length, take, get_or, refl, sym, ap, ◌∙◌, true, false, cond, Some}
 use Rattle.std.specs.Prelude.{ℤ, pos, ◌+ℤ◌, unwrap_or}
 use Rattle.std.specs.FinMap.{find, put}
@@ -24,7 +24,7 @@ use Rattle.hh_states.specs.Content.{result_entries, result_key}
 use Rattle.hh_states.specs.RunReads.{paid_in, rows_by_period}
 use Rattle.hh_day.specs.steps.RunParts.{AddsRow, AreNetsOf}
 
--- a net put where what it was and what the row moves come to adds the row
+-- putting the net of an account with what a row moves adds the row
 pub adds_row : (nets : DayNets) (row : AccountRow) (net : ℤ) → net ≡ day_net_of nets row.account +ℤ paid_by row → AddsRow row nets (put account_cmp row.account net nets)
 adds_row nets row net is a =
     ap (λ o. unwrap_or o (pos 0)) (find-put account_cmp account_total a row.account net nets)
@@ -34,20 +34,20 @@ adds_row nets row net is a =
     ] refl
     ∙ ap (λ t. day_net_of nets a +ℤ cond t (paid_by row) (pos 0)) ((eq_by_cmp_equiv account_total).symm a row.account)
 
--- a sum over one more place of a list
+-- a sum over one more element of a list
 pub total_next : {X : Type 0} (f : X → ℤ) (xs : List X) (i : ℕ) (x : X) → i < length xs → x ≡ get_or xs i x → total f (take (i + 1) xs) ≡ total f (take i xs) +ℤ f x
 total_next f xs i x inside is =
     ap (total f) (take_more xs i x inside ∙ ap (λ y. take i xs ++ y ∷ []) (sym is))
     ∙ total-append f (take i xs) (x ∷ [])
     ∙ ap (λ z. total f (take i xs) +ℤ z) (+ℤ_idr (f x))
 
--- the nets by one more row
+-- the nets after one more row
 pub nets_next : {K : Type 0} (rows : List (K × AccountRow)) (i : ℕ) (e : K × AccountRow) (old new : DayNets) → i < length rows → e ≡ get_or rows i e
     → AreNetsOf (take i rows) old → AddsRow e.1 old new → AreNetsOf (take (i + 1) rows) new
 nets_next rows i e old new inside is so_far adds a =
     adds a ∙ ap (λ z. z +ℤ moved_by_row a e.1) (so_far a) ∙ sym (total_next (λ x. moved_by_row a x.1) rows i e inside is)
 
--- what an account pays by the rows of settled periods, under whichever of two kinds of keys they stand
+-- what an account pays by the rows of settled periods, which is the same under either kind of key
 pub paid_by_entries : (run : RunKey) (a : Account) (day : List (SettlementPeriod × Settled)) → total (λ e. moved_by_row a e.1) (result_entries run day) ≡ paid_in a (rows_by_period day)
 paid_by_entries run a [] = refl
 paid_by_entries run a (q ∷ day) =

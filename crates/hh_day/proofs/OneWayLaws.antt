@@ -1,4 +1,4 @@
--- A period is settled in one way: its rows are made of its figures and shares, and its credits, of which no two are alike, have
+-- A period has only one settlement: its rows are made of its figures and shares, and its credits, no two of which are alike, have
 -- one order.
 use Rattle.std.proofs.Common.{◌≡◌, ℕ, zero, suc, ◌<◌, ◌+◌, ◌⊎◌, inl, inr, ⊎_elim, List, [], ◌∷◌, length, get_or, map, refl, sym, ap, subst, ◌∙◌, false, Ordering, arith}
 use Rattle.std.specs.Prelude.{ℤ, Contains, T}
@@ -31,18 +31,18 @@ made_of_parts [] = refl
 made_of_parts (r ∷ rows) = ap (λ t. r ∷ t) (made_of_parts rows)
 
 module _ {X : Type 0} where
-  -- an element is one of these
+  -- an element is one of a list
   abbrev IsOneOf : List X → X → Type 0
   IsOneOf [] x = ⊥
   IsOneOf (y ∷ ys) x = (x ≡ y) ⊎ IsOneOf ys x
 
-  -- it stands at some place
+  -- an element at some place is one of the list
   found_at : (ys : List X) (x : X) (k : ℕ) → k < length ys → get_or ys k x ≡ x → IsOneOf ys x
   found_at [] x k inside is = absurd (omega arith)
   found_at (y ∷ ys) x zero inside is = inl (sym is)
   found_at (y ∷ ys) x (suc k) inside is = inr (found_at ys x k (omega arith) is)
 
-  -- what is moved stays among the elements
+  -- reordering a list leaves each element one of it
   all_stay : (xs ys : List X) → IsPermutation xs ys → AllByRecursion (IsOneOf ys) xs
   all_stay xs ys moved =
       recursion_from_All (IsOneOf ys) xs
@@ -50,7 +50,7 @@ module _ {X : Type 0} where
       (λ x within. let now : Contains ys x = Contains-permutation xs ys x moved within in found_at ys x now.0 now.1 now.2)
       xs (All-contains_itself xs))
 
-  -- what holds of each element holds of one of them
+  -- if all elements of a list have a property, so has an element of it
   of_one : (P : X → Type 0) (xs : List X) (x : X) → AllByRecursion P xs → IsOneOf xs x → P x
   of_one P [] x all within = absurd within
   of_one P (y ∷ xs) x all within = ⊎_elim (λ is. subst P (sym is) all.0) (λ later. of_one P xs x all.1 later) within
@@ -60,7 +60,7 @@ module _ {X : Type 0} {R : X → X → Ordering} (o : IsTotalOrder R) where
   not_below_itself : (x : X) → R x x ≡ Less → ⊥
   not_below_itself x below = let both : Equal ≡ Less = sym (tied_itself o x) ∙ below in cc
 
-  -- what does not fall and does not tie rises
+  -- of two elements in order that are not equal, the second is above the first
   next_is_above : (x y : X) → is_lt (R y x) ≡ false → eq_by_cmp R x y ≡ false → R x y ≡ Less
   next_is_above x y not_falling apart =
       elim (R x y) as (λ r. R x y ≡ r → r ≡ Less) [
@@ -69,7 +69,7 @@ module _ {X : Type 0} {R : X → X → Ordering} (o : IsTotalOrder R) where
         | Greater ↦ λ is. let no = sym not_falling ∙ ap is_lt (o.antisymm y x ∙ ap ordering_reverse is) in cc
       ] refl
 
-  -- elements in order of which no two are alike rise
+  -- sorted elements, no two of which are alike, rise
   rising : (xs : List X) → IsSorted R xs → IsDistinct (eq_by_cmp R) xs → IsStrictlySortedBy R xs
   unfolding IsStrictlySortedBy
   rising [] ordered distinct = tt
@@ -78,7 +78,7 @@ module _ {X : Type 0} {R : X → X → Ordering} (o : IsTotalOrder R) where
       (λ k inside. next_is_above (get_or (x ∷ xs) k x) (get_or (x ∷ xs) (k + 1) x) (ordered k x (omega arith) inside)
       (apart_from_distinct (eq_by_cmp R) (x ∷ xs) k (k + 1) x distinct (omega arith) inside))
 
-  -- elements above the first of a list that are in the list are in the rest of it
+  -- elements above the first of a list, if they are in the list, are in the rest of it
   in_the_rest : (x y : X) → x ≡ y → (ys zs : List X) → AllByRecursion (λ z. R x z ≡ Less) zs → AllByRecursion (IsOneOf (y ∷ ys)) zs → AllByRecursion (IsOneOf ys) zs
   in_the_rest x y same ys [] above within = tt
   in_the_rest x y same ys (z ∷ zs) above within = (
@@ -86,7 +86,7 @@ module _ {X : Type 0} {R : X → X → Ordering} (o : IsTotalOrder R) where
     in_the_rest x y same ys zs above.1 within.1,
   )
 
-  -- of two rising lists with the same elements the first elements are the same
+  -- if two rising lists have the same elements, their first elements are the same
   same_first : (x y : X) (xs ys : List X) → AllByRecursion (λ z. R x z ≡ Less) xs → AllByRecursion (λ z. R y z ≡ Less) ys → IsOneOf (y ∷ ys) x → IsOneOf (x ∷ xs) y → x ≡ y
   same_first x y xs ys above also_above x_within y_within =
       ⊎_elim (λ is. is)
@@ -95,7 +95,7 @@ module _ {X : Type 0} {R : X → X → Ordering} (o : IsTotalOrder R) where
       y_within)
       x_within
 
-  -- so two rising lists with the same elements are the same
+  -- so two rising lists with the same elements are equal
   same_rising : (xs ys : List X) → IsStrictlySortedBy R xs → IsStrictlySortedBy R ys → AllByRecursion (IsOneOf ys) xs → AllByRecursion (IsOneOf xs) ys → xs ≡ ys
   same_rising [] [] rises also_rises within also_within = refl
   same_rising [] (y ∷ ys) rises also_rises within also_within = absurd also_within.0
@@ -107,7 +107,7 @@ module _ {X : Type 0} {R : X → X → Ordering} (o : IsTotalOrder R) where
       let rest : xs ≡ ys = same_rising xs ys (sorted_tail R x xs rises) (sorted_tail R y ys also_rises) (in_the_rest x y same ys xs above within.1) (in_the_rest y x (sym same) xs ys also_above also_within.1) in
       λ i. same i ∷ rest i
 
-  -- a list without two alike is put in order in one way
+  -- a list no two of whose elements are alike can be sorted in only one way
   ordered_in_one_way : (start xs ys : List X) → IsDistinct (eq_by_cmp R) ys → IsPermutation start xs → IsPermutation start ys → IsSorted R xs → IsSorted R ys → xs ≡ ys
   ordered_in_one_way start xs ys distinct moved also_moved ordered also_ordered =
       let back : IsPermutation ys xs = IsPermutation-trans ys start xs (IsPermutation-sym start ys also_moved) moved in
@@ -120,11 +120,11 @@ module _ {X : Type 0} {R : X → X → Ordering} (o : IsTotalOrder R) where
 credit_total : IsTotalOrder credit_cmp
 credit_total = on_total (λ (c : CreditRow). (c.unit, c.account)) unit_account_total
 
--- the credit that stands under a unit and an account
+-- the credit of a unit and an account
 abbrev credit_under : UnitAccount × ℤ → CreditRow
 credit_under e = record { unit = e.0.0; account = e.0.1; credited = e.1 }
 
--- a credit under a key below all others is alike with none of them
+-- a credit under a key below all others is like none of them
 none_like_the_first : (k : UnitAccount) (z : ℤ) (es : List (UnitAccount × ℤ)) → T (below_all unit_account_cmp k es)
     → AllByRecursion (λ c. eq_by_cmp credit_cmp (credit_under (k, z)) c ≡ false) (map credit_under es)
 none_like_the_first k z [] below = tt
@@ -133,7 +133,7 @@ none_like_the_first k z (e ∷ es) below = (
   none_like_the_first k z es (second (is_lt (unit_account_cmp k e.0)) (below_all unit_account_cmp k es) below),
 )
 
--- in a table of credits no two are alike
+-- no two credits of a table are alike
 table_has_no_two_alike : (es : List (UnitAccount × ℤ)) → T (is_sorted unit_account_cmp es) → IsDistinct (eq_by_cmp credit_cmp) (map credit_under es)
 unfolding IsDistinct
 table_has_no_two_alike [] sorted = tt
@@ -148,7 +148,7 @@ no_two_credits_alike p =
     let entries : List (UnitAccount × ℤ) = keyed_credits (credits_of p.units) in
     table_has_no_two_alike (in_key_order unit_account_cmp entries) (is_sorted-in_key_order unit_account_total entries)
 
--- a period is settled in one way, where each is settled so
+-- a period has only one settlement, if each settlement is as defined
 pub settled_in_one_way : SettlesEachPeriod → SettledInOneWay
 settled_in_one_way each p s fits is =
     let own : IsSettled p (settled p) = each p fits.units fits.credits in

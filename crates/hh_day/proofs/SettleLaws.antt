@@ -1,4 +1,4 @@
--- The Settlement Periods of a day, settled one after the other.
+-- The Settlement Periods of a day, settled one after another.
 use Rattle.std.proofs.Common.{inl, inr, ◌≡◌, ℕ, zero, suc, ◌+◌, ◌<◌, List, [], ◌∷◌, ◌++◌, length, take, get_or, refl, sym, ap, subst, ◌∙◌, Bool, true, false, cond, Some, None, arith}
 use Rattle.std.specs.Prelude.{All, IsFalse, IsTrue, Option, find, min, not}
 use Rattle.std.specs.List.{AllZip}
@@ -26,23 +26,23 @@ use Rattle.hh_store.specs.declared.day_data.PeriodState.TheVariants.{Changed}
 use Rattle.hh_day.specs.NewRuns.{SettledInOneWay}
 use Rattle.hh_day.specs.steps.PeriodSteps.{SettlesPeriod}
 
--- So many of these Settlement Periods are settled so from these, and none of them passes a limit, by whatever is registered and in
--- force, where what each is settled from fits together.
+-- The first n of these Settlement Periods have these settlements, and none of them passes a limit. This holds for all that is
+-- registered and in force from which the states were read, if what each period is settled from fits together.
 abbrev pub SettlesFirst : ℕ → List SettlementPeriod → List PeriodState → List (SettlementPeriod × Settled) → Type 0
 SettlesFirst n periods states day =
     (tables : Registered) → ArePeriodsOf tables periods states → ArePeriodsConsistent tables periods
     → (too_large tables (take n periods) ≡ None) × (day ≡ settled_day tables (take n periods))
 
--- a search over a list that goes on
+-- a search that goes on with the next element of a list
 module _ {X : Type 0} (test : X → Bool) where
-  -- none so far, and not the next
+  -- if no element so far passes, and the next doesn't, none passes up to it
   not_yet : (xs : List X) (i : ℕ) (x : X) → i < length xs → get_or xs i x ≡ x → find test (take i xs) ≡ None → test x ≡ false → find test (take (i + 1) xs) ≡ None
   not_yet xs i x inside is so_far fails =
       ap (find test) (take_more xs i x inside ∙ ap (λ y. take i xs ++ y ∷ []) is)
       ∙ find-append test (take i xs) (x ∷ [])
       ∙ (λ j. option_or (so_far j) (cond (fails j) (Some x) None))
 
-  -- none so far, but the next
+  -- if no element so far passes, but the next does, the next is found
   now_found : (xs : List X) (i : ℕ) (x : X) → i < length xs → get_or xs i x ≡ x → find test (take i xs) ≡ None → test x ≡ true → find test xs ≡ Some x
   now_found [] i x inside is so_far passes = absurd (nothing_below i inside)
     where
@@ -58,7 +58,7 @@ module _ {X : Type 0} (test : X → Bool) where
       some_is_not_none : (y : X) → Some y ≡ None → ⊥
       some_is_not_none y e = cc
 
--- what a period is settled from fits together also with net volumes, where it may be settled then
+-- what a period is settled from fits together with net volumes too, if it may be settled with them
 netted_fits : (terms p : PeriodTerms) → p ≡ netted terms → IsReady p → AreTermsConsistent terms → AreTermsConsistent p
 netted_fits terms p is ready consistent = record {
   ready = ready;
@@ -66,7 +66,7 @@ netted_fits terms p is ready consistent = record {
   credits = subst (λ (q : PeriodTerms). All CreditsEachOnce q.units) (sym is) consistent.credits;
 }
 
--- what a period comes to that is settled within the limits, where a period is settled in one way, and alike with net volumes
+-- a period that is settled within the limits has this outcome, if it has only one settlement, and the same one with net volumes
 pub settles_within : SettledInOneWay → NetsSettleAlike → (at : SettlementPeriod) (p : PeriodTerms) (s : Settled) → IsReady p → IsTrue (is_within_limits p) → IsSettled p s
     → SettlesPeriod at (Changed p) (Some (at, s))
 settles_within one_way alike at p s ready within is tables (inl is_of) consistent =
@@ -85,7 +85,7 @@ settles_beyond alike at p beyond tables (inl is_of) consistent =
 settles_beyond alike at p beyond tables (inr netted) consistent =
     sym (ap (λ b. kept_where b (settled_at tables at)) (sym (ap is_within_limits netted.same ∙ (alike (terms_at tables at) consistent.ready.0).1) ∙ beyond))
 
--- a period of which there is a settlement is within the limits, and that is its settlement
+-- a period that has a settlement is within the limits, and the settlement is its own
 kept : (b : Bool) (x y : SettlementPeriod × Settled) → Some x ≡ kept_where b y → (b ≡ true) × (x ≡ y)
 kept true x y e = (refl, cc)
 kept false x y e = absurd (no_some e)
@@ -93,7 +93,7 @@ kept false x y e = absurd (no_some e)
     no_some : Some x ≡ None → ⊥
     no_some h = cc
 
--- a period of which there is none passes a limit
+-- a period that has no settlement passes a limit
 not_kept : (b : Bool) (y : SettlementPeriod × Settled) → None ≡ kept_where b y → b ≡ false
 not_kept false y e = refl
 not_kept true y e = absurd (no_none e)
@@ -101,7 +101,7 @@ not_kept true y e = absurd (no_none e)
     no_none : None ≡ Some y → ⊥
     no_none h = cc
 
--- what is so of each of two lists' elements, one by one, is so at each place
+-- if the elements of two lists are related one by one, those at each place are
 at_place : {X Y : Type 0} (R : X → Y → Type 0) (xs : List X) (ys : List Y) (n : ℕ) (x : X) (y : Y) → n < length xs → AllZip R xs ys → get_or xs n x ≡ x → get_or ys n y ≡ y → R x y
 at_place R [] ys n x y inside all is_x is_y = absurd (nothing_below n inside)
   where
@@ -111,7 +111,7 @@ at_place R (z ∷ xs) [] n x y inside all is_x is_y = absurd all
 at_place R (z ∷ xs) (w ∷ ys) zero x y inside all is_x is_y = subst (R x) is_y (subst (λ v. R v w) is_x all.0)
 at_place R (z ∷ xs) (w ∷ ys) (suc n) x y inside all is_x is_y = at_place R xs ys n x y (omega (arith, inside)) all.1 is_x is_y
 
--- all are settled, where as many are as there are of both
+-- all periods are settled, if as many are settled as both lists have
 pub settles_all : (periods : List SettlementPeriod) (states : List PeriodState) (n : ℕ) (day : List (SettlementPeriod × Settled)) → n ≡ min (length periods) (length states) → SettlesFirst n periods states day
     → (tables : Registered) → ArePeriodsOf tables periods states → ArePeriodsConsistent tables periods → (too_large tables periods ≡ None) × (day ≡ settled_day tables periods)
 settles_all periods states n day counted so_far tables are consistent =
@@ -119,16 +119,16 @@ settles_all periods states n day counted so_far tables are consistent =
     let each : n ≡ length periods = counted ∙ min-eq_left (omega arith) in
     subst (λ ps. (too_large tables ps ≡ None) × (day ≡ settled_day tables ps)) (take_all n periods (omega arith)) (so_far tables are consistent)
 
--- the Settlement Period of a place, with what it is settled from
+-- the Settlement Period at a place, with what it is settled from
 module _ (periods : List SettlementPeriod) (states : List PeriodState) (n : ℕ) (at : SettlementPeriod) (p : PeriodState) (inside : n < length periods)
     (is_at : get_or periods n at ≡ at) (is_p : get_or states n p ≡ p) (day : List (SettlementPeriod × Settled)) (so_far : SettlesFirst n periods states day) where
-  -- it comes to what it is settled as
+  -- its outcome is its settlement, if that is within the limits
   comes_to : (outcome : Option (SettlementPeriod × Settled)) → SettlesPeriod at p outcome → (tables : Registered) → ArePeriodsOf tables periods states → ArePeriodsConsistent tables periods
       → outcome ≡ kept_where (is_within_limits (terms_at tables at)) (settled_at tables at)
   comes_to outcome settles tables are consistent =
       settles tables (at_place (IsPeriodOf tables) periods states n at p inside are is_at is_p) (subst (λ q. AreTermsConsistent (terms_at tables q)) is_at (consistent n at inside))
 
-  -- it is settled too
+  -- if it has a settlement, one more period is settled
   pub settles_next : (one : SettlementPeriod × Settled) → SettlesPeriod at p (Some one) → SettlesFirst (n + 1) periods states (day ++ one ∷ [])
   settles_next one settles tables are consistent =
       let is : (is_within_limits (terms_at tables at) ≡ true) × (one ≡ settled_at tables at) =
@@ -140,7 +140,7 @@ module _ (periods : List SettlementPeriod) (states : List PeriodState) (n : ℕ)
             ∙ ap (settled_day tables) (sym (take_more periods n at inside ∙ ap (λ q. take n periods ++ q ∷ []) is_at)),
       )
 
-  -- it passes a limit, the first that does
+  -- if it has none, it is the first that passes a limit
   pub passes_first : SettlesPeriod at p None → (tables : Registered) → ArePeriodsOf tables periods states → ArePeriodsConsistent tables periods → too_large tables periods ≡ Some at
   passes_first settles tables are consistent =
       now_found (λ q. not (is_within_limits (terms_at tables q))) periods n at inside is_at (so_far tables are consistent).0

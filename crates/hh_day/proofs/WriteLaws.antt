@@ -32,13 +32,13 @@ use Rattle.hh_day.specs.NewRuns.{WritesTheRun, account_count, day_in, former_row
 use Rattle.hh_day.proofs.AccountLaws.{accounts_settled}
 use Rattle.hh_day.proofs.DifferenceLaws.{same_differences}
 
--- what holds where there is none, and of each of a list, holds of the last
+-- if None and each element of a list have a property, so has the last of the list
 pub of_the_last : {X : Type 0} (P : Option X → Type 0) → P None → (xs : List X) → AllByRecursion (λ x. P (Some x)) xs → P (last_of xs)
 of_the_last P none [] all = none
 of_the_last P none (x ∷ []) all = all.0
 of_the_last P none (x ∷ y ∷ xs) all = of_the_last P none (y ∷ xs) all.1
 
--- what holds of each of a list holds of each that passes a test
+-- if all elements have a property, so have those that pass a test
 pub of_those_that_pass : {X : Type 0} (P : X → Type 0) (test : X → Bool) (xs : List X) → AllByRecursion P xs → AllByRecursion P (filter test xs)
 of_those_that_pass P test [] all = tt
 of_those_that_pass P test (x ∷ xs) all =
@@ -55,7 +55,7 @@ paid_in_periods a day =
     ∙ total-same (λ (q : SettlementPeriod × Settled). total amount (map (λ (row : AccountRow). (q.0.period, row)) q.1.accounts)) (λ q. period_net a q.1) day
     (λ q. total-map amount (λ (row : AccountRow). (q.0.period, row)) q.1.accounts)
 
--- there are so many numbers
+-- how many numbers there are from 1 to n
 numbers_counted : (n : ℕ) → length (from_one_to n) ≡ n
 numbers_counted zero = refl
 numbers_counted (suc n) =
@@ -63,7 +63,7 @@ numbers_counted (suc n) =
     let one_more : length (from_one_to n ++ suc n ∷ []) ≡ length (from_one_to n) + 1 = length-append (from_one_to n) (suc n ∷ []) in
     omega arith
 
--- so many periods are settled
+-- how many periods are settled
 periods_counted : (tables : Registered) (date n : ℕ) → length (settled_day tables (periods_on date n)) ≡ n
 periods_counted tables date n =
     length-map (periods_on date n) (settled_at tables)
@@ -74,23 +74,23 @@ periods_counted tables date n =
 accounts_counted : (p : PeriodTerms) → length (settled p).accounts ≡ length p.accounts
 accounts_counted p = sym (length-map (settled p).accounts (λ (r : AccountRow). r.account)) ∙ ap length (accounts_settled p)
 
--- the accounts of a date are counted by the first of its periods, where it has one
+-- the accounts of a date are counted by its first period, if it has one
 first_counts : (tables : Registered) (date : ℕ) (numbers : List ℕ) → 0 < length numbers
     → account_count (settled_day tables (map (λ p. record { date = date; period = p }) numbers)) ≡ length (accounts_on tables date)
 first_counts tables date [] some = absurd (omega arith)
 first_counts tables date (n ∷ numbers) some = accounts_counted (terms_at tables (record { date = date; period = n }))
 
--- where none is there, there is none of the later ones
+-- if neither of two options has a value, the second has none
 none_later : {X : Type 0} (o later : Option X) → option_or o later ≡ None → later ≡ None
 none_later None later none = none
 none_later (Some x) later none = cc
 
--- where there is none at first, the test that would give one has failed
+-- if a failed test would have given a value and there is none, the test passed
 test_passed : {X : Type 0} (passed : Bool) (x : X) (later : Option X) → option_or (cond passed None (Some x)) later ≡ None → passed ≡ true
 test_passed true x later none = refl
 test_passed false x later none = cc
 
--- what is tested first
+-- if two tests pass, the first does
 tested_first : (a b : Bool) → (a && b) ≡ true → a ≡ true
 tested_first true b both = refl
 tested_first false b both = cc
@@ -99,7 +99,7 @@ tested_first false b both = cc
 abbrev counted : Bool → Bool → Bool → Bool → Option ℕ
 counted accepted short common long = cond accepted (cond short (Some 46) (cond common (Some 48) (cond long (Some 50) None))) None
 
--- a number of periods that there is is not 0
+-- a date that has a number of periods has more than 0
 some_periods : (accepted short common long : Bool) → is_some (counted accepted short common long) ≡ true → 0 < unwrap_or (counted accepted short common long) 0
 some_periods false short common long there = cc
 some_periods true true common long there = omega arith
@@ -116,7 +116,7 @@ module _ (midnight : Midnights) where
       (tested_first (is_some (count_of midnight date)) (int_le (midnight (date + 1)) moment) over)
 
   module _ (s : State) (key : RunKey) where
-    -- when local midnights fall and when notifications close
+    -- the timetable: local midnights, and when notifications close
     abbrev timetable : Timetable
     timetable = timetable_at midnight s
 
@@ -140,7 +140,7 @@ module _ (midnight : Midnights) where
     pub settles_the_day : day_in midnight s key.date ≡ settled_by timetable s.history run
     settles_the_day = ap (λ tables. settled_day tables (periods_on key.date (period_count midnight key.date))) sees_all
 
-    -- what an account paid in the latest run of the date before is its day net in that run
+    -- what an account paid in the latest run of the date is its day net in that run
     former_nets : DayNetsFromResults → IsReached midnight s → (a : Account) → paid_in a (former_rows midnight s key.date) ≡ day_net_of (nets_of timetable s.history former) a
     former_nets from_results reached a =
         let Is : Option Run → Type 0 = λ o. paid_in a (elim o [ None ↦ [] | Some r ↦ results_in (tables_of midnight s) r.key ]) ≡ day_net_of (nets_of timetable s.history o) a in
@@ -154,7 +154,7 @@ module _ (midnight : Midnights) where
         ∙ ap (λ day. day_net day a) settles_the_day
         ∙ sym (are_sums timetable s.history run a)
 
-    -- what is posted is what the machine posts
+    -- the same is posted as by the machine
     same_postings : DayNetsFromResults → DayNetsAreSums → IsReached midnight s → (old new : DayNets)
         → ((a : Account) → day_net_of old a ≡ paid_in a (former_rows midnight s key.date))
         → ((a : Account) → day_net_of new a ≡ paid_in a (rows_by_period (day_in midnight s key.date)))
@@ -163,7 +163,7 @@ module _ (midnight : Midnights) where
         same_differences old new (nets_of timetable s.history former) (nets_of timetable s.history (Some run))
         (λ a. before a ∙ former_nets from_results reached a) (λ a. now a ∙ new_nets are_sums a)
 
-    -- as many accounts are counted
+    -- the same number of accounts is counted
     same_accounts : 0 < period_count midnight key.date → account_count (day_in midnight s key.date) ≡ length (accounts_of timetable s.history run)
     same_accounts some =
         let numbered : length (from_one_to (period_count midnight key.date)) ≡ period_count midnight key.date = numbers_counted (period_count midnight key.date) in

@@ -1,4 +1,4 @@
--- What the tables of an office add up to, after whatever requests.
+-- What the tables of an office add up to after any requests.
 use Rattle.std.specs.Prelude.{◌≡◌, ℕ, ℤ, List, map, pos}
 use Rattle.std.specs.List.{AllByRecursion, flat_map}
 use Rattle.hh_num.specs.Totals.{total}
@@ -25,25 +25,25 @@ paid_in_latest content runs a = total (λ run. paid_in a (results_in content run
 abbrev pub account_in : ℕ × AccountRow → ℕ × Account
 account_in row = (row.0, row.1.account)
 
--- the rows of a run, by Settlement Period, then by account: in each period of its date one for each account that was effective on
--- the date when the run was ordered
+-- the rows of a run, by Settlement Period, then by account: each period of its date has one row for each account that was effective
+-- on the date when the run was ordered
 abbrev pub SettlesEachAccount : Midnights → State → Content → Run → Type 0
 SettlesEachAccount midnight s content run =
     let accounts : List Account = accounts_of (timetable_at midnight s) s.history run in
     map account_in (results_in content run.key)
     ≡ flat_map (λ at. map (λ a. (at.period, a)) accounts) (periods_of midnight run)
 
--- in each Settlement Period of a run's date, each unit that was registered for that date when the run was ordered is credited
--- exactly its loss-adjusted metered volume, by the reading that counted then
+-- In each Settlement Period of a run's date, each unit that was registered for that date when the run was ordered is credited
+-- exactly its loss-adjusted metered volume, by the reading that counted then.
 abbrev pub CreditsExactly : Midnights → State → Content → Run → Type 0
 CreditsExactly midnight s content run =
     let saw : Registered = seen_by (timetable_at midnight s) s.history run in
     AllByRecursion (λ at. AllByRecursion (λ unit. IsCreditedByReading saw content.credits run.key at unit.0) (units_on saw at.date))
     (periods_of midnight run)
 
--- What the tables of a state add up to. Each run has a row for each account in each of its Settlement Periods; in each of them
--- contracts come to zero, and so do charges and shares together; each unit's credited energy comes exactly to its loss-adjusted metered volume; each account's postings come to what it
--- pays in the latest run of every date; and the postings of each run come to zero.
+-- What the tables of a state add up to. Each run has a row for each account in each of its Settlement Periods. In each of them contracts
+-- sum to zero, and so do charges and shares together. The credits from each unit sum exactly to its loss-adjusted metered volume. The postings to each account sum to what it
+-- pays in the latest run of every date. The postings of each run sum to zero.
 pub record Conserves (midnight : Midnights) (s : State) (content : Content) : Type 0 where
   pub accounts : AllByRecursion (SettlesEachAccount midnight s content) s.runs
   pub contracts : (run : RunKey) (period : ℕ) → period_total (λ r. r.contracts) period (results_in content run) ≡ pos 0
@@ -52,6 +52,6 @@ pub record Conserves (midnight : Midnights) (s : State) (content : Content) : Ty
   pub postings : (a : Account) → posted_to a content.postings ≡ paid_in_latest content s.runs a
   pub balanced : (run : RunKey) → posted_by run content.postings ≡ pos 0
 
--- so it is with the tables of each state that the machine reaches
+-- this holds for the tables of each state that the machine reaches
 abbrev pub ReachedConserve : Type 0
 ReachedConserve = (midnight : Midnights) (s : State) → IsReached midnight s → Conserves midnight s (tables_of midnight s)

@@ -26,25 +26,25 @@ use Rattle.hh_store.specs.declared.day_data.PeriodState.{PeriodState}
 use Rattle.hh_day.specs.declared.settle.SettledDay.{SettledDay}
 use Rattle.hh_day.specs.declared.settle.SettledDay.TheVariants.{Settled as all_settled, TooLarge}
 
--- what these Settlement Periods come to: the first that passes a limit of settlement, else the settlement of each
+-- the outcome of these Settlement Periods: the first that passes a limit of settlement, or otherwise the settlement of each
 abbrev pub IsSettledDay : Registered → List SettlementPeriod → SettledDay → Type 0
 IsSettledDay tables periods (TooLarge at) = too_large tables periods ≡ Some at
 IsSettledDay tables periods (all_settled day) =
     (too_large tables periods ≡ None) × (day.items ≡ settled_day tables periods)
 
--- These Settlement Periods are settled by these, one for each, by whatever is registered and in force, where what each is settled
--- from fits together.
+-- These Settlement Periods, with these states, have this outcome. It is the same for all that is registered and in force from which
+-- the states were read, if what each period is settled from fits together.
 abbrev pub SettlesDay : List SettlementPeriod → List PeriodState → SettledDay → Type 0
 SettlesDay periods states outcome =
     (tables : Registered) → ArePeriodsOf tables periods states → ArePeriodsConsistent tables periods
     → IsSettledDay tables periods outcome
 
--- how many accounts a run settles: those of its first Settlement Period
+-- how many accounts a run settles, counted in its first Settlement Period
 abbrev pub account_count : List (SettlementPeriod × Settled) → ℕ
 account_count [] = 0
 account_count (q ∷ day) = length q.1.accounts
 
--- what a run is summed up as, by the settlements of its periods and by what it posts
+-- the summary of a run, from the settlements of its periods and its postings
 abbrev pub summary_of : List (SettlementPeriod × Settled) → DayNets → Summary
 summary_of day postings = record {
   periods = length day;
@@ -53,7 +53,7 @@ summary_of day postings = record {
   postings = length postings;
 }
 
--- what is written for a run whose periods are settled so and that posts this
+-- what is written for a run with these settlements and these postings
 abbrev pub writes_of_run : RunKey → List (SettlementPeriod × Settled) → DayNets → RunWrites
 writes_of_run run day postings = record {
   key = run;
@@ -63,8 +63,8 @@ writes_of_run run day postings = record {
   postings = posting_entries run postings;
 }
 
--- This is written for a run whose periods are settled so, where the run of the date before it had these rows: it posts to each
--- account what the account pays by the new rows less what it paid by the old ones.
+-- This is what is written for a run with these settlements, if the run of the date before it had these rows. It posts to each account
+-- what the account pays by the new rows less what it paid by the old ones.
 pub record IsWrittenFor (run : RunKey) (day : List (SettlementPeriod × Settled)) (former : List (ℕ × AccountRow))
     (writes : RunWrites) : Type 0 where
   pub old : DayNets
@@ -73,7 +73,7 @@ pub record IsWrittenFor (run : RunKey) (day : List (SettlementPeriod × Settled)
   pub paid_now : (a : Account) → day_net_of new a ≡ paid_in a (rows_by_period day)
   pub written : writes ≡ writes_of_run run day (differences old new)
 
--- the rows of the latest run of a date, in the tables of a state; none where the date has no run
+-- the rows of the latest run of a date in the tables of a state, or none if the date has no run
 abbrev pub former_rows : Midnights → State → ℕ → List (ℕ × AccountRow)
 former_rows midnight s date = elim (latest_run date s.runs) [ None ↦ [] | Some run ↦ results_in (tables_of midnight s) run.key ]
 
@@ -81,12 +81,12 @@ former_rows midnight s date = elim (latest_run date s.runs) [ None ↦ [] | Some
 abbrev pub day_in : Midnights → State → ℕ → List (SettlementPeriod × Settled)
 day_in midnight s date = settled_day (registered_at midnight s) (periods_on date (period_count midnight date))
 
--- a period that is settled is settled in one way, where what it is settled from fits together
+-- a period has only one settlement, if what it is settled from fits together
 abbrev pub SettledInOneWay : Type 0
 SettledInOneWay = (p : PeriodTerms) (s : Settled) → AreTermsConsistent p → IsSettled p s → s ≡ settled p
 
--- What is written for a new run of the settled periods of its date is what the machine writes for it: in each state that the
--- machine reaches, and for each run that is not there and not refused there.
+-- In each state that the machine reaches, for each run that does not exist and is not refused there: what is written for a new run of
+-- the settled periods of its date is what the machine writes for it.
 abbrev pub WritesTheRun : Type 0
 WritesTheRun = (midnight : Midnights) (s : State) (moment : ℤ) (key : RunKey) (writes : RunWrites)
     → IsReached midnight s → CanRun midnight s moment key

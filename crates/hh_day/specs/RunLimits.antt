@@ -21,7 +21,7 @@ use Rattle.hh_store.specs.declared.day_data.PeriodState.{PeriodState}
 use Rattle.hh_store.specs.declared.day_data.PeriodState.TheVariants.{Changed, Same}
 use Rattle.hh_day.specs.NewRuns.{IsWrittenFor, day_in, former_rows}
 
--- each account's turnover by rows, under whatever keys they stand, is at most that of a run: so is what any of the rows come to
+-- the turnover of each account by these rows, under any keys, is at most the greatest of a run; so is the sum of any of these rows
 abbrev pub AreTurnoversSmall : {K : Type 0} → List (K × AccountRow) → Type 0
 AreTurnoversSmall rows = (a : Account) → sum_by (λ e. unsigned_abs (moved_by_row a e.1)) rows ≤ greatest_turnover
 
@@ -32,14 +32,14 @@ pub record FitsFields (summary : Summary) : Type 0 where
   pub residual : IsBetween amounts_of_cash.least amounts_of_cash.most summary.residual
   pub postings : summary.postings < 2 ^ 16
 
--- What is written for a run whose periods are settled so fits, where the run of the date before it had these rows: the turnovers of
--- accounts are small by the old rows and by the new ones, and what it is summed up as fits the fields of a summary.
+-- What is written for a run with these settlements fits, if the run of the date before it had these rows: the turnovers of accounts
+-- are small by the old rows and by the new ones, and the summary fits its fields.
 pub record FitsRun (run : RunKey) (day : List (SettlementPeriod × Settled)) (former : List (ℕ × AccountRow)) : Type 0 where
   pub before : AreTurnoversSmall former
   pub now : AreTurnoversSmall (rows_by_period day)
   pub summary : (writes : RunWrites) → IsWrittenFor run day former writes → FitsFields writes.summary
 
--- what a Settlement Period is settled from may be settled; one that was settled may be handed on
+-- what a Settlement Period is settled from may be settled; a settled period may be taken over as it was settled
 abbrev pub MayBeSettled : PeriodState → Type 0
 MayBeSettled (Changed terms) = IsReady terms
 MayBeSettled (Same s) = Unit {0}
@@ -49,7 +49,7 @@ abbrev pub TermsReady : Type 0
 TermsReady = (midnight : Midnights) (s : State) (periods : List SettlementPeriod) (states : List PeriodState) → IsReached midnight s
     → ArePeriodsOf (registered_at midnight s) periods states → All MayBeSettled states
 
--- and what is written for each run that is not there and not refused there fits
+-- and what is written for each run that does not exist and is not refused there fits
 abbrev pub RunsFit : Type 0
 RunsFit = (midnight : Midnights) (s : State) (moment : ℤ) (key : RunKey) → IsReached midnight s → CanRun midnight s moment key
     → FitsRun key (day_in midnight s key.date) (former_rows midnight s key.date)

@@ -31,7 +31,7 @@ pub(crate) fn result_entries(
     Ok(entries)
 }
 
-/// How many accounts a run settles: those of its first Settlement Period.
+/// How many accounts a run settles, counted in its first Settlement Period.
 pub(crate) fn account_count(day: &[SettledPeriod]) -> usize
     ensures { result ≡ account_count day.now }
 {

@@ -1,5 +1,5 @@
-//! That a period is settled in one way, that what is written for a run is what the machine writes and fits
-//! the types that keep it, and what the tables of an office add up to.
+//! Laws: a period has only one settlement; what is written for a run is what the machine writes, and fits
+//! the types that keep it; and what the tables of an office add up to.
 
 ghost use Rattle.hh_day.specs.Headline.{ReachedConserve};
 ghost use Rattle.hh_day.specs.NewRuns.{SettledInOneWay, WritesTheRun};
@@ -11,58 +11,56 @@ use hh_state_laws::{
     postings_total, run_postings_balance, summaries_within, turnovers_within,
 };
 
-/// That a period that is settled is settled in one way, where what it is settled from fits together
-/// (profile).
+/// A period has only one settlement, if what it is settled from fits together.
 pub fn settled_in_one_way()
     ensures { SettledInOneWay }
 {
-    // Does nothing, but carries a law for the proof.
+    // A law for the proof. The call does nothing.
     each_period_settled();
 }
 
-/// That what is written for a new run of the settled periods of its date is what the machine writes for
-/// it: in each state that the machine reaches, and for each run that is not there and not refused there
-/// (profile).
+/// In each state that the machine reaches, for each run that does not exist and is not refused there: what
+/// is written for a new run of the settled periods of its date is what the machine writes for it.
 pub fn writes_the_run()
     ensures { WritesTheRun }
 {
-    // These do nothing, but each carries a law for the proof.
+    // Laws for the proof. The calls do nothing.
     day_nets_from_results();
     day_nets_are_sums();
 }
 
-/// That what the Settlement Periods of a date are settled from may be settled: in each state that the
-/// machine reaches. So `settle_day` fails for memory alone there (profile).
+/// In each state that the machine reaches, what the Settlement Periods of a date are settled from may be
+/// settled. So `settle_day` fails there only if memory is refused.
 pub fn terms_ready()
     ensures { TermsReady }
 {
-    // Do nothing, but carry laws for the proof.
+    // Laws for the proof. The calls do nothing.
     periods_ready();
     nets_settle_alike();
 }
 
-/// That what is written for a new run of the settled periods of its date fits the types that keep it: in
-/// each state that the machine reaches, and for each run that is not there and not refused there. So
-/// `run_change` fails for memory alone there (profile).
+/// In each state that the machine reaches, for each run that does not exist and is not refused there: what
+/// is written for a new run of the settled periods of its date fits the types that keep it. So `run_change`
+/// fails there only if memory is refused.
 pub fn runs_fit()
     ensures { RunsFit }
 {
-    // These do nothing, but each carries a law for the proof.
+    // Laws for the proof. The calls do nothing.
     turnovers_within();
     summaries_within();
     kept_results();
     writes_the_run();
 }
 
-/// That the sums of the headline hold of the tables of each state that the machine reaches: each run has a
-/// row for each account of its date in each Settlement Period; in each of these contracts come to zero, and
-/// so do charges and shares together; each unit's credited energy comes exactly to its loss-adjusted metered
-/// volume, by the reading that counted when the run was ordered; each account's postings come to what it
-/// pays in the latest run of every date; and the postings of each run come to zero (profile).
+/// The headline sums hold for the tables of each state that the machine reaches. Each run has a row for
+/// each account of its date in each Settlement Period. In each of these periods contracts sum to zero, and
+/// so do charges and shares together. The credits from each unit sum exactly to its loss-adjusted metered
+/// volume, by the reading that counted when the run was ordered. The postings to each account sum to what
+/// it pays in the latest run of every date. The postings of each run sum to zero.
 pub fn reached_conserve()
     ensures { ReachedConserve }
 {
-    // These do nothing, but each carries a law for the proof.
+    // Laws for the proof. The calls do nothing.
     kept_results();
     contracts_sum_to_zero();
     cash_sums_to_zero();

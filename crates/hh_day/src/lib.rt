@@ -1,4 +1,4 @@
-//! A new run of a date: its Settlement Periods settled, and what is written for it; and what the tables
+//! A new run of a date: its Settlement Periods, settled, and what is written for it. And what the tables
 //! of an office add up to.
 #![tactic(auto)]
 

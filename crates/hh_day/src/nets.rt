@@ -1,4 +1,4 @@
-//! What accounts pay by rows, in all.
+//! The sums of what accounts pay by rows.
 
 ghost use Rattle.std.specs.Prelude.{◌≡◌, ◌+ℤ◌, pos, unwrap_or, IfErr, IfOk, OnOk, SomeIff};
 ghost use Rattle.hh_num.specs.Ranges.{IsBetween};
@@ -12,12 +12,12 @@ use hh_runs::{DayNet, DayNetTable};
 use hh_store::StoreFault;
 use std::alloc::Global;
 
-/// What the accounts of these rows pay by them, each under whatever key.
+/// What the accounts of these rows pay by them. The rows may be under any keys.
 ///
 /// # Errors
 ///
-/// `Memory` where memory is refused; `Store` where what an account pays, by the rows up to some place, lies
-/// off the range of day nets, which it doesn't where its turnover by them is small.
+/// `Memory` if memory is refused. `Store` if what an account pays, by the rows up to some place, is out of
+/// the range of day nets. This doesn't happen if its turnover by the rows is small.
 pub(crate) fn nets_of<K>(alloc: Global, rows: &[(K, AccountRow)]) -> Result<DayNetTable, StoreFault>
     ensures nets { IfOk result (AreNetsOf rows.now) }
     ensures memory_alone { AreTurnoversSmall rows.now
@@ -32,8 +32,8 @@ pub(crate) fn nets_of<K>(alloc: Global, rows: &[(K, AccountRow)]) -> Result<DayN
     Ok(nets)
 }
 
-/// The place behind that of a row's account, which likely has this one. There the net of the next row's
-/// account likely lies: each Settlement Period has rows of the same accounts in the same order.
+/// The place after that of a row's account, which is likely this one. The net of the next row's account is
+/// likely to be there, because each Settlement Period has rows of the same accounts in the same order.
 fn place_behind(nets: &DayNetTable, place: usize, row: &AccountRow) -> usize {
     let rows = nets.rows();
     if place < rows.len() && rows[place].0 == row.account {
@@ -42,7 +42,7 @@ fn place_behind(nets: &DayNetTable, place: usize, row: &AccountRow) -> usize {
     nets.count_below(&row.account).saturating_add(1)
 }
 
-/// Adds what a row moves to the net of its account, which is looked for at this place first.
+/// Adds what a row moves to the net of its account. Looks for the account at this place first.
 fn add_row(nets: &mut DayNetTable, place: usize, row: &AccountRow) -> Result<(), StoreFault>
     ensures added { OnOk result (AddsRow row.now nets.old nets.new) }
     ensures memory_alone { IsBetween day_cash.least day_cash.most
@@ -56,8 +56,8 @@ fn add_row(nets: &mut DayNetTable, place: usize, row: &AccountRow) -> Result<(),
     Ok(())
 }
 
-/// The net of an account, none standing for 0, with the charge and the share of a row; none exactly where
-/// it lies off the range of day nets.
+/// The net of an account, which is 0 if it has none, with the charge and the share of a row added. `None`
+/// exactly if that is out of the range of day nets.
 fn net_with(net: Option<DayNet>, row: &AccountRow) -> Option<DayNet>
     ensures { let sum = unwrap_or net (pos 0) +ℤ paid_by row.now in
         SomeIff result (IsBetween day_cash.least day_cash.most sum) sum }

@@ -18,15 +18,15 @@ use hh_runs::{Posting, RunKey, Summary, differences};
 use hh_store::{RunChange, StoreFault};
 use std::alloc::Global;
 
-/// What is written for a run of a date whose Settlement Periods are settled so, where the run of the date
-/// before it had these rows: its summary, the rows of its accounts, its credits, and its postings, which
-/// are the differences between what accounts pay by the new rows and what they paid by the old ones
-/// (profile).
+/// What is written for a run of a date with these settled Settlement Periods. `former` are the rows of the
+/// run of the date before it. Written are its summary, the rows of its accounts, its credits, and its
+/// postings, which are the differences between what accounts pay by the new rows and what they paid by the
+/// old ones (profile).
 ///
 /// # Errors
 ///
-/// `Memory` where memory is refused; `Store` where a sum of the rows or a count lies off its range, which
-/// those of a run that the machine makes don't (`runs_fit`).
+/// `Memory` if memory is refused. `Store` if a sum of the rows or a count is out of its range, which
+/// doesn't happen for a run that the machine makes (`runs_fit`).
 pub fn run_change(
     alloc: Global,
     run: RunKey,
@@ -49,8 +49,8 @@ pub fn run_change(
     Ok(RunChange::new(run, summary, results, credits, posted))
 }
 
-/// What a run is summed up as, by its settled Settlement Periods and its postings; none exactly where a
-/// count or the sum of the residuals lies off the range of its field.
+/// The summary of a run, from its settled Settlement Periods and its postings. `None` exactly if a count or
+/// the sum of the residuals is out of the range of its field.
 fn summary_of(day: &[SettledPeriod], postings: &[Posting]) -> Option<Summary>
     ensures { let summary = summary_of day.now (map entry_of postings.now) in
         SomeIff result (FitsFields summary) summary }
@@ -63,7 +63,7 @@ fn summary_of(day: &[SettledPeriod], postings: &[Posting]) -> Option<Summary>
     })
 }
 
-/// The sum of the residuals of Settlement Periods; none exactly where it lies off the range of pence.
+/// The sum of the residuals of Settlement Periods. `None` exactly if it is out of the range of pence.
 fn residual_of(day: &[SettledPeriod]) -> Option<Pence>
     ensures { let sum = total (λ q. q.1.residual) day.now in
         SomeIff result (IsBetween amounts_of_cash.least amounts_of_cash.most sum) sum }

@@ -49,7 +49,7 @@ impl SettledPeriod {
     }
 }
 
-/// What the Settlement Periods of a date come to (Section T in shape).
+/// The outcome of settling the Settlement Periods of a date (Section T in shape).
 #[derive(Debug, Drop)]
 pub enum SettledDay {
     /// The first period that passes a limit of settlement.
@@ -58,13 +58,13 @@ pub enum SettledDay {
     Settled(Vec<SettledPeriod>),
 }
 
-/// Settles the Settlement Periods of a day that may have changed, each from its terms, and hands on the
-/// others as they were settled; the first period by the first of these (Section T in shape).
+/// Settles the Settlement Periods of a day that may have changed, each from its terms. The others are taken
+/// over as they were settled. The first period goes with the first of these states (Section T in shape).
 ///
 /// # Errors
 ///
-/// `Memory` where memory is refused; `Store` where the terms of a period don't fit together, which those
-/// of a state that the machine reaches do.
+/// `Memory` if memory is refused. `Store` if the terms of a period don't fit together, which doesn't happen
+/// in a state that the machine reaches.
 pub fn settle_day(
     alloc: Global,
     day: &Day,
@@ -78,7 +78,7 @@ pub fn settle_day(
     settle_periods(alloc, &periods, states)
 }
 
-/// Settles the Settlement Periods that may have changed, and hands on the others as they were settled.
+/// Settles the Settlement Periods that may have changed, and takes the others over as they were settled.
 fn settle_periods(
     alloc: Global,
     periods: &[SettlementPeriod],
@@ -98,8 +98,8 @@ fn settle_periods(
     Ok(SettledDay::Settled(settled))
 }
 
-/// A Settlement Period as it was settled, or settled from its terms, unless it passes a limit of
-/// settlement.
+/// A Settlement Period, taken over as it was settled or settled from its terms. `None` if it passes a limit
+/// of settlement.
 fn settle_at(
     alloc: Global,
     at: &SettlementPeriod,
@@ -118,7 +118,7 @@ fn settle_at(
     }
 }
 
-/// Settles a Settlement Period from its terms, unless it passes a limit of settlement.
+/// Settles a Settlement Period from its terms. `None` if it passes a limit of settlement.
 fn settle_terms(
     alloc: Global,
     at: &SettlementPeriod,
@@ -128,7 +128,7 @@ fn settle_terms(
     ensures memory_alone { IsReady terms.now
         → IfErr result (λ fault. fault ≡ StoreFault.Memory) }
 {
-    // Do nothing, but carry laws for the proof.
+    // Laws for the proof. The calls do nothing.
     settled_in_one_way();
     nets_settle_alike();
     if !terms.is_ready() {

@@ -1,4 +1,4 @@
--- What a crash leaves behind requests that come to the same.
+-- What a crash leaves after requests that lead to the same state.
 use Rattle.std.proofs.Common.{◌≡◌, Bool, ℤ, subst}
 use Rattle.std.specs.Prelude.{◌⊎◌, MatchBool}
 use Rattle.hh_requests.specs.declared.reply.Reply.{Reply}
@@ -10,7 +10,7 @@ use Rattle.hh_office.specs.Machine.{next}
 use Rattle.hh_office.specs.Promises.{is_given_up}
 use Rattle.hh_office.specs.Views.{Kept, midnight_of}
 
--- of two requests that lead to the same state a crash leaves the same
+-- if two requests lead to the same state, a crash leaves the same after both
 pub crash_alike : {T L : Type 0} (is_honest : T → Type 0) (is_open : T → Bool) (may_leave : T → L → Type 0) (holds : L → Content → Type 0) (old new : Kept T) (moment at : ℤ) (asked other : Request) (given : Reply)
     → ((s : State) → next (midnight_of old.seen) s moment asked ≡ next (midnight_of old.seen) s at other)
     → CrashStep is_honest is_open may_leave holds old new moment asked given → CrashStep is_honest is_open may_leave holds old new at other given

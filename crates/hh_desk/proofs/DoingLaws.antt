@@ -1,4 +1,4 @@
--- What a load and a run do that the office answered.
+-- What a load or a run does if the office answered it.
 use Rattle.std.proofs.Common.{◌≡◌, ℕ, ◌<◌, List, length, take, refl, sym, ap, ◌∙◌, Bool, true, false, cond, Some, inl, inr, arith, ltb}
 use Rattle.std.specs.Prelude.{MatchBool}
 use Rattle.std.specs.FinMap.{find}
@@ -24,13 +24,13 @@ use Rattle.hh_desk.specs.Doing.{LoadDoes, OrdersRun, RunDoes, RunsLoad, StandsNo
 use Rattle.hh_desk.specs.GivingUp.{CountsMore}
 use Rattle.hh_desk.proofs.GivingUpLaws.{reply_where}
 
--- A load asks the machine for the same by so many bytes of its file that a larger one is told.
+-- A load asks the same of the machine if only the beginning of its file is read, as long as a file that is too large is noticed.
 module _ (midnight : Midnights) (s : State) (l : LoadStep) (all : List ℕ) where
-  -- the transition for a file of which these bytes were read
+  -- the transition if `body` was read of the file
   abbrev asks : List ℕ → Transition
   asks body = step midnight s l.moment (request_of l body)
 
-  -- a file that is too large is refused as such, whatever it holds
+  -- a file that is too large is refused as such, whatever it contains
   abbrev refused_large : Transition
   refused_large = cond (may midnight s l.key (request_of l all).action) (refused_for s FileTooLarge) (refused_for s Forbidden)
 
@@ -54,7 +54,7 @@ module _ (midnight : Midnights) (s : State) (l : LoadStep) (all : List ℕ) wher
           too_large (take most all) (ap (ltb most_bytes) (length-take-le most all (omega arith)) ∙ lt-ltb most_bytes most enough)
           ∙ sym (too_large all (lt-ltb most_bytes (length all) (omega (arith, enough))))
 
--- What a load does that the office answered.
+-- What a load does if the office answered it.
 module _ (host : HostView) (old new : OfficeView) (counted counts : ℕ) (l : LoadStep) (all : List ℕ) (most : ℕ)
     (enough : most_bytes < most) (read : host.reads l.path (Some all)) (request : Request) (is : request ≡ request_of l (take most all)) (given : Reply)
     (counting : StandsForSome old → CountsReply given counted counts) where
@@ -75,7 +75,7 @@ module _ (host : HostView) (old new : OfficeView) (counted counts : ℕ) (l : Lo
       answered_by s transition.state transition.reply (is_given_up given) stands refl
       (ap (step (midnight_of old) s l.moment) is ∙ by_front (midnight_of old) s l all most enough) (steps s stands) (after s stands)
 
--- What a run does that the office answered.
+-- What a run does if the office answered it.
 module _ (old new : OfficeView) (counted counts : ℕ) (run : RunStep) (request : Request) (is : request ≡ request_for run) (given : Reply)
     (counting : StandsForSome old → CountsReply given counted counts) where
   made_by : (s t : State) (reply : Reply) (b : Bool) → Stands old s → is_given_up given ≡ b

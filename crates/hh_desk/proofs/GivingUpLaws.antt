@@ -1,4 +1,4 @@
--- What is given up for the store, by the store's count.
+-- When a load or a run is given up for the store, given the store's count.
 use Rattle.std.proofs.Common.{◌≡◌, ℕ, ◌<◌, ◌≤◌, refl, Bool, true, false, arith, ltb, Option, Some, None, inl, inr}
 use Rattle.std.specs.Prelude.{MatchBool, is_none, ◌&&◌}
 use Rattle.std.proofs.lemmas.Bool.{and_parts, ltb-false, ltb-true}
@@ -24,7 +24,7 @@ use Rattle.hh_desk.specs.GivingUp.{CountsMore, GivesUpWhere, IsGivenUpWhere}
 
 -- ---- what is counted
 
--- A store had counted so many refusals and counts so many.
+-- A store had counted `old` refusals, and counts `new` now.
 module _ (old new : ℕ) where
   more_by_one : CountsOneMore old new → CountsMore old new
   more_by_one counts below = omega (arith, counts.1 below)
@@ -33,11 +33,11 @@ module _ (old new : ℕ) where
   up_by true counts = counts.0
   up_by false same = omega (arith, same)
 
-  -- the count does not fall by a refusal
+  -- the count does not fall when a fault is answered
   pub fault_up : (fault : Fault) → CountsStoreFault fault old new → old ≤ new
   fault_up fault counts = up_by (is_of_store fault.refusal) counts
 
-  -- nor by a reply
+  -- nor when a reply is given
   pub reply_up : (given : Reply) → CountsReply given old new → old ≤ new
   reply_up (reply.Refused fault) counts = fault_up fault counts
   reply_up (reply.Loaded x) same = omega (arith, same)
@@ -47,7 +47,7 @@ module _ (old new : ℕ) where
   reply_up (reply.Contracts x) same = omega (arith, same)
   reply_up (reply.Runs x) same = omega (arith, same)
 
-  -- a refusal that gives up is that of memory, or that of a store which counted it
+  -- a refusal that gives up is for memory, or it is that of a store which counted it
   pub fault_where : (fault : Fault) → gives_up fault ≡ true → CountsStoreFault fault old new → GivesUpWhere (CountsMore old new) fault
   fault_where fault up counts =
       let both = and_parts (is_failure fault.refusal) (is_plain fault) up in
@@ -87,11 +87,11 @@ module _ (old new : ℕ) where
 
 -- A count does not fall between three moments.
 module _ (first mid last : ℕ) (up : first ≤ mid) (further : mid ≤ last) where
-  -- it rose if it rose at first
+  -- it rose overall if it rose at first
   pub more_at_first : CountsMore first mid → CountsMore first last
   more_at_first more below = omega (arith, more below, further)
 
-  -- and if it rose later
+  -- it rose overall if it rose later
   pub more_later : CountsMore mid last → CountsMore first last
   more_later more below = go (ltb mid most_failures) refl
     where
@@ -99,7 +99,7 @@ module _ (first mid last : ℕ) (up : first ≤ mid) (further : mid ≤ last) wh
       go true is = let rose : mid < last = more (ltb-true mid most_failures is) in omega (arith, up, rose)
       go false is = let greatest : most_failures ≤ mid = ltb-false mid most_failures is in omega (arith, below, greatest, further)
 
--- ---- where the store may have failed, it may in more cases
+-- ---- from one condition on failures of the store to a weaker one
 
 module _ (fails others : Type 0) (implies : fails → others) where
   pub fault_then : (fault : Fault) → GivesUpWhere fails fault → GivesUpWhere others fault

@@ -1,4 +1,4 @@
--- What connections that are served lead to, one after the other.
+-- What serving connections one after the other leads to.
 use Rattle.std.proofs.Common.{ℤ, List, [], ◌∷◌, ◌++◌, Some, None, subst}
 use Rattle.hh_time.specs.Days.{Midnights}
 use Rattle.hh_states.specs.States.{State}
@@ -6,7 +6,7 @@ use Rattle.hh_sockets.specs.Arrivals.{Arrival, Exchange}
 use Rattle.hh_host.specs.Clocks.{ClockReading}
 use Rattle.hh_desk.specs.Serving.{AreServed, IsServedOnce}
 
--- connections behind others
+-- connections that come after others
 module _ (fails : Type 0) (midnight : Midnights) (more : List Arrival) (further : List ClockReading) where
   pub served_more : (arrivals : List Arrival) (readings : List ClockReading) (s t u : State) → AreServed fails midnight arrivals readings s t
       → AreServed fails midnight more further t u → AreServed fails midnight (arrivals ++ more) (readings ++ further) s u
@@ -18,7 +18,7 @@ module _ (fails : Type 0) (midnight : Midnights) (more : List Arrival) (further 
   served_more (Some e ∷ arrivals) (Some moment ∷ readings) s t u (between, once, served) others =
       (between, once, served_more arrivals readings between t u served others)
 
--- where the store may have failed, it may in more cases
+-- what holds if the store may have failed where `fails` holds, holds if it may have failed where `others` holds
 module _ (fails others : Type 0) (implies : fails → others) (midnight : Midnights) where
   once_then : (moment : ℤ) (e : Exchange) (s t : State) → IsServedOnce fails midnight moment e s t → IsServedOnce others midnight moment e s t
   once_then moment e s t h = record {

@@ -1,4 +1,4 @@
--- What connections that are served come to, by what is known of each.
+-- What comes of serving connections, given what is known about each.
 use Rattle.std.proofs.Common.{◌≡◌, ℕ, ℤ, ◌+◌, ◌≤◌, List, [], ◌∷◌, ◌++◌, refl, ap, subst, sym, ◌∙◌, arith, Bool, true, false, cond, Option, Some, Result, Ok, Err, inl, inr}
 use Rattle.std.proofs.lemmas.List.{length-append}
 use Rattle.jiff.specs.Words.{plain_zone}
@@ -26,7 +26,7 @@ use Rattle.hh_desk.proofs.ServedLaws.{served_more, served_then}
 
 -- ---- one connection
 
--- A connection brought these bytes, and an office was the one before it and is the other after it.
+-- `source` is what a connection brought. `old` is the office before it, and `new` after it.
 module _ (source : Option (List ℕ)) (old new : OfficeView) (counted counts : ℕ) (moment : ℤ) (s : State) (stood : Stands old s) where
   stays : new ≡ old → (t : State) × LeadsTo (midnight_of old) moment source s t × Stands new t
   stays same = (s, inl refl, subst (λ o. Stands o s) (sym same) stood)
@@ -40,7 +40,7 @@ module _ (source : Option (List ℕ)) (old new : OfficeView) (counted counts : �
   answered (Ok reply) (request, read, handles) = given request read (is_given_up reply) (handles.stands s stood)
   answered (Err refused) (read, same) = stays same
 
-  -- the state that it leads to
+  -- the state that the connection leads to
   pub led_to : (device : DeviceChange) (served : Result Served ServeFault) → Serves source old new counted counts moment device served
       → (t : State) × LeadsTo (midnight_of old) moment source s t × Stands new t
   led_to device (Ok outcome.Closed) (read, same, kept) = stays same
@@ -82,12 +82,12 @@ one_served old new counted counts moment e served serves after read written s st
 
 -- ---- one after the other
 
--- an office stands for some state after what came was served
+-- an office represents some state after it served what came
 pub some_served : (fails : Type 0) (old new : OfficeView) (arrivals : List Arrival) (readings : List ClockReading) → ServesAll fails old new arrivals readings
     → StandsForSome old → StandsForSome new
 some_served fails old new arrivals readings served (s, stands) = let (t, is, (now, zone)) = served s stands in (t, now)
 
--- An office's store had counted so many refusals at first, so many then, and counts so many in the end.
+-- An office's store had counted `first` refusals at first and `mid` at the second moment, and counts `last` in the end.
 module _ (old now new : OfficeView) (first mid last : ℕ) (up : StandsForSome old → first ≤ mid) (further : StandsForSome now → mid ≤ last) where
   both_served : (arrivals : List Arrival) (arrival : Arrival) (readings later : List ClockReading) → ServesAll (CountsMore first mid) old now arrivals readings
       → ServesAll (CountsMore mid last) now new (arrival ∷ []) later → ServesAll (CountsMore first last) old new (arrivals ++ arrival ∷ []) (readings ++ later)
@@ -104,8 +104,8 @@ module _ (old now new : OfficeView) (first mid last : ℕ) (up : StandsForSome o
         (new_stands, new_zone ∙ zone),
       )
 
-  -- What came of awaiting connections leads from one state of a listener to another, and what came of reading a clock from one state of
-  -- that to another.
+  -- What came of awaiting connections leads from one state of the listener to another. What came of reading the clock leads from one state
+  -- of the clock to another.
   module _ {L C : Type 0} (leads : L → List Arrival → L → Type 0) (before between after : L) (tells : C → List ClockReading → C → Type 0) (clock then_clock now_clock : C)
       (count : ℕ) (each : ServesEach (CountsMore first mid) old now leads before between tells clock then_clock count) where
     -- one more connection
@@ -120,7 +120,7 @@ module _ (old now new : OfficeView) (first mid last : ℕ) (up : StandsForSome o
       served = both_served each.arrivals next.arrival each.readings next.readings each.served next.served;
     }
 
-    -- and the count of refusals does not fall
+    -- the count of refusals does not fall either
     pub refusals_more : StandsForSome old → first ≤ last
     refusals_more some = omega (arith, up some, further (some_served (CountsMore first mid) old now each.arrivals each.readings each.served some))
 

@@ -1,4 +1,4 @@
--- What comes of the loads and runs that are asked at the desk of an office.
+-- What comes of loads and runs at the desk of an office.
 use Rattle.std.specs.Prelude.{◌≡◌, ◌⊎◌, ℕ, List, Some, None, IsTrue}
 use Rattle.hh_time.specs.Days.{Midnights}
 use Rattle.hh_names.specs.Faults.{memory_fault}
@@ -37,14 +37,14 @@ IsAnswered host midnight s load told t =
     (body : List ℕ) × host.reads load.path (Some body)
     × (let transition : Transition = step midnight s load.moment (request_of load body) in (told ≡ Replied transition.reply) × (t ≡ transition.state))
 
--- What a load comes to in a state, and the state after it: its file cannot be read, it is answered, or it is given up. The store may
--- have failed only where this holds.
+-- What comes of a load in a state, and the state after it: its file cannot be read, it is answered, or it is given up. The store may have
+-- failed only if `fails` holds.
 abbrev pub LoadDoes : HostView → Type 0 → Midnights → State → LoadStep → Told → State → Type 0
 LoadDoes host fails midnight s load Unreadable t = host.reads load.path None × (t ≡ s)
 LoadDoes host fails midnight s load (Replied given) t =
     IsAnswered host midnight s load (Replied given) t ⊎ (IsGivenUpWhere fails given × (t ≡ s))
 
--- What a run comes to in a state, and the state after it: it is answered, or it is given up. The store may have failed only where this
+-- What comes of a run in a state, and the state after it: it is answered, or it is given up. The store may have failed only if `fails`
 -- holds.
 abbrev pub RunDoes : Type 0 → Midnights → State → RunStep → Told → State → Type 0
 RunDoes fails midnight s run Unreadable t = ⊥
@@ -52,7 +52,7 @@ RunDoes fails midnight s run (Replied given) t =
     (let transition : Transition = step midnight s run.moment (request_for run) in (given ≡ transition.reply) × (t ≡ transition.state))
     ⊎ (IsGivenUpWhere fails given × (t ≡ s))
 
--- the office stands for a state now, in the same zone as before
+-- the office represents a state now, in the same zone as before
 abbrev pub StandsNow : OfficeView → OfficeView → State → Type 0
 StandsNow old new t = Stands new t × (new.zone ≡ old.zone)
 
@@ -61,16 +61,16 @@ abbrev pub IsRefusal : Told → Type 0
 IsRefusal Unreadable = ⊥
 IsRefusal (Replied given) = IsTrue (is_refused given)
 
--- an office was the one before and is the other after, and the store may have failed only where this holds
+-- `old` is the office before the call, and `new` after it. The store may have failed only if `fails` holds.
 module _ (fails : Type 0) (old new : OfficeView) where
-  -- what a load comes to in each state that the office stood for
+  -- what comes of a load in each state that the office represented
   abbrev pub RunsLoad : HostView → LoadStep → Told → Type 0
   RunsLoad host load told = (s : State) → Stands old s → (t : State) × LoadDoes host fails (midnight_of old) s load told t × StandsNow old new t
 
-  -- what a run comes to in each state that the office stood for
+  -- what comes of a run in each state that the office represented
   abbrev pub OrdersRun : RunStep → Told → Type 0
   OrdersRun run told = (s : State) → Stands old s → (t : State) × RunDoes fails (midnight_of old) s run told t × StandsNow old new t
 
--- what is refused leaves the office as it is
+-- a refusal leaves the office as it is
 abbrev pub LeavesRefused : OfficeView → OfficeView → Told → Type 0
 LeavesRefused old new told = IsRefusal told → new ≡ old

@@ -1,4 +1,4 @@
--- What is given up at the desk, and for what: memory, or the store where it refused.
+-- What is given up at the desk, and why: memory was refused, or the store refused.
 use Rattle.std.specs.Prelude.{◌≡◌, ◌⊎◌, ◌<◌, ℕ}
 use Rattle.hh_devices.specs.Devices.{most_failures}
 use Rattle.hh_names.specs.declared.fault.Fault.{Fault}
@@ -8,7 +8,7 @@ use Rattle.hh_requests.specs.declared.reply.Reply.{Reply}
 use Rattle.hh_requests.specs.declared.reply.Reply.TheVariants as reply
 use Rattle.hh_office.specs.Views.{Kept}
 
--- a count rose, but of the greatest count nothing is said
+-- a count rose; if it was at its greatest value, this says nothing
 abbrev pub CountsMore : ℕ → ℕ → Type 0
 CountsMore old new = old < most_failures → old < new
 
@@ -16,7 +16,7 @@ CountsMore old new = old < most_failures → old < new
 abbrev pub HasRefused : {T : Type 0} → (T → ℕ) → Kept T → Kept T → Type 0
 HasRefused refusals old new = CountsMore (refusals old.tables) (refusals new.tables)
 
--- The store may have failed only where this holds.
+-- The store may have failed only if `fails` holds.
 module _ (fails : Type 0) where
   -- a refusal gives up: memory was refused (90), or the store refused (91)
   abbrev pub GivesUpWhere : Fault → Type 0

@@ -18,12 +18,12 @@ use hh_store::Tables;
 use hh_texts::MOST_BYTES;
 use std::alloc::{AllocError, Global};
 
-/// The most bytes that are read of a file: one more than a file may have, so that a larger one is
-/// told, and an endless one ends.
+/// The most bytes that are read of a file: one more than is allowed. So a file that is too large is
+/// noticed, and reading ends even if the file is endless.
 const MOST_READ: usize = MOST_BYTES + 1;
 
-/// Makes a run at its moment (profile), and gives what came of it: the machine's reply, or one that gives
-/// up with 90, where memory was refused, or 91, where the store refused. A refusal leaves the office as
+/// Makes a run at its moment (profile), and returns what came of it: the machine's reply, or a reply that
+/// gives up with 90 if memory was refused, or with 91 if the store refused. A refusal leaves the office as
 /// it is.
 pub fn make_run<T: Tables>(alloc: Global, office: &mut Office<'_, T>, line: &RunLine<'_>) -> Told
     ensures runs { IsSure T.is_open office.new
@@ -54,9 +54,9 @@ fn run_request(alloc: Global, line: &RunLine<'_>) -> Result<Request, AllocError>
     })
 }
 
-/// Loads a file at a moment under the name that its path ends in (profile), and gives what came of it:
-/// that the file cannot be read, the machine's reply, or one that gives up with 90, where memory was
-/// refused, or 91, where the store refused. A refusal leaves the office as it is.
+/// Loads a file at a moment, under the name that its path ends in (profile), and returns what came of it.
+/// That is that the file cannot be read, or the machine's reply, or a reply that gives up with 90 if memory
+/// was refused, or with 91 if the store refused. A refusal leaves the office as it is.
 pub fn load_file<T: Tables, H: Host>(
     alloc: Global,
     office: &mut Office<'_, T>,
@@ -81,7 +81,8 @@ pub fn load_file<T: Tables, H: Host>(
     }
 }
 
-/// What a load asks of the office, by so many bytes of its file that a larger one is told.
+/// What a load asks of the office. At most `most` bytes of its file are read, which is enough to notice a
+/// file that is too large.
 fn read_request<H: Host>(
     alloc: Global,
     host: &H,

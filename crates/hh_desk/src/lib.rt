@@ -1,5 +1,5 @@
-//! The desk of an office: files are loaded, runs are made and connections are served as they are asked
-//! for, and it is returned what came of it. How it is told is the caller's.
+//! The desk of an office. It loads files, makes runs and serves connections as asked, and returns what came
+//! of it. The caller tells that to people.
 #![tactic(auto)]
 
 mod doing;

@@ -1,4 +1,4 @@
-//! The lines that tell what was done. None takes memory, so that what was done can be told.
+//! The lines that tell what was done. None of them takes memory, so what was done can always be told.
 
 ghost use Rattle.std.specs.Prelude.{◌≡◌, ◌≤◌, ◌+◌, ◌++◌, decimal, length};
 ghost use Rattle.std.specs.Fmt.{signed_decimal};
@@ -14,8 +14,8 @@ use hh_runs::{RunKey, RunKind, Summary};
 use hh_time::SettlementDate;
 use itoa::Buffer;
 
-/// The most bytes of a line: that of a run has four numbers of at most 40 bytes, and 57 bytes of words, a
-/// date and a kind.
+/// The most bytes of a line. The longest is that of a run: four numbers of at most 40 bytes each, and 57
+/// bytes of words, date and kind.
 pub const LINE_ROOM: usize = 217;
 
 /// The line of an accepted file: `applied=N late=M`.
@@ -42,7 +42,7 @@ pub fn run_line(run: &RunKey, summary: &Summary) -> ArrayVec<u8, LINE_ROOM>
     line
 }
 
-/// The line that tells where connections are awaited: `listening 127.0.0.1:PORT`.
+/// The line that tells on which port connections are awaited: `listening 127.0.0.1:PORT`.
 pub fn listening_line(port: u16) -> ArrayVec<u8, LINE_ROOM>
     ensures { result.items ≡ listening_line port }
 {
@@ -53,7 +53,7 @@ pub fn listening_line(port: u16) -> ArrayVec<u8, LINE_ROOM>
     line
 }
 
-/// Appends bytes for which there is room.
+/// Appends bytes. There is room for them.
 fn push(line: &mut ArrayVec<u8, LINE_ROOM>, bytes: &[u8])
     requires { array_vec_len line.old + length bytes.now ≤ LINE_ROOM }
     ensures items { line.new.items ≡ line.old.items ++ bytes.now }
@@ -63,7 +63,7 @@ fn push(line: &mut ArrayVec<u8, LINE_ROOM>, bytes: &[u8])
     prove!(pushed.is_ok());
 }
 
-/// Appends a number for which there is room.
+/// Appends a number. There is room for it.
 fn push_number(line: &mut ArrayVec<u8, LINE_ROOM>, number: u32)
     requires { array_vec_len line.old + 40 ≤ LINE_ROOM }
     ensures items { line.new.items ≡ line.old.items ++ decimal number }
@@ -73,7 +73,7 @@ fn push_number(line: &mut ArrayVec<u8, LINE_ROOM>, number: u32)
     push(line, buffer.format(number).as_bytes());
 }
 
-/// Appends an amount of cash in pence, for which there is room.
+/// Appends an amount of cash in pence. There is room for it.
 fn push_pence(line: &mut ArrayVec<u8, LINE_ROOM>, pence: Pence)
     requires { array_vec_len line.old + 40 ≤ LINE_ROOM }
     ensures items { line.new.items ≡ line.old.items ++ signed_decimal pence }
@@ -83,7 +83,7 @@ fn push_pence(line: &mut ArrayVec<u8, LINE_ROOM>, pence: Pence)
     push(line, buffer.format(pence.units()).as_bytes());
 }
 
-/// Appends a date, for which there is room.
+/// Appends a date. There is room for it.
 fn push_date(line: &mut ArrayVec<u8, LINE_ROOM>, date: SettlementDate)
     requires { array_vec_len line.old + 10 ≤ LINE_ROOM }
     ensures items { line.new.items ≡ line.old.items ++ date_text date }
@@ -92,7 +92,7 @@ fn push_date(line: &mut ArrayVec<u8, LINE_ROOM>, date: SettlementDate)
     push(line, &date.text());
 }
 
-/// Appends the code of a kind of run, for which there is room.
+/// Appends the code of a kind of run. There is room for it.
 fn push_kind(line: &mut ArrayVec<u8, LINE_ROOM>, kind: RunKind)
     requires { array_vec_len line.old + 2 ≤ LINE_ROOM }
     ensures items { line.new.items ≡ line.old.items ++ run_kind_code kind }
@@ -101,7 +101,7 @@ fn push_kind(line: &mut ArrayVec<u8, LINE_ROOM>, kind: RunKind)
     push(line, kind.code().as_bytes());
 }
 
-/// Appends which run it is, for which there is room.
+/// Appends the name of a run. There is room for it.
 fn push_run_name(line: &mut ArrayVec<u8, LINE_ROOM>, run: &RunKey)
     requires { array_vec_len line.old + 17 ≤ LINE_ROOM }
     ensures items { line.new.items ≡ line.old.items ++ run_name run.now }
@@ -113,7 +113,7 @@ fn push_run_name(line: &mut ArrayVec<u8, LINE_ROOM>, run: &RunKey)
     push_kind(line, run.kind);
 }
 
-/// Appends what a run is summed up as, for which there is room.
+/// Appends the summary of a run. There is room for it.
 fn push_summary(line: &mut ArrayVec<u8, LINE_ROOM>, summary: &Summary)
     requires { array_vec_len line.old + 199 ≤ LINE_ROOM }
     ensures items { line.new.items ≡ line.old.items ++ summary_text summary.now }

@@ -16,9 +16,10 @@ use hh_store::Tables;
 use hh_wire::Routes;
 use std::alloc::Global;
 
-/// Awaits so many connections of a listener, and serves each that comes once, one after the other (profile):
-/// its request is handled at the moment that the clock tells when its turn has come, before anything of it
-/// is read. What fails in a connection ends it alone; so does a clock that tells no moment.
+/// Awaits `count` connections of a listener, and serves each that comes once, one after the other
+/// (profile). The request of a connection is handled at the moment that the clock tells when it is the
+/// connection's turn, before anything of it is read. A fault of a connection ends only that connection, and
+/// so does a clock that tells no moment.
 pub fn serve_each<T: Tables, L: Listener, C: Clock>(
     alloc: Global,
     office: &mut Office<'_, T>,
@@ -59,8 +60,8 @@ fn serve_next<T: Tables, L: Listener, C: Clock>(
     listener.close(connection, received);
 }
 
-/// Serves a connection at the moment that the clock tells, if it tells one. It answers how much of what the
-/// client sends was read.
+/// Serves a connection at the moment that the clock tells, if it tells one. Answers how much was read of
+/// what the client sends.
 fn serve_now<T: Tables, S: Source, K: Sink, C: Clock>(
     alloc: Global,
     routes: &mut Routes,
@@ -82,7 +83,7 @@ fn serve_now<T: Tables, S: Source, K: Sink, C: Clock>(
     received_of(serve_one(alloc, routes, office, moment, source, sink))
 }
 
-/// How much of what a client sends was read of one that was served so.
+/// How much was read of what a client sends, given how it was served.
 fn received_of(served: Result<Served, ServeFault>) -> Received {
     match served {
         Ok(Served::Closed | Served::Replied) => Received::Whole,

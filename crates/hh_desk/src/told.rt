@@ -3,7 +3,7 @@
 use hh_names::{Fault, Refusal};
 use hh_requests::Reply;
 
-/// What came of a load or of a run (profile).
+/// What came of a load or of a run.
 #[derive(Debug, Drop)]
 pub enum Told {
     /// The office replied.

@@ -1,4 +1,4 @@
--- What changes in a device by a call.
+-- What a call changes in a device.
 use Rattle.std.specs.Prelude.{◌≡◌, ℕ, List, Option}
 use Rattle.hh_devices.specs.Devices.{Failed}
 

@@ -6,11 +6,11 @@ use Rattle.std.specs.Io.KnownBytes.{Appends}
 abbrev pub most_failures : ℕ
 most_failures = 18446744073709551615
 
--- one more failure was counted, but at the greatest count nothing is said
+-- one more failure was counted; at the greatest count nothing is promised
 abbrev pub Failed : ℕ → ℕ → Type 0
 Failed old new = old < most_failures → new ≡ old + 1
 
--- a write took bytes, or failed: it failed, too, where it took none
+-- a write took bytes and counts none, or it failed or took none, and counts a failure
 abbrev pub Counts : {E : Type 0} → Result ℕ E → ℕ → ℕ → Type 0
 Counts (Ok n) old new = MatchBool (n == 0) (Failed old new) (new ≡ old)
 Counts (Err e) old new = Failed old new
@@ -20,11 +20,11 @@ abbrev pub Assures : {E : Type 0} → Result ℕ E → ℕ → ℕ → ℕ → T
 Assures (Ok n) old new offered = 0 < offered → 0 < old → (0 < n) × (old ≤ new + n)
 Assures (Err e) old new offered = 0 < offered → old ≡ 0
 
--- a call counts one failure where it fails, and none elsewhere
+-- a call that fails counts one failure, and any other call none
 abbrev pub CountsErr : {X E : Type 0} → Result X E → ℕ → ℕ → Type 0
 CountsErr (Ok x) old new = new ≡ old
 CountsErr (Err e) old new = Failed old new
 
--- known bytes grow by a front of these
+-- the known bytes have grown, by a front of these
 abbrev pub AppendsFront : Option (List ℕ) → Option (List ℕ) → List ℕ → Type 0
 AppendsFront old new bytes = (front rest : List ℕ) × (bytes ≡ front ++ rest) × Appends old new front

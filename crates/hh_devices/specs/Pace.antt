@@ -1,9 +1,9 @@
--- How many bytes a memory device moves a call.
+-- How many bytes a memory device moves in a call.
 use Rattle.std.specs.Prelude.{ℕ, ◌-◌, min, ◌==◌, if◌then◌else◌, Option, Some, None, Result, Ok, Err}
 use Rattle.hh_devices.specs.declared.device.DeviceFailed.{DeviceFailed}
 use Rattle.hh_devices.specs.declared.pace.Pace.{Pace}
 
--- so many a call, and none that fails
+-- at most so many bytes in a call, and no call that fails
 abbrev pub any_pace : ℕ → Pace
 any_pace piece = record { piece = piece; until_failure = None }
 
@@ -11,16 +11,16 @@ any_pace piece = record { piece = piece; until_failure = None }
 abbrev pub in_pieces : ℕ → Pace → Pace
 in_pieces piece p = record { piece = piece; until_failure = p.until_failure }
 
--- a pace with one call that fails, once so many more bytes have gone
+-- a pace with one call that fails, after so many more bytes
 abbrev pub failing_after : ℕ → Pace → Pace
 failing_after count p = record { piece = p.piece; until_failure = Some count }
 
--- the answer of a call that may move so many bytes, where one is to fail after so many
+-- the answer of a call that may move so many bytes, if a call is to fail after a number of bytes
 abbrev pub moved_before : Option ℕ → ℕ → Result ℕ DeviceFailed
 moved_before None most = Ok most
 moved_before (Some left) most = if left == 0 then Err (record {}) else Ok (min most left)
 
--- after how many bytes a call is to fail from then on
+-- the number of bytes after the call until one is to fail
 abbrev pub left_before : Option ℕ → ℕ → Option ℕ
 left_before None most = None
 left_before (Some left) most = if left == 0 then None else Some (left - most)
@@ -33,12 +33,12 @@ moved p offered = moved_before p.until_failure (min offered p.piece)
 abbrev pub paced : Pace → ℕ → Pace
 paced p offered = record { piece = p.piece; until_failure = left_before p.until_failure (min offered p.piece) }
 
--- of so many bytes, those that go before a failure
+-- those of so many bytes that move before a failure
 abbrev pub before_failure : Option ℕ → ℕ → ℕ
 before_failure None room = room
 before_failure (Some left) room = min left room
 
--- of so many bytes, those that go with no failure
+-- those of so many bytes that move with no failure
 abbrev pub assured_within : Pace → ℕ → ℕ
 assured_within p room = if p.piece == 0 then 0 else before_failure p.until_failure room
 

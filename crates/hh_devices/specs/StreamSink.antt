@@ -1,4 +1,4 @@
--- A sink round any writer.
+-- A sink that writes to any writer.
 use Rattle.std.specs.Prelude.{ℕ}
 use Rattle.hh_devices.specs.declared.stream_sink.StreamSink.{StreamSink}
 

@@ -1,4 +1,4 @@
--- A source round any reader.
+-- A source that reads from any reader.
 use Rattle.std.specs.Prelude.{ℕ}
 use Rattle.hh_devices.specs.declared.stream_source.StreamSource.{StreamSource}
 

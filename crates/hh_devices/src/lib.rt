@@ -1,4 +1,4 @@
-//! Devices that bytes come from and go to: in memory, and round a reader or writer of std.
+//! Devices that take or give bytes: in memory, and by a reader or writer of std.
 #![tactic(auto)]
 
 mod device;

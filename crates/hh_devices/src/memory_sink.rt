@@ -1,4 +1,4 @@
-//! A sink in memory, for tests and for what is not to leave the program.
+//! A sink in memory, for tests and for bytes that are not to leave the program.
 
 ghost use Rattle.std.specs.Prelude.{◌≡◌, ◌≤◌, ◌+◌, ◌-◌, min, [], length, Some, None, IfOk, vec_capacity, vec_len};
 ghost use Rattle.std.specs.Io.KnownBytes.{WriteAppends};
@@ -10,8 +10,8 @@ use crate::pace::Pace;
 use crate::sink::Sink;
 use std::alloc::{AllocError, Global};
 
-/// A sink in memory that was taken beforehand: its calls take none. Past its room a write takes
-/// nothing.
+/// A sink in memory. Its memory is taken beforehand, and its calls take none. A write past its room
+/// takes nothing.
 #[derive(Drop)]
 pub struct MemorySink {
     taken: Vec<u8>,
@@ -24,7 +24,7 @@ pub struct MemorySink {
 impl MemorySink {
     ghost use Rattle.hh_devices.specs.MemorySink.{taken_by, room_of, sink_pace, sink_failures};
 
-    /// A sink with room for so many bytes, which it takes in one call and with no failure.
+    /// A sink with room for `room` bytes, which it takes in one call and with no failure.
     pub fn with_room(alloc: Global, room: usize) -> Result<MemorySink, AllocError>
         ensures taken { IfOk result (λ sink. taken_by sink ≡ []) }
         ensures room { IfOk result (λ sink. room_of sink ≡ room) }
@@ -42,7 +42,7 @@ impl MemorySink {
         })
     }
 
-    /// This sink, taking at most so many bytes a call from now on.
+    /// This sink, taking at most `piece` bytes in a call from now on.
     pub fn in_pieces(mut self, piece: usize) -> MemorySink
         ensures taken { taken_by result ≡ taken_by self }
         ensures room { room_of result ≡ room_of self }
@@ -53,7 +53,7 @@ impl MemorySink {
         self
     }
 
-    /// This sink, with one call that fails, once so many more bytes were taken. Then it goes on.
+    /// This sink, with one call that fails, once `count` more bytes were taken. Later calls go on.
     pub fn failing_after(mut self, count: usize) -> MemorySink
         ensures taken { taken_by result ≡ taken_by self }
         ensures room { room_of result ≡ room_of self }
@@ -71,7 +71,7 @@ impl MemorySink {
         &self.taken
     }
 
-    /// How many calls failed or took nothing, as far as a `u64` counts.
+    /// How many calls failed or took nothing, counted up to the largest `u64`.
     pub fn failures(&self) -> u64
         ensures { result ≡ sink_failures self.now }
     {
@@ -96,7 +96,7 @@ impl Sink for MemorySink {
         ensures assured { Assures result (assured_of self.old) (assured_of self.new)
             (length bytes.now) }
 
-        // The answer is determined: memory has no part in it.
+        // The answer does not depend on memory.
         ensures answer { result ≡ moved (sink_pace self.old) (offered_to self.old bytes.now) }
         ensures pace { sink_pace self.new
             ≡ paced (sink_pace self.old) (offered_to self.old bytes.now) }

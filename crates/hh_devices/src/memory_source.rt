@@ -1,4 +1,4 @@
-//! A source in memory, for tests and for what is at hand.
+//! A source in memory, for tests and for bytes that are in memory already.
 
 ghost use Rattle.std.specs.Prelude.{◌≡◌, ◌≤◌, ◌<◌, min, length, Some, None, IfOk};
 ghost use Rattle.std.specs.Io.KnownBytes.{ReadConsumes};
@@ -37,7 +37,7 @@ impl<'a> MemorySource<'a> {
         }
     }
 
-    /// This source, giving at most so many bytes a call from now on.
+    /// This source, giving at most `piece` bytes in a call from now on.
     pub fn in_pieces(self, piece: usize) -> MemorySource<'a>
         requires { 0 < piece }
         ensures bytes { left_in result ≡ left_in self.entry }
@@ -54,7 +54,7 @@ impl<'a> MemorySource<'a> {
         }
     }
 
-    /// This source, with one call that fails, once so many more bytes were given. Then it goes on.
+    /// This source, with one call that fails, once `count` more bytes were given. Later calls go on.
     pub fn failing_after(self, count: usize) -> MemorySource<'a>
         ensures bytes { left_in result ≡ left_in self.entry }
         ensures pace { source_pace result ≡ failing_after count (source_pace self.entry) }
@@ -70,7 +70,7 @@ impl<'a> MemorySource<'a> {
         }
     }
 
-    /// How many calls failed, as far as a `u64` counts.
+    /// How many calls failed, counted up to the largest `u64`.
     pub fn failures(&self) -> u64
         ensures { result ≡ source_failures self.now }
     {
@@ -91,7 +91,7 @@ impl Source for MemorySource<'_> {
             result buffer.new }
         ensures failures { CountsErr result (source_failures self.old) (source_failures self.new) }
 
-        // The answer is determined.
+        // The state determines the answer.
         ensures answer { result ≡ moved (source_pace self.old) (wanted_of self.old buffer.old) }
         ensures pace { source_pace self.new
             ≡ paced (source_pace self.old) (wanted_of self.old buffer.old) }

@@ -4,7 +4,7 @@ ghost use Rattle.std.specs.Prelude.{◌≡◌};
 
 use crate::device::DeviceFailed;
 
-/// At most `piece` bytes a call, and one call that fails, once so many more bytes have gone.
+/// At most `piece` bytes in a call. One call fails after `until_failure` more bytes, if that is a number.
 #[derive(Clone, Copy, Debug)]
 pub struct Pace {
     pub piece: usize,
@@ -14,7 +14,7 @@ pub struct Pace {
 impl Pace {
     ghost use Rattle.hh_devices.specs.Pace.{moved, paced};
 
-    /// How many of the bytes that are offered go in this call, or that it is the one that fails.
+    /// How many of the offered bytes go in this call, or `Err` if it is the call that fails.
     pub fn step(&mut self, offered: usize) -> Result<usize, DeviceFailed>
         ensures answer { result ≡ moved self.old offered }
         ensures after { self.new ≡ paced self.old offered }

@@ -8,17 +8,17 @@ use crate::device::DeviceFailed;
 
 /// A device that takes bytes.
 pub trait Sink {
-    /// The bytes that it has taken, where it tells them.
+    /// The bytes that it has taken, if they are known.
     ghost taken: { Self → Option (List ℕ) };
 
     /// How many calls failed or took nothing.
     ghost failures: { Self → ℕ };
 
-    /// So many more bytes it is sure to take, in one call or in several, with no failure.
+    /// How many more bytes it takes at least, in one call or in several, with no failure.
     ghost assured: { Self → ℕ } = { λ _. 0 };
 
     /// Takes some of the bytes, from the front, and answers how many. A call that takes none counts
-    /// as a failure, also where none are offered.
+    /// as a failure, even if no bytes are offered.
     fn write(&mut self, bytes: &[u8]) -> Result<usize, DeviceFailed>
         ensures count { IfOk result (λ n. n ≤ length bytes.now) }
         ensures bytes { WriteAppends (taken self.old) (taken self.new) result bytes.now }
@@ -27,7 +27,7 @@ pub trait Sink {
 }
 
 /// Writes all of the bytes, in as many calls as the sink needs. The first call that fails or takes
-/// nothing ends it, and what went out till then is a front of the bytes.
+/// nothing ends it. What went out until then is a front of the bytes.
 pub fn write_whole<S: Sink>(sink: &mut S, bytes: &[u8]) -> Result<(), DeviceFailed>
     ensures whole { OnOk result (Appends (S.taken sink.old) (S.taken sink.new) bytes.now) }
     ensures front { OnErr result (AppendsFront (S.taken sink.old) (S.taken sink.new) bytes.now) }

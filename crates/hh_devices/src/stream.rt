@@ -1,4 +1,4 @@
-//! What stands behind a stream's sink or source: writers and readers whose answers may be known.
+//! The writers and readers that stream sinks and sources use. Their answers may be known.
 
 ghost use Rattle.std.specs.Prelude.{◌≤◌, ℕ, List, Option, Result, length, IfOk};
 ghost use Rattle.std.specs.Io.KnownBytes.{ReadConsumes, WriteAppends};
@@ -7,12 +7,12 @@ ghost use Rattle.hh_devices.specs.declared.device.DeviceFailed.{DeviceFailed};
 use crate::device::DeviceFailed;
 use std::io::{Read, Write};
 
-/// A writer that a `StreamSink` stands round.
+/// A writer that a `StreamSink` writes to.
 pub trait Writer {
-    /// The bytes that it holds, where they are known.
+    /// The bytes that it holds, if they are known.
     ghost contents: { Self → Option (List ℕ) };
 
-    /// What a write may come to: the writer, the bytes, the answer, and the writer after it.
+    /// The possible outcomes of a write: the writer, the bytes, the answer, and the writer after it.
     ghost writes: { Self → List ℕ → Result ℕ DeviceFailed → Self → Type 0 };
 
     /// Takes some of the bytes, from the front, and answers how many.
@@ -22,7 +22,7 @@ pub trait Writer {
         ensures answer { writes self.old bytes.now result self.new };
 }
 
-/// Any writer of std: nothing is known of why it fails.
+/// Any writer of std. Why it fails is not known.
 impl<W: Write> Writer for W {
     ghost contents = { W.contents };
 
@@ -33,12 +33,12 @@ impl<W: Write> Writer for W {
     }
 }
 
-/// A reader that a `StreamSource` stands round.
+/// A reader that a `StreamSource` reads from.
 pub trait Reader {
-    /// The bytes that it still gives, where they are known.
+    /// The bytes that it still gives, if they are known.
     ghost remaining: { Self → Option (List ℕ) };
 
-    /// What a read may come to: the reader, the length of the buffer, the answer with the buffer
+    /// The possible outcomes of a read: the reader, the length of the buffer, the answer with the buffer
     /// after it, and the reader after it.
     ghost reads: { Self → ℕ → Result ℕ DeviceFailed → List ℕ → Self → Type 0 };
 
@@ -49,7 +49,7 @@ pub trait Reader {
         ensures answer { reads self.old (length buffer.old) result buffer.new self.new };
 }
 
-/// Any reader of std: nothing is known of why it fails.
+/// Any reader of std. Why it fails is not known.
 impl<R: Read> Reader for R {
     ghost remaining = { R.remaining };
 

@@ -1,4 +1,4 @@
-//! A sink round any writer.
+//! A sink that writes to any writer.
 
 ghost use Rattle.std.specs.Prelude.{◌≡◌, ◌≤◌, length, IfOk};
 ghost use Rattle.std.specs.Io.KnownBytes.{WriteAppends};
@@ -8,8 +8,8 @@ use crate::device::DeviceFailed;
 use crate::sink::Sink;
 use crate::stream::Writer;
 
-/// A writer, and how often it failed or took nothing. What it holds back in a buffer of its own is
-/// not flushed.
+/// A writer, and how often it failed or took nothing. Bytes that the writer keeps in a buffer of its own
+/// are not flushed.
 #[derive(Drop)]
 pub struct StreamSink<W> {
     writer: W,
@@ -30,14 +30,14 @@ impl<W> StreamSink<W> {
         }
     }
 
-    /// The writer again.
+    /// Gives the writer back.
     pub fn into_inner(self) -> W
         ensures { result ≡ writer_of self }
     {
         self.writer
     }
 
-    /// How many calls failed or took nothing, as far as a `u64` counts.
+    /// How many calls failed or took nothing, counted up to the largest `u64`.
     pub fn failures(&self) -> u64
         ensures { result ≡ writer_failures self.now }
     {
@@ -59,7 +59,7 @@ impl<W: Writer> Sink for StreamSink<W> {
         ensures failures { Counts result (writer_failures self.old) (writer_failures self.new) }
         ensures assured { Assures result 0 0 (length bytes.now) }
 
-        // The answer is the writer's own, of one write of these bytes.
+        // The answer is what the writer answers to one write of these bytes.
         ensures answer { W.writes (writer_of self.old) bytes.now result (writer_of self.new) }
     {
         let answer = self.writer.write_some(bytes);

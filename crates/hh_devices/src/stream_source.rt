@@ -1,4 +1,4 @@
-//! A source round any reader.
+//! A source that reads from any reader.
 
 ghost use Rattle.std.specs.Prelude.{◌≡◌, ◌≤◌, length, IfOk};
 ghost use Rattle.std.specs.Io.KnownBytes.{ReadConsumes};
@@ -29,14 +29,14 @@ impl<R> StreamSource<R> {
         }
     }
 
-    /// The reader again.
+    /// Gives the reader back.
     pub fn into_inner(self) -> R
         ensures { result ≡ reader_of self }
     {
         self.reader
     }
 
-    /// How many calls failed, as far as a `u64` counts.
+    /// How many calls failed, counted up to the largest `u64`.
     pub fn failures(&self) -> u64
         ensures { result ≡ reader_failures self.now }
     {
@@ -57,7 +57,7 @@ impl<R: Reader> Source for StreamSource<R> {
             (R.remaining (reader_of self.new)) result buffer.new }
         ensures failures { CountsErr result (reader_failures self.old) (reader_failures self.new) }
 
-        // The answer is the reader's own, of one read into the buffer.
+        // The answer is what the reader answers to one read into the buffer.
         ensures answer { R.reads (reader_of self.old) (length buffer.old) result buffer.new
             (reader_of self.new) }
     {

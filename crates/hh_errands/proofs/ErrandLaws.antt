@@ -1,4 +1,4 @@
--- How a command ends, by what came of it at the desk and what went out.
+-- How a command ends, given what came of it at the desk and what was written.
 use Rattle.std.proofs.Common.{◌≡◌, ℕ, ℤ, List, [], refl, sym, ap, subst, Option, Some, None, Result, Ok, Err}
 use Rattle.std.specs.Prelude.{IsErrAnd}
 use Rattle.hh_devices.specs.DeviceChanges.{DeviceChange}
@@ -20,14 +20,14 @@ use Rattle.hh_errands.specs.Errands.{EndsErrand, Load, Report, Run, Serve, TellA
 use Rattle.hh_errands.specs.steps.Reporting.{EndsReport}
 use Rattle.hh_errands.specs.steps.Telling.{TellsOutcome}
 
--- what was done did not go out whole
+-- what was done was not written whole
 pub cut_told : (device : DeviceChange) (told : Told) (result : Result Unit ErrandStop) → IsErrAnd result (λ why. why ≡ stop.Output)
     → (text : List ℕ) → told_outcome told ≡ Ok text → AppendsFront device.old device.new text → TellsOutcome device told result
 cut_told device told (Ok x) none text is went = absurd none
 cut_told device told (Err why) output text is went = subst (λ w. TellsOutcome device told (Err w)) (sym output) (text, is, went)
 
--- A host may show this of files and ports, and the store may have failed only where this holds. An office was the one before and is the
--- other after, and this changes in an output.
+-- `host` is what a host may show about files and ports. The store may have failed only if `fails` holds. `old` is the office before the
+-- command, and `new` after it. `device` is the change of an output.
 module _ (host : HostView) (fails : Type 0) (old new : OfficeView) (device : DeviceChange) where
   -- a load that is told
   pub load_ends : (load : LoadStep) (told : Told) (result : Result Unit ErrandStop) → RunsLoad fails old new host load told → TellsOutcome device told result
@@ -50,7 +50,7 @@ module _ (host : HostView) (fails : Type 0) (old new : OfficeView) (device : Dev
   stays : new ≡ old → (s : State) → Stands old s → StandsNow old new s
   stays same s stands = (subst (λ o. Stands o s) (sym same) stands, ap (λ (o : OfficeView). o.zone) same)
 
-  -- a report, which leaves the office
+  -- a report, which leaves the office as it is
   pub report_ends : (asked : ReportStep) (result : Result Unit ErrandStop) → new ≡ old → EndsReport fails old device asked result
       → EndsErrand host fails old new device (Report asked) result
   report_ends asked (Ok x) same ends = λ s stands. let (text, comes, went) = ends s stands in (text, s, (comes, refl), went, stays same s stands)
@@ -63,7 +63,7 @@ by_at : (at : Option ℤ) → TellAt at []
 by_at None = tt
 by_at (Some moment) = tt
 
--- the port could not be told, and the office stays
+-- the port could not be told, and the office is as it was
 pub serving_cut : (host : HostView) (fails : Type 0) (office : OfficeView) (device : DeviceChange) (serve : Serving) (port : ℕ) → IsPortFor serve.port port
     → host.ports.brings serve.port [] → AppendsFront device.old device.new (listening_line port)
     → (result : Result Unit ErrandStop) → IsErrAnd result (λ why. why ≡ stop.Output) → EndsErrand host fails office office device (Serve serve) result

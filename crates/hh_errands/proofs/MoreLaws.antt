@@ -1,4 +1,5 @@
--- Where the store may have failed, it may in more cases; and an office that looks like another ends a command as that does.
+-- If the store may have failed in more cases, a command ends as before; and an office with the same tables as another ends a command as
+-- that one does.
 use Rattle.std.proofs.Common.{◌≡◌, ℕ, List, subst, sym, ◌∙◌, Result, Ok, Err, inl, inr}
 use Rattle.jiff.specs.Words.{plain_zone}
 use Rattle.hh_devices.specs.DeviceChanges.{DeviceChange}
@@ -17,7 +18,7 @@ use Rattle.hh_errands.specs.declared.errand.ErrandStop.{ErrandStop}
 use Rattle.hh_errands.specs.declared.errand.ErrandStop.TheVariants as stop
 use Rattle.hh_errands.specs.Errands.{EndsErrand, ErrandComes, ErrandStep, Load, ErrandOutcome, Report, ReportComes, Run, Serve, cut_errand}
 
--- ---- where the store may have failed
+-- ---- from one condition on failures of the store to a weaker one
 
 module _ (fails others : Type 0) (implies : fails → others) where
   report_then : (report : Result (List ℕ) Refusal) (outcome : ErrandOutcome) → ReportComes fails report outcome → ReportComes others report outcome
@@ -52,7 +53,7 @@ module _ (fails others : Type 0) (implies : fails → others) where
 
 -- ---- an office that has the same tables
 
--- An office has the tables of another, and the zone of one before it.
+-- An office has the tables of another, and the zone of the office before it.
 module _ (host : HostView) (fails : Type 0) (old last new : OfficeView) (content : new.content ≡ last.content) (zone : new.zone ≡ old.zone) (device : DeviceChange)
     (step : ErrandStep) where
   now_of : (t : State) → StandsNow old last t → StandsNow old new t

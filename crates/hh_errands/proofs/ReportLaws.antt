@@ -1,4 +1,4 @@
--- How a command that asks for a report ends, by what the office wrote.
+-- How a command that asks for a report ends, given what the office wrote.
 use Rattle.std.proofs.Common.{◌≡◌, ℕ, List, [], refl, sym, subst, Bool, true, false, Option, Some, None, Result, Ok, Err, inl, inr}
 use Rattle.std.specs.Prelude.{IsErrAnd, MatchBool}
 use Rattle.std.specs.Io.KnownBytes.{Appends}
@@ -24,11 +24,11 @@ appends_none : (bytes : Option (List ℕ)) → Appends bytes bytes []
 appends_none None = tt
 appends_none (Some xs) = sym (append-nil xs)
 
--- nothing went out
+-- nothing was written
 none_out : (old new : Option (List ℕ)) → new ≡ old → AppendsFront old new []
 none_out old new same = subst (λ bytes. AppendsFront old bytes []) (sym same) ([], [], refl, appends_none old)
 
--- A store had counted so many refusals and counts so many, and this changes in an output.
+-- A store had counted `earlier` refusals, and counts `later` now. `device` is the change of an output.
 module _ (earlier later : ℕ) (device : DeviceChange) where
   refused_as : (fault : Fault) → CountsStoreFault fault earlier later → (why : Refusal) (b : Bool) → gives_up fault ≡ b
       → MatchBool b (Unit {0}) (fault ≡ plain_fault why) → ReportComes (CountsMore earlier later) (Err why) (Err (stop.Refused fault))

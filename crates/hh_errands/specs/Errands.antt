@@ -1,4 +1,4 @@
--- What comes of what a command asks at the desk of an office that is kept.
+-- What comes of what a command asks at the desk of an office.
 use Rattle.std.specs.Prelude.{◌≡◌, ◌⊎◌, ℕ, ℤ, List, [], Option, Some, None, Result, Ok, Err, length}
 use Rattle.std.specs.Io.KnownBytes.{Appends}
 use Rattle.hh_devices.specs.DeviceChanges.{DeviceChange}
@@ -31,30 +31,30 @@ use Rattle.hh_errands.specs.declared.errand.ErrandStop.{ErrandStop}
 use Rattle.hh_errands.specs.declared.errand.ErrandStop.TheVariants as stop
 use Rattle.hh_errands.specs.declared.errand.Serving.{Serving}
 
--- what a command asks, by the values of its words
+-- what a command asks, as plain values
 pub data ErrandStep : Type 0 where
   Load : LoadStep → ErrandStep
   Run : RunStep → ErrandStep
   Report : ReportStep → ErrandStep
   Serve : Serving → ErrandStep
 
--- the values of a command
+-- a command as plain values
 abbrev pub errand_of : Errand → ErrandStep
 errand_of (errand.Load load) = Load (load_of load)
 errand_of (errand.Run run) = Run (run_of run)
 errand_of (errand.Report asked) = Report (report_of asked)
 errand_of (errand.Serve serve) = Serve serve
 
--- it asks for a report
+-- a command asks for a report
 abbrev pub IsReport : ErrandStep → Type 0
 IsReport (Report asked) = Unit {0}
 IsReport _ = ⊥
 
--- what a command comes to where its output does not fail: what it writes, or why it is not done
+-- what comes of a command if its output does not fail: what it writes, or why it is not done
 abbrev pub ErrandOutcome : Type 0
 ErrandOutcome = Result (List ℕ) ErrandStop
 
--- what a load or a run comes to: the line of what was done, or the reason why it was not
+-- what comes of a load or a run: the line of what was done, or the reason why it was not done
 abbrev pub told_outcome : Told → ErrandOutcome
 told_outcome Unreadable = Err stop.Unreadable
 told_outcome (Replied (reply.Refused fault)) = Err (stop.Refused fault)
@@ -62,57 +62,57 @@ told_outcome (Replied (reply.Loaded loaded)) = Ok (loaded_line loaded)
 told_outcome (Replied (reply.Ran run summary)) = Ok (run_line run summary)
 told_outcome (Replied _) = Ok []
 
--- a report is written whole, it is refused, or it is given up. The store may have failed only where this holds.
+-- a report is written whole, is refused, or is given up; the store may have failed only if `fails` holds
 abbrev pub ReportComes : Type 0 → Result (List ℕ) Refusal → ErrandOutcome → Type 0
 ReportComes fails report (Ok text) = report ≡ Ok text
 ReportComes fails report (Err (stop.Refused fault)) = ((why : Refusal) × (report ≡ Err why) × (fault ≡ plain_fault why)) ⊎ GivesUpWhere fails fault
 ReportComes fails report (Err _) = ⊥
 
--- the moments at which connections were served are those that were asked for, if one was
+-- if a moment was given, all connections were served at it
 abbrev pub TellAt : Option ℤ → List ClockReading → Type 0
 TellAt None readings = Unit {0}
 TellAt (Some moment) readings = AllTell moment readings
 
--- A host may show this of files and ports, and the store may have failed only where this holds.
+-- `host` is what a host may show about files and ports. The store may have failed only if `fails` holds.
 module _ (host : HostView) (fails : Type 0) (midnight : Midnights) where
-  -- connections were awaited, as many as were asked for, and each that came was served
+  -- as many connections were awaited as were asked for, and each that came was served
   abbrev pub AwaitsAsked : State → Serving → State → Type 0
   AwaitsAsked s serve t =
       (arrivals : List Arrival) × (readings : List ClockReading)
       × host.ports.brings serve.port arrivals × (length arrivals ≡ serve.count) × TellAt serve.at readings
       × AreServed fails midnight arrivals readings s t
 
-  -- what the serving of connections comes to: the port is told and they are served, or nothing listens on it
+  -- what comes of serving connections: the port is told and they are served, or the port cannot be listened on
   abbrev pub ServeComes : State → Serving → ErrandOutcome → State → Type 0
   ServeComes s serve (Ok text) t = (port : ℕ) × IsPortFor serve.port port × (text ≡ listening_line port) × AwaitsAsked s serve t
   ServeComes s serve (Err why) t = (why ≡ stop.NoSocket) × host.ports.refuses serve.port × (t ≡ s)
 
-  -- what a command comes to in a state, and the state after it
+  -- what comes of a command in a state, and the state after it
   abbrev pub ErrandComes : State → ErrandStep → ErrandOutcome → State → Type 0
   ErrandComes s (Load load) outcome t = (told : Told) × LoadDoes host fails midnight s load told t × (outcome ≡ told_outcome told)
   ErrandComes s (Run run) outcome t = (told : Told) × RunDoes fails midnight s run told t × (outcome ≡ told_outcome told)
   ErrandComes s (Report asked) outcome t = ReportComes fails (report_for midnight s asked.key asked.report) outcome × (t ≡ s)
   ErrandComes s (Serve serve) outcome t = ServeComes s serve outcome t
 
--- what a command comes to whose output fails: it awaits no connection
+-- what a command becomes if its output fails: it awaits no connection
 abbrev pub cut_errand : ErrandStep → ErrandStep
 cut_errand (Serve serve) = Serve (record serve { count = 0 })
 cut_errand other = other
 
--- what may have gone out of a report that is not written whole: a beginning of its text
+-- the text of which a beginning may have been written, if a report is not written whole
 abbrev pub begun : Result (List ℕ) Refusal → List ℕ
 begun (Ok text) = text
 begun (Err why) = []
 
--- what went out for a command that is not done, though its output did not fail: nothing, or a beginning of a report
+-- what was written for a command that is not done although its output did not fail: nothing, or a beginning of a report
 abbrev pub HasBegun : Midnights → State → ErrandStep → DeviceChange → Type 0
 HasBegun midnight s (Report asked) device = AppendsFront device.old device.new (begun (report_for midnight s asked.key asked.report))
 HasBegun midnight s _ device = device.new ≡ device.old
 
--- A host may show this of files and ports, and the store may have failed only where this holds. An office was the one before and is the
--- other after, and this changes in an output.
+-- `host` is what a host may show about files and ports. The store may have failed only if `fails` holds. `old` is the office before the
+-- command, and `new` after it. `device` is the change of an output.
 module _ (host : HostView) (fails : Type 0) (old new : OfficeView) (device : DeviceChange) (step : ErrandStep) where
-  -- what a command was asked came so from each state that the office stood for, and went out
+  -- what a command asked came about from each state that the office represented, and its text was written
   abbrev pub EndsErrand : Result Unit ErrandStop → Type 0
   EndsErrand (Ok _) = (s : State) → Stands old s
       → (text : List ℕ) × (t : State) × ErrandComes host fails (midnight_of old) s step (Ok text) t × Appends device.old device.new text × StandsNow old new t
@@ -121,7 +121,7 @@ module _ (host : HostView) (fails : Type 0) (old new : OfficeView) (device : Dev
   EndsErrand (Err why) = (s : State) → Stands old s
       → (t : State) × ErrandComes host fails (midnight_of old) s step (Err why) t × HasBegun (midnight_of old) s step device × StandsNow old new t
 
--- why a report is not written, or not whole
+-- why a report is not written, or not to its end
 abbrev pub report_stop : ReportStop → ErrandStop
 report_stop (reporting.Refused fault) = stop.Refused fault
 report_stop reporting.Write = stop.Output

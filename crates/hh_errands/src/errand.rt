@@ -1,4 +1,4 @@
-//! What a command asks, and what comes of it.
+//! What a command asks of an office, and what comes of it.
 
 ghost use Rattle.std.specs.Prelude.{◌≡◌, ◌≢◌, ◌⊎◌, IfErr, IsErrOf, OnOk};
 ghost use Rattle.hh_devices.specs.DeviceChanges.{change};
@@ -24,10 +24,10 @@ use std::alloc::Global;
 /// Connections to be served.
 #[derive(Clone, Copy, Debug, PartialEq, Eq)]
 pub struct Serving {
-    /// The moment of each request that comes, in seconds since 1970-01-01T00:00:00Z; where none is given,
-    /// the host's clock tells it when the turn of the connection has come.
+    /// The moment at which each request is handled, in seconds since 1970-01-01T00:00:00Z. If none is
+    /// given, the host's clock tells it when it is the connection's turn.
     pub at: Option<i64>,
-    /// The port; for 0 the machine chooses a free one.
+    /// The port. For 0 the machine chooses a free one.
     pub port: u16,
     /// How many connections are served: at most 1,000,000.
     pub count: u32,
@@ -51,7 +51,7 @@ pub enum Errand<'a> {
 pub enum ErrandStop {
     /// The office refused.
     Refused(Fault),
-    /// The file cannot be read, and the office was not asked.
+    /// The file cannot be read. The office was not asked.
     Unreadable,
     /// Nothing listens on the port.
     NoSocket,
@@ -69,15 +69,16 @@ impl From<DeviceFailed> for ErrandStop {
     }
 }
 
-/// Does what a command asks at the desk of an office, and writes what was done (profile):
-/// `applied=N late=M`; `run DATE KIND periods N accounts N residual T postings N`; a report; or
-/// `listening 127.0.0.1:PORT`, before connections are served.
+/// Does what a command asks at the desk of an office, and writes what was done (profile): `applied=N
+/// late=M`; `run DATE KIND periods N accounts N residual T postings N`; a report; or `listening
+/// 127.0.0.1:PORT`, before connections are served.
 ///
 /// # Errors
 ///
-/// `Refused`, `Unreadable` and `NoSocket`, with nothing written, but for a report that is given up, of
-/// which a beginning has gone out; `Output`, where the output failed or took nothing in this call: what
-/// the office did stays done, a beginning of what tells it went out, and no connection was awaited.
+/// `Refused`, `Unreadable` and `NoSocket`, with nothing written. The exception is a report that is given
+/// up: a beginning of it may have been written. `Output`: the output failed or took nothing in this call.
+/// What the office did stays done, a beginning of the text that tells it was written, and no connection was
+/// awaited.
 pub fn run_errand<T: Tables, H: Host, O: Sink>(
     alloc: Global,
     office: &mut Office<'_, T>,

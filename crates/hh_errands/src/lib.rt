@@ -1,4 +1,4 @@
-//! What a command asks at the desk of an office that is kept, and how it ends.
+//! What a command asks at the desk of an office, and how it ends.
 #![tactic(auto)]
 
 mod errand;

@@ -1,4 +1,4 @@
-//! How it is told what a load or a run came to.
+//! How it is told what came of a load or a run.
 
 ghost use Rattle.std.specs.Prelude.{◌≡◌, ◌≢◌, IfErr, IsErrOf, OnOk};
 ghost use Rattle.hh_devices.specs.DeviceChanges.{change};
@@ -25,7 +25,7 @@ pub(crate) fn tell<O: Sink>(told: &Told, out: &mut O) -> Result<(), ErrandStop>
     }
 }
 
-/// The same of a reply.
+/// Tells a reply, or gives the reason of a refusal.
 fn tell_reply<O: Sink>(reply: &Reply, out: &mut O) -> Result<(), ErrandStop>
     ensures told { TellsOutcome (change O.taken O.failures out.old out.new)
         (Replied reply.now) result }

@@ -30,7 +30,7 @@ impl fmt::Display for Header {
     }
 }
 
-/// What the fields of the column of that name look like.
+/// What the fields of a column look like.
 pub(crate) fn form_of(name: &str) -> &'static str {
     match name {
         "party" => "a party's id: 1 to 10 capital letters or digits",

@@ -1,4 +1,4 @@
-//! Files under a header: why the text of one isn't read.
+//! Files with a header: why the text of one isn't read.
 
 use crate::columns::{Header, KEY, form_of};
 use crate::meanings::{at_path, too_large};
@@ -58,7 +58,7 @@ impl<'a> HeadedFile<'a> {
         }
     }
 
-    /// Why a file isn't read, or else what the refusal means.
+    /// Why a file isn't read, or otherwise what the refusal means.
     pub(crate) fn unread(&self, alloc: Global, fault: &Fault) -> Result<String, AllocError> {
         match fault.refusal {
             Refusal::FileTooLarge => too_large(alloc, self.path, MOST_BYTES),
@@ -73,7 +73,7 @@ impl<'a> HeadedFile<'a> {
         }
     }
 
-    /// The text of a record, as far as a party's key.
+    /// The text of a record, up to a party's key.
     pub(crate) fn shown(&self, found: &Found<'_>) -> CutText {
         let key = found.field(3);
         if self.header.get(3) == Some(&KEY) && AccessKey::read(key).is_some() {
@@ -114,7 +114,7 @@ impl<'a> HeadedFile<'a> {
         }
     }
 
-    /// A party's key isn't shown.
+    /// Tells which field is wrong. A party's key isn't shown.
     fn bad_field(
         &self,
         alloc: Global,
@@ -137,7 +137,7 @@ impl<'a> HeadedFile<'a> {
     }
 }
 
-/// What stands in a text before a word, or nothing where the word doesn't stand in it.
+/// The part of a text before a word, or nothing if it doesn't contain the word.
 fn before<'t>(text: &'t [u8], word: &[u8]) -> &'t [u8] {
     for place in 0..text.len() {
         let (front, behind) = text.split_at(place);

@@ -8,12 +8,12 @@ use hh_time::{Day, deadline, london};
 use jiff::tz::TimeZone;
 use std::alloc::{AllocError, Global};
 
-/// Which rows of an accepted file were late, where so many were: their numbers, behind the file's
-/// path.
+/// Which rows of an accepted file were late: the file's path and then their numbers. `late` says how many
+/// were.
 ///
-/// A row is late where its moment is at its deadline or behind it. So the late rows of a file are
-/// those with the first deadlines, and how many they are says which. No moment is asked for: a file
-/// that is sent again is answered as when it came first, whatever the moment is now.
+/// A row is late if its moment is at its deadline or after it. So the late rows of a file are those with
+/// the earliest deadlines, and their count says which they are. No moment is needed: a file that is sent
+/// again is answered as it was the first time, whatever the moment is now.
 pub fn late_rows(
     alloc: Global,
     file: &RowsFile<'_>,
@@ -29,7 +29,7 @@ pub fn late_rows(
     Ok(text)
 }
 
-/// The deadlines of a file's rows, and `i64::MAX` for a row that has none.
+/// The deadlines of a file's rows. It is `i64::MAX` for a row that has none.
 fn deadlines(
     alloc: Global,
     file: &RowsFile<'_>,
@@ -64,8 +64,8 @@ fn notified_period(row: &Row) -> Option<SettlementPeriod> {
     }
 }
 
-/// The deadline of notifications of a period, if there is such a period. The day that was asked for
-/// last is kept: mostly the rows of a file name one date.
+/// The deadline of notifications of a period, if there is such a period. The day that was asked for last is
+/// kept, because most files name only one date.
 fn deadline_of(
     last: &mut Option<Day>,
     zone: &TimeZone<'_>,
@@ -89,7 +89,7 @@ fn deadline_of(
     }
 }
 
-/// The last deadline of so many rows with the first deadlines.
+/// The latest of the `late` earliest deadlines.
 fn last_late(deadlines: &Vec<i64>, late: u32) -> Result<i64, AllocError> {
     let mut sorted = deadlines.clone()?;
     sorted.sort_unstable();
@@ -107,7 +107,7 @@ struct Rows {
     last: usize,
 }
 
-/// The numbers of the rows whose deadline isn't behind this one.
+/// Adds the numbers of the rows whose deadline isn't after `last`.
 fn push_late(text: &mut String, deadlines: &[i64], last: i64) -> Result<(), AllocError> {
     let mut before = "";
     let mut open: Option<Rows> = None;

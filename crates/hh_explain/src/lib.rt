@@ -1,6 +1,6 @@
-//! Explanations of refusals: in which line of which file, what stands there, and what is expected.
+//! Explanations of refusals: which line of which file, what is written there, and what is expected.
 //!
-//! Each is one line of text without its end. No clause says what it holds: the texts are tested.
+//! Each is one line of text, without a line end. No clause says what it contains. The texts are tested.
 #![tactic(auto)]
 
 mod columns;

@@ -14,12 +14,12 @@ use std::alloc::{AllocError, Global};
 pub struct RowsFile<'a> {
     pub kind: FileKind,
     pub path: &'a str,
-    /// What it holds.
+    /// Its bytes.
     pub body: &'a [u8],
 }
 
 impl<'a> RowsFile<'a> {
-    /// The same with its header.
+    /// The file with its header.
     fn headed(&self) -> HeadedFile<'a> {
         HeadedFile {
             path: self.path,
@@ -29,8 +29,8 @@ impl<'a> RowsFile<'a> {
     }
 }
 
-/// Why a file of rows isn't loaded: its path, then the row that the refusal names and its line,
-/// what stands there, and what is wrong with it. The key of a party isn't shown.
+/// Why a file of rows isn't loaded: its path, then the row that the refusal names and its line, what is
+/// written there, and what is wrong with it. The key of a party isn't shown.
 pub fn load_refused(
     alloc: Global,
     file: &RowsFile<'_>,
@@ -54,7 +54,7 @@ pub fn load_refused(
     }
 }
 
-/// That the name of a file is taken.
+/// Tells that the name of a file is used already.
 fn file_changed(alloc: Global, file: &RowsFile<'_>) -> Result<String, AllocError> {
     let (path, kind) = (file.path, file.kind.word());
     let name = path.rsplit('/').next().unwrap_or(path);
@@ -80,7 +80,7 @@ fn row_refused(alloc: Global, file: &RowsFile<'_>, fault: &Fault) -> Result<Stri
     }
 }
 
-/// The row that a record of a kind reads as, if it reads.
+/// The row that a record of a kind reads as, if it does.
 fn row_in(kind: FileKind, found: &Found<'_>) -> Option<Row> {
     if found.fields.len() == kind.header().len() {
         kind.read_row(&found.fields).ok()

@@ -1,4 +1,4 @@
-//! What refusals mean of which no file tells more.
+//! What refusals mean if no file tells more about them.
 
 use hh_names::{Fault, Refusal};
 use std::alloc::{AllocError, Global};
@@ -14,18 +14,18 @@ pub fn script_refused(alloc: Global, path: &str, fault: &Fault) -> Result<String
     }
 }
 
-/// That a file has too many bytes.
+/// Tells that a file has too many bytes.
 pub(crate) fn too_large(alloc: Global, path: &str, most: usize) -> Result<String, AllocError> {
     format!(in alloc; "{path}: it has more than {most} bytes")
 }
 
-/// What a refusal means, behind a path.
+/// A path, and what a refusal means.
 pub(crate) fn at_path(alloc: Global, path: &str, fault: &Fault) -> Result<String, AllocError> {
     let meaning = refused(fault);
     format!(in alloc; "{path}: {meaning}")
 }
 
-/// What a refusal means, whatever it is of.
+/// What a refusal means, whatever is refused.
 pub fn refused(fault: &Fault) -> &'static str {
     match fault.refusal {
         Refusal::FileTooLarge => "the file has too many bytes",

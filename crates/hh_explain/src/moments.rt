@@ -1,4 +1,4 @@
-//! Dates as texts, and moments that a date has.
+//! Dates as texts, and the moments of a date.
 
 use hh_time::{Day, SettlementDate, london};
 use std::{fmt, str};

@@ -13,7 +13,7 @@ use std::alloc::{AllocError, Global};
 #[derive(Clone, Copy, Debug)]
 pub struct PeriodText<'a> {
     pub path: &'a str,
-    /// What it holds.
+    /// Its bytes.
     pub body: &'a [u8],
 }
 
@@ -27,7 +27,7 @@ pub struct PeriodInputs<'a> {
 }
 
 impl<'a> PeriodText<'a> {
-    /// The same with its header.
+    /// The file with its header.
     fn headed(&self, header: &'static [&'static str]) -> HeadedFile<'a> {
         HeadedFile {
             path: self.path,
@@ -37,8 +37,8 @@ impl<'a> PeriodText<'a> {
     }
 }
 
-/// Why a period isn't settled: the path of the file, then the row that the refusal names and its
-/// line, what stands there, and what is wrong with it.
+/// Why a period isn't settled: the path of the file, then the row that the refusal names and its line, what
+/// is written there, and what is wrong with it.
 pub fn period_refused(
     alloc: Global,
     inputs: &PeriodInputs<'_>,

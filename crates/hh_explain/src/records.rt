@@ -1,4 +1,4 @@
-//! Records of a file: where each stands.
+//! The records of a file, and where each is.
 
 use csv::{ByteRecord, Reader, ReaderBuilder};
 use std::alloc::{AllocError, Global};
@@ -12,19 +12,19 @@ pub(crate) struct Found<'a> {
     pub(crate) fields: ByteRecord,
     /// The number of the line in which it begins, from 1.
     pub(crate) line: u64,
-    /// Its text in the file, without the line end behind it.
+    /// Its text in the file, without the line end after it.
     pub(crate) text: &'a [u8],
 }
 
 impl Found<'_> {
-    /// The field at a place, from 0, and nothing past the last.
+    /// The field at a place, from 0. It is empty after the last field.
     pub(crate) fn field(&self, place: usize) -> &[u8] {
         self.fields.get(place).unwrap_or(&[])
     }
 }
 
-/// The record that has so many records before it, if the file has it. The records are those that
-/// `hh_texts` reads.
+/// The record with this number of records before it, if the file has it. Records are those that `hh_texts`
+/// reads.
 pub(crate) fn record_at(
     alloc: Global,
     body: &[u8],
@@ -51,7 +51,7 @@ pub(crate) fn record_at(
     }))
 }
 
-/// The next record into `fields`, and whether there was one.
+/// Reads the next record into `fields`, and answers whether there was one.
 fn next_record(reader: &mut Reader<&[u8]>, fields: &mut ByteRecord) -> Result<bool, AllocError> {
     let Ok(found) = reader.read_byte_record(fields) else {
         return Err(AllocError);
@@ -59,8 +59,8 @@ fn next_record(reader: &mut Reader<&[u8]>, fields: &mut ByteRecord) -> Result<bo
     Ok(found)
 }
 
-/// The bytes before a record, and its own. It lies between two places in a file, behind a byte
-/// order mark and line ends, and before a line end.
+/// The bytes before a record, and its own. `past` and `end` are places in the file. A byte order mark or
+/// line ends may lie between `past` and the record, and a line end between the record and `end`.
 fn parted(body: &[u8], past: u64, end: u64) -> (&[u8], &[u8]) {
     let (all, _) = split(body, place_of(end));
     let begin = if past == 0 && all.starts_with(BYTE_ORDER_MARK) {
@@ -81,7 +81,7 @@ fn place_of(place: u64) -> usize {
     usize::try_from(place).unwrap_or(usize::MAX)
 }
 
-/// The bytes of a text before a place, and those from there on.
+/// The bytes of a text before a place, and the rest.
 fn split(text: &[u8], place: usize) -> (&[u8], &[u8]) {
     text.split_at(place.min(text.len()))
 }
@@ -90,8 +90,8 @@ fn is_line_end(byte: u8) -> bool {
     byte == b'\n' || byte == b'\r'
 }
 
-/// The number of the line, from 1, that begins or goes on behind these bytes. LF, CRLF and a lone
-/// CR end a line.
+/// The number of the line, from 1, that begins or goes on after these bytes. LF, CRLF and a lone CR end a
+/// line.
 fn line_behind(bytes: &[u8]) -> u64 {
     let mut line = 1u64;
     let mut is_behind_cr = false;

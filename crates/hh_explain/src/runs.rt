@@ -8,8 +8,8 @@ use hh_runs::RunKey;
 use std::alloc::{AllocError, Global};
 use std::fmt;
 
-/// Why a run isn't made: its kind and date, and what is wrong. Where a reading is missing it is
-/// said how many are missing for the date, if that is known.
+/// Why a run isn't made: its kind and date, and what is wrong. If a reading is missing, the explanation
+/// tells how many are missing for the date, if that is known.
 pub fn run_refused(
     alloc: Global,
     run: &RunKey,
@@ -41,7 +41,7 @@ pub fn report_refused(alloc: Global, report: &Report, fault: &Fault) -> Result<S
 struct WrongRun {
     run: RunKey,
     fault: Fault,
-    /// How many readings are missing for the date, where that is known.
+    /// How many readings are missing for the date, if that is known.
     missing: Option<u64>,
 }
 
@@ -91,7 +91,7 @@ impl WrongRun {
     }
 }
 
-/// That a unit has no reading for a period.
+/// Tells that a unit has no reading for a period.
 fn write_missing<W: fmt::Write>(
     f: &mut fmt::Formatter<W>,
     unit: Option<UnitId>,

@@ -1,9 +1,9 @@
-//! Explanations on one line, whatever a path holds.
+//! Explanations on one line, whatever a path contains.
 
 use std::alloc::{AllocError, Global};
 
-/// A text on one line: control characters, as a path may have them, are shown as `\n`, `\r`, `\t` or by
-/// their number, as `\x07`.
+/// A text on one line. Control characters, which a path may have, are shown as `\n`, `\r`, `\t` or by their
+/// number, as `\x07`.
 pub fn one_line(alloc: Global, text: &str) -> Result<String, AllocError> {
     let mut line = String::new(alloc);
     for letter in text.chars() {
@@ -12,7 +12,7 @@ pub fn one_line(alloc: Global, text: &str) -> Result<String, AllocError> {
     Ok(line)
 }
 
-/// Adds a character, as itself where it can be shown.
+/// Adds a character, as itself if it can be shown.
 fn push_shown(line: &mut String, letter: char) -> Result<(), AllocError> {
     match letter {
         '\n' => line.push_str("\\n"),

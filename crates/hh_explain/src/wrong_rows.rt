@@ -76,7 +76,7 @@ fn write_unit<W: fmt::Write>(
     }
 }
 
-/// What is wrong with a row that says something of a unit in a period.
+/// What is wrong with a row about a unit in a period.
 fn write_use<W: fmt::Write>(
     f: &mut fmt::Formatter<W>,
     unit: &UnitId,
@@ -91,7 +91,7 @@ fn write_use<W: fmt::Write>(
     }
 }
 
-/// What is wrong with a row of a period, by its date.
+/// What is wrong with a row about a period, by its date.
 fn write_period<W: fmt::Write>(
     f: &mut fmt::Formatter<W>,
     at: &SettlementPeriod,

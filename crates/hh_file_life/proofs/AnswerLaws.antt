@@ -1,4 +1,4 @@
--- A command that an office answers or gives up, and what a crash leaves behind it.
+-- A command that an office answers or gives up, and what a crash leaves after it.
 use Rattle.std.proofs.Common.{◌≡◌, ◌⊎◌, inl, inr, Bool, true, false, IsTrue, refl, subst, sym}
 use Rattle.std.specs.Prelude.{MatchBool}
 use Rattle.sqlite_trees.specs.Tree.{Trees}
@@ -24,12 +24,12 @@ use Rattle.hh_file_life.specs.declared.life.FileCommand.{FileCommand}
 use Rattle.hh_file_life.specs.Life.{IsCounted, HoldsSome}
 use Rattle.hh_file_life.specs.steps.Answers.{AnswersIn, KeepsReached}
 
--- what was answered was told as the machine tells it
+-- what was answered is what the machine answers
 told : (Open Same Told More : Type 0) (b : Bool) → MatchBool b (Unit {0}) Open → (Open → MatchBool b Same (Told × More)) → MatchBool b (Unit {0}) Told
 told Open Same Told More true replied step = tt
 told Open Same Told More false replied step = (step replied).0
 
--- by whether the command was given up: what is left holds the tables before it or behind it
+-- by whether the command was given up: what is left contains the tables before it or after it
 by_reply : {L : Type 0} (holds : L → Content → Type 0) (left : L) (midnight : Midnights) (s after : State) (content : Content) (Told : Type 0) (b : Bool)
     → IsReached midnight s → IsReached midnight after → content ≡ tables_of midnight s
     → MatchBool b (holds left content ⊎ holds left (tables_of midnight after)) (holds left (tables_of midnight after)) → MatchBool b (Unit {0}) Told
@@ -39,7 +39,7 @@ by_reply holds left midnight s after content Told true reached last is (inr new)
 by_reply holds left midnight s after content Told false reached last is new as_told = (after, last, (as_told, refl), new)
 
 module _ {T L : Type 0} (is_honest : T → Type 0) (is_open : T → Bool) (may_leave : T → L → Type 0) (holds : L → Content → Type 0) (old new : Kept T) where
-  -- what a crash leaves behind a command that an office has handled
+  -- what a crash leaves after a command that an office has handled
   pub handled : (command : FileCommand) (given : Reply) (Made : Content → Type 0) → KeepsReached command.request
       → AddsOnly is_honest is_open may_leave holds old.tables new.tables (IfReplied given) Made
       → CrashStep is_honest is_open may_leave holds old new command.moment command.request given
@@ -57,7 +57,7 @@ module _ {T L : Type 0} (is_honest : T → Type 0) (is_open : T → Bool) (may_l
             (told _ _ _ _ (is_given_up given) ((adds honest).1 stands).0 (λ sure. step sure s (reached, is))),
       )
 
--- the fault of a store gives a command up
+-- a fault of the store gives a command up
 given_up : (fault : StoreFault) → is_given_up (reply.Refused (store_fault fault)) ≡ true
 given_up Memory = refl
 given_up Store = refl
@@ -76,7 +76,7 @@ module _ (midnight : Midnights) (command : FileCommand) (old new : Connected) wh
     ),
   )
 
-  -- they were, and the office has handled the command over them
+  -- the tables were taken over, and the office has handled the command over them
   pub taken : (given : Reply) (taken_over : Connected) (content : Content) → KeepsHeld old taken_over → (HasCleanDisk taken_over → IsTrue taken_over.is_open)
       → ((held : Content) → Holds version held old.committed → IsTrue taken_over.is_open → content ≡ held)
       → (HasCleanDisk new → HasCleanDisk taken_over

@@ -1,4 +1,4 @@
--- What one command leaves of two files, and one after the other.
+-- What commands leave of two files, one after the other.
 use Rattle.std.proofs.Common.{List, [], ◌∷◌, ◌++◌, refl, ◌≡◌, IsTrue, sym, subst, append_assoc}
 use Rattle.std.proofs.lemmas.List.{append-nil}
 use Rattle.std.proofs.Math.Logic.{∥∥₁_elim, ∥∥₁_map}
@@ -30,16 +30,16 @@ use Rattle.hh_file_life.specs.declared.life.FileCommand.{FileCommand}
 use Rattle.hh_file_life.specs.Life.{AreCounted, IsCounted, LeaveOnly, LeaveState, LeaveStates, ReadAs}
 use Rattle.hh_file_life.specs.steps.Answers.{AnswersIn}
 
--- what was written may stay
+-- a crash may leave what was written
 seen : {D : Type 0} (g : Ghosts D) (stays : SeenMayStay g) (files : Files D) → outcomes g files.log files.db (image_of g files)
 seen g stays files = (stays files.log, stays files.db)
 
--- trees list one schema: what holds an office's trees is opened with an office's schema
+-- trees list only one schema: what contains an office's trees is opened with an office's schema
 one_schema : (s t : Schema) (db : Trees) → IsSound s db → IsSound t db → s ≡ t
 one_schema s t db p q = lists_once (db catalog_tree) s t p.lists q.lists
 
 module _ {D : Type 0} (g : Ghosts D) (first : Files D) (midnight : Midnights) (s : State) (reached : IsReached midnight s) (read : ReadAs g first midnight s) where
-  -- the opened connection has committed the tables of the state that the files read as
+  -- the opened connection has committed the tables of the state as which the files read
   opened_holds : (c : Held (FileStore D g)) → IsOpened c → Finds first c → Holds version (tables_of midnight s) (file_state c).committed
   opened_holds c opened found =
       let found_trees = (file_state c).committed.trees in
@@ -48,7 +48,7 @@ module _ {D : Type 0} (g : Ghosts D) (first : Files D) (midnight : Midnights) (s
       let schema : (file_state c).committed.schema ≡ office = one_schema (file_state c).committed.schema office found_trees (opened.1 opened.0.is_open).1 holds.is_office.sound in
       subst (λ (named : Schema). Holds version (tables_of midnight s) (record { schema = named; trees = found_trees })) (sym schema) holds
 
-  -- what an answer leaves of the connection, the files hold behind its end
+  -- what an answer leaves of the connection, the files contain after its end
   pub lives_once : (command : FileCommand) (given : Reply) (before after : Held (FileStore D g)) (last : Files D) → IsOpened before → Finds first before
       → AnswersIn midnight command (file_state before) (file_state after) given → HasCleanDisk (file_state after) → LeaveOnly g last (file_state after).may_leave
       → LeaveStates g last midnight (IsCounted midnight s command given)
@@ -56,7 +56,7 @@ module _ {D : Type 0} (g : Ghosts D) (first : Files D) (midnight : Midnights) (s
       let left_of = (answers clean).1 opened.0.is_open s reached (opened_holds before opened found) in
       ∥∥₁_map (left image may) (λ it. (it.0, it.1, left_of it.0 it.2))
 
--- commands go on from a state as they do from the first
+-- commands go on from a state as they go on from the first
 abbrev pub GoesOn : Midnights → State → List FileCommand → List Reply → List FileCommand → State → Type 0
 GoesOn midnight s all given rest t =
     (end : State) (more : List Reply) → AreCounted midnight t rest more end → AreCounted midnight s all (given ++ more) end
@@ -71,7 +71,7 @@ module _ {D : Type 0} (g : Ghosts D) (stays : SeenMayStay g) (midnight : Midnigh
   pub lives_begin : (files : Files D) → IsReached midnight s → LeaveState g files midnight s → LeaveStates g files midnight (GoesOn midnight s all [] all)
   lives_begin files reached leaves image may = ∥∥₁_map (leaves image may) (λ it. (it.0, it.1, (s, reached, λ end more counts. counts, it.2)))
 
-  -- one command more
+  -- one more command
   pub lives_on : (files next : Files D) (given : List Reply) (left : List FileCommand) (command : FileCommand) (rest : List FileCommand) (reply : Reply) → left ≡ command ∷ rest
       → LeaveStates g files midnight (GoesOn midnight s all given left)
       → ((t : State) → IsReached midnight t → ReadAs g files midnight t → LeaveStates g next midnight (IsCounted midnight t command reply))
@@ -84,7 +84,7 @@ module _ {D : Type 0} (g : Ghosts D) (stays : SeenMayStay g) (midnight : Midnigh
       let (after, is_reached, counts, held) = found.2 in
       (found.0, found.1, (after, is_reached, goes_on midnight s t after all given command rest reply from counts, held))))
 
-  -- all have run
+  -- all commands have run
   pub lives_end : (last : Files D) (given : List Reply) (left : List FileCommand) → left ≡ [] → LeaveStates g last midnight (GoesOn midnight s all given left)
       → LeaveStates g last midnight (AreCounted midnight s all given)
   lives_end last given left none until image may = ∥∥₁_map (until image may) (λ it.
@@ -93,11 +93,11 @@ module _ {D : Type 0} (g : Ghosts D) (stays : SeenMayStay g) (midnight : Midnigh
       let counts = subst (λ (replies : List Reply). AreCounted midnight s all replies t) (append-nil given) (rest t [] refl) in
       (it.0, it.1, (t, reached, counts, holds)))
 
--- the trees of a database that holds a content hold it
+-- if a database contains some content, so do its trees
 trees_hold : (content : Content) (db : Database) → Holds version content db → TreesHold db.trees content
 trees_hold content db holds = subst (λ (named : Schema). Holds version content (record { schema = named; trees = db.trees })) holds.is_office.schema holds
 
--- what was made is committed in a connection that is open, so it is what the files hold behind its end
+-- what was made is committed in an open connection, so the files contain it after its end
 pub leaves_new : {D : Type 0} (g : Ghosts D) (stays : SeenMayStay g) (last : Files D) (midnight : Midnights) (settings : Settings) (made : Held (FileStore D g))
     → IsTrue (file_state made).is_open × ((at : Midnights) → Holds version (tables_of at (empty_state settings)) (file_state made).committed)
     → LeaveOnly g last (file_state made).may_leave → LeaveState g last midnight (empty_state settings)

@@ -1,4 +1,4 @@
-//! The answer to one command, over a connection that is open.
+//! The answer to one command, over an open connection.
 
 ghost use Rattle.jiff.specs.Words.{plain_zone};
 ghost use Rattle.sqlite.specs.Held.{state};
@@ -15,7 +15,7 @@ use jiff::tz::TimeZone;
 use sqlite::Connection;
 use std::alloc::Global;
 
-/// Answers a command at the office whose database this is, and hands the connection back.
+/// Answers a command at the office in this database, and returns the connection.
 pub(crate) fn answer<S: Rising>(
     alloc: Global,
     connection: Connection<S>,
@@ -34,7 +34,7 @@ pub(crate) fn answer<S: Rising>(
     }
 }
 
-/// The same at an office that has these tables, which are handed back.
+/// Answers a command at an office with these tables, and returns the tables.
 fn answer_over<T: Tables>(
     alloc: Global,
     tables: T,
@@ -50,7 +50,7 @@ fn answer_over<T: Tables>(
     (reply, office.into_tables())
 }
 
-/// That the machine reaches the state after this request: does nothing, but carries this for a proof.
+/// Does nothing, but carries a fact for a proof: the machine reaches the state after this request.
 fn keeps_reached(request: &Request)
     ensures { KeepsReached request.now }
 {

@@ -12,7 +12,7 @@ use crate::life::Ending;
 use sqlite::{Connection, FileStore, Files};
 use sqlite_disk::{Crash, Disk};
 
-/// Ends a command so, and hands its files back. None where they are not closed.
+/// Ends a command in one of the ways, and returns its files. It is `None` if they are not closed.
 pub(crate) fn end<D: Crash + Drop>(
     connection: Connection<FileStore<D>>,
     ending: Ending,
@@ -36,7 +36,7 @@ pub(crate) fn end<D: Crash + Drop>(
     }
 }
 
-/// Closes the files of a connection: its log is copied into the database. None where that fails.
+/// Closes the files of a connection: its log is copied into the database. It is `None` if that fails.
 fn close<D: Disk + Drop>(connection: Connection<FileStore<D>>) -> Option<Files<D>>
     ensures usable { IfSome result (AreUsable D.Disk) }
     ensures honest { IfSome result (λ files. AreClean D.Disk files.log files.db
@@ -53,7 +53,7 @@ fn close<D: Disk + Drop>(connection: Connection<FileStore<D>>) -> Option<Files<D
     }
 }
 
-/// The files of a connection as they are, in whatever state it is.
+/// The files of a connection as they are, whatever its state is.
 fn leave<D: Disk + Drop>(connection: Connection<FileStore<D>>) -> Files<D>
     ensures honest { AreClean D.Disk result.log result.db → HasCleanDisk (file_state connection) }
     ensures left { AreClean D.Disk result.log result.db
@@ -62,7 +62,7 @@ fn leave<D: Disk + Drop>(connection: Connection<FileStore<D>>) -> Files<D>
     connection.into_store().close()
 }
 
-/// The same, and then the machine crashes.
+/// The files of a connection, after a crash of the machine.
 fn leave_crashed<D: Crash + Drop>(connection: Connection<FileStore<D>>) -> Files<D>
     ensures usable { AreUsable D.Disk result }
     ensures honest { AreClean D.Disk result.log result.db → HasCleanDisk (file_state connection) }
@@ -74,7 +74,7 @@ fn leave_crashed<D: Crash + Drop>(connection: Connection<FileStore<D>>) -> Files
     files
 }
 
-/// The machine crashes, and comes back.
+/// The machine crashes, and starts again.
 fn crash<D: Crash>(files: &mut Files<D>)
     ensures usable { AreUsable D.Disk files.new }
     ensures honest { AreClean D.Disk files.new.log files.new.db

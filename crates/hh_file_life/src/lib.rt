@@ -1,5 +1,5 @@
-//! The life of an office's database file: commands one after the other, each of which opens the files of the
-//! last and closes them, is killed, or is cut off by a crash of the machine.
+//! The life of an office's database file: commands one after the other. Each opens the files that the
+//! command before has left. Then it closes them, is killed, or is cut off by a crash of the machine.
 #![tactic(auto)]
 
 mod answering;

@@ -27,8 +27,8 @@ pub enum Ending {
     Crashed,
 }
 
-/// What is asked of the office by one command, the moment at which it is asked, in seconds since
-/// 1970-01-01T00:00:00Z, and how the process of the command ends.
+/// What one command asks of the office, the moment at which it asks, in seconds since 1970-01-01T00:00:00Z,
+/// and how the process of the command ends.
 #[derive(Debug, Drop)]
 pub struct FileCommand {
     pub moment: i64,
@@ -36,16 +36,16 @@ pub struct FileCommand {
     pub ending: Ending,
 }
 
-/// Why commands were not run to their end. The files are gone then.
+/// Why commands were not run to their end. The files are not returned then.
 #[derive(Clone, Copy, Debug, PartialEq, Eq)]
 pub enum LifeStop {
-    /// Memory was refused for the replies, and nothing has run.
+    /// Memory was refused for the list of replies, and nothing has run.
     Memory,
-    /// A sync of a file has failed, so it is not to be used.
+    /// A sync of a file has failed, so the file must not be used.
     Unusable,
     /// The database was not opened.
     Unopened,
-    /// The tables of an office were not made, for this fault.
+    /// The tables of an office were not made, because of this fault.
     Unmade(StoreFault),
     /// The database was not closed.
     Unclosed,
@@ -63,15 +63,16 @@ impl From<AllocError> for LifeStop {
 }
 
 /// Runs one command over the files of an office's database, in a zone whose local midnights begin the
-/// Settlement Days: opens the files, takes the office's tables over, answers the request, and ends as the
-/// command says. Where the tables are not taken over, the reply refuses the request for that.
+/// Settlement Days. It opens the files, takes the office's tables over, answers the request, and ends as
+/// the command says. If the tables are not taken over, the reply refuses the request for that reason.
 ///
-/// A stop inside a call is a disk of `sqlite_disk` too: a `Fuse` passes so many calls on and refuses all
-/// that come behind them.
+/// A stop inside a call is a disk of `sqlite_disk` too: a `Fuse` passes a number of calls on and refuses
+/// all later ones.
 ///
 /// # Errors
 ///
-/// `Unusable`, `Unopened` and `Unclosed`. Of what is left then nothing is promised, and the files are gone.
+/// `Unusable`, `Unopened` and `Unclosed`. Nothing is promised about what is left then, and the files are
+/// not returned.
 pub fn run_once<D: Crash + Drop>(
     alloc: Global,
     files: Files<D>,
@@ -96,12 +97,12 @@ pub fn run_once<D: Crash + Drop>(
     Ok((reply, last))
 }
 
-/// Runs commands one after the other, each over the files that the one before it has left. The room for the
-/// replies is taken first.
+/// Runs commands one after the other, each over the files that the command before it has left. Memory for
+/// the list of replies is taken first.
 ///
 /// # Errors
 ///
-/// `Memory` where memory was refused for the replies, and nothing has run. Else as of `run_once`.
+/// `Memory`: memory for the list of replies was refused, and nothing has run. Otherwise as for `run_once`.
 pub fn run_all<D: Crash + Drop>(
     alloc: Global,
     files: Files<D>,

@@ -1,4 +1,4 @@
-//! The first command over the files of a database: the making of an office.
+//! The first command over the files of a database: it makes an office.
 
 ghost use Rattle.std.specs.Prelude.{◌≢◌, IfOk};
 ghost use Rattle.sqlite.specs.Held.{state};
@@ -16,13 +16,13 @@ use sqlite::{Alter, Connection, Files};
 use sqlite_disk::Crash;
 use std::alloc::Global;
 
-/// Makes the tables of an office with these settings, in which nothing has been accepted, in files that are
-/// new or whose database has no table, and ends so.
+/// Makes the tables of an office with these settings, in which nothing has been accepted. The files must be
+/// new, or their database must have no table. Then it ends in the given way.
 ///
 /// # Errors
 ///
-/// `Unmade` where the tables were not made, with the fault for it, as of `SqlTables::create`; `Unusable`,
-/// `Unopened` and `Unclosed` as of `run_once`. The files are gone then.
+/// `Unmade`: the tables were not made, for a fault as of `SqlTables::create`. `Unusable`, `Unopened` and
+/// `Unclosed` as for `run_once`. The files are not returned then.
 pub fn make_office<D: Crash + Drop>(
     alloc: Global,
     files: Files<D>,
@@ -32,7 +32,7 @@ pub fn make_office<D: Crash + Drop>(
     ensures usable { ending ≢ Ending.Left → IfOk result (AreUsable D.Disk) }
     ensures made { IfOk result (LeavesNew D.Disk settings) }
 {
-    // Does nothing, but carries for the proof that the settings are those of an office.
+    // Does nothing, but carries a fact for the proof: the settings are those of an office.
     settings.are_settings();
     let connection = match connect(alloc, files) {
         Ok(connection) => connection,

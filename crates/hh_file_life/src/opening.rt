@@ -1,4 +1,4 @@
-//! The begin of a command over the files of a database.
+//! The beginning of a command over the files of a database.
 
 ghost use Rattle.std.specs.Prelude.{IfOk};
 ghost use Rattle.sqlite.specs.State.{HasCleanDisk};

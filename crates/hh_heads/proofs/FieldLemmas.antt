@@ -13,7 +13,7 @@ values_in-append : (name : List ℕ) (xs ys : List Header) → values_in name (x
 values_in-append name xs ys =
     ap (map (λ (h : Header). h.1)) (filter-append (λ (h : Header). str_eq_ignore_ascii_case h.0 name) xs ys) ∙ map-append (λ (h : Header). h.1) _ _
 
--- one header more
+-- one more header
 pub field_more : (bytes name : List ℕ) (headers : List HeaderSpan) (i : ℕ) (h d : HeaderSpan) (f : Field) → i < length headers → h ≡ get_or headers i d
     → IsField (values_in name (map (header_bytes bytes) (take i headers)) ++ values_in name (header_bytes bytes h ∷ [])) f
     → IsField (values_in name (map (header_bytes bytes) (take (i + 1) headers))) f

@@ -1,4 +1,4 @@
--- Fronts of bytes that come in pieces.
+-- The beginning of bytes that come in pieces.
 use Rattle.std.proofs.Common.{◌≡◌, ◌≢◌, ◌∙◌, ℕ, zero, suc, ◌+◌, ◌≤◌, ◌<◌, List, [], ◌∷◌, ◌++◌, length, take, drop, Option, Some, None, IfSome, All, IsTrue, IsAscii, inl, codes, refl, sym, ap, subst, arith}
 use Rattle.std.proofs.KnownBytes.{Consumes-trans}
 use Rattle.std.proofs.Math.Seq.{take-append-add}
@@ -10,7 +10,7 @@ use Rattle.httparse.specs.Grammar.{LineEnd, RequestHead, print_request, is_token
 use Rattle.httparse.specs.Spans.{RequestOverflows}
 use Rattle.hh_heads.specs.Fronts.{HasNoFront}
 
--- no bytes are no head, but a head may come, as the shortest one
+-- no bytes are no head, but a head may still come
 pub none_at_first : HasNoRequest []
 unfolding print_request
 none_at_first head rest is =
@@ -43,14 +43,14 @@ is_shortest =
 pub may_at_first : MayBecomeRequest []
 may_at_first = inl (print_request shortest ++ [], shortest, (is_shortest, refl))
 
--- no head with so few headers begins with the bytes, whatever follows
+-- no head with few enough headers begins with the bytes, whatever follows
 overflow_has_none : (front more : List ℕ) → RequestOverflows 32 front → HasNoFront (front ++ more)
 overflow_has_none front more over head rest is =
     let many : 32 < length head.fields = over more head rest is.reads in
     let few = is.few in
     omega arith
 
--- as many bytes as a head may have hold none, so none begins with them and goes on
+-- if as many bytes as a head may have contain no head, no head begins with them
 full_has_none : (front more : List ℕ) → length front ≡ 8192 → HasNoRequest front → HasNoFront (front ++ more)
 full_has_none front more full none head rest is =
     let short = is.short in
@@ -61,14 +61,14 @@ full_has_none front more full none head rest is =
     none head (drop (length (print_request head)) front)
     (is.reads.0, sym (take-append-drop _ front) ∙ ap (λ (t : List ℕ). t ++ drop (length (print_request head)) front) begins)
 
--- a buffer after a read of n bytes behind its first a
+-- a buffer after a read of n bytes after its first a
 take_read : (a k n : ℕ) (xs ys : List ℕ) → a ≤ length xs → n ≤ length ys → take (a + n) (put_mid a k xs ys) ≡ take a xs ++ take n ys
 take_read a k n xs ys fits room =
     let at : length (take a xs) ≡ a = length-take-le a xs fits in
     ap (λ (m : ℕ). take (m + n) (put_mid a k xs ys)) (sym at) ∙ take-append-add (take a xs) (ys ++ post_of a k xs) n
     ∙ ap (λ (t : List ℕ). take a xs ++ t) (take-append-le n ys (post_of a k xs) room)
 
--- what was read so far, after one read more
+-- what was read so far, after one more read
 pub read_more : (old mid new : Option (List ℕ)) (a k n : ℕ) (xs ys : List ℕ)
     → Consumes old mid (take a xs) → Consumes mid new (take n ys) → a ≤ length xs → n ≤ length ys
     → Consumes old new (take (a + n) (put_mid a k xs ys))

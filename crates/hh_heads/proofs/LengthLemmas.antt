@@ -1,4 +1,4 @@
--- Numbers of digits that stop at the greatest of 64 bits.
+-- Numbers from digits, limited to the greatest of 64 bits.
 use Rattle.std.proofs.Common.{◌≡◌, ◌∙◌, ℕ, ◌+◌, ◌-◌, ◌*◌, ◌<◌, Bool, true, false, cond, List, [], ◌∷◌, length, get_or, drop, Option, Some, None, option_map, refl, sym, ap, arith}
 use Rattle.std.specs.Char.{digit_value, is_ascii_digit}
 use Rattle.std.proofs.lemmas.Bool.Decides.{nat_tests}
@@ -6,15 +6,15 @@ use Rattle.std.proofs.lemmas.List.{at_drop_more}
 use Rattle.hh_num.specs.steps.Fixed.{digits_behind}
 use Rattle.hh_heads.specs.Lengths.{saturated}
 
--- what digits write behind those of a number
+-- the number that digits write after those of another number
 abbrev pub length_behind : ℕ → List ℕ → Option ℕ
 length_behind number text = option_map saturated (digits_behind number text)
 
--- a number that stopped stops where the whole one does
+-- limiting before the next digit gives the same as limiting after it
 saturated-more : (n d : ℕ) → saturated (saturated n * 10 + d) ≡ saturated (n * 10 + d)
 saturated-more n d = omega arith
 
--- what stands behind a number is read digit by digit
+-- the digits after a number are read one by one
 length_behind-cons : (n d : ℕ) (ds : List ℕ) → length_behind n (d ∷ ds) ≡ cond (is_ascii_digit d) (length_behind (n * 10 + digit_value d) ds) None
 length_behind-cons n d ds = by (is_ascii_digit d) refl
   where
@@ -33,7 +33,7 @@ length_behind-saturated n (d ∷ ds) =
 digit_value-digit : (d : ℕ) → is_ascii_digit d ≡ true → digit_value d ≡ d - 48
 digit_value-digit d is = grind (arith, nat_tests)
 
--- one digit more
+-- one more digit
 pub length_more : (n r i : ℕ) (text : List ℕ) → i < length text → is_ascii_digit (get_or text i 0) ≡ true
     → r ≡ saturated (saturated (n * 10) + (get_or text i 0 - 48)) → length_behind r (drop (i + 1) text) ≡ length_behind n (drop i text)
 length_more n r i text below is added =

@@ -1,4 +1,4 @@
--- The head of a request at the front of bytes (RFC 9112, by the grammar of the crate httparse), within the limits.
+-- The head of a request at the beginning of bytes (RFC 9112, by the grammar of the crate httparse), within the limits.
 use Rattle.std.specs.Prelude.{ℕ, ◌<◌, ◌≤◌, List, length}
 use Rattle.httparse.specs.Grammar.{RequestHead, print_request, HasNoRequest, MayBecomeRequest, ReadsRequest}
 
@@ -10,7 +10,7 @@ most_head_bytes = 8_192
 abbrev pub most_headers : ℕ
 most_headers = 32
 
--- bytes begin with a head within the limits and go on with the rest
+-- bytes begin with a head within the limits, and `rest` follows it
 pub record IsFront (bytes : List ℕ) (head : RequestHead) (rest : List ℕ) : Type 0 where
   pub reads : ReadsRequest bytes head rest
   pub short : length (print_request head) ≤ most_head_bytes
@@ -20,7 +20,7 @@ pub record IsFront (bytes : List ℕ) (head : RequestHead) (rest : List ℕ) : T
 abbrev pub HasNoFront : List ℕ → Type 0
 HasNoFront bytes = (head : RequestHead) (rest : List ℕ) → ¬ (IsFront bytes head rest)
 
--- bytes wait for the rest of a head: they hold none yet, more bytes may make them one, and they have room for more
+-- bytes are the beginning of a head: they contain no whole head yet, more bytes may make them one, and there is room for more
 pub record AwaitsHead (bytes : List ℕ) : Type 0 where
   pub none : HasNoRequest bytes
   pub may : MayBecomeRequest bytes

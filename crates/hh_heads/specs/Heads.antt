@@ -1,4 +1,4 @@
--- What the code keeps of a head.
+-- How the code represents a head.
 use Rattle.std.specs.Prelude.{◌≡◌, ℕ, List, [], ◌∷◌, false, map, Option, Some, None, option_map}
 use Rattle.std.specs.Borrow.{Bor}
 use Rattle.httparse.specs.Spans.{header_bytes}

@@ -1,4 +1,4 @@
-//! The value of a header that may stand once.
+//! The value of a header that may occur only once.
 
 ghost use Rattle.std.specs.Prelude.{◌≡◌, ℕ, List, [], ◌∷◌, ◌++◌, All, length, map};
 ghost use Rattle.std.specs.Str.{str_eq_ignore_ascii_case};
@@ -8,7 +8,7 @@ ghost use Rattle.hh_heads.specs.Headings.{values_in};
 
 use httparse::spans::HeaderSpan;
 
-/// What stands under a name.
+/// What headers of a name there are.
 #[derive(Clone, Copy)]
 pub(crate) enum Field<'b> {
     /// No header has the name.
@@ -19,7 +19,7 @@ pub(crate) enum Field<'b> {
     Repeated,
 }
 
-/// What stands under a name, among headers that lie in these bytes.
+/// What headers of a name there are, among headers in these bytes.
 pub(crate) fn find<'b>(bytes: &'b [u8], headers: &[HeaderSpan], name: &str) -> Field<'b>
     requires { All (IsHeaderWithin (length bytes.now)) headers.now }
     ensures { IsField (values_in name.now (map (header_bytes bytes.now) headers.now)) result }
@@ -31,7 +31,7 @@ pub(crate) fn find<'b>(bytes: &'b [u8], headers: &[HeaderSpan], name: &str) -> F
     field
 }
 
-/// A field with one header more, if it has the name.
+/// A field with one more header, if that has the name.
 fn with_header<'b>(field: Field<'b>, bytes: &'b [u8], header: &HeaderSpan, name: &str) -> Field<'b>
     requires { IsHeaderWithin (length bytes.now) header.now }
     ensures { (values : List (List ℕ)) → IsField values field.entry
@@ -45,7 +45,7 @@ fn with_header<'b>(field: Field<'b>, bytes: &'b [u8], header: &HeaderSpan, name:
     }
 }
 
-/// Whether a text is a name, without regard to case.
+/// Whether a text is a name, ignoring case.
 fn has_name(text: &[u8], name: &str) -> bool
     ensures { result ≡ str_eq_ignore_ascii_case text.now name.now }
 {
@@ -53,7 +53,7 @@ fn has_name(text: &[u8], name: &str) -> bool
 }
 
 impl<'b> Field<'b> {
-    /// The field with one value more.
+    /// The field with one more value.
     fn with_value(self, value: &'b [u8]) -> Field<'b>
         ensures { (values : List (List ℕ)) → IsField values self.entry
             → IsField (values ++ value.entry.now ∷ []) result }

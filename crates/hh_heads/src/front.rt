@@ -1,4 +1,4 @@
-//! The head of a request at the front of what a connection gives.
+//! The head of a request at the beginning of what a connection gives.
 
 ghost use Rattle.std.specs.Prelude.{◌≡◌, ◌≤◌, length, take, IfOk, OnErr};
 ghost use Rattle.hh_devices.specs.Devices.{CountsErr};
@@ -17,23 +17,23 @@ pub const MOST_HEAD_BYTES: usize = 8_192;
 /// The most headers of a head (profile).
 pub const MOST_HEADERS: usize = 32;
 
-/// What stands at the front of what a source gives (profile).
+/// What is at the beginning of what a source gives.
 #[derive(Drop)]
 pub enum Front {
     /// The source ended before its first byte.
     Nothing,
     /// No head within the limits.
     NoHead,
-    /// A head. So many bytes were read, which may go beyond it.
+    /// A head. `read` bytes were read, which may include bytes after it.
     Head { read: usize, spans: RequestSpans },
 }
 
-/// Reads until a head is whole, or none within the limits can come, or the source ends (profile), and no
-/// further. The buffer has room for `MOST_HEAD_BYTES` and the spans for `MOST_HEADERS`.
+/// Reads until a head is whole, or no head within the limits can come, or the source ends (profile). It
+/// reads no further. The buffer has room for `MOST_HEAD_BYTES` and the spans for `MOST_HEADERS`.
 ///
 /// # Errors
 ///
-/// A call of the source failed, while the bytes before it still waited for the rest of a head.
+/// A call of the source failed. The bytes before it were the beginning of a head, and needed more.
 pub fn read_front<S: Source>(
     source: &mut S,
     buffer: &mut [u8],
@@ -67,18 +67,18 @@ pub fn read_front<S: Source>(
     Ok(Front::NoHead)
 }
 
-/// What the parser says of the bytes so far.
+/// What the parser says about the bytes so far.
 #[derive(Drop)]
 enum Parsed {
     /// They begin with a whole head.
     Whole(RequestSpans),
     /// They begin with no whole head yet.
     Part,
-    /// No head with so few headers begins with them.
+    /// They begin with no head that has few enough headers.
     Refused,
 }
 
-/// What the parser says of the first bytes of a buffer.
+/// What the parser says about the first bytes of a buffer.
 fn parse(buffer: &[u8], read: usize, headers: &mut [HeaderSpan]) -> Parsed
     requires { read ≤ length buffer.now }
     ensures answer { Parses (take read buffer.now) (length headers.old) headers.new result }

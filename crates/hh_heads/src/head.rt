@@ -12,7 +12,7 @@ use httparse::spans::{HeaderSpan, RequestSpans};
 #[derive(Clone, Copy, Debug)]
 pub struct BrokenRule;
 
-/// A whole head (profile), and the bytes that came behind it.
+/// A whole head, and the bytes that came after it.
 #[derive(Clone, Copy)]
 pub struct WholeHead<'b> {
     pub method: &'b [u8],
@@ -27,7 +27,7 @@ pub struct WholeHead<'b> {
 impl<'b> WholeHead<'b> {
     ghost use Rattle.hh_heads.specs.Heads.{heading_in, listed};
 
-    /// The head that the spans cover at the front of bytes.
+    /// The head at the beginning of bytes that the spans describe.
     pub fn of(bytes: &'b [u8], headers: &'b [HeaderSpan], spans: RequestSpans) -> WholeHead<'b>
         requires { IsRequestWithin bytes.now headers.now spans }
         ensures says { (head : RequestHead)
@@ -45,18 +45,18 @@ impl<'b> WholeHead<'b> {
         }
     }
 
-    /// Whether the request asks for the head of a reply alone.
+    /// Whether the request asks only for the head of a reply.
     pub fn asks_head(&self) -> bool
         ensures { result ≡ asks_head (heading_in self.now) }
     {
         self.method == b"HEAD".as_slice()
     }
 
-    /// The value under a name, if no more than one stands there.
+    /// The value under a name, if it occurs at most once.
     ///
     /// # Errors
     ///
-    /// Several stand there: refusal 65.
+    /// It occurs several times: refusal 65.
     pub fn only(&self, name: &str) -> Result<Option<&'b [u8]>, BrokenRule>
         ensures one { IfOk result (λ value.
             values_in name.now (heading_in self.now).headers ≡ listed value) }

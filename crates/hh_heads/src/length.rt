@@ -1,10 +1,10 @@
-//! The length that a head gives its body.
+//! The length of the body that a head gives.
 
 ghost use Rattle.std.specs.Prelude.{◌≡◌};
 ghost use Rattle.hh_heads.specs.steps.Lengths.{length_value};
 
-/// The number that a text of one or more digits writes, or the greatest `u64` where it is larger.
-/// `None` for any other text.
+/// The number that a text of one or more digits writes, or the greatest `u64` if it is larger. It is `None`
+/// for any other text.
 pub(crate) fn read_length(text: &[u8]) -> Option<u64>
     ensures { result ≡ length_value text.now }
 {

@@ -1,4 +1,4 @@
-//! The heads of requests: which bytes are one, and what it says.
+//! The heads of requests: which bytes are a head, and what it says.
 #![tactic(auto)]
 
 mod field;

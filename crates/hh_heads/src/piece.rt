@@ -6,8 +6,8 @@ ghost use Rattle.hh_devices.specs.Devices.{CountsErr};
 
 use hh_devices::{DeviceFailed, Source};
 
-/// One read into the room of a buffer that is filled so far (profile). Answers how many bytes came, none
-/// only at the end of the source.
+/// Reads once into the part of a buffer that is not filled yet. Answers how many bytes came. None come only
+/// at the end of the source.
 ///
 /// # Errors
 ///

@@ -1,4 +1,4 @@
-//! What a head says of its request, where it keeps the rules.
+//! What a head that keeps the rules says about its request.
 
 ghost use Rattle.std.specs.Prelude.{◌≡◌, true, IfOk, OnErr};
 ghost use Rattle.hh_heads.specs.Headings.{is_bad};
@@ -8,19 +8,19 @@ ghost use Rattle.hh_heads.specs.steps.Heads.{length_in};
 use crate::head::{BrokenRule, WholeHead};
 use crate::length::read_length;
 
-/// What a head says of its request (profile).
+/// What a head says about its request.
 #[derive(Clone, Copy)]
 pub struct Terms<'b> {
-    /// The key that is shown, empty where there is none.
+    /// The key that is shown. It is empty if there is none.
     pub key: &'b [u8],
-    /// The length of the body in bytes, where it is given; any larger one is the greatest `u64`.
+    /// The length of the body in bytes, if it is given. A larger one than the greatest `u64` is given as
+    /// that.
     pub length: Option<u64>,
 }
 
 impl<'b> Terms<'b> {
-    /// The key and the length of the body, if the head keeps the rules: HTTP/1.1 has a Host, which
-    /// stands once, as the key and the length may, the length is a number, and the body is not
-    /// coded.
+    /// The key and the length of the body, if the head keeps the rules. With HTTP/1.1 there is a Host.
+    /// Host, key and length occur at most once. The length is a number. The body is not coded.
     ///
     /// # Errors
     ///
@@ -43,7 +43,7 @@ impl<'b> Terms<'b> {
     }
 }
 
-/// The length that a text gives, where there is one.
+/// The length that a text gives, if there is a text.
 fn length_of(text: Option<&[u8]>) -> Result<Option<u64>, BrokenRule>
     ensures { result ≡ length_in text.entry }
 {

@@ -3,7 +3,7 @@ use Rattle.std.specs.Prelude.{◌≡◌, ℤ, List, [], ◌∷◌, ◌++◌, Opt
 use Rattle.hh_host.specs.declared.clock.ClockFailed.{ClockFailed}
 use Rattle.hh_host.specs.declared.clock.FixedClock.{FixedClock}
 
--- what comes of reading a clock: a moment, or nothing where it tells none
+-- what comes of reading a clock: a moment, or None if it tells none
 abbrev pub ClockReading : Type 0
 ClockReading = Option ℤ
 
@@ -12,7 +12,7 @@ abbrev pub reading : Result ℤ ClockFailed → ClockReading
 reading (Ok moment) = Some moment
 reading (Err failed) = None
 
--- What came of reading a clock leads from one state of it to another, and a call that makes the one of the other has read it once more.
+-- What came of reading a clock leads from one state of it to another. A call that leads from one state to another has read it once more.
 abbrev pub IsReadOnce : {C : Type 0} → (C → List ClockReading → C → Type 0) → C → C → Result ℤ ClockFailed → Type 0
 IsReadOnce {C} leads old new result = (first : C) (readings : List ClockReading) → leads first readings old → leads first (readings ++ reading result ∷ []) new
 
@@ -21,6 +21,6 @@ abbrev pub AllTell : ℤ → List ClockReading → Type 0
 AllTell moment [] = Unit {0}
 AllTell moment (r ∷ readings) = (r ≡ Some moment) × AllTell moment readings
 
--- a clock that tells one moment stays as it is
+-- a clock that always tells the same moment does not change
 abbrev pub fixed_leads : FixedClock → List ClockReading → FixedClock → Type 0
 fixed_leads first readings last = AllTell first.moment readings × (last ≡ first)

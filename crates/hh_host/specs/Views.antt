@@ -2,11 +2,11 @@
 use Rattle.std.specs.Prelude.{⊤, ℕ, List, Option}
 use Rattle.hh_sockets.specs.Ports.{Ports}
 
--- what may be found of the files and ports that a command touches
+-- what may be found about the files and ports that a command uses
 pub record HostView : Type 1 where
-  -- what a path may read as: the bytes of its file, or nothing where it cannot be read
+  -- what a path may read as: the bytes of its file, or None if it cannot be read
   pub reads : List ℕ → Option (List ℕ) → Type 0
-  -- what is known of ports
+  -- what is known about ports
   pub ports : Ports
 
 -- nothing is known: a path may read as anything, and anything may come on a port

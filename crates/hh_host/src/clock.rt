@@ -1,4 +1,4 @@
-//! What tells the moments at which requests come.
+//! A clock that tells the moments at which requests come.
 
 ghost use Rattle.std.specs.Prelude.{ℕ, List};
 ghost use Rattle.hh_host.specs.Clocks.{IsReadOnce, ClockReading};
@@ -15,9 +15,9 @@ impl From<io::Error> for ClockFailed {
     }
 }
 
-/// What tells the moments at which requests come.
+/// Tells the moments at which requests come.
 pub trait Clock {
-    /// What came of reading the clock, time after time, and so led from one state of it to another.
+    /// What came of reading the clock, time after time, led from one state of it to another.
     ghost leads: { Self → List ClockReading → Self → Type 0 };
 
     /// The moment now, in seconds since 1970-01-01T00:00:00Z.
@@ -25,7 +25,7 @@ pub trait Clock {
         ensures { IsReadOnce leads self.old self.new result };
 }
 
-/// A clock that tells one moment, whenever it is read.
+/// A clock that always tells the same moment.
 #[derive(Clone, Copy, Debug, PartialEq, Eq)]
 pub struct FixedClock {
     /// The moment, in seconds since 1970-01-01T00:00:00Z.

@@ -1,4 +1,5 @@
-//! What a command touches beside its outputs: files, ports of this machine's loopback, and the clock.
+//! What a command uses beside its outputs: files, ports of this machine's loopback interface, and the
+//! clock.
 #![tactic(auto)]
 
 mod clock;

@@ -12,8 +12,8 @@ use std::net::Net;
 use std::rt::Files;
 use std::time::{SystemTime, UNIX_EPOCH};
 
-/// The host of the system. No clause of std ties a path to what is read of it, a port to what comes on
-/// it, or the clock to a moment, so none does here beside a port's number.
+/// The host of the system. No clause of std says what is read at a path, what comes on a port, or what the
+/// clock tells, so no clause here says more than a port's number.
 #[derive(Clone, Copy)]
 pub struct RuntimeHost<'a, R>(pub &'a R);
 
@@ -49,7 +49,7 @@ impl<'a, R: Files + Net + std::rt::Clock> Host for RuntimeHost<'a, R> {
     }
 }
 
-/// The clock of a host, which is read anew each time.
+/// The clock of a host. It is read again each time.
 #[derive(Clone, Copy)]
 pub struct HostClock<'a, H>(pub &'a H);
 

@@ -1,4 +1,4 @@
-//! What no clause says: that each call succeeds, and what the words of the clauses come to.
+//! What no clause says: that each call succeeds, and what definitions in the clauses mean for examples.
 
 ghost use Rattle.std.specs.Prelude.{◌≡◌, ◌≤◌, min, length, Ok, None, IfOk};
 
@@ -6,7 +6,8 @@ use hh_devices::*;
 use std::io::{self, Cursor, ErrorKind, Read, Write};
 use std::test::Fail;
 
-/// What comes of a text that is written whole to a sink, how many bytes it has taken by then, and how often it failed.
+/// The answer to writing a whole text to a sink, how many bytes it has taken by then, and how often it
+/// failed.
 fn whole_write(sink: &mut MemorySink, text: &[u8]) -> (Result<(), DeviceFailed>, usize, u64) {
     let done = write_whole(sink, text);
     (done, sink.taken().len(), sink.failures())
@@ -127,7 +128,7 @@ fn failing_streams_are_counted(rt: HostRuntime) -> Result<(), Fail> {
     Ok(())
 }
 
-/// A writer of which all is known: it takes at most three bytes a call.
+/// A writer that is known completely: it takes at most three bytes in a call.
 #[derive(Drop)]
 struct Slow {
     calls: u8,
@@ -144,7 +145,7 @@ impl Writer for Slow {
     }
 }
 
-/// What is known of a writer is known of the sink round it.
+/// What is known of a writer is known of the sink that writes to it.
 fn slow_write(sink: &mut StreamSink<Slow>, bytes: &[u8]) -> Result<usize, DeviceFailed>
     ensures { result ≡ Ok (min (length bytes.now) 3) }
 {

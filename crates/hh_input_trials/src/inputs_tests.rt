@@ -1,5 +1,5 @@
-//! What no clause says: that each call succeeds, and that a path of the system is the file that is
-//! opened.
+//! What no clause says: that each call succeeds, and that a path of the system opens the file of that
+//! path.
 
 use hh_devices::MemorySource;
 use hh_inputs::*;
@@ -8,14 +8,14 @@ use std::io::ErrorKind;
 use std::test::Fail;
 use std::{fs, io};
 
-/// Whether a path reads as these bytes, through the bound of the trait.
+/// Whether these bytes are read from a path, through the bound of the trait.
 fn reads_as<I: Inputs>(alloc: Global, inputs: &I, path: &str, most: usize, bytes: &[u8]) -> bool {
     inputs
         .read(alloc, path, most)
         .is_ok_and(|read| read.as_slice() == bytes)
 }
 
-/// How many bytes are read of a path.
+/// How many bytes are read from a path.
 fn length_of<I: Inputs>(
     alloc: Global,
     inputs: &I,

@@ -1,7 +1,7 @@
-//! Devices, files, ports, tables, dates, names, rows and the rule of rows tried from outside: tests of what no clause of theirs
-//! says. Lines of scripts are tested through `settle`.
+//! Tests of devices, files, ports, tables, dates, names, rows and the rule of rows, for what no clause of
+//! their crates says. Lines of scripts are tested through `settle`.
 //!
-//! They stand in a crate of their own, since the tests of a crate are proved with all of it once more.
+//! They are in a crate of their own, because a crate with tests is proved twice.
 #![tactic(auto)]
 
 #[cfg(test)]

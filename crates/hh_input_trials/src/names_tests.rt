@@ -1,5 +1,5 @@
-//! What no clause says: that the words of the clauses come to the market's orders, numbers and names. What an
-//! id, a reference or a key may be is tested through `settle`.
+//! What no clause says: that the definitions in the clauses give the market's orders, numbers and names.
+//! Which texts are an id, a reference or a key is tested through `settle`.
 
 use hh_names::*;
 use std::test::Fail;

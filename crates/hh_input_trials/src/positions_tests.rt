@@ -1,6 +1,6 @@
-//! What no clause says: that with ample memory positions are moved, held and handed out, and what the
-//! words of the clauses come to at the greatest position. Where memory is refused once, a row is taken
-//! at the second try.
+//! What no clause says: that with ample memory positions are moved, held and given out, and what the
+//! definitions in the clauses mean at the greatest position. If memory is refused once, a row is taken at
+//! the second try.
 
 ghost use Rattle.std.specs.Prelude.{IfSome};
 ghost use Rattle.hh_rules.specs.Positions.{TakesPlaceOf};
@@ -11,13 +11,13 @@ use hh_time::SettlementDate;
 use std::alloc::{AllocError, Global};
 use std::test::Fail;
 
-/// The kWh of the positions of a seller and of a buyer, where they are known.
+/// The kWh of the positions of a seller and of a buyer, if they are known.
 type Both = (Option<i64>, Option<i64>);
 
 /// 10,000 MWh, the greatest volume that a row has, in kWh.
 const MOST: i64 = 10_000_000;
 
-/// 100,000,000 MWh, the greatest position that is known, in kWh.
+/// 100,000,000 MWh, the greatest position that can be known, in kWh.
 const GREATEST: i64 = 100_000_000_000;
 
 fn key(period: u8, account: &[u8]) -> Option<PositionKey> {
@@ -76,8 +76,8 @@ fn both(positions: &Positions, period: u8) -> Option<Both> {
     Some((sold, bought))
 }
 
-/// The positions in period 1 once a volume of a reference has come, in the place of another if there
-/// is one.
+/// The positions in period 1 after a volume of a reference came. It replaces the old one, if there is
+/// one.
 fn after(positions: &mut Positions, reference: &[u8], old: Option<i64>, new: i64) -> Option<Both> {
     let new = sale(reference, 1, new)?;
     let done = match old {
@@ -121,7 +121,7 @@ fn positions_up_to_the_greatest_and_beyond(rt: HostRuntime) -> Result<(), Fail> 
     Ok(())
 }
 
-/// All positions, at the second try where memory is refused once.
+/// All positions, read at the second try if memory is refused once.
 fn rows_of(
     alloc: Global,
     positions: &Positions,
@@ -132,8 +132,8 @@ fn rows_of(
     }
 }
 
-/// Whether a contract of 10,000 MWh in a period moves two positions that weren't there; where memory is
-/// refused once, it moves none of them first.
+/// Whether a contract of 10,000 MWh in a period moves two positions that did not exist. If memory is
+/// refused once, it must move neither of them first.
 fn moves(alloc: Global, positions: &mut Positions, period: u8) -> Result<bool, Fail> {
     let row = sale(b"C1", period, MOST).ok_or("row")?;
     let count = rows_of(alloc, positions)?.len();
@@ -157,7 +157,7 @@ fn moved(alloc: Global, periods: u8) -> Result<Positions, Fail> {
     Ok(positions)
 }
 
-/// Positions that hold these, each at the second try where memory is refused once.
+/// Positions that hold these, each held at the second try if memory is refused once.
 fn held(alloc: Global, rows: &[(PositionKey, Position)]) -> Result<Positions, AllocError> {
     let mut positions = Positions::new(alloc);
     for (key, position) in rows {

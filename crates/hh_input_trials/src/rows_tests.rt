@@ -1,4 +1,4 @@
-//! What no clause says: that the words of the clauses come to the market's texts and numbers.
+//! What no clause says: that the definitions in the clauses give the market's texts and numbers.
 
 use hh_names::{PeriodNumber, UnitId};
 use hh_rows::*;
@@ -22,7 +22,7 @@ fn reads_ranges(rt: HostRuntime) -> Result<(), Fail> {
     Ok(())
 }
 
-/// A Settlement Period by its day number and number.
+/// A Settlement Period, from its day number and its number.
 fn period(day: u16, number: u8) -> Option<SettlementPeriod> {
     Some(SettlementPeriod {
         date: SettlementDate::new(day)?,

@@ -1,5 +1,5 @@
-//! What no clause says: that with ample memory rows are accepted, and that the words of the clauses
-//! come to the market's dates and numbers.
+//! What no clause says: that with ample memory rows are accepted, and that the definitions in the clauses
+//! give the market's dates and numbers.
 
 use hh_num::{Kwh, Percent, Price, Tlm};
 use hh_rules::*;
@@ -8,13 +8,13 @@ use jiff::tz::TimeZone;
 use std::alloc::Global;
 use std::test::Fail;
 
-/// The moment at which rows come where none is named: 2024-06-29T22:26:40Z.
+/// The moment at which rows come if no other is given: 2024-06-29T22:26:40Z.
 const MOMENT: i64 = 1_719_700_000;
 
-/// What `outcome` says of a row that is applied.
+/// What `outcome` returns for a row that is applied.
 const APPLIED: u8 = 0;
 
-/// What it says of a late one.
+/// What it returns for a late row.
 const LATE: u8 = 1;
 
 fn range_from(from: &[u8]) -> Option<DateRange> {
@@ -124,8 +124,8 @@ fn number_of(answer: Result<RowDone, Fault>) -> u8 {
     }
 }
 
-/// What becomes of a row: 0 where it is applied, 1 where it is late, else the number of its refusal.
-/// None where there is no such row, or where `check_row` says something else.
+/// What becomes of a row: 0 if it is applied, 1 if it is late, and otherwise the number of its refusal.
+/// None if there is no such row, or if `check_row` answers otherwise.
 fn outcome(
     register: &mut Register,
     zone: &TimeZone<'_>,
@@ -145,7 +145,7 @@ fn outcome(
     }
 }
 
-/// Whether rows, with the moments at which they come, become what stands beside them.
+/// Whether rows, each with the moment at which it comes, become what is written beside them.
 fn all_become(
     register: &mut Register,
     zone: &TimeZone<'_>,
@@ -176,7 +176,7 @@ fn takes_market(register: &mut Register, zone: &TimeZone<'_>) -> bool {
         && outcome(register, zone, MOMENT, contract) == Some(APPLIED)
 }
 
-/// The register after some rows, if each becomes what stands beside it. The market comes before them.
+/// The register after some rows, if each becomes what is written beside it. The market's rows come first.
 fn after(alloc: Global, zone: &TimeZone<'_>, steps: &[(i64, Option<Row>, u8)]) -> Option<Register> {
     let mut register = Register::new(alloc, LeadMinutes::default());
     if takes_market(&mut register, zone) && all_become(&mut register, zone, steps) {
@@ -229,7 +229,7 @@ fn day_of_an_odd_zone(rt: HostRuntime) -> Result<(), Fail> {
     Ok(())
 }
 
-/// Whether what stands in the tables of what is registered and in force for each of these rows is held.
+/// Whether the register holds what each of these rows puts into the tables.
 fn holds(register: &mut Register, rows: &[Option<Row>]) -> bool {
     rows.iter().all(|row| held(register, *row) == Some(0))
 }
@@ -244,7 +244,7 @@ fn holds_reference(register: &mut Register) -> Option<bool> {
     Some(held.is_ok())
 }
 
-/// What holding a row of the tables comes to: 0, or the number of its refusal.
+/// The outcome of holding a row of the tables: 0, or the number of its refusal.
 fn held(register: &mut Register, row: Option<Row>) -> Option<u8> {
     let done = match row? {
         Row::Party(row) => register.hold_party(row.party, row.registration).is_ok(),
@@ -257,7 +257,7 @@ fn held(register: &mut Register, row: Option<Row>) -> Option<u8> {
     if done { Some(0) } else { None }
 }
 
-/// What holding a reallocation comes to: 0, or the number of its refusal.
+/// The outcome of holding a reallocation: 0, or the number of its refusal.
 fn held_reallocation(register: &mut Register, row: ReallocationRow) -> Option<u8> {
     match register.hold_reallocation(row.key, row.reallocation) {
         Ok(()) => Some(0),
@@ -275,7 +275,7 @@ fn values() -> [Option<Row>; 4] {
     ]
 }
 
-/// The register of a part that serves for the rows of files in a market of two parties.
+/// The register of a part that serves for the rows of files, in a market of two parties.
 fn part(alloc: Global) -> Option<Register> {
     let mut register = Register::part(alloc, LeadMinutes::default(), 2, 2);
     let held = holds(&mut register, &names())
@@ -284,7 +284,7 @@ fn part(alloc: Global) -> Option<Register> {
     if held { Some(register) } else { None }
 }
 
-/// What is found in a part, and what becomes of 40.00001 and of 40 percent beside 60.
+/// What is found in a part, and the outcomes of 40.00001 and of 40 percent beside 60.
 fn found_in(register: &mut Register) -> Option<((bool, u32, u32), u8, u8)> {
     let found = finds_all(register)?;
     let too_much = held(register, reallocation_row(b"SUPCO-C", 4_000_001))?;

@@ -1,5 +1,5 @@
-//! What no clause says: that a connection of the loopback is had, and what goes over it; that what went out over one in memory is
-//! kept; and a reader that is read as often as it may be.
+//! What no clause says: that a connection of the loopback is made, and what goes over it; that what went
+//! out over a connection in memory is kept; and that a reader is read as often as allowed.
 
 use hh_devices::{DeviceFailed, Sink, Source, StreamSource};
 use hh_sockets::*;
@@ -9,7 +9,7 @@ use std::io::{Cursor, Write};
 use std::net::{Ipv4Addr, TcpStream};
 use std::test::Fail;
 
-/// Answers one connection with its first bytes, and takes it back as one of which so much was read.
+/// Answers one connection with its first bytes, and finishes it, saying how much of it was read.
 fn answer_one<L: Listener>(listener: &mut L, received: Received) -> Result<usize, SocketFailed> {
     let mut connection = listener.accept()?;
     let mut piece = [0u8; 5];
@@ -28,7 +28,7 @@ fn a_client_of_the_loopback_is_answered(rt: HostRuntime) -> Result<(), Fail> {
     };
     assert_eq!(&rt; loopback.listen(listener.port()).is_err(), true);
 
-    // What it sends more than is read of it takes nothing back, whatever is said of it.
+    // The client sends more bytes than are read. It gets the answer all the same, whatever is said of that.
     for received in [Received::Whole, Received::Beginning] {
         let mut client = TcpStream::connect(&rt, (Ipv4Addr::LOCALHOST, listener.port()))?;
         client.write_all(b"hello, there")?;

@@ -1,11 +1,11 @@
-//! What no clause says: that the words of the clauses come to the calendar's dates and instants.
+//! What no clause says: that the definitions in the clauses give the calendar's dates and instants.
 
 use hh_time::*;
 use jiff::civil::Date;
 use jiff::tz::TimeZone;
 use std::test::Fail;
 
-/// The periods of a date by the rule of the market's clocks, which go forward on the last Sunday of
+/// How many periods a date has by the rule of the market's clocks, which go forward on the last Sunday of
 /// March and back on the last Sunday of October. The number is in days since 1970-01-01, a Thursday.
 fn count_by_rule(number: i32, date: Date) -> u8 {
     let is_last_sunday = number.wrapping_add(4) % 7 == 0 && date.day() >= 25;

@@ -11,7 +11,7 @@ use std::test::Fail;
 use std::time::{Clock, Duration};
 
 /// A clock that tells the milliseconds that it was set to, or nothing; and how long the last call of a
-/// stream might wait.
+/// stream was allowed to wait.
 #[derive(Drop)]
 struct Times {
     now: Cell<Option<u64>>,
@@ -40,7 +40,7 @@ impl Clock for Times {
     }
 }
 
-/// A stream that gives and takes all that it is asked for.
+/// A stream that gives and takes all that is asked of it.
 #[derive(Clone, Copy)]
 struct Patient<'a>(&'a Times);
 
@@ -76,7 +76,7 @@ impl Writer for Patient<'_> {
     }
 }
 
-/// How many milliseconds a read may wait when the clock tells these; nothing where it fails.
+/// How many milliseconds a read may wait when the clock tells these; nothing if it fails.
 fn read_at<'a>(
     times: &'a Times,
     stream: &mut TimedStream<'a, Patient<'a>, Times>,
@@ -88,7 +88,7 @@ fn read_at<'a>(
     Some(times.wait.get()?.as_millis())
 }
 
-/// The same of a write.
+/// The same for a write.
 fn write_at<'a>(
     times: &'a Times,
     stream: &mut TimedStream<'a, Patient<'a>, Times>,
@@ -116,7 +116,7 @@ fn a_request_has_thirty_seconds(rt: HostRuntime) -> Result<(), Fail> {
         assert_eq!(&rt; read_at(&times, &mut stream, Some(now)), wait);
     }
 
-    // Its time is over, so it has half a second behind its reply, whenever that is.
+    // Its time is over, so half a second is left after its reply, whenever that comes.
     let mut stream = stream.behind();
     for (now, wait) in [(500_100, Some(400)), (500_500, None)] {
         assert_eq!(&rt; read_at(&times, &mut stream, Some(now)), wait);

@@ -14,19 +14,19 @@ use std::rt::Files;
 /// How many bytes of a file are read in one call.
 const PIECE: usize = 65_536;
 
-/// What opens files by their paths.
+/// Opens files by their paths.
 pub trait Opener {
     type File: Source + Drop;
 
-    /// What the opening of a path may answer.
+    /// What opening a path may answer.
     ghost opens: { Self → List ℕ → Result Self.File InputFault → Type 0 };
 
-    /// Opens the file of a path for reading.
+    /// Opens the file at a path for reading.
     fn open(&self, path: &str) -> Result<Self::File, InputFault>
         ensures { opens self.now path.now result };
 }
 
-/// The files of the system. No clause of std ties a path to what is opened, so none does here.
+/// The files of the system. No clause of std says what is opened at a path, so none does here.
 #[derive(Clone, Copy)]
 pub struct RuntimeFiles<'a, R>(pub &'a R);
 
@@ -54,11 +54,11 @@ impl<O: Opener> Inputs for FileInputs<O> {
     }
 }
 
-/// The first bytes that a source gives, so many or all of them.
+/// The first `most` bytes that a source gives, or all of them if there are fewer.
 ///
 /// # Errors
 ///
-/// `Unreadable` where a call of the source failed, `Memory` where memory was refused.
+/// `Unreadable`: a call of the source failed. `Memory`: memory was refused.
 pub fn read_front<S: Source>(
     alloc: Global,
     source: &mut S,

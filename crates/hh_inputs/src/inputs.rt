@@ -1,4 +1,4 @@
-//! What gives the bytes of files by their paths.
+//! Reading the bytes of files by their paths.
 
 ghost use Rattle.std.specs.Prelude.{◌≡◌, ℕ, List, Option, take, IfOk, IsErrOf, Some, None};
 
@@ -7,7 +7,7 @@ use std::alloc::{AllocError, Global};
 use std::io;
 use std::io::ErrorKind;
 
-/// Why a file gives no bytes.
+/// Why the bytes of a file cannot be had.
 #[derive(Clone, Copy, Debug, PartialEq, Eq)]
 pub enum InputFault {
     /// The file cannot be opened or read.
@@ -52,14 +52,14 @@ impl From<AllocError> for InputFault {
 
 /// Files by their paths. Each read opens the file again, and files may change between two reads.
 pub trait Inputs {
-    /// What a path may read as: all the bytes of its file, or nothing where it cannot be read.
+    /// What a path may read as: all the bytes of its file, or nothing if it cannot be read.
     ghost reads_as: { Self → List ℕ → Option (List ℕ) → Type 0 };
 
-    /// The first bytes of the file of a path, so many or all of them where it has no more.
+    /// The first `most` bytes of the file at a path, or all of them if it has fewer.
     ///
     /// # Errors
     ///
-    /// `Unreadable` where the file cannot be opened or read, `Memory` where memory was refused.
+    /// `Unreadable`: the file cannot be opened or read. `Memory`: memory was refused.
     fn read(&self, alloc: Global, path: &str, most: usize) -> Result<Vec<u8>, InputFault>
         ensures bytes { IfOk result (λ bytes. (all : List ℕ)
             × reads_as self.now path.now (Some all) × (bytes.items ≡ take most all)) }

@@ -1,4 +1,4 @@
--- What is known of some paths is nothing more than what is known of none.
+-- What holds for some known paths also holds if nothing is known about paths.
 use Rattle.std.proofs.Common.{Bool, List, inl, inr, Result}
 use Rattle.std.specs.Prelude.{⊤}
 use Rattle.hh_devices.specs.DeviceChanges.{DeviceChange}

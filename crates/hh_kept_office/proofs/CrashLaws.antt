@@ -1,4 +1,4 @@
--- What a crash leaves behind a command, by what it leaves behind the request that the command makes.
+-- What a crash leaves after a command, given what it leaves after the request that the command makes.
 use Rattle.std.proofs.Common.{◌≡◌, ◌∙◌, ℕ, List, Bool, true, false, IsTrue, Result, Ok, Err, inl, inr, refl, subst, sym}
 use Rattle.std.specs.Prelude.{◌⊎◌, MatchBool}
 use Rattle.jiff.specs.declared.tz.timezone.TimeZone.{TimeZone}
@@ -46,10 +46,10 @@ match_so true A B C D f g (inl a) = inl (f a)
 match_so true A B C D f g (inr b) = inr (g b)
 match_so false A B C D f g b = g b
 
--- ---- what counts, by what was told
+-- ---- which state counts, given what was told
 
 module _ (B R : Type 0) where
-  -- a load or a run that was done
+  -- after a load or a run that was done
   by_done : (told : Told) (text : List ℕ) → told_outcome told ≡ Ok text → (result : Result Unit ErrandStop) → EndsBy told result → R → CountsAs result B R
   by_done told text done (Ok x) ends r = r
   by_done told text done (Err stop.Output) ends r = r
@@ -57,7 +57,7 @@ module _ (B R : Type 0) where
   by_done told text done (Err stop.Unreadable) is r = absurd (let e : ◌≡◌ {A = ErrandOutcome} (Err stop.Unreadable) (Ok text) = sym is ∙ done in cc)
   by_done told text done (Err stop.NoSocket) is r = absurd (let e : ◌≡◌ {A = ErrandOutcome} (Err stop.NoSocket) (Ok text) = sym is ∙ done in cc)
 
-  -- one that was refused
+  -- after one that was refused
   by_refused : (fault : Fault) (result : Result Unit ErrandStop) → EndsBy (Replied (reply.Refused fault)) result → MatchBool (gives_up fault) (B ⊎ R) R → CountsAs result B R
   by_refused fault (Ok x) (text, is) crash = absurd (let e : ◌≡◌ {A = ErrandOutcome} (Err (stop.Refused fault)) (Ok text) = is in cc)
   by_refused fault (Err stop.Output) (text, is) crash = absurd (let e : ◌≡◌ {A = ErrandOutcome} (Err (stop.Refused fault)) (Ok text) = is in cc)
@@ -68,7 +68,7 @@ module _ (B R : Type 0) where
   by_refused fault (Err stop.Unreadable) is crash = absurd (let e : ◌≡◌ {A = ErrandOutcome} (Err (stop.Refused fault)) (Err stop.Unreadable) = is in cc)
   by_refused fault (Err stop.NoSocket) is crash = absurd (let e : ◌≡◌ {A = ErrandOutcome} (Err (stop.Refused fault)) (Err stop.NoSocket) = is in cc)
 
-  -- one that the office answered
+  -- after one that the office answered
   by_reply : (given : Reply) (result : Result Unit ErrandStop) → EndsBy (Replied given) result → MatchBool (is_given_up given) (B ⊎ R) R → CountsAs result B R
   by_reply (reply.Refused fault) result ends crash = by_refused fault result ends crash
   by_reply (reply.Loaded loaded) result ends crash = by_done (Replied (reply.Loaded loaded)) _ refl result ends crash
@@ -78,11 +78,11 @@ module _ (B R : Type 0) where
   by_reply (reply.Contracts rows) result ends crash = by_done (Replied (reply.Contracts rows)) _ refl result ends crash
   by_reply (reply.Runs runs) result ends crash = by_done (Replied (reply.Runs runs)) _ refl result ends crash
 
-  -- one that it was not asked, since memory was refused
+  -- after one about which the office was not asked, since memory was refused
   by_memory : (given : Reply) → given ≡ reply.Refused memory_fault → (result : Result Unit ErrandStop) → EndsBy (Replied given) result → B → CountsAs result B R
   by_memory given is result ends b = by_reply given result ends (subst (λ g. MatchBool (is_given_up g) (B ⊎ R) R) (sym is) (inl b))
 
-  -- one whose file cannot be read
+  -- after one whose file cannot be read
   by_unreadable : (result : Result Unit ErrandStop) → EndsBy Unreadable result → B → CountsAs result B R
   by_unreadable (Ok x) (text, is) b = absurd (let e : ◌≡◌ {A = ErrandOutcome} (Err stop.Unreadable) (Ok text) = is in cc)
   by_unreadable (Err stop.Output) (text, is) b = absurd (let e : ◌≡◌ {A = ErrandOutcome} (Err stop.Unreadable) (Ok text) = is in cc)
@@ -90,7 +90,7 @@ module _ (B R : Type 0) where
   by_unreadable (Err stop.Unreadable) is b = b
   by_unreadable (Err stop.NoSocket) is b = b
 
-  -- what was left and what is made are the same
+  -- what is left fits both states, so it fits the one that counts
   by_both : (result : Result Unit ErrandStop) → B → R → CountsAs result B R
   by_both (Ok x) b r = r
   by_both (Err stop.Output) b r = r
@@ -98,7 +98,7 @@ module _ (B R : Type 0) where
   by_both (Err stop.Unreadable) b r = b
   by_both (Err stop.NoSocket) b r = b
 
--- ---- a command on tables that stood, which the office of the market's zone had
+-- ---- a command on tables that were open, at the office of the market's zone
 
 kept_is : {T : Type 0} (k : Kept T) (office : OfficeView) (tables : T) → k.seen ≡ office → k.tables ≡ tables → k ≡ record { seen = office; tables = tables }
 kept_is k office tables seen stood = let e : record { seen = k.seen; tables = k.tables } ≡ record { seen = office; tables = tables } = rw (seen, stood) refl in e
@@ -148,7 +148,7 @@ module _ {T L : Type 0} (H : T → Type 0) (O : T → Bool) (M : T → L → Typ
       λ honest. let adds = leaves honest in (adds.0, λ stood. (zone, market, λ s stands left may. report_counts honest stood s stands left may result asked ((adds.1 stood).1 left may)))
   over_leaves (Serve serve) result leaves = tt
 
-  -- an office had these tables, and hands back those
+  -- an office had the tables before, and returns the tables after
   pub leaves_over : (k : Kept T) → k.seen ≡ office_of zone before → k.tables ≡ tables → (last : T) → last ≡ new.tables → (step : ErrandStep) (result : Result Unit ErrandStop)
       → ErrandLeaves H O M holds k new host step result → OverLeaves H O M holds host tables last before step result
   leaves_over k seen at last is step result leaves =
@@ -184,7 +184,7 @@ module _ {S : Type 0} (g : Ghosts S) (host : HostView) where
     used_leaves (Report asked) result leaves = λ clean stood before holds. inl (used (Report asked) result leaves clean before holds)
     used_leaves (Serve serve) result leaves = tt
 
--- tables that were not
+-- tables that were not taken over
 pub unused_leaves : (host : HostView) (found last : connection.State) → KeepsHeld found last
     → (fault : StoreFault) (step : ErrandStep) → KeptLeaves host found last step (Err (stop.Refused (store_fault fault)))
 unused_leaves host found last keeps fault (Load load) = λ clean stood before holds. inr (fault, refl, (keeps clean).1 stood before holds)

@@ -1,4 +1,4 @@
--- How a command ends at a path, by how it ends over the database there.
+-- How a command ends at a path, given how it ends over the database there.
 use Rattle.std.proofs.Common.{◌≡◌, ◌≢◌, ◌∙◌, ℕ, List, Option, refl, ap, Result, Ok, Err}
 use Rattle.std.specs.Prelude.{IfErr, IsErrAnd, IsErrOf, IsTrue, OnOk}
 use Rattle.std.specs.Io.KnownBytes.{Appends}
@@ -12,18 +12,18 @@ use Rattle.hh_kept_office.specs.Kept.{ready_line}
 use Rattle.hh_kept_office.specs.Paths.{IsPutAway, MakesKept}
 use Rattle.hh_kept_office.specs.Places.{Connected, LeavesConnected, Places}
 
--- an error that is known
+-- the result is the error that is known
 pub err_is : {A E : Type 0} (result : Result A E) (e : E) → IsErrAnd result (λ x. x ≡ e) → result ≡ Err e
 err_is (Ok x) e none = absurd none
 err_is (Err x) e is = ap Err is
 
--- what holds of an error unless it is one, holds of what it is turned into unless that is what the one is turned into
+-- if something holds for every error but one, it holds for every translated error but the translation of that one
 pub turned : {A E F : Type 0} (P : Type 0) (into : E → F) (one : E) (result : Result A F) (e : E) → IsErrAnd result (λ x. x ≡ into e) → (e ≢ one → P)
     → IfErr result (λ x. x ≢ into one → P)
 turned P into one (Ok x) e none holds = tt
 turned P into one (Err x) e is holds = λ other. holds (λ same. other (is ∙ ap into same))
 
--- what an output took has not changed where it has not
+-- if an output is unchanged unless it failed, so is what it took
 pub same_taken : {S A : Type 0} (taken : S → Option (List ℕ)) (old new : S) (ended : Result A ErrandStop) → IfErr ended (λ why. why ≢ stop.Output → new ≡ old)
     → IfErr ended (λ why. why ≢ stop.Output → taken new ≡ taken old)
 same_taken taken old new (Ok x) same = tt
@@ -38,7 +38,7 @@ unreadable_else same = cc same
 no_socket_else : stop.NoSocket ≢ stop.Output
 no_socket_else same = cc same
 
--- a database that was put away so was put away as each of both implies
+-- a database that was put away still is, if less is asked about closing and about removing
 pub put_then : (closed discarded closed' discarded' : Type 0) → (closed → closed') → (discarded → discarded') → (ended : Result Unit ErrandStop)
     → IsPutAway closed discarded ended → IsPutAway closed' discarded' ended
 put_then closed discarded closed' discarded' close discard (Ok x) put = close put
@@ -47,7 +47,7 @@ put_then closed discarded closed' discarded' close discard (Err (stop.Refused fa
 put_then closed discarded closed' discarded' close discard (Err stop.Unreadable) put = discard put
 put_then closed discarded closed' discarded' close discard (Err stop.NoSocket) put = discard put
 
--- an office that was made in a database, or not
+-- an office was made in a database, or it was not
 pub made : (places : Places) (path : _) (device : DeviceChange) (settings : Settings) (found left : Connected) (ended : Result Unit ErrandStop)
     → OnOk ended (IsTrue left.is_open → IsNewOffice settings left.committed) → OnOk ended (Appends device.old device.new ready_line)
     → (IsErrOf ended stop.Output → IsTrue left.is_open → IsNewOffice settings left.committed)

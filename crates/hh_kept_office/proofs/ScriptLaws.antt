@@ -1,4 +1,4 @@
--- What a script comes to over a database.
+-- What comes of a script over a database.
 use Rattle.std.proofs.Common.{◌≡◌, ℕ, Bool, List, inr, subst, sym, take, Result, Ok, Err}
 use Rattle.std.specs.Prelude.{⊤, IsTrue}
 use Rattle.sqlite.specs.Effect.{Database}
@@ -25,7 +25,7 @@ use Rattle.hh_kept_office.specs.Places.{Connected, LeavesConnected, TakesConnect
 use Rattle.hh_kept_office.specs.Scripts.{RunsFile}
 use Rattle.hh_kept_office.specs.steps.Scripts.{RunsFileOver, stop_of}
 
--- where the store may have failed, it may in more cases
+-- what holds if the store may have failed where `fails` holds, holds if it may have failed where `others` holds
 module _ (fails others : Type 0) (implies : fails → others) (host : HostView) (device : DeviceChange) (db : Database) (content : Content) where
   pub writes_then : (may : List Step → Bool → Type 0) (steps : List Step) → WritesOver host fails device db steps content may
       → WritesOver host others device db steps content may
@@ -51,7 +51,7 @@ module _ (fails others : Type 0) (implies : fails → others) (host : HostView) 
   early_then strict steps Output cuts = cuts_then strict steps cuts
   early_then strict steps (Line number) (may, writes) = (may, writes_then LastNotDone (take number steps) writes)
 
--- a script over tables that were taken over from a database that held their content, and left so
+-- a script over tables that were taken over from a database with this content
 module _ (host : HostView) (device : DeviceChange) (file : List ℕ) (found taken left : Connected) (content : Content) where
   module _ (holds : IsTrue taken.is_open → Holds version content found.committed)
       (same : (held : Content) → Holds version held found.committed → IsTrue taken.is_open → content ≡ held)

@@ -1,4 +1,4 @@
--- What a crash leaves of an office's tables behind a command on a database.
+-- What a crash leaves of an office's tables after a command on a database.
 use Rattle.std.specs.Prelude.{◌≡◌, ◌⊎◌, List, ℕ, Some, MatchBool, IsTrue, Result, Ok, Err}
 use Rattle.jiff.specs.declared.tz.timezone.TimeZone.{TimeZone}
 use Rattle.sqlite.specs.State as connection
@@ -21,8 +21,8 @@ use Rattle.hh_errands.specs.declared.errand.ErrandStop.{ErrandStop}
 use Rattle.hh_errands.specs.declared.errand.ErrandStop.TheVariants as stop
 use Rattle.hh_kept_office.specs.Kept.{office_of}
 
--- The state that the machine reaches by a command: by its load, of a file that reads so, or by its run. A report changes none. Of
--- connections that are served nothing is said here.
+-- The state that a command leads to: by its load, if the file reads as it may, or by its run. A report changes no state. Nothing is said
+-- here about connections that are served.
 abbrev pub ReachedBy : HostView → Midnights → State → ErrandStep → State → Type 0
 ReachedBy host midnight s (Load load) t =
     (body : List ℕ) × host.reads load.path (Some body) × (t ≡ next midnight s load.moment (request_of load body))
@@ -30,17 +30,18 @@ ReachedBy host midnight s (Run run) t = t ≡ next midnight s run.moment (reques
 ReachedBy host midnight s (Report asked) t = t ≡ s
 ReachedBy host midnight s (Serve serve) t = ⊥
 
--- Of the state before a command and the one that it reaches: which of them counts behind it. A command that was answered counts, even
--- where its output failed; one that was given up may count or not; and one that asked nothing does not.
+-- Whether the state before a command or the state that it leads to counts after it. A command that was answered counts, even if its output
+-- failed. One that was given up may count or not. One that asked nothing does not count.
 abbrev pub CountsAs : Result Unit ErrandStop → Type 0 → Type 0 → Type 0
 CountsAs (Ok _) before reached = reached
 CountsAs (Err stop.Output) before reached = reached
 CountsAs (Err (stop.Refused fault)) before reached = MatchBool (gives_up fault) (before ⊎ reached) reached
 CountsAs (Err _) before reached = before
 
--- A host may show this of files and ports, and a command ended so at an office in the zone of the market that had this content before.
+-- `host` is what a host may show about files and ports. A command ended with `result` at an office in the market's zone, whose content was
+-- `before`.
 module _ (host : HostView) (before : Content) (step : ErrandStep) (result : Result Unit ErrandStop) where
-  -- in each state that the office stood for, whatever is left holds the tables of the state that counts
+  -- in each state that the office represented, whatever is left contains the tables of the state that counts
   abbrev pub HoldsWhatCounts : {L : Type 0} → (L → Content → Type 0) → (L → Type 0) → Type 0
   HoldsWhatCounts {L = L} holds IsLeft =
       (zone : TimeZone) × IsMarketZone zone
@@ -48,13 +49,13 @@ module _ (host : HostView) (before : Content) (step : ErrandStep) (result : Resu
       (s : State) → Stands (office_of zone before) s → (left : L) → IsLeft left
       → CountsAs result (holds left (tables_of midnight s)) ((t : State) × ReachedBy host midnight s step t × holds left (tables_of midnight t)))
 
-  -- the tables were not taken over, and whatever is left of their database holds what it held
+  -- the tables were not taken over, and whatever is left of their database contains what it contained
   abbrev pub HoldsUnused : (Trees → Type 0) → Type 0
   HoldsUnused IsLeft =
       (fault : StoreFault) × (result ≡ Err (stop.Refused (store_fault fault))) × ((trees : Trees) → IsLeft trees → TreesHold trees before)
 
--- Behind a command on a database that held the tables of an office, by a disk that has returned what was written: whatever a crash leaves
--- holds the tables of the state that counts, or those before it, if they were not taken over.
+-- After a command on a database with the tables of an office, if the disk has returned what was written: whatever a crash leaves contains
+-- the tables of the state that counts. If the tables were not taken over, it contains the tables before the command.
 abbrev pub KeptLeaves : HostView → connection.State → connection.State → ErrandStep → Result Unit ErrandStop → Type 0
 KeptLeaves host old new (Serve serve) result = Unit {0}
 KeptLeaves host old new step result =

@@ -19,26 +19,28 @@ use Rattle.hh_errands.specs.Errands.{EndsErrand, ErrandStep}
 abbrev pub office_of : TimeZone → Content → OfficeView
 office_of zone content = record { zone = zone; content = content }
 
--- A host may show this of files and ports, the store may have failed only where this holds, and this changes in an output.
+-- `host` is what a host may show about files and ports. The store may have failed only if `fails` holds. `device` is the change of an
+-- output.
 module _ (host : HostView) (fails : Type 0) (device : DeviceChange) where
-  -- a command ended so at an office in the zone of the market, whose tables had the one content before it and have the other after it
+  -- a command ended with `result` at an office in the market's zone, whose content was `before` and is `after`
   abbrev pub EndsOver : Content → Content → ErrandStep → Result Unit ErrandStop → Type 0
   EndsOver before after step result =
       (zone : TimeZone) × IsMarketZone zone × EndsErrand host fails (office_of zone before) (office_of zone after) device step result
 
-  -- the same, and a database holds the tables after it
+  -- the same, and a database contains the tables after the command
   abbrev pub LeavesKept : Content → Database → ErrandStep → Result Unit ErrandStop → Type 0
   LeavesKept before left step result = (after : Content) × Holds version after left × EndsOver before after step result
 
-  -- the tables were not taken over: nothing was written, and the database has what it had
+  -- the tables were not taken over: nothing was written, and the database is as it was
   abbrev pub IsNotTaken : Database → Database → Result Unit ErrandStop → Type 0
   IsNotTaken found left result = (fault : StoreFault) × (result ≡ Err (stop.Refused (store_fault fault))) × (device.new ≡ device.old) × (left ≡ found)
 
-  -- a command ended so over a database: it held the tables of an office, and holds those after the command; or they were not taken over
+  -- a command ended with `result` over a database. The database contained the tables of an office, and contains those after the command; or
+  -- they were not taken over
   abbrev pub EndsKept : Database → Database → ErrandStep → Result Unit ErrandStop → Type 0
   EndsKept found left step result =
       ((before : Content) × Holds version before found × LeavesKept before left step result) ⊎ IsNotTaken found left result
 
--- what is told of an office that was made
+-- what is told when an office was made
 abbrev pub ready_line : List ℕ
 ready_line = codes "ready\n"

@@ -19,7 +19,7 @@ use Rattle.hh_kept_office.specs.declared.scripts.ScriptPathStop.{ScriptPathStop}
 use Rattle.hh_kept_office.specs.declared.scripts.ScriptPathStop.TheVariants.{NoFile, Script, Unopened}
 use Rattle.hh_kept_office.specs.Places.{Connected, LeavesConnected, Places, TakesConnected}
 
--- how a script ends at a path
+-- how a script at a path ends, given how it ended over the database there
 abbrev pub script_at : Result Unit ScriptStop → Result Unit ScriptPathStop
 script_at (Ok x) = Ok x
 script_at (Err why) = Err (Script why)
@@ -29,19 +29,20 @@ abbrev pub IsUnrunAt : ScriptPathStop → Type 0
 IsUnrunAt (Script why) = IsUnrun why
 IsUnrunAt _ = Unit {0}
 
--- the database holds the tables of an office
+-- the database contains the tables of an office
 abbrev pub HoldsOffice : Database → Type 0
 HoldsOffice db = (content : Content) × Holds version content db
 
--- A host may show this of files and ports, this changes in an output, and a script lies in a file.
+-- `host` is what a host may show about files and ports. `device` is the change of an output. `file` is the path of a script.
 module _ (host : HostView) (device : DeviceChange) (file : List ℕ) where
   -- the tables of an office are not taken over
   abbrev pub IsOfNoOffice : ScriptStop → Type 0
   IsOfNoOffice why = (fault : StoreFault) × (why ≡ script.Refused (store_fault fault))
 
-  -- The script was run over the office in a database that was opened so and left so: from each state whose tables the database held, if the
-  -- connection is open in the end, and all lines were done if it is strict. Or its lines were not run to their end. Or nothing was run and nothing was written: the tables were not
-  -- taken over, and the database has what it had; or they were, and the script cannot be had.
+  -- The database was `found` when opened and is `left` when closed. Done: the script was run from each state whose tables the database
+  -- contained, if the connection is open in the end, and all lines were done if it is strict. Early: its lines were not run to their end.
+  -- Otherwise nothing was run and nothing was written: the tables were not taken over, and the database is as it was; or they were taken
+  -- over, and the script cannot be had.
   abbrev pub RunsFile : Bool → Connected → Connected → Result Unit ScriptStop → Type 0
   RunsFile strict found left (Ok x) = (steps : List Step) × IsScript host file steps
       × ((content : Content) → Holds version content found.committed → IsTrue left.is_open → WritesOver host ⊤ device left.committed steps content (AllDone strict))
@@ -52,7 +53,8 @@ module _ (host : HostView) (device : DeviceChange) (file : List ℕ) where
       ⊎ ((IsTrue left.is_open → HoldsOffice found.committed) × IsUnread host file why × TakesConnected found left))
       × (device.new ≡ device.old)
 
-  -- A script was to be run at a path: nothing was opened; or nothing was found there; or something was, it was opened, and the script was run.
+  -- A script was to be run at a path: the path could not be looked at or no database was opened; or nothing was found there; or a database
+  -- was opened, and the script was run.
   abbrev pub EndsScript : Bool → Places → List ℕ → Result Unit ScriptPathStop → Type 0
   EndsScript strict places path result =
       ((fault : StoreFault) × places.refuses path fault × (result ≡ Err (Unopened fault)) × (device.new ≡ device.old))

@@ -24,13 +24,13 @@ use hh_sqlstore::{Rising, SqlTables};
 use sqlite::Connection;
 use std::alloc::Global;
 
-/// Does what a command asks of the office whose tables a database has, in the zone of the market, and
-/// hands the connection back.
+/// Does what a command asks of the office whose tables are in a database, in the zone of the market, and
+/// returns the connection.
 ///
 /// # Errors
 ///
-/// As of `run_errand`. `Refused` also where the tables are not taken over, with nothing written: by 91 where
-/// they are not an office's of this version.
+/// As for `run_errand`. Also `Refused`, with nothing written, if the tables are not taken over: with 91 if
+/// they are not those of an office of this version.
 pub fn run_errand_in_database<S: Rising, H: Host, O: Sink>(
     alloc: Global,
     connection: Connection<S>,
@@ -64,7 +64,7 @@ pub fn run_errand_in_database<S: Rising, H: Host, O: Sink>(
     }
 }
 
-/// The same of tables that were taken over.
+/// Does the same with tables that were taken over.
 fn run_over_database<S: Rising, H: Host, O: Sink>(
     alloc: Global,
     tables: SqlTables<S>,

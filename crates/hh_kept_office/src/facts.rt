@@ -1,4 +1,5 @@
-//! What people are told of an office at a path beside what a command answers. No contract knows it.
+//! What people are told about an office at a path, beside what a command answers. No contract says what it
+//! is.
 
 use crate::place::DatabaseHost;
 use hh_names::FileName;
@@ -10,16 +11,16 @@ use hh_time::{SettlementDate, london};
 use sqlite::Connection;
 use std::alloc::Global;
 
-/// What is known of an accepted file whose rows may be late.
+/// What is known about an accepted file that may have late rows.
 #[derive(Clone, Copy, Debug, PartialEq, Eq)]
 pub struct Lateness {
     /// How many of its rows were late when it was accepted.
     pub late: u32,
-    /// How many minutes before its Settlement Period a row has its deadline.
+    /// How many minutes before its Settlement Period a row must have come.
     pub lead_minutes: LeadMinutes,
 }
 
-/// How many readings the units of a date lack in the office at a path; none where that can't be told.
+/// How many readings the units of a date lack in the office at a path. It is `None` if that can't be told.
 pub fn missing_readings_at<S: Rising, D: DatabaseHost<Connection = Connection<S>>>(
     alloc: Global,
     host: &D,
@@ -35,7 +36,7 @@ pub fn missing_readings_at<S: Rising, D: DatabaseHost<Connection = Connection<S>
     missing
 }
 
-/// The same of the office that a database has.
+/// The same for the office in a database.
 fn missing_readings<S: Rising>(
     alloc: Global,
     connection: Connection<S>,
@@ -51,7 +52,7 @@ fn missing_readings<S: Rising>(
     }
 }
 
-/// What is known of a file that the office at a path has accepted; none where that can't be told.
+/// What is known about a file that the office at a path has accepted. It is `None` if that can't be told.
 pub fn lateness_at<S: Rising, D: DatabaseHost<Connection = Connection<S>>>(
     alloc: Global,
     host: &D,
@@ -76,7 +77,7 @@ pub fn lateness_at<S: Rising, D: DatabaseHost<Connection = Connection<S>>>(
     }
 }
 
-/// The same of an office's tables.
+/// The same for an office's tables.
 fn lateness_of<T: Tables>(tables: &mut T, kind: FileKind, name: &FileName) -> Option<Lateness> {
     let file = tables.file(kind, name).ok()??;
     Some(Lateness {

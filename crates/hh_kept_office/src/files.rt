@@ -1,4 +1,4 @@
-//! The files of a database at a path of the system: the database and, beside it, its log.
+//! The files of a database at a path of the system: the database itself, and its log beside it.
 
 use hh_store::StoreFault;
 use sqlite::{Connection, Error, ErrorCode, FileStore, Options};
@@ -10,16 +10,16 @@ use std::io::{ErrorKind, Read};
 use std::os::unix::fs::OpenOptionsExt;
 use std::{fs, io};
 
-/// How many pages of 4,096 bytes are kept in memory: those of a market day are some 12,000.
+/// How many pages of 4,096 bytes are kept in memory. A market day takes some 12,000.
 const PAGES: usize = 16_384;
 
-/// Who may read and write a new database: its owner, and others may read it.
+/// The permissions of a new database: its owner may read and write it, and others may read it.
 const MODE: u32 = 0o644;
 
-/// What each database of SQLite 3 begins with.
+/// The bytes with which each database of SQLite 3 begins.
 const FRONT: [u8; 16] = *b"SQLite format 3\0";
 
-/// What a failed call of the system is to an office.
+/// The fault of a store for a failed call of the system.
 pub(crate) fn fault_of(error: io::Error) -> StoreFault {
     match error.kind() {
         ErrorKind::OutOfMemory => StoreFault::Memory,
@@ -27,7 +27,7 @@ pub(crate) fn fault_of(error: io::Error) -> StoreFault {
     }
 }
 
-/// Makes an empty file where nothing is.
+/// Makes an empty file at a path where there is none.
 pub(crate) fn make_file(rt: &HostRuntime, path: &str) -> Result<(), StoreFault> {
     let mut options = OpenOptions::new();
     options.write(true).create_new(true).mode(MODE);
@@ -37,7 +37,7 @@ pub(crate) fn make_file(rt: &HostRuntime, path: &str) -> Result<(), StoreFault> 
     }
 }
 
-/// Takes a database and its log away.
+/// Removes a database and its log.
 pub(crate) fn remove(rt: &HostRuntime, path: &str) {
     let _ = fs::remove_file(rt, path);
     if let Ok(log) = log_of(rt, path) {
@@ -53,10 +53,10 @@ pub(crate) fn is_file(rt: &HostRuntime, path: &str) -> bool {
     }
 }
 
-/// Whether what lies at a path is no database, so that it is not opened: it is no file, or it doesn't begin
-/// as a database does. A file with a log may be one whose making was interrupted.
+/// Whether what is at a path is certainly no database, so that it is not opened: it is no file, or it
+/// doesn't begin as a database does. A file with a log may be a database whose making was interrupted.
 pub(crate) fn is_no_database(rt: &HostRuntime, path: &str) -> Result<bool, StoreFault> {
-    // The log lies where a link leads.
+    // The log is beside the file to which a link leads.
     let path = fs::canonicalize(rt, path).map_err(fault_of)?;
     let found = fs::metadata(rt, path.as_str()).map_err(fault_of)?;
     if !found.is_file() {
@@ -76,7 +76,7 @@ fn begins_as_database(rt: &HostRuntime, path: &str) -> Result<bool, StoreFault> 
     }
 }
 
-/// Whether there is a log with anything in it beside a path.
+/// Whether there is a log beside a path that is not empty.
 pub(crate) fn has_log(rt: &HostRuntime, path: &str) -> Result<bool, StoreFault> {
     let log = log_of(rt, path)?;
     match fs::symlink_metadata(rt, log.as_str()) {

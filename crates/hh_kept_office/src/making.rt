@@ -1,4 +1,4 @@
-//! An office that is made in a database.
+//! Making an office in a database.
 
 ghost use Rattle.std.specs.Prelude.{◌≡◌, ◌≢◌, Err, IfErr, IsErrOf, IsTrue, OnOk};
 ghost use Rattle.std.specs.Io.KnownBytes.{Appends};
@@ -20,13 +20,13 @@ use hh_sqlstore::SqlTables;
 use sqlite::{Alter, Connection};
 use std::alloc::Global;
 
-/// Makes the tables of an office with these settings in a database that has none, writes `ready`, and hands
-/// the connection back.
+/// Makes the tables of an office with these settings in an empty database, writes `ready`, and returns the
+/// connection.
 ///
 /// # Errors
 ///
-/// `Refused` where the tables are not made: nothing is written, and the database has what it had. `Output`
-/// where the output failed or took nothing: the tables are made.
+/// `Refused`: the tables are not made, nothing is written, and the database is as it was. `Output`: the
+/// output failed or took nothing, and the tables are made.
 pub fn make_office_in_database<S: Alter, O: Sink>(
     alloc: Global,
     connection: Connection<S>,

@@ -16,8 +16,8 @@ use hh_store::Tables;
 use hh_time::london;
 use std::alloc::Global;
 
-/// Does what a command asks of an office in the zone of the market that has these tables, and hands the
-/// tables back.
+/// Does what a command asks of an office with these tables, in the zone of the market, and returns the
+/// tables.
 pub(crate) fn run_over<T: Tables, H: Host, O: Sink>(
     alloc: Global,
     tables: T,
@@ -38,7 +38,7 @@ pub(crate) fn run_over<T: Tables, H: Host, O: Sink>(
     ensures left { OverLeaves T.is_honest T.is_open T.may_leave T.holds (H.view host.now)
         tables result.1 (T.content tables) (errand_of errand.now) result.0 }
 {
-    // Does nothing, but carries a law for the proof: what a crash leaves of the tables holds their content.
+    // Does nothing, but carries a law for the proof: what a crash leaves of the tables has their content.
     tables.shows_left();
     let mut office = Office::new(alloc, tables, london());
     let ended = run_errand(alloc, &mut office, host, errand, out);

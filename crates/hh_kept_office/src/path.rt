@@ -25,7 +25,7 @@ pub enum PathStop {
     Exists,
     /// There is nothing at the path.
     NoFile,
-    /// The database cannot be opened, or the command was not done there.
+    /// The path cannot be looked at, no database can be opened or made there, or the command was not done.
     Errand(ErrandStop),
 }
 
@@ -49,13 +49,12 @@ impl From<ErrandStop> for PathStop {
     }
 }
 
-/// Makes an office with these settings at a path where nothing is, and writes `ready`.
+/// Makes an office with these settings at a path where there is nothing, and writes `ready`.
 ///
 /// # Errors
 ///
-/// `Exists` where there is something at the path. `Errand` where the path cannot be looked at or no
-/// database can be made there, and as of `make_office_in_database`: where the office is refused, nothing is
-/// left at the path.
+/// `Exists`: there is something at the path. `Errand`: the path cannot be looked at, or no database can be
+/// made there; or as for `make_office_in_database`. If the office is refused, nothing is left at the path.
 pub fn make_office_at<S: Rising, D: DatabaseHost<Connection = Connection<S>>, O: Sink>(
     alloc: Global,
     host: &D,
@@ -80,7 +79,7 @@ pub fn make_office_at<S: Rising, D: DatabaseHost<Connection = Connection<S>>, O:
     Ok(())
 }
 
-/// Closes a database in which an office was to be made. Where it was not made, the database is taken away.
+/// Closes a database in which an office was to be made. If it was not made, the database is removed.
 fn put_away<D: DatabaseHost>(
     host: &D,
     path: &str,
@@ -100,8 +99,8 @@ fn put_away<D: DatabaseHost>(
 ///
 /// # Errors
 ///
-/// `NoFile` where there is nothing at the path. `Errand` where the path cannot be looked at or the database
-/// cannot be opened, and as of `run_errand_in_database`.
+/// `NoFile`: there is nothing at the path. `Errand`: the path cannot be looked at, or the database cannot
+/// be opened; or as for `run_errand_in_database`.
 pub fn run_errand_at<S: Rising, D: DatabaseHost<Connection = Connection<S>>, O: Sink>(
     alloc: Global,
     host: &D,

@@ -1,4 +1,4 @@
-//! The place of databases.
+//! The places where databases are.
 
 ghost use Rattle.std.specs.Prelude.{Bool, false, true, ℕ, List, IfErr, IfOk};
 ghost use Rattle.hh_store.specs.declared.store_fault.StoreFault.{StoreFault};
@@ -11,26 +11,26 @@ use std::alloc::Global;
 pub trait DatabaseHost: Host {
     type Connection;
 
-    /// Whether one who looks at a path may find something there.
+    /// Whether something may be found at a path.
     ghost finds: { Self → List ℕ → Bool → Type 0 };
 
-    /// Which faults may refuse a look at a path, or the opening of a database there.
+    /// Which faults there may be when a path is looked at, or a database is made or opened there.
     ghost refuses: { Self → List ℕ → StoreFault → Type 0 };
 
-    /// Which connections the making or opening of a database at a path may give.
+    /// Which connections may come from making or opening a database at a path.
     ghost opens: { Self → List ℕ → Self.Connection → Type 0 };
 
     /// Which connections may have been closed at a path.
     ghost closes: { Self → List ℕ → Self.Connection → Type 0 };
 
-    /// Which connections may have been closed at a path whose database was taken away.
+    /// Which connections may have been closed at a path from which the database was then removed.
     ghost discards: { Self → List ℕ → Self.Connection → Type 0 };
 
     /// Whether there is anything at a path.
     ///
     /// # Errors
     ///
-    /// `Memory` where memory was refused, `Store` where the path can't be looked at.
+    /// `Memory`: memory was refused. `Store`: the path can't be looked at.
     fn exists(&self, path: &str) -> Result<bool, StoreFault>
         ensures found { IfOk result (finds self.now path.now) }
         ensures refused { IfErr result (refuses self.now path.now) };
@@ -39,7 +39,8 @@ pub trait DatabaseHost: Host {
     ///
     /// # Errors
     ///
-    /// `Memory` where memory was refused, `Store` where no database can be made. Nothing is there then.
+    /// `Memory`: memory was refused. `Store`: no database can be made. In both cases nothing is at the
+    /// path.
     fn make(&self, path: &str) -> Result<Self::Connection, StoreFault>
         requires { finds self.now path.now false }
         ensures opened { IfOk result (opens self.now path.now) }
@@ -49,24 +50,24 @@ pub trait DatabaseHost: Host {
     ///
     /// # Errors
     ///
-    /// `Memory` where memory was refused, `Store` where there is no database that can be opened.
+    /// `Memory`: memory was refused. `Store`: there is no database that can be opened.
     fn open(&self, path: &str) -> Result<Self::Connection, StoreFault>
         requires { finds self.now path.now true }
         ensures opened { IfOk result (opens self.now path.now) }
         ensures refused { IfErr result (refuses self.now path.now) };
 
-    /// Closes a database that was made or opened at a path. What was committed is kept, whatever comes of
-    /// the closing.
+    /// Closes a database that was made or opened at a path. What was committed is kept, even if closing
+    /// fails.
     fn close(&self, path: &str, connection: Self::Connection)
         ensures { closes self.now path.now connection };
 
-    /// Closes a database that was made at a path, and takes it away. Where it can't be taken away an empty
-    /// file stays.
+    /// Closes a database that was made at a path, and removes it. If it can't be removed, an empty file is
+    /// left.
     fn discard(&self, path: &str, connection: Self::Connection)
         ensures { discards self.now path.now connection };
 
-    /// The first bytes of the file of a path, so many or all of them, where it is a file that can be read more
-    /// than once. There are none of a pipe or a terminal, which may wait for ever, and none where memory is
-    /// refused. No contract knows them.
+    /// The first `most` bytes of the file at a path, or all of them if it has fewer. It is `None` if the
+    /// file can't be read more than once, as a pipe or a terminal, which may wait for ever, and if memory
+    /// is refused. No contract knows the bytes.
     fn read_again(&self, alloc: Global, path: &str, most: usize) -> Option<Vec<u8>>;
 }

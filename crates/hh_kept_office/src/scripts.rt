@@ -28,7 +28,7 @@ pub enum ScriptPathStop {
     NoFile,
     /// The database cannot be opened. Nothing was run.
     Unopened(StoreFault),
-    /// The script is not run, or not to its end, or the tables are not taken over.
+    /// The script is not run, or not to its end; or the tables are not taken over.
     Script(ScriptStop),
 }
 
@@ -52,14 +52,14 @@ impl From<ScriptStop> for ScriptPathStop {
     }
 }
 
-/// Runs the script in a file over the office at a path, whose database is opened once for all its lines,
-/// and writes what comes of each line, as `run_script` does. Each line is a transaction of its own.
+/// Runs the script in a file over the office at a path, and writes what comes of each line, as `run_script`
+/// does. The database is opened once for all lines. Each line is a transaction of its own.
 ///
 /// # Errors
 ///
-/// `NoFile` where there is nothing at the path, `Unopened` where the path cannot be looked at or the
-/// database cannot be opened; as of `run_script`, and `Refused` also where the tables are not taken over,
-/// which is found before the script is read. But for `Early` nothing was run and nothing written.
+/// `NoFile`: there is nothing at the path. `Unopened`: the path cannot be looked at, or the database cannot
+/// be opened. Otherwise as for `run_script`. Also `Refused` if the tables are not taken over, which is
+/// found out before the script is read. Nothing was run and nothing written, unless the error is `Early`.
 pub fn run_script_at<S: Rising, D: DatabaseHost<Connection = Connection<S>>, N: Notes, O: Sink>(
     alloc: Global,
     host: &D,
@@ -86,8 +86,8 @@ pub fn run_script_at<S: Rising, D: DatabaseHost<Connection = Connection<S>>, N: 
     Ok(())
 }
 
-/// Runs the script in a file over the office in a database, and hands the connection back. The script is
-/// read once the tables are taken over.
+/// Runs the script in a file over the office in a database, and returns the connection. The script is read
+/// after the tables are taken over.
 fn run_file<S: Rising, H: Host, N: Notes, O: Sink>(
     alloc: Global,
     connection: Connection<S>,
@@ -108,7 +108,7 @@ fn run_file<S: Rising, H: Host, N: Notes, O: Sink>(
     }
 }
 
-/// Runs the script in a file over an office with these tables, and hands their connection back.
+/// Runs the script in a file over an office with these tables, and returns their connection.
 fn run_file_over<S: Rising, H: Host, N: Notes, O: Sink>(
     alloc: Global,
     tables: SqlTables<S>,

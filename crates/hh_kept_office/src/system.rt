@@ -51,7 +51,7 @@ impl<'a, R: Files + Net + Clock> Host for Machine<'a, R> {
     }
 }
 
-/// No clause of std ties a path to what is opened there, so none does here.
+/// No clause of std says what is opened at a path, so none does here.
 impl<R: Files + Net + Clock> DatabaseHost for Machine<'_, R> {
     type Connection = Connection<FileStore<File>>;
 
@@ -65,7 +65,7 @@ impl<R: Files + Net + Clock> DatabaseHost for Machine<'_, R> {
 
     ghost discards = { λ _ _ _. ⊤ };
 
-    /// Nothing is there where the path leads through what is no folder.
+    /// There is nothing at a path that leads through something which is no folder.
     fn exists(&self, path: &str) -> Result<bool, StoreFault>
         ensures found { IfOk result (λ _. ⊤) }
         ensures refused { IfErr result (λ _. ⊤) }
@@ -77,7 +77,7 @@ impl<R: Files + Net + Clock> DatabaseHost for Machine<'_, R> {
         }
     }
 
-    /// `Store` also where a log lies beside the path, which belongs to another database.
+    /// Also `Store` if there is a log beside the path, as it belongs to another database.
     fn make(&self, path: &str) -> Result<Connection<FileStore<File>>, StoreFault>
         ensures opened { IfOk result (λ _. ⊤) }
         ensures refused { IfErr result (λ _. ⊤) }
@@ -95,7 +95,7 @@ impl<R: Files + Net + Clock> DatabaseHost for Machine<'_, R> {
         }
     }
 
-    /// `Store` also for what is no database, which stays as it is.
+    /// Also `Store` if the file is no database. It stays as it is.
     fn open(&self, path: &str) -> Result<Connection<FileStore<File>>, StoreFault>
         ensures opened { IfOk result (λ _. ⊤) }
         ensures refused { IfErr result (λ _. ⊤) }

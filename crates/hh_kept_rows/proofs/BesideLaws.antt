@@ -1,4 +1,4 @@
--- What is read from the rows of a date and from what is kept beside them is what is read from all tables.
+-- What is read from the rows of a date and what is kept beside them is what is read from all tables.
 use Rattle.std.proofs.Common.{◌≡◌, ℕ, List, [], ◌∷◌, map, refl, sym, ap, subst, ◌∙◌, true, Option, Some, None, inl, inr}
 use Rattle.std.specs.Prelude.{pos, filter, unwrap_or}
 use Rattle.std.specs.List.{AllByRecursion, AllZip}
@@ -33,7 +33,7 @@ use Rattle.hh_kept_rows.specs.DayRows.{HasRowsOn}
 use Rattle.hh_kept_rows.specs.declared.day_beside.DayBeside.{DayBeside}
 use Rattle.hh_kept_rows.proofs.DayRowLaws.{filter_kept, settled_alike, terms_alike}
 
--- the volume of a position that is known
+-- a known position is its volume
 known_volume : (p : Position) → is_known p ≡ true → p ≡ Known (volume_in p)
 known_volume (Known net) known = refl
 known_volume Lost known = cc
@@ -49,7 +49,7 @@ module _ (content : Content) (beside : Beside) (agree : agrees content beside �
   same_accounts : accounts_on part at.date ≡ accounts_on whole at.date
   same_accounts = ap (λ (p : PeriodTerms). p.accounts) same_terms
 
-  -- an account's position that is known is what it sells less what it buys
+  -- the known position of an account is what it sells less what it buys
   net_of_account : (a : Account) → is_known (position_in held.positions (position_key_at at a)) ≡ true
       → volume_in (position_in held.positions (position_key_at at a)) ≡ net_kwh (map (λ (r : ContractRow). r.contract) (rows_in_force whole at)) a
   net_of_account a known =
@@ -75,7 +75,7 @@ module _ (content : Content) (beside : Beside) (agree : agrees content beside �
     sizes = net.sizes;
   }
 
-  -- the rows of the latest run of the date are those of the run among all
+  -- the rows of the latest run of the date are those of the run out of all rows
   same_period : (run : RunKey) (summary : Summary) → latest_on content date ≡ Some (run, summary) → (period : ℕ) → result_beside held run period ≡ period_of_run content run period
   same_period run summary latest period =
       (λ i. settled_as (map (λ e. e.1) (filter (is_result_of run period) (is.results (run, summary) latest i)))

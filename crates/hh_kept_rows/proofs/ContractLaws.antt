@@ -1,4 +1,4 @@
--- The contracts in force of an account on a date: those that a walk over the table finds, by Settlement Period.
+-- The contracts in force of an account on a date are those found by going through the table, ordered by Settlement Period.
 use Rattle.std.proofs.Common.{◌≡◌, ℕ, ◌+◌, ◌<◌, List, [], ◌∷◌, ◌++◌, map, length, take, get_or, refl, sym, ap, subst, ◌∙◌, Bool, true, false, cond, Option, Some, None, Ordering}
 use Rattle.std.specs.Prelude.{ℤ, ◌&&◌, ◌==◌, filter, filter_map, option_map, option_to_list}
 use Rattle.std.specs.Cmp.{unsigned_tied}
@@ -26,7 +26,7 @@ both_equal Less p = refl
 both_equal Equal p = refl
 both_equal Greater p = refl
 
--- two Settlement Periods are one where their dates and their numbers are
+-- two Settlement Periods are the same if their dates and their numbers are
 pub same_period : (a b : SettlementPeriod) → eq_by_cmp settlement_period_cmp a b ≡ ((a.date == b.date) && (a.period == b.period))
 same_period a b =
     both_equal (nat_cmp a.date b.date) (nat_cmp a.period b.period)
@@ -45,7 +45,7 @@ module _ (a : Account) (date : ℕ) (tables : Registered) where
   abbrev found : List (ContractKey × ℤ) → List ContractRow
   found es = filter_map (contract_on tables a date) es
 
-  -- the rows of a Settlement Period among those that are found
+  -- the rows of a Settlement Period out of those that are found
   at_period : (p : ℕ) (es : List (ContractKey × ℤ))
       → filter (is_in_period p) (found es) ≡ filter (names_account a) (filter_map (row_in_force tables) (filter (is_here p) es))
   at_period p [] = refl
@@ -86,11 +86,11 @@ module _ (a : Account) (date : ℕ) (tables : Registered) where
       (λ i. at_period p tables.contracts i ++ by_periods ps i)
       ∙ sym (filter-append (names_account a) (rows_in_force tables (here p)) (flat_map (rows_in_force tables) (map here ps)))
 
-  -- the rows that are found, by their Settlement Periods, are the contracts in force of the account on the date
+  -- the rows that are found, ordered by their Settlement Periods, are the contracts in force of the account on the date
   pub contracts_by_period : flat_map (λ p. filter (is_in_period p) (found tables.contracts)) (from_one_to 50) ≡ contracts_of a date tables
   contracts_by_period = by_periods (from_one_to 50)
 
--- one more entry, and what is found of it
+-- one more entry, and what is found for it
 pub found_more : {X Y : Type 0} (f : X → Option Y) (es lent : List X) → lent ≡ es → (i : ℕ) (e : X) → i < length lent → e ≡ get_or lent i e → (o : Option Y) → o ≡ f e → (old new : List Y)
     → old ≡ filter_map f (take i es) → new ≡ old ++ option_to_list o → new ≡ filter_map f (take (i + 1) es)
 found_more f es lent same i e inside is o found old new so_far more =

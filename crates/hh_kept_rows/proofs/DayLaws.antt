@@ -1,4 +1,4 @@
--- What a Settlement Day is settled from, found by walks over the tables.
+-- What a Settlement Day is settled from, found by going through the tables.
 use Rattle.std.proofs.Common.{◌≡◌, ℕ, zero, suc, ◌+◌, ◌<◌, List, [], ◌∷◌, ◌++◌, map, length, take, get_or, refl, sym, ap, ◌∙◌, Bool, true, false, cond, Some, None, arith}
 use Rattle.std.specs.Prelude.{ℤ, ◌&&◌, ◌==◌, All, filter, filter_map, find, option_map}
 use Rattle.std.specs.FinMap.{find as entry_at}
@@ -21,7 +21,7 @@ use Rattle.hh_kept_rows.specs.steps.DayRolls.{row_on}
 use Rattle.hh_kept_rows.specs.steps.KeptContracts.{is_in_period}
 use Rattle.hh_kept_rows.proofs.ContractLaws.{same_period}
 
--- a search over a list that goes on
+-- a search that goes on with the next element of a list
 module _ {X : Type 0} (test : X → Bool) where
   pub find-append : (xs ys : List X) → find test (xs ++ ys) ≡ option_or (find test xs) (find test ys)
   find-append [] ys = refl
@@ -30,14 +30,14 @@ module _ {X : Type 0} (test : X → Bool) where
     | false ↦ find-append xs ys
   ]
 
-  -- none so far, and not the next
+  -- if no element so far passes, and the next doesn't, none passes up to it
   pub not_yet : (xs : List X) (i : ℕ) (x : X) → i < length xs → x ≡ get_or xs i x → find test (take i xs) ≡ None → test x ≡ false → find test (take (i + 1) xs) ≡ None
   not_yet xs i x inside is so_far fails =
       ap (find test) (take_more xs i x inside ∙ ap (λ y. take i xs ++ y ∷ []) (sym is))
       ∙ find-append (take i xs) (x ∷ [])
       ∙ (λ j. option_or (so_far j) (cond (fails j) (Some x) None))
 
-  -- none so far, but the next
+  -- if no element so far passes, but the next does, the next is found
   pub now_found : (xs : List X) (i : ℕ) (x : X) → i < length xs → x ≡ get_or xs i x → find test (take i xs) ≡ None → test x ≡ true → find test xs ≡ Some x
   now_found [] i x inside is so_far passes = absurd (nothing_below i inside)
     where
@@ -53,7 +53,7 @@ module _ {X : Type 0} (test : X → Bool) where
       some_is_not_none : (y : X) → Some y ≡ None → ⊥
       some_is_not_none y e = cc
 
--- a search over what a map gives
+-- a search over a mapped list
 pub find-map : {X Y : Type 0} (test : Y → Bool) (f : X → Y) (xs : List X) → find test (map f xs) ≡ option_map f (find (λ x. test (f x)) xs)
 find-map test f [] = refl
 find-map test f (x ∷ xs) = elim (test (f x)) as (λ b. cond b (Some (f x)) (find test (map f xs)) ≡ option_map f (cond b (Some x) (find (λ y. test (f y)) xs))) [
@@ -91,7 +91,7 @@ module _ {X Y : Type 0} (test : Y → Bool) (parts : X → List Y) where
       some_is_not_none : (w : Y) → Some w ≡ None → ⊥
       some_is_not_none w e = cc
 
--- what holds of a date holds of all its Settlement Periods
+-- if a date has a property, so have the dates of all its Settlement Periods
 pub all_on_date : (P : ℕ → Type 0) (date count : ℕ) → P date → All (λ at. P at.date) (periods_on date count)
 all_on_date P date count h = All-map (λ at. P at.date) (λ p. record { date = date; period = p }) (from_one_to count) (each (from_one_to count))
   where
@@ -102,7 +102,7 @@ all_on_date P date count h = All-map (λ at. P at.date) (λ p. record { date = d
         each_of [] = tt
         each_of (p ∷ ps) = (h, each_of ps)
 
--- the rows of a Settlement Period are those of its date with its number
+-- the rows of a Settlement Period are those of its date that have its number
 module _ (tables : Registered) (at : SettlementPeriod) where
   abbrev is_here : ContractKey × ℤ → Bool
   is_here e = eq_by_cmp settlement_period_cmp e.0.at at

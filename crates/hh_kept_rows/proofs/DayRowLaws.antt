@@ -1,4 +1,4 @@
--- A Settlement Day by its own rows: what is found among all rows is found among those of the date.
+-- A Settlement Day settled by its own rows: what is found among all rows is found among those of the date.
 use Rattle.std.proofs.Common.{◌≡◌, ℕ, List, [], ◌∷◌, ◌++◌, map, refl, sym, ap, subst, ◌∙◌, Bool, true, false, cond, Option, Some, Ordering, arith}
 use Rattle.std.specs.Prelude.{ℤ, pos, ◌==◌, ◌&&◌, ◌||◌, filter, filter_map, find, is_none, option_map, unwrap_or}
 use Rattle.std.specs.Cmp.{Equal-is}
@@ -56,7 +56,7 @@ all_weaker : {X : Type 0} (P Q : X → Type 0) → ((x : X) → P x → Q x) →
 all_weaker P Q weaker [] h = tt
 all_weaker P Q weaker (x ∷ xs) h = (weaker x h.0, all_weaker P Q weaker xs h.1)
 
--- what holds of the elements that pass a test holds of those that a stronger one passes
+-- if the elements that pass a test have a property, so have those that pass a stronger test
 all_filter : {X : Type 0} (P : X → Type 0) (test : X → Bool) (xs : List X) → AllByRecursion (λ x. test x ≡ true → P x) xs → AllByRecursion P (filter test xs)
 all_filter P test [] h = tt
 all_filter P test (x ∷ xs) h = elim (test x) as (λ b. test x ≡ b → AllByRecursion P (cond b (x ∷ filter test xs) (filter test xs))) [
@@ -64,7 +64,7 @@ all_filter P test (x ∷ xs) h = elim (test x) as (λ b. test x ≡ b → AllByR
   | false ↦ λ fails. all_filter P test xs h.1
 ] refl
 
--- a date's row is of the date
+-- Settlement Periods that are the same have the same date
 same_date : (a b : SettlementPeriod) → eq_by_cmp settlement_period_cmp a b ≡ true → a.date ≡ b.date
 same_date a b same = ap (λ (p : SettlementPeriod). p.date) (exact_settlement_periods a b ((Equal-is (settlement_period_cmp a b)).0 same))
 
@@ -85,7 +85,7 @@ module _ (date : ℕ) (whole part : Registered) (has : HasContractsOn date whole
       (all_weaker (λ e. e.0.at.date ≡ date → entry_at bytes_cmp e.0.reference part.references ≡ entry_at bytes_cmp e.0.reference whole.references)
       (λ e. eq_by_cmp settlement_period_cmp e.0.at at ≡ true → row_in_force part e ≡ row_in_force whole e) row_alike whole.contracts (recursion_from_All _ whole.contracts has.references)))
 
--- each of some Settlement Periods of a date is of it
+-- each of these Settlement Periods of a date is of that date
 each_on : (date : ℕ) (numbers : List ℕ) → AllByRecursion (λ (at : SettlementPeriod). at.date ≡ date) (map (λ p. record { date = date; period = p }) numbers)
 each_on date [] = tt
 each_on date (p ∷ numbers) = (refl, each_on date numbers)
@@ -103,7 +103,7 @@ module _ (date : ℕ) (whole part : Registered) (has : HasRowsOn date whole part
       (all_weaker (λ at. at.date ≡ date) (λ at. is_none (price_of part at) ≡ is_none (price_of whole at)) (λ at is. ap is_none (has.prices at is)) periods on)
 
   module _ (at : SettlementPeriod) (on : at.date ≡ date) where
-    -- what agrees of each unit of the date agrees of each unit of the period
+    -- if both agree on each unit of the date, they agree on each unit of the period
     units_agree : AllByRecursion (λ u. AgreesOnUnitAt whole part u.0 at) (units_on whole at.date)
     units_agree = subst (λ d. AllByRecursion (λ u. AgreesOnUnitAt whole part u.0 at) (units_on whole d)) (sym on) (recursion_from_All _ (units_on whole date) (has.of_units at on))
 
@@ -145,7 +145,7 @@ settled_alike date whole part has = record {
   terms = terms_alike date whole part has;
 }
 
--- what each of some Settlement Periods of the date is settled from in the part, it is settled from in the whole
+-- each of these Settlement Periods of the date is settled from the same in the part as in the whole
 module _ (date : ℕ) (whole part : Registered) (has : HasRowsOn date whole part) where
   periods_alike : (periods : List SettlementPeriod) (states : List PeriodState) → AllByRecursion (λ (at : SettlementPeriod). at.date ≡ date) periods
       → ArePeriodsOf part periods states → ArePeriodsOf whole periods states
@@ -169,7 +169,7 @@ read_alike date whole part has periods on day is =
 true_is_not_false : true ≡ false → ⊥
 true_is_not_false e = cc
 
--- a key is found among the rows that are kept where its row is kept
+-- a key is found among the rows that are kept if its row is kept
 find_kept : {K V : Type 0} (R : K → K → Ordering) (keeps : K → Bool) (es : Table K V) (k : K) → ((q : K) → eq_by_cmp R k q ≡ true → keeps q ≡ true)
     → entry_at R k (filter (λ e. keeps e.0) es) ≡ entry_at R k es
 find_kept R keeps [] k kept = refl
@@ -183,7 +183,7 @@ find_kept R keeps (e ∷ es) k kept =
       ] refl
     ] refl
 
--- the rows that pass a test are among those that are kept where each of them is kept
+-- the rows that pass a test are the same among the rows that are kept, if each of them is kept
 pub filter_kept : {X : Type 0} (keeps test : X → Bool) (xs : List X) → ((x : X) → test x ≡ true → keeps x ≡ true) → filter test (filter keeps xs) ≡ filter test xs
 filter_kept keeps test [] kept = refl
 filter_kept keeps test (x ∷ xs) kept =
@@ -203,7 +203,7 @@ or_true false = refl
 true_or : (a b : Bool) → a ≡ true → (a || b) ≡ true
 true_or a b is = ap (λ x. x || b) is
 
--- each element is one of those that a test of it finds
+-- if an element of a list passes a test, some element of the list does
 each_found : {X : Type 0} (xs : List X) → AllByRecursion (λ x. (test : X → Bool) → test x ≡ true → list_any test xs ≡ true) xs
 each_found [] = tt
 each_found {X = X} (x ∷ xs) = (
@@ -255,7 +255,7 @@ rows_kept date whole = record {
   contracts = contracts_kept date whole;
 }
 
--- what two agree on, and the second with a third, the first and the third agree on
+-- if the first agrees with the second and the second with the third, the first agrees with the third
 agrees_through : (whole middle part : Registered) (r : Row) → AgreesOn whole middle r → AgreesOn middle part r → AgreesOn whole part r
 agrees_through whole middle part (row.Party r) a b = b ∙ a
 agrees_through whole middle part (row.Unit r) (party, unit) (party', unit') = (party' ∙ party, unit' ∙ unit)

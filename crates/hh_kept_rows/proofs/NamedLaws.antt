@@ -1,4 +1,4 @@
--- The reallocations of the units in the Settlement Periods that rows name, and that a part that has them serves for the rows.
+-- The reallocations of the units in the Settlement Periods that rows name; and a part that has them serves for the rows.
 use Rattle.std.proofs.Common.{◌≡◌, ℕ, zero, suc, ◌+◌, ◌<◌, List, [], ◌∷◌, ◌++◌, length, take, get_or, refl, sym, ap, subst, ◌∙◌, Bool, true, false, cond, Ordering, append_assoc}
 use Rattle.std.specs.Prelude.{◌≢◌, filter, T}
 use Rattle.std.specs.BTreeMap.{is_at}
@@ -52,7 +52,7 @@ module _ {K V : Type 0} {R : K → K → Ordering} (o : IsTotalOrder R) where
       ap (λ r. by_order r ((e.0, e.1) ∷ x ∷ front) ((x.0, e.1) ∷ front) (x ∷ put R e.0 e.1 front)) above
       ∙ ap (λ es. x ∷ es) (put_behind_all front e rest (second _ _ h))
 
-  -- entries in the order of their keys that are put behind others
+  -- entries above all others, in the order of their keys, are put at the end
   put_all_behind : (es front : Table K V) → T (is_sorted R (front ++ es)) → put_all R es front ≡ front ++ es
   put_all_behind [] front h = sym (append-nil front)
   put_all_behind (e ∷ es) front h =
@@ -60,7 +60,7 @@ module _ {K V : Type 0} {R : K → K → Ordering} (o : IsTotalOrder R) where
       ∙ put_all_behind es (front ++ e ∷ []) (subst (λ l. T (is_sorted R l)) (sym (append_assoc front (e ∷ []) es)) h)
       ∙ append_assoc front (e ∷ []) es
 
--- what passes a test is found among what passes a wider one
+-- the elements that pass a test are the same among those that pass a wider test
 filter_within : {X : Type 0} (test wider : X → Bool) → ((x : X) → test x ≡ true → wider x ≡ true) → (xs : List X) → filter test (filter wider xs) ≡ filter test xs
 filter_within test wider within [] = refl
 filter_within test wider within (x ∷ xs) =
@@ -76,15 +76,15 @@ filter_within test wider within (x ∷ xs) =
     ] refl
 
 module _ (whole : Registered) (rising : IsTable reallocation_key_cmp whole.reallocations) (named : BTreeSet UnitPeriod) where
-  -- the reallocations of what is named
+  -- the reallocations whose unit and Settlement Period are named
   abbrev held : Table ReallocationKey Reallocation
   held = filter (is_named_in named) whole.reallocations
 
-  -- the part's reallocations, once those of what is named are put in
+  -- putting them into an empty table gives them
   put_held : put_all reallocation_key_cmp held [] ≡ held
   put_held = put_all_behind reallocation_key_total held [] (sorted-filter reallocation_key_cmp (is_named_in named) whole.reallocations (from_true _ rising))
 
-  -- and so once the first of them are
+  -- and so does putting the first of them
   pub put_so_far : (i : ℕ) → put_all reallocation_key_cmp (filter (is_named_in named) (take i whole.reallocations)) [] ≡ filter (is_named_in named) (take i whole.reallocations)
   put_so_far i =
       put_all_behind reallocation_key_total (filter (is_named_in named) (take i whole.reallocations)) []
@@ -96,7 +96,7 @@ module _ (whole : Registered) (rising : IsTable reallocation_key_cmp whole.reall
       filter_within (λ e. eq_by_cmp unit_period_cmp e.0.unit_period at) (is_named_in named)
       (λ e here. ap (contains unit_period_cmp named) (exact_unit_periods e.0.unit_period at ((Equal-is (unit_period_cmp e.0.unit_period at)).0 here)) ∙ is_named) whole.reallocations
 
-  -- with what a row names and the reallocations of what is named, the part has what the row is judged by
+  -- with what a row names and these reallocations, the part has all that the row is judged by
   agrees_with_held : (part : RegisterView) (r : Row) → AgreesOnNames whole (tables_in part) r → IsNamedIn named r → AgreesOn whole (tables_in (with_reallocations held part)) r
   agrees_with_held part (row.Party r) names is_named = names
   agrees_with_held part (row.Unit r) names is_named = names
@@ -105,7 +105,7 @@ module _ (whole : Registered) (rising : IsTable reallocation_key_cmp whole.reall
   agrees_with_held part (row.Contract r) names is_named = names
   agrees_with_held part (row.Reallocation r) (party, unit) is_named = (party, unit, held_at r.key.unit_period is_named)
 
-  -- so that it serves for the rows
+  -- so it serves for the rows
   pub serves_with_held : (lead_minutes : ℕ) (rows : List Row) (part new : RegisterView) → IsPartOf (whole_of lead_minutes whole) part → All (AgreesOnNames whole (tables_in part)) rows → All (IsNamedIn named) rows
       → new ≡ with_reallocations (put_all reallocation_key_cmp held (tables_in part).reallocations) part
       → ServesFor rows (whole_of lead_minutes whole) new
@@ -120,7 +120,7 @@ module _ (whole : Registered) (rising : IsTable reallocation_key_cmp whole.reall
         agrees = λ k d below. agrees_with_held part _ (names k d below) (are_named k d below);
       })
 
--- what is named stays so
+-- what is named stays named
 stays_named : (old new : BTreeSet UnitPeriod) → ((at : UnitPeriod) → contains unit_period_cmp old at ≡ true → contains unit_period_cmp new at ≡ true) → (r : Row) → IsNamedIn old r → IsNamedIn new r
 stays_named old new more (row.Party r) h = h
 stays_named old new more (row.Unit r) h = h
@@ -135,7 +135,7 @@ pub named_more : (rows : List Row) (i : ℕ) (r : Row) → i < length rows → r
 named_more rows i r inside is old new so_far more own =
     All-more (IsNamedIn new) rows i r inside (All-weaker (IsNamedIn old) (IsNamedIn new) (stays_named old new more) (take i rows) so_far) (subst (IsNamedIn new) is own)
 
--- one more reallocation, which is held if it is of what is named
+-- one more reallocation, which is held if its unit and Settlement Period are named
 pub held_more : (named : BTreeSet UnitPeriod) (es : Table ReallocationKey Reallocation) (i : ℕ) (e : ReallocationKey × Reallocation) → i < length es → e ≡ get_or es i e → (before : Table ReallocationKey Reallocation)
     → put_all reallocation_key_cmp (filter (is_named_in named) (take (i + 1) es)) before
     ≡ cond (is_named_in named e) (put reallocation_key_cmp e.0 e.1 (put_all reallocation_key_cmp (filter (is_named_in named) (take i es)) before)) (put_all reallocation_key_cmp (filter (is_named_in named) (take i es)) before)
@@ -147,12 +147,12 @@ held_more named es i e inside is before =
       | false ↦ ap (λ l. put_all reallocation_key_cmp l before) (append-nil (filter (is_named_in named) (take i es)))
     ]
 
--- what is put into a set of names leaves the others there
+-- putting a name into a set leaves the other names in it
 pub still_named : (old new : BTreeSet UnitPeriod) (key : UnitPeriod) → Updates unit_period_cmp old new key true → (at : UnitPeriod) → contains unit_period_cmp old at ≡ true → contains unit_period_cmp new at ≡ true
 still_named old new key updates at h =
     updates.0 at ∙ elim (is_at (unit_period_cmp key) at) as (λ b. cond b true (contains unit_period_cmp old at) ≡ true) [ true ↦ refl | false ↦ h ]
 
--- a further row is agreed on
+-- both agree on one more row
 pub names_more : (whole : Registered) (rows : List Row) (i : ℕ) (r : Row) → i < length rows → r ≡ get_or rows i r → (old new : RegisterView) → Grows whole old new
     → All (AgreesOnNames whole (tables_in old)) (take i rows) → AgreesOnNames whole (tables_in new) r → All (AgreesOnNames whole (tables_in new)) (take (i + 1) rows)
 names_more whole rows i r inside is old new grows so_far own =
@@ -161,7 +161,7 @@ names_more whole rows i r inside is old new grows so_far own =
     (subst (AgreesOnNames whole (tables_in new)) is own)
 
 module _ (named : BTreeSet UnitPeriod) where
-  -- the part with those that are named of the reallocations
+  -- the part with the reallocations that are named
   abbrev with_named : Table ReallocationKey Reallocation → RegisterView → RegisterView
   with_named es part = with_reallocations (put_all reallocation_key_cmp (filter (is_named_in named) es) (tables_in part).reallocations) part
 

@@ -1,11 +1,12 @@
--- A part of a register grows by what the whole has, and then serves for the rows that name it.
-use Rattle.std.proofs.Common.{◌≡◌, ℕ, List, length, refl, sym, ap, ◌∙◌, true, false, cond, Some, None, Ordering, inl, inr}
-use Rattle.std.specs.Prelude.{◌⊎◌, ℤ, OnOk, Result, Ok, Err}
+-- A part of a register gets rows that the whole has, and then serves for the rows that name these.
+use Rattle.std.proofs.Common.{◌≡◌, ℕ, ◌+◌, ◌<◌, List, [], ◌∷◌, length, take, get_or, refl, sym, ap, subst, ◌∙◌, true, false, cond, Some, None, Ordering, inl, inr}
+use Rattle.std.specs.Prelude.{◌⊎◌, ℤ, All, OnOk, Result, Ok, Err}
 use Rattle.std.specs.Cmp.{IsTotalOrder, Equal-is, eq_by_cmp_equiv}
 use Rattle.std.specs.FinMap.{find, put}
 use Rattle.std.specs.FinMap.Entries.{find-put}
 use Rattle.std.specs.Ordering.{eq_by_cmp}
 use Rattle.std.specs.declared.cmp.Ordering.TheVariants.{Equal}
+use Rattle.std.proofs.lemmas.List.Elements.{All-head, All-more, All-tail, All-weaker}
 use Rattle.std.proofs.lemmas.Map.Lookups.{exact_bytes}
 use Rattle.hh_tables.specs.Tables.{Table}
 use Rattle.hh_names.specs.declared.values.Counterparties.{Counterparties}
@@ -24,10 +25,10 @@ use Rattle.hh_rows.proofs.KeyLaws.{contract_key_total, exact_contract_keys, exac
 use Rattle.hh_rules.specs.History.{Registered}
 use Rattle.hh_rules.specs.RegisterView.{AgreesOnParty, AgreesOnReference, AgreesOnUnit, RegisterView, empty_part, holding_contract, holding_party, holding_price, holding_reading, holding_reference, holding_unit, tables_in}
 use Rattle.hh_kept_rows.specs.Parts.{whole_of}
-use Rattle.hh_kept_rows.specs.steps.Parts.{AgreesOnNames, Grows, GrowsTable, IsPartOf, IsPartOfTable}
+use Rattle.hh_kept_rows.specs.steps.Parts.{AgreesOnNames, AgreesOnUnits, Grows, GrowsTable, IsPartOf, IsPartOfTable}
 
 module _ {K V : Type 0} {R : K → K → Ordering} (o : IsTotalOrder R) (exact : (x y : K) → R x y ≡ Equal → x ≡ y) (whole old : Table K V) (k : K) (v : V) (has : find R k whole ≡ Some v) where
-  -- an entry of the whole that is put into the part
+  -- the part after an entry of the whole is put into it
   grows-put : GrowsTable R whole old (put R k v old)
   grows-put q = elim (eq_by_cmp R q k) as (λ b. eq_by_cmp R q k ≡ b → (find R q (put R k v old) ≡ find R q old) ⊎ (find R q (put R k v old) ≡ find R q whole)) [
     | true ↦ λ same. inr (find-put R o q k v old ∙ ap (λ b. cond b (Some v) (find R q old)) same ∙ sym has ∙ ap (λ x. find R x whole) (sym (exact q k ((Equal-is (R q k)).0 same))))
@@ -38,11 +39,11 @@ module _ {K V : Type 0} {R : K → K → Ordering} (o : IsTotalOrder R) (exact :
   agrees-put = find-put R o k k v old ∙ ap (λ b. cond b (Some v) (find R k old)) ((eq_by_cmp_equiv o).refl k) ∙ sym has
 
 module _ {K V : Type 0} (R : K → K → Ordering) (whole : Table K V) (k : K) where
-  -- where the whole has nothing, the part has nothing
+  -- if the whole has nothing under a key, the part has nothing
   agrees-none : (part : Table K V) → IsPartOfTable R whole part → find R k whole ≡ None → find R k part ≡ find R k whole
   agrees-none part within none = elim (within k) as (λ _. find R k part ≡ find R k whole) [ inl nothing ↦ nothing ∙ sym none | inr same ↦ same ]
 
-  -- what agrees stays
+  -- a key that agrees still does
   agrees-grown : (old new : Table K V) → GrowsTable R whole old new → find R k old ≡ find R k whole → find R k new ≡ find R k whole
   agrees-grown old new grows agrees = elim (grows k) as (λ _. find R k new ≡ find R k whole) [ inl same ↦ same ∙ agrees | inr has ↦ has ]
 
@@ -58,6 +59,15 @@ module _ {K V : Type 0} (R : K → K → Ordering) (whole : Table K V) where
     | inl same ↦ elim (first k) as (λ _. (find R k c ≡ find R k a) ⊎ (find R k c ≡ find R k whole)) [ inl before ↦ inl (same ∙ before) | inr has ↦ inr (same ∙ has) ]
     | inr has ↦ inr has
   ]
+
+module _ {K V : Type 0} {R : K → K → Ordering} (exact : (x y : K) → R x y ≡ Equal → x ≡ y) (P : K → Type 0) where
+  -- if the keys of all entries have a property, so has each key that is found
+  found-among : (es : Table K V) → All (λ e. P e.0) es → (k : K) → (find R k es ≡ None) ⊎ P k
+  found-among [] each k = inl refl
+  found-among (e ∷ es) each k = elim (eq_by_cmp R k e.0) as (λ b. eq_by_cmp R k e.0 ≡ b → (cond b (Some e.1) (find R k es) ≡ None) ⊎ P k) [
+    | true ↦ λ same. inr (subst P (sym (exact k e.0 ((Equal-is (R k e.0)).0 same))) (All-head (λ (e : K × V). P e.0) e es each))
+    | false ↦ λ apart. found-among es (All-tail (λ (e : K × V). P e.0) e es each) k
+  ] refl
 
 module _ (whole : Registered) where
   pub grows_none : (part : RegisterView) → Grows whole part part
@@ -112,7 +122,19 @@ module _ (whole : Registered) where
     pub reference_grown : (reference : List ℕ) → AgreesOnReference whole (tables_in old) reference → AgreesOnReference whole (tables_in new) reference
     reference_grown reference = agrees-grown bytes_cmp whole.references reference (tables_in old).references (tables_in new).references grows.references
 
-    -- what a row names stays alike
+    pub units_grown : AgreesOnUnits whole (tables_in old) → AgreesOnUnits whole (tables_in new)
+    units_grown agrees unit = unit_grown unit (agrees unit)
+
+    -- one more unit agrees
+    pub units_more : (units : Table (List ℕ) UnitRegistration) (i : ℕ) (d : List ℕ × UnitRegistration) → i < length units → d ≡ get_or units i d
+        → All (λ e. AgreesOnUnit whole (tables_in old) e.0) (take i units) → AgreesOnUnit whole (tables_in new) d.0 → All (λ e. AgreesOnUnit whole (tables_in new) e.0) (take (i + 1) units)
+    units_more units i d inside is so_far own =
+        let agrees : RegisterView → List ℕ × UnitRegistration → Type 0 = λ part e. AgreesOnUnit whole (tables_in part) e.0 in
+        All-more (agrees new) units i d inside
+        (All-weaker (agrees old) (agrees new) (λ e. unit_grown e.0) (take i units) so_far)
+        (subst (agrees new) is own)
+
+    -- what a row names still agrees
     pub names_grown : (r : Row) → AgreesOnNames whole (tables_in old) r → AgreesOnNames whole (tables_in new) r
     names_grown (row.Party r) party = party_grown r.party party
     names_grown (row.Unit r) (party, unit) = (party_grown r.registration.lead.party party, unit_grown r.unit unit)
@@ -234,13 +256,20 @@ module _ (whole : Registered) where
         → find contract_key_cmp key (tables_in (holding_contract old key volume)).contracts ≡ find contract_key_cmp key whole.contracts
     agrees_contract key volume has = agrees-put contract_key_total exact_contract_keys whole.contracts (tables_in old).contracts key volume has
 
-  -- what the whole doesn't have, the part doesn't have
+  -- the part has nothing that the whole doesn't have
   module _ (lead_minutes : ℕ) (part : RegisterView) (is : IsPartOf (whole_of lead_minutes whole) part) where
     pub no_party : (party : List ℕ) → find bytes_cmp party whole.parties ≡ None → AgreesOnParty whole (tables_in part) party
     no_party party none = agrees-none bytes_cmp whole.parties party (tables_in part).parties is.parties none
 
     pub no_unit : (unit : List ℕ) → find bytes_cmp unit whole.units ≡ None → AgreesOnUnit whole (tables_in part) unit
     no_unit unit none = agrees-none bytes_cmp whole.units unit (tables_in part).units is.units none
+
+    -- if all entries of units agree, all units do
+    pub all_units : All (λ e. AgreesOnUnit whole (tables_in part) e.0) whole.units → AgreesOnUnits whole (tables_in part)
+    all_units each unit = elim (found-among exact_bytes (AgreesOnUnit whole (tables_in part)) whole.units each unit) as (λ _. AgreesOnUnit whole (tables_in part) unit) [
+      | inl none ↦ no_unit unit none
+      | inr agrees ↦ agrees
+    ]
 
     pub no_reading : (key : UnitPeriod) → find unit_period_cmp key whole.meters ≡ None → find unit_period_cmp key (tables_in part).meters ≡ find unit_period_cmp key whole.meters
     no_reading key none = agrees-none unit_period_cmp whole.meters key (tables_in part).meters is.meters none
@@ -251,12 +280,12 @@ module _ (whole : Registered) where
     pub no_contract : (key : ContractKey) → find contract_key_cmp key whole.contracts ≡ None → find contract_key_cmp key (tables_in part).contracts ≡ find contract_key_cmp key whole.contracts
     no_contract key none = agrees-none contract_key_cmp whole.contracts key (tables_in part).contracts is.contracts none
 
--- what follows of two things that hold where a call succeeds
+-- if a call succeeds with two properties, it succeeds with what follows from both
 pub where_both : {X E P Q S : Type 0} (r : Result X E) → (P → Q → S) → OnOk r P → OnOk r Q → OnOk r S
 where_both (Ok x) both p q = both p q
 where_both (Err e) both p q = tt
 
--- a part that counts all parties and units and holds none of them yet
+-- a part that counts all parties and units, but holds none of them yet
 pub empty_is_part : (whole : Registered) (lead_minutes parties units : ℕ) → parties ≡ length whole.parties → units ≡ length whole.units → IsPartOf (whole_of lead_minutes whole) (empty_part lead_minutes parties units)
 empty_is_part whole lead_minutes parties units all_parties all_units = record {
   lead_minutes = refl;

@@ -1,4 +1,4 @@
--- The rows of a Settlement Period of a run lie together among the rows of a table.
+-- The rows of a Settlement Period of a run are next to each other in a table.
 use Rattle.std.proofs.Common.{◌≡◌, ℕ, ◌+◌, List, take, drop, get_or, refl, ap, ◌∙◌, true, false, Ordering, arith}
 use Rattle.std.specs.Prelude.{ℤ, T, ◌&&◌, filter}
 use Rattle.std.specs.Cmp.{IsTotalOrder, nat_cmp_total, on_total, then_total, unsigned_tied}
@@ -26,7 +26,7 @@ run_period_cmp = then_cmp (on (λ m. m.0) run_key_cmp) (on (λ m. m.1) nat_cmp)
 pub run_period_total : IsTotalOrder run_period_cmp
 run_period_total = then_total (on_total (λ (m : RunKey × ℕ). m.0) run_key_total) (on_total (λ (m : RunKey × ℕ). m.1) nat_cmp_total)
 
--- what comes first by its run and period, and then by more, is not behind by its run and period
+-- if a whole key comes before, its run and period don't come after
 not_behind : (x y z : Ordering) → ordering_then x (ordering_then y z) ≡ Less → is_lt (ordering_reverse (ordering_then x y)) ≡ false
 not_behind Less y z e = refl
 not_behind Equal Less z e = refl
@@ -40,14 +40,14 @@ same_both Equal p = refl
 same_both Greater p = refl
 
 module _ (run : RunKey) (period : ℕ) where
-  -- the order of a row's run and period beside these
+  -- the order of a row's run and period against these
   abbrev pub result_order : ResultKey × AccountRow → Ordering
   result_order e = ordering_then (run_key_cmp e.0.run run) (nat_cmp e.0.period period)
 
   abbrev pub credit_order : CreditKey × ℤ → Ordering
   credit_order e = ordering_then (run_key_cmp e.0.run run) (nat_cmp e.0.period period)
 
-  -- in a table it rises
+  -- in a table this order rises
   pub results_rise : (es : List (ResultKey × AccountRow)) → T (is_sorted result_key_cmp es) → IsNonDecreasingBy (λ e. ordering_index (result_order e)) es
   results_rise es sorted = searchable_from_sorted run_period_total (λ (e : ResultKey × AccountRow). (e.0.run, e.0.period)) es (run, period) (λ j d low high.
       let a : ResultKey = (get_or es j d).0 in
@@ -63,7 +63,7 @@ module _ (run : RunKey) (period : ℕ) where
       ∙ not_behind (run_key_cmp a.run b.run) (nat_cmp a.period b.period) (ordering_then (bytes_cmp a.unit b.unit) (account_cmp a.account b.account))
       (rises credit_key_cmp es sorted j (j + 1) d (omega arith) high))
 
-  -- those from the first that is not below on, up to the first that is above, are those of the run and period
+  -- the rows from the first that is not below, up to the first that is above, are those of the run and period
   pub results_between : (es : List (ResultKey × AccountRow)) (from count : ℕ) → IsPartitionPoint (λ e. is_lt (result_order e) ≡ true) (λ e. is_lt (result_order e) ≡ false) es from
       → IsPartitionPoint (λ e. is_le (result_order e) ≡ true) (λ e. is_le (result_order e) ≡ false) (drop from es) count
       → take count (drop from es) ≡ filter (is_result_of run period) es

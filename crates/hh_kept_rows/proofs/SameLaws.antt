@@ -1,4 +1,4 @@
--- What walks over what is kept beside the rows of a date find: whether a Settlement Period was touched, and whose rows a run has.
+-- What is found by going through what is kept beside the rows of a date: whether a Settlement Period was touched, and the run's rows.
 use Rattle.std.proofs.Common.{◌≡◌, ℕ, zero, suc, ◌+◌, ◌<◌, List, [], ◌∷◌, ◌++◌, map, length, take, get_or, refl, sym, ap, ◌∙◌, true, false, arith}
 use Rattle.std.specs.Prelude.{◌||◌}
 use Rattle.std.specs.Ordering.{eq_by_cmp}
@@ -16,7 +16,7 @@ module _ (at : SettlementPeriod) where
     | false ↦ among-append ps qs
   ]
 
-  -- it is not among those so far, and is not the next
+  -- it is not among the periods so far, and is not the next
   pub not_yet_among : (ps : List SettlementPeriod) (i : ℕ) (p : SettlementPeriod) → i < length ps → p ≡ get_or ps i p → is_among (take i ps) at ≡ false
       → eq_by_cmp settlement_period_cmp p at ≡ false → is_among (take (i + 1) ps) at ≡ false
   not_yet_among ps i p inside is so_far other =
@@ -24,7 +24,7 @@ module _ (at : SettlementPeriod) where
       ∙ among-append (take i ps) (p ∷ [])
       ∙ (λ j. so_far j || (other j || false))
 
-  -- it is one of them
+  -- it is the next
   pub now_among : (ps : List SettlementPeriod) (i : ℕ) (p : SettlementPeriod) → i < length ps → p ≡ get_or ps i p → eq_by_cmp settlement_period_cmp p at ≡ true → is_among ps at ≡ true
   now_among [] i p inside is same = absurd (nothing_below i inside)
     where
@@ -33,7 +33,7 @@ module _ (at : SettlementPeriod) where
   now_among (q ∷ ps) zero p inside is same = ap (λ b. b || is_among ps at) (ap (λ r. eq_by_cmp settlement_period_cmp r at) (sym is) ∙ same)
   now_among (q ∷ ps) (suc i) p inside is same = or_right (eq_by_cmp settlement_period_cmp q at) (is_among ps at) (now_among ps i p (omega (arith, inside)) is same)
 
--- one element more of what a map gives
+-- one more element of a mapped list
 pub mapped_more : {X Y : Type 0} (f : X → Y) (xs : List X) (ys : List Y) (i : ℕ) (x : X) (y : Y) → i < length xs → x ≡ get_or xs i x → i < length ys → y ≡ get_or ys i y → f x ≡ y
     → map f (take i xs) ≡ take i ys → map f (take (i + 1) xs) ≡ take (i + 1) ys
 mapped_more f xs ys i x y inside is inside' is' same so_far =

@@ -1,4 +1,4 @@
--- Where what is registered and in force is sound, a part of it passes nothing: no unit has more than 100 percent.
+-- If what is registered and in force is sound, no part of it has more than 100 percent of a unit.
 use Rattle.std.proofs.Common.{◌≡◌, ℕ, zero, suc, ◌<◌, [], ◌∷◌, length, take, get_or, sym, ap, subst, ◌∙◌, Bool, true, false, cond, arith}
 use Rattle.std.specs.Prelude.{ℤ, pos, ◌+ℤ◌, ◌≤ℤ◌, filter, not, ◌&&◌, is_ok, int_lt, Result, Ok, Err, IsOk}
 use Rattle.std.specs.BTreeSet.{BTreeSet}
@@ -26,11 +26,11 @@ use Rattle.hh_kept_rows.specs.steps.Parts.{is_named_in, with_reallocations, None
 use Rattle.hh_kept_rows.proofs.NamedLaws.{put_so_far}
 
 module _ (key : ReallocationKey) where
-  -- what a reallocation has of the key's unit in its Settlement Period
+  -- the percentage of a reallocation, if it is of the key's unit in its Settlement Period
   abbrev here : ReallocationKey × Reallocation → ℤ
   here e = cond (eq_by_cmp unit_period_cmp e.0.unit_period key.unit_period) e.1.percent (pos 0)
 
-  -- the same, for another account than the key's
+  -- the same, if it is also of another account than the key's
   abbrev of_other : ReallocationKey × Reallocation → ℤ
   of_other e = cond (is_of_other key e.0) e.1.percent (pos 0)
 
@@ -56,7 +56,7 @@ module _ (key : ReallocationKey) where
       let rest = all_not_negative es h.1 in
       omega (arith, ints)
 
-  -- of those before a reallocation, some of other accounts, with its own
+  -- some reallocations of other accounts before one, together with that one, are at most all
   before_and_own : (test : ReallocationKey × Reallocation → Bool) (es : Table ReallocationKey Reallocation) (i : ℕ) (d : ReallocationKey × Reallocation) → i < length es
       → AllByRecursion (λ e. pos 0 ≤ℤ e.1.percent) es → (total of_other (filter test (take i es)) +ℤ here (get_or es i d)) ≤ℤ total here es
   before_and_own test [] i d inside h = absurd (omega arith)
@@ -77,7 +77,7 @@ under a b h = grind (arith, ints)
 
 module _ (tables : Registered) (sound : AreSound tables) where
   module _ (positive : NoneNegative tables.reallocations) (test : ReallocationKey × Reallocation → Bool) (i : ℕ) (e : ReallocationKey × Reallocation) (inside : i < length tables.reallocations) (is : e ≡ get_or tables.reallocations i e) where
-    -- with a reallocation, those of other accounts before it are at most 100 percent of its unit
+    -- a reallocation and those of other accounts before it are together at most 100 percent of its unit
     at_most_hundred : (percent_of_others e.0 (filter test (take i tables.reallocations)) +ℤ e.1.percent) ≤ℤ hundred_percent
     at_most_hundred =
         let own : here e.0 (get_or tables.reallocations i e) ≡ e.1.percent = ap (here e.0) (sym is) ∙ ap (λ b. cond b e.1.percent (pos 0)) ((eq_by_cmp_equiv unit_period_total).refl e.0.unit_period) in
@@ -85,7 +85,7 @@ module _ (tables : Registered) (sound : AreSound tables) where
         let all : total (here e.0) tables.reallocations ≤ℤ hundred_percent = sound.percents e.0.unit_period in
         omega (arith, ints)
 
--- so that a part takes the next of the reallocations that are named
+-- so a part takes the next of the reallocations that are named
 pub takes_more : (tables : Registered) → AreSound tables → IsTable reallocation_key_cmp tables.reallocations → NoneNegative tables.reallocations
     → (named : BTreeSet UnitPeriod) (lent : Table ReallocationKey Reallocation) → lent ≡ tables.reallocations
     → (i : ℕ) (e : ReallocationKey × Reallocation) → i < length lent → e ≡ get_or lent i e → (first old : RegisterView) → (tables_in first).reallocations ≡ []

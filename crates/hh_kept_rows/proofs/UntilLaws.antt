@@ -1,4 +1,4 @@
--- Readings of Settlement Periods that come after none but a last one.
+-- Readings none of which is of a Settlement Period after a last one.
 use Rattle.std.proofs.Common.{◌≡◌, ℕ, ◌+◌, ◌<◌, [], ◌∷◌, length, take, get_or, refl, sym, ap, subst, ◌∙◌, true, false, cond, Ordering, None, Some}
 use Rattle.std.proofs.Math.Bool.{true≢false}
 use Rattle.std.proofs.lemmas.List.Elements.{All-head, All-more, All-tail, All-weaker}
@@ -14,7 +14,7 @@ use Rattle.hh_rows.specs.declared.settlement_period.SettlementPeriod.{Settlement
 use Rattle.hh_rows.proofs.KeyLaws.{exact_unit_periods, settlement_period_total}
 use Rattle.hh_kept_rows.specs.steps.Parts.{AreUntil, is_after}
 
--- where one Settlement Period is before another, that one is after it
+-- if one Settlement Period is before another, the other is after it
 turned : (a b : SettlementPeriod) → is_lt (settlement_period_cmp a b) ≡ true → is_after b a ≡ true
 turned a b before = ap is_gt (settlement_period_total.antisymm b a) ∙ by (settlement_period_cmp a b) before
   where
@@ -23,7 +23,7 @@ turned a b before = ap is_gt (settlement_period_total.antisymm b a) ∙ by (sett
     by Equal h = absurd (true≢false (sym h))
     by Greater h = absurd (true≢false (sym h))
 
--- where it is not, that one is not after it
+-- if it is not before, the other is not after it
 pub not_before : (a b : SettlementPeriod) → is_lt (settlement_period_cmp a b) ≡ false → is_after b a ≡ false
 not_before a b level = ap is_gt (settlement_period_total.antisymm b a) ∙ by (settlement_period_cmp a b) level
   where
@@ -32,7 +32,7 @@ not_before a b level = ap is_gt (settlement_period_total.antisymm b a) ∙ by (s
     by Equal h = refl
     by Greater h = refl
 
--- no reading counts after the last
+-- there is no reading after the last Settlement Period
 pub none_after : (last : SettlementPeriod) (key : UnitPeriod) (readings : Table UnitPeriod Reading) → AreUntil (Some last) readings
     → is_lt (settlement_period_cmp last key.at) ≡ true → find unit_period_cmp key readings ≡ None
 none_after last key [] until before = refl
@@ -45,7 +45,7 @@ none_after last key (e ∷ readings) until before =
       | false ↦ λ apart. none_after last key readings (All-tail (λ (e : UnitPeriod × Reading). is_after e.0.at last ≡ false) e readings until) before
     ] refl
 
--- nor is the first of two after the second, where it is before it
+-- if one Settlement Period is before another, it is not after it
 pub before_not_after : (a b : SettlementPeriod) → is_lt (settlement_period_cmp a b) ≡ true → is_after a b ≡ false
 before_not_after a b before = by (settlement_period_cmp a b) before
   where
@@ -57,11 +57,11 @@ before_not_after a b before = by (settlement_period_cmp a b) before
 pub not_after_both : (a b c : SettlementPeriod) → is_after a b ≡ false → is_after b c ≡ false → is_after a c ≡ false
 not_after_both = upto settlement_period_total
 
--- readings that are until one Settlement Period are until one that is not before it
+-- if no reading is after one Settlement Period, none is after a later one
 until_later : (a b : SettlementPeriod) (readings : Table UnitPeriod Reading) → is_after a b ≡ false → AreUntil (Some a) readings → AreUntil (Some b) readings
 until_later a b readings later = All-weaker (λ (e : UnitPeriod × Reading). is_after e.0.at a ≡ false) (λ (e : UnitPeriod × Reading). is_after e.0.at b ≡ false) (λ e until. upto settlement_period_total e.0.at a b until later) readings
 
--- and so are they with one more reading
+-- and none is with one more reading that is not after it
 pub until_more : (last next : SettlementPeriod) (readings : Table UnitPeriod Reading) (i : ℕ) (e : UnitPeriod × Reading) → i < length readings → e ≡ get_or readings i e
     → is_after last next ≡ false → is_after e.0.at next ≡ false → AreUntil (Some last) (take i readings) → AreUntil (Some next) (take (i + 1) readings)
 until_more last next readings i e inside is later own so_far =

@@ -1,4 +1,4 @@
--- What a Settlement Day is settled from where a store keeps something beside the tables. A Settlement Period may be told as the
+-- What a Settlement Day is settled from if a store keeps something beside the tables. A Settlement Period may be taken over as the
 -- latest run of its date settled it, if it was not touched since and the date's accounts are those of the run. Any other is settled
 -- from net volumes if the positions of all its accounts are known, and from its rows if one of them is lost.
 use Rattle.std.specs.Prelude.{◌≡◌, ◌≤◌, ◌⊎◌, ℕ, List, map, filter, All, Option, Some, None, IsTrue, IsFalse}
@@ -26,7 +26,7 @@ use Rattle.hh_store.specs.DayReads.{IsDayData}
 use Rattle.hh_kept_rows.specs.DayRows.{HasRowsOn}
 use Rattle.hh_kept_rows.specs.declared.day_beside.DayBeside.{DayBeside}
 
--- what is kept of a date is this: its latest run with the rows of that, the touched Settlement Periods of the date, and its
+-- what is kept of a date: its latest run with the rows of that run, the touched Settlement Periods of the date, and its
 -- positions
 pub record IsBesideOf (content : Content) (beside : Beside) (date : ℕ) (day : DayBeside) : Type 0 where
   pub latest : day.latest ≡ latest_on content date
@@ -45,8 +45,8 @@ result_beside day run period =
     (map credit_row (filter (is_credit_of run period) day.credits))
 
 module _ (tables : Registered) (beside : DayBeside) (at : SettlementPeriod) where
-  -- the latest run has this Settlement Period, settled it to this, and with the accounts of the date as they are now; the period
-  -- was not touched since
+  -- the latest run has this Settlement Period and settled it to this, with the accounts that the date has now; the period was not
+  -- touched since
   pub record IsSameSince (run : RunKey) (summary : Summary) (s : Settled) : Type 0 where
     pub first : 1 ≤ at.period
     pub last : at.period ≤ summary.periods
@@ -54,12 +54,12 @@ module _ (tables : Registered) (beside : DayBeside) (at : SettlementPeriod) wher
     pub accounts : map (λ r. r.account) s.accounts ≡ accounts_on tables at.date
     pub settled : s ≡ result_beside beside run at.period
 
-  -- so it is of the latest run, and there is one
+  -- the same for the latest run, if there is one; otherwise false
   abbrev pub IsSameAs : Option (RunKey × Summary) → Settled → Type 0
   IsSameAs None s = ⊥
   IsSameAs (Some (run, summary)) s = IsSameSince run summary s
 
-  -- what a Settlement Period is settled from, with its accounts' positions in the place of the contract volumes in force; all of
+  -- what a Settlement Period is settled from, with its accounts' positions instead of the contract volumes in force; all of
   -- them are known
   pub record IsNetBeside (p : PeriodTerms) : Type 0 where
     pub same : p ≡ record (terms_at tables at) { contracts = Net (net_volumes_at beside.positions at (accounts_on tables at.date)) }
@@ -71,20 +71,20 @@ module _ (tables : Registered) (beside : DayBeside) (at : SettlementPeriod) wher
     pub same : p ≡ terms_at tables at
     pub lost : IsFalse (are_known beside.positions at (accounts_on tables at.date))
 
-  -- a Settlement Period is settled from this, by the rows or by the positions, or it is as the latest run settled it
+  -- a Settlement Period is settled from this, by the rows or by the positions; or it is as the latest run settled it
   abbrev pub IsStateBeside : PeriodState → Type 0
   IsStateBeside (Changed p) = IsByRows p ⊎ IsNetBeside p
   IsStateBeside (Same s) = IsSameAs beside.latest s
 
--- This is read of these Settlement Periods: the first of them that has no price, if there is one; the first reading that a unit
--- lacks, if there is one; and what each is settled from or to.
+-- What is read of these Settlement Periods: the first that has no price, if there is one; the first reading that a unit
+-- lacks, if there is one; and the state of each.
 pub record IsDayBeside (tables : Registered) (beside : DayBeside) (periods : List SettlementPeriod) (day : DayData) : Type 0 where
   pub price : day.missing_price ≡ missing_price tables periods
   pub meter : day.missing_meter ≡ missing_meter tables periods
   pub states : AllZip (IsStateBeside tables beside) periods day.periods.items
 
--- What is read of Settlement Periods from the rows of their date and from what is kept beside them is what is read of them from
--- all tables, where what is kept agrees with these.
+-- If what is kept agrees with the tables: what is read of Settlement Periods from the rows of their date and from what is kept beside
+-- them is what is read of them from all tables.
 abbrev pub ReadByWhatIsBeside : Type 0
 ReadByWhatIsBeside = (content : Content) (beside : Beside) → IsTrue (agrees content beside)
     → (date : ℕ) (part : Registered) (held : DayBeside)

@@ -1,4 +1,4 @@
--- The rows of a Settlement Day among all that is registered and in force: what a part must have of the whole so that the day is
+-- The rows of a Settlement Day out of all that is registered and in force: what a part must have of the whole so that the day is
 -- settled from it as from the whole.
 use Rattle.std.specs.Prelude.{◌≡◌, ℕ, ◌==◌, ◌&&◌, ℤ, List, filter, All, Bool}
 use Rattle.std.specs.FinMap.{find}
@@ -23,20 +23,20 @@ use Rattle.hh_store.specs.DayReads.{IsDayData}
 abbrev pub volumes_at : Registered → SettlementPeriod → Table ContractKey ℤ
 volumes_at tables at = filter (λ e. eq_by_cmp settlement_period_cmp e.0.at at) tables.contracts
 
--- both have the same of a unit in a Settlement Period
+-- both have the same for a unit in a Settlement Period
 pub record AgreesOnUnitAt (whole part : Registered) (unit : List ℕ) (at : SettlementPeriod) : Type 0 where
   pub reading : reading_of part (record { unit = unit; at = at }) ≡ reading_of whole (record { unit = unit; at = at })
   pub reallocations : reallocations_at part (record { unit = unit; at = at })
       ≡ reallocations_at whole (record { unit = unit; at = at })
 
--- the part has of the whole the contracts of a date, with the sellers and buyers of their references
+-- the part has the whole's contracts of a date, with the sellers and buyers of their references
 pub record HasContractsOn (date : ℕ) (whole part : Registered) : Type 0 where
   pub volumes : (at : SettlementPeriod) → at.date ≡ date → volumes_at part at ≡ volumes_at whole at
   pub references : All (λ e. e.0.at.date ≡ date
       → find bytes_cmp e.0.reference part.references ≡ find bytes_cmp e.0.reference whole.references) whole.contracts
 
--- the part has of the whole all parties and units, and what is of a date: prices, readings and reallocations of the units that
--- are effective on it, and contracts
+-- the part has all parties and units of the whole, and for a date: its prices, its contracts, and the readings and reallocations of
+-- the units that are effective on it
 pub record HasRowsOn (date : ℕ) (whole part : Registered) : Type 0 where
   pub parties : part.parties ≡ whole.parties
   pub units : part.units ≡ whole.units
@@ -45,7 +45,7 @@ pub record HasRowsOn (date : ℕ) (whole part : Registered) : Type 0 where
       → All (λ u. AgreesOnUnitAt whole part u.0 at) (units_on whole date)
   pub contracts : HasContractsOn date whole part
 
--- from the part the Settlement Periods of a date are settled as from the whole, and the same is missing for them
+-- the Settlement Periods of a date are settled from the part as from the whole, and the same is missing for them
 pub record SettlesAlike (date : ℕ) (whole part : Registered) : Type 0 where
   pub missing_price : (periods : List SettlementPeriod) → All (λ at. at.date ≡ date) periods
       → missing_price part periods ≡ missing_price whole periods
@@ -71,11 +71,11 @@ rows_on date tables = record {
   reallocations = filter (λ e. e.0.unit_period.at.date == date) tables.reallocations;
 }
 
--- a date is settled alike from all rows and from those of the date
+-- a date has the same settlement from all rows as from those of the date
 abbrev pub SettledByItsRows : Type 0
 SettledByItsRows = (date : ℕ) (whole part : Registered) → HasRowsOn date whole part → SettlesAlike date whole part
 
--- what is read of its Settlement Periods from the rows of the date is what is read of them
+-- what is read of its Settlement Periods from the rows of the date is what is read of them from all rows
 abbrev pub ReadByItsRows : Type 0
 ReadByItsRows = (date : ℕ) (whole part : Registered) → HasRowsOn date whole part
     → (periods : List SettlementPeriod) → All (λ at. at.date ≡ date) periods

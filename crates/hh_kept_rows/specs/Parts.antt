@@ -1,4 +1,4 @@
--- The part of a register that rows are judged by: it holds nothing but what the whole has.
+-- The part of a register by which rows are judged: it has only what the whole has.
 use Rattle.std.specs.Prelude.{ℕ}
 use Rattle.hh_rules.specs.History.{Registered}
 use Rattle.hh_rules.specs.Refusals.{whole_standing}

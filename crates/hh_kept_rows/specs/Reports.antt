@@ -1,4 +1,4 @@
--- What reports show, by the rows of the tables that they are written from.
+-- What reports show, by the rows of the tables from which they are written.
 use Rattle.std.specs.Prelude.{ℕ, ℤ, List, filter_map, map}
 use Rattle.hh_num.specs.Totals.{total}
 use Rattle.hh_tables.specs.Tables.{Table}

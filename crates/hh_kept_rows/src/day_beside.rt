@@ -1,4 +1,4 @@
-//! What a Settlement Day is settled from, where a store keeps something beside the tables.
+//! What a Settlement Day is settled from, if a store keeps something beside the tables.
 
 ghost use Rattle.std.specs.Prelude.{◌≡◌, All, IfOk};
 ghost use Rattle.std.specs.List.{AllZip};
@@ -9,6 +9,7 @@ ghost use Rattle.hh_states.specs.PeriodSettlement.{terms_at};
 ghost use Rattle.hh_kept_rows.specs.DayBeside.{IsDayBeside, IsStateBeside};
 ghost use Rattle.hh_kept_rows.specs.steps.DayRolls.{IsHeadOf};
 
+use crate::contracts_by_period::contracts_at;
 use crate::day_places::DayPlaces;
 use crate::kept_day::DayRoll;
 use crate::kept_register::KeptRegister;
@@ -24,8 +25,7 @@ use hh_tables::ListTable;
 use hh_time::{Day, SettlementDate};
 use std::alloc::{AllocError, Global};
 
-/// What a store keeps beside the rows of a date, so that a run settles again only what has changed
-/// (profile).
+/// What a store keeps beside the rows of a date, so that a run settles again only what has changed.
 #[derive(Drop)]
 pub struct DayBeside {
     /// The latest run of the date, with its summary, if there is one.
@@ -41,8 +41,9 @@ pub struct DayBeside {
 }
 
 impl KeptRegister {
-    /// What the Settlement Periods of a day are settled from, or as what the latest run settled those that
-    /// have not changed since; and what is missing for it. `Err` only where memory is refused.
+    /// What the Settlement Periods of a day are settled from, and what is missing for that. Periods
+    /// that have not changed since the latest run are taken over as it settled them. `Err` only if memory
+    /// is refused.
     pub fn day_data_beside(
         &self,
         alloc: Global,
@@ -66,7 +67,7 @@ impl KeptRegister {
         })
     }
 
-    /// What these Settlement Periods of one date are settled from or to.
+    /// The states of these Settlement Periods of one date.
     fn states_of(
         &self,
         alloc: Global,
@@ -87,7 +88,7 @@ impl KeptRegister {
         Ok(states)
     }
 
-    /// What a Settlement Period is settled from, or as what the latest run settled it.
+    /// What a Settlement Period is settled from, or its settlement in the latest run.
     fn state_of(
         &self,
         alloc: Global,
@@ -107,10 +108,12 @@ impl KeptRegister {
             return Ok(PeriodState::Changed(terms));
         }
         let roll = self.roll_of(alloc, at.date)?;
-        Ok(PeriodState::Changed(self.period_data(alloc, &roll, places, at)?))
+        let contracts = contracts_at(alloc, &roll.contracts, at.period)?;
+        let terms = self.period_data(alloc, &roll, places, contracts, at)?;
+        Ok(PeriodState::Changed(terms))
     }
 
-    /// What all Settlement Periods of a date have in common but for its contracts, which are left out.
+    /// What all Settlement Periods of a date have in common, without the contracts.
     fn head_of(&self, alloc: Global, date: SettlementDate) -> Result<DayRoll, AllocError>
         ensures { IfOk result (IsHeadOf self.now date) }
     {
@@ -121,7 +124,7 @@ impl KeptRegister {
         })
     }
 
-    /// What a Settlement Period is settled from, with these contracts in the place of its own.
+    /// What a Settlement Period is settled from, with these contracts instead of its own.
     fn data_with(
         &self,
         alloc: Global,

@@ -1,4 +1,4 @@
-//! Where the rows of a Settlement Day likely stand.
+//! The places where the rows of a Settlement Day are likely to be.
 
 use crate::kept_day::{DayRoll, unit_period};
 use crate::kept_register::KeptRegister;
@@ -6,13 +6,13 @@ use hh_names::{Account, Reallocation};
 use hh_rows::{ReallocationKey, SettlementPeriod, UnitPeriod};
 use std::alloc::{AllocError, Global};
 
-/// For each unit of a date, where its rows of the date stand in the tables, and its lead account among
-/// the accounts. Each search looks there first, and finds the same wherever that is: a wrong place costs
-/// time alone.
+/// For each unit of a date, the places of its rows of the date in the tables, and of its lead account among
+/// the accounts. Each search looks there first. It finds the same whatever the places are: a wrong place
+/// only costs time.
 #[derive(Drop)]
 pub(crate) struct DayPlaces(Vec<UnitPlaces>);
 
-/// Where a unit's rows of a date stand in the tables, and its lead account among the accounts.
+/// The places of a unit's rows of a date in the tables, and of its lead account among the accounts.
 #[derive(Clone, Copy)]
 pub(crate) struct UnitPlaces {
     /// The place of its lead account among the accounts of the date.
@@ -26,7 +26,7 @@ pub(crate) struct UnitPlaces {
 }
 
 impl DayPlaces {
-    /// Where to look first for the rows of the unit that has this place among the units of the date.
+    /// The places to look at first for the rows of the unit at this place among the units of the date.
     pub(crate) fn of_unit(&self, unit: usize) -> UnitPlaces {
         match self.0.get(unit) {
             Some(places) => *places,
@@ -41,15 +41,15 @@ impl DayPlaces {
 }
 
 impl UnitPlaces {
-    /// Where to look first for the reading in a Settlement Period: where it stands if the unit has one in
-    /// each earlier period of the date.
+    /// The place to look at first for the reading in a Settlement Period. It is there if the unit has a
+    /// reading in each earlier period of the date.
     pub(crate) fn reading_at(self, at: &SettlementPeriod) -> usize {
         self.readings
             .saturating_add(usize::from(at.period.number()))
             .saturating_sub(1)
     }
 
-    /// Where to look first for the reallocations of a unit in a Settlement Period.
+    /// The place to look at first for the reallocations of a unit in a Settlement Period.
     pub(crate) fn reallocations_at(
         self,
         rows: &[(ReallocationKey, Reallocation)],
@@ -67,7 +67,7 @@ impl UnitPlaces {
 }
 
 impl KeptRegister {
-    /// Where the rows of the units of a date stand that are of these Settlement Periods of the date, and
+    /// The places of the rows that the units of a date have in these Settlement Periods of the date, and of
     /// their lead accounts.
     pub(crate) fn places_of(
         &self,
@@ -86,8 +86,8 @@ impl KeptRegister {
         Ok(DayPlaces(places))
     }
 
-    /// Where the rows of a unit stand from one Settlement Period up to another, where its lead account
-    /// stands at this place.
+    /// The places of a unit's rows from one Settlement Period up to another, with this place of its lead
+    /// account.
     fn places_between(&self, lead: usize, first: &UnitPeriod, last: &UnitPeriod) -> UnitPlaces {
         let rows = self.reallocations.rows();
         UnitPlaces {
@@ -99,7 +99,7 @@ impl KeptRegister {
     }
 }
 
-/// The place of a lead account among the accounts of a date, or 0 where it isn't one of them.
+/// The place of a lead account among the accounts of a date, or 0 if it isn't one of them.
 fn place_of_lead(accounts: &[Account], lead: &Account) -> usize {
     accounts.binary_search(lead).unwrap_or(0)
 }

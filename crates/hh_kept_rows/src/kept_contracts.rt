@@ -15,7 +15,7 @@ use std::alloc::{AllocError, Global};
 
 impl KeptRegister {
     /// The rows of contracts that are in force on a date and name an account, by Settlement Period, then
-    /// by the bytes of their references. `Err` only where memory is refused.
+    /// by the bytes of their references. `Err` only if memory is refused.
     pub fn contracts(
         &self,
         alloc: Global,
@@ -28,7 +28,7 @@ impl KeptRegister {
         in_periods(alloc, &found)
     }
 
-    /// The same rows, in the order of their references alone.
+    /// The same rows, ordered only by their references.
     fn contracts_on(
         &self,
         alloc: Global,
@@ -79,7 +79,7 @@ fn names(counterparties: &Counterparties, account: &Account) -> bool
     counterparties.seller == *account || counterparties.buyer == *account
 }
 
-/// Rows by their Settlement Periods, 1 to 50; those of one period keep their order.
+/// Rows by their Settlement Periods, 1 to 50. Those of one period keep their order.
 fn in_periods(alloc: Global, rows: &[ContractRow]) -> Result<Vec<ContractRow>, AllocError>
     ensures { IfOk result (λ sorted. sorted.items
         ≡ flat_map (λ period. filter (is_in_period period) rows.now) (from_one_to 50)) }

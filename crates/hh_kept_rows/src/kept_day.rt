@@ -1,19 +1,20 @@
 //! What a Settlement Day is settled from.
 
-ghost use Rattle.std.specs.Prelude.{◌≡◌, All, find, filter, filter_map, map, pos, unwrap_or, IfOk, is_none};
+ghost use Rattle.std.specs.Prelude.{◌≡◌, All, find, filter_map, pos, unwrap_or, IfOk, is_none};
 ghost use Rattle.hh_rules.specs.Leads.{lead_on};
-ghost use Rattle.hh_rules.specs.RegisterView.{reallocations_at};
 ghost use Rattle.hh_states.specs.DaySettlement.{missing_meter, missing_price, periods_on, unit_periods_at};
 ghost use Rattle.hh_states.specs.PeriodSettlement.{accounts_on, price_of, reading_of, subsidiaries_of, terms_at, unit_at, units_on};
 ghost use Rattle.hh_store.specs.DayReads.{ArePeriodsOf, IsDayData};
 ghost use Rattle.hh_kept_rows.specs.steps.DayRolls.{IsRollOf, row_on};
-ghost use Rattle.hh_kept_rows.specs.steps.KeptContracts.{is_in_period};
+ghost use Rattle.hh_kept_rows.specs.steps.KeptContracts.{period_contracts};
+ghost use Rattle.hh_kept_rows.specs.steps.KeptReallocations.{AreReallocations};
 
+use crate::contracts_by_period::{by_period, contracts_of};
 use crate::day_places::{DayPlaces, UnitPlaces};
-use crate::kept_reallocations::{count_of, first_of};
+use crate::kept_reallocations::reallocations_of;
 use crate::kept_register::KeptRegister;
 use hh_calc::{Contracts, PeriodData, Subsidiary, UnitData};
-use hh_names::{Account, Contract, Reallocation, Side, UnitId};
+use hh_names::{Account, Contract, Counterparties, Reallocation, Reference, Side, UnitId};
 use hh_num::{Kwh, Price};
 use hh_rows::{
     ContractKey, ContractRow, ReallocationKey, SettlementPeriod, UnitPeriod, UnitRegistration,
@@ -23,7 +24,7 @@ use hh_time::{Day, SettlementDate};
 use std::alloc::{AllocError, Global};
 
 /// What all Settlement Periods of a date have in common: its accounts, its units, and the rows of
-/// contracts in force on it, by their references.
+/// contracts in force on it, ordered by their references.
 #[derive(Drop)]
 pub(crate) struct DayRoll {
     pub(crate) accounts: Vec<Account>,
@@ -32,7 +33,7 @@ pub(crate) struct DayRoll {
 }
 
 impl KeptRegister {
-    /// What the Settlement Periods of a day are settled from, and what is missing for it. `Err` only where
+    /// What the Settlement Periods of a day are settled from, and what is missing for that. `Err` only if
     /// memory is refused.
     pub fn day_data(&self, alloc: Global, day: &Day) -> Result<DayData, AllocError>
         ensures { IfOk result (IsDayData self.now (periods_on day.now.date day.now.count)) }
@@ -127,23 +128,56 @@ impl KeptRegister {
         ensures { IfOk result (λ rows.
             rows.items ≡ filter_map (row_on self.now date) self.now.contracts) }
     {
-        let mut rows = Vec::new(alloc);
+        let mut rows = Vec::with_capacity(alloc, self.count_on(date))?;
+        let mut near = 0;
         for (key, volume) in self.contracts.rows() {
-            if let Some(row) = self.row_on(date, *key, *volume) {
+            if key.at.date == date {
+                near = self.place_near(near, &key.reference);
+            }
+            if let Some(row) = self.row_on(date, near, *key, *volume) {
                 rows.push(row)?;
             }
         }
         Ok(rows)
     }
 
-    /// The row in force of a contract, if it is of this date.
-    fn row_on(&self, date: SettlementDate, key: ContractKey, volume: Kwh) -> Option<ContractRow>
+    /// How many contract volumes are in force on a date. Room for their rows is made by this.
+    fn count_on(&self, date: SettlementDate) -> usize {
+        let volumes = self.contracts.rows();
+        volumes
+            .iter()
+            .filter(|volume| volume.0.at.date == date)
+            .count()
+    }
+
+    /// The likely place of a reference: `near` or the place after it, because the rows of contracts come in
+    /// the order of their references, or otherwise where a search finds it. A wrong place only costs time.
+    fn place_near(&self, near: usize, reference: &Reference) -> usize {
+        let rows = self.references.rows();
+        if is_row_of(rows, near, reference) {
+            return near;
+        }
+        let next = near.saturating_add(1);
+        if is_row_of(rows, next, reference) {
+            return next;
+        }
+        self.references.count_below(reference)
+    }
+
+    /// The row in force of a contract, if it is of this date. Looks for its reference at `near` first.
+    fn row_on(
+        &self,
+        date: SettlementDate,
+        near: usize,
+        key: ContractKey,
+        volume: Kwh,
+    ) -> Option<ContractRow>
         ensures { result ≡ row_on self.now date (key, volume) }
     {
         if key.at.date != date {
             return None;
         }
-        let counterparties = self.reference(&key.reference)?;
+        let counterparties = self.references.get_near(near, &key.reference)?;
         let contract = Contract {
             counterparties,
             volume,
@@ -190,8 +224,8 @@ impl KeptRegister {
         None
     }
 
-    /// How many readings these units lack in these Settlement Periods, where this is the first that is
-    /// missing: none is sought where none is missing.
+    /// How many readings these units lack in these Settlement Periods. `first` is the first missing one. If
+    /// there is none, nothing is looked for.
     pub(crate) fn missing_readings(
         &self,
         first: Option<UnitPeriod>,
@@ -226,7 +260,7 @@ impl KeptRegister {
         count
     }
 
-    /// Whether a unit has no reading in a Settlement Period. It is sought near a place.
+    /// Whether a unit has no reading in a Settlement Period. Looks at the place `near` first.
     fn lacks_reading(&self, near: usize, key: &UnitPeriod) -> bool
         ensures { result ≡ is_none (reading_of self.now key.now) }
     {
@@ -244,34 +278,38 @@ impl KeptRegister {
         requires { All (λ at. IsRollOf self.now at.date roll.now) periods.now }
         ensures { IfOk result (λ terms. ArePeriodsOf self.now periods.now terms.items) }
     {
+        let of_periods = by_period(alloc, &roll.contracts)?;
         let mut found = Vec::with_capacity(alloc, periods.len())?;
         for at in periods {
-            let terms = self.period_data(alloc, roll, places, at)?;
+            let contracts = contracts_of(alloc, &of_periods, at.period)?;
+            let terms = self.period_data(alloc, roll, places, contracts, at)?;
             found.push(PeriodState::Changed(terms))?;
         }
         Ok(found)
     }
 
-    /// What a Settlement Period is settled from. Where it has no price, the price counts as 0, and a unit
-    /// that has no reading is left out.
+    /// What a Settlement Period with these contracts is settled from. If it has no price, the price counts
+    /// as 0. A unit that has no reading is left out.
     pub(crate) fn period_data(
         &self,
         alloc: Global,
         roll: &DayRoll,
         places: &DayPlaces,
+        contracts: Vec<Contract>,
         at: &SettlementPeriod,
     ) -> Result<PeriodData, AllocError>
-        requires { IsRollOf self.now at.now.date roll.now }
+        requires roll { IsRollOf self.now at.now.date roll.now }
+        requires contracts { contracts.items
+            ≡ period_contracts roll.now.contracts.items at.now.period }
         ensures { IfOk result (λ terms. terms ≡ terms_at self.now at.now) }
     {
         let accounts = Vec::from_slice(alloc, &roll.accounts)?;
         let units = self.units_at(alloc, &roll.units, places, at)?;
-        let contracts = contracts_at(alloc, &roll.contracts, at)?;
         let price = self.price_at(at);
         Ok(PeriodData::new(accounts, units, Contracts::Rows(contracts), price))
     }
 
-    /// The price of a Settlement Period, which counts as 0 where there is none.
+    /// The price of a Settlement Period, or 0 if there is none.
     pub(crate) fn price_at(&self, at: &SettlementPeriod) -> Price
         ensures { result ≡ unwrap_or (price_of self.now at.now) (pos 0) }
     {
@@ -289,31 +327,34 @@ impl KeptRegister {
         ensures { IfOk result (λ terms.
             terms.items ≡ filter_map (unit_at self.now at.now) units.now) }
     {
+        let rows = self.reallocation_rows();
         let mut found = Vec::with_capacity(alloc, units.len())?;
         for (place, unit) in units.iter().enumerate() {
-            if let Some(unit) = self.unit_at(alloc, unit, places.of_unit(place), at)? {
+            if let Some(unit) = self.unit_at(alloc, rows, unit, places.of_unit(place), at)? {
                 found.push(unit)?;
             }
         }
         Ok(found)
     }
 
-    /// What a unit is settled from in a Settlement Period, if it has a reading. Its rows are sought at
-    /// these places first.
+    /// What a unit is settled from in a Settlement Period, if it has a reading. `rows` are all
+    /// reallocations in force. Looks for the unit's rows at these places first.
     fn unit_at(
         &self,
         alloc: Global,
+        rows: &[(ReallocationKey, Reallocation)],
         unit: &(UnitId, UnitRegistration),
         places: UnitPlaces,
         at: &SettlementPeriod,
     ) -> Result<Option<UnitData>, AllocError>
+        requires { AreReallocations self.now rows.now }
         ensures { IfOk result (λ terms. terms ≡ unit_at self.now at.now unit.now) }
     {
         let key = unit_period(&unit.0, at);
         let Some(reading) = self.meters.get_near(places.reading_at(at), &key) else {
             return Ok(None);
         };
-        let subsidiaries = self.subsidiaries_of(alloc, places, &key)?;
+        let subsidiaries = self.subsidiaries_of(alloc, rows, places, &key)?;
         let data = UnitData::new(
             unit.0,
             self.lead_on(unit, at.date),
@@ -331,19 +372,22 @@ impl KeptRegister {
         unit.1.lead
     }
 
-    /// The subsidiaries of a unit in a Settlement Period, in account order.
+    /// The subsidiaries of a unit in a Settlement Period, in account order. `rows` are all reallocations in
+    /// force.
     fn subsidiaries_of(
         &self,
         alloc: Global,
+        rows: &[(ReallocationKey, Reallocation)],
         places: UnitPlaces,
         key: &UnitPeriod,
     ) -> Result<Vec<Subsidiary>, AllocError>
+        requires { AreReallocations self.now rows.now }
         ensures { IfOk result (λ subsidiaries.
             subsidiaries.items ≡ subsidiaries_of self.now key.now) }
     {
-        let rows = self.reallocations_of(places, key);
-        let mut subsidiaries = Vec::with_capacity(alloc, rows.len())?;
-        for row in rows {
+        let found = reallocations_of(rows, key, places.reallocations_at(rows, key));
+        let mut subsidiaries = Vec::with_capacity(alloc, found.len())?;
+        for row in found {
             subsidiaries.push(Subsidiary {
                 account: row.0.account,
                 reallocation: row.1,
@@ -351,21 +395,13 @@ impl KeptRegister {
         }
         Ok(subsidiaries)
     }
+}
 
-    /// The reallocations in force of a unit in a Settlement Period, in account order.
-    fn reallocations_of(
-        &self,
-        places: UnitPlaces,
-        key: &UnitPeriod,
-    ) -> &[(ReallocationKey, Reallocation)]
-        ensures { result.now ≡ reallocations_at self.now key.now }
-    {
-        let rows = self.reallocation_rows();
-        let first = first_of(rows, key, places.reallocations_at(rows, key));
-        let (_, rest) = rows.split_at(first);
-        let count = count_of(rest, key);
-        let (found, _) = rest.split_at(count);
-        found
+/// Whether the row at a place is that of a reference.
+fn is_row_of(rows: &[(Reference, Counterparties)], place: usize, reference: &Reference) -> bool {
+    match rows.get(place) {
+        Some(row) => row.0 == *reference,
+        None => false,
     }
 }
 
@@ -377,22 +413,4 @@ pub(crate) fn unit_period(unit: &UnitId, at: &SettlementPeriod) -> UnitPeriod
         unit: *unit,
         at: *at,
     }
-}
-
-/// The contracts of a Settlement Period among the rows in force on its date.
-fn contracts_at(
-    alloc: Global,
-    rows: &[ContractRow],
-    at: &SettlementPeriod,
-) -> Result<Vec<Contract>, AllocError>
-    ensures { IfOk result (λ contracts. contracts.items
-        ≡ map (λ r. r.contract) (filter (is_in_period at.now.period) rows.now)) }
-{
-    let mut contracts = Vec::new(alloc);
-    for row in rows {
-        if row.key.at.period == at.period {
-            contracts.push(row.contract)?;
-        }
-    }
-    Ok(contracts)
 }

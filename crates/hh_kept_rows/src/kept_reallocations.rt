@@ -1,21 +1,33 @@
-//! The reallocations of a unit in a Settlement Period, where they lie among all.
+//! The reallocations of a unit in a Settlement Period, found among all reallocations.
 
-ghost use Rattle.std.specs.Prelude.{◌≡◌, ◌≤◌, ◌<◌, ◌-◌, length, true, false};
+ghost use Rattle.std.specs.Prelude.{◌≡◌, ◌≤◌, ◌<◌, ◌-◌, length, filter, true, false};
 ghost use Rattle.std.specs.List.{AllWithin, HoldsAt};
 ghost use Rattle.hh_rows.specs.Keys.{reallocation_key_cmp};
 ghost use Rattle.hh_tables.specs.Tables.{IsTable};
-ghost use Rattle.hh_kept_rows.specs.steps.KeptReallocations.{is_before, is_no_later, BeginAt};
+ghost use Rattle.hh_kept_rows.specs.steps.KeptReallocations.{is_before, is_no_later, is_of, BeginAt};
 
 use hh_names::Reallocation;
 use hh_rows::{ReallocationKey, UnitPeriod};
 
-/// The place at which the reallocations of a unit in a Settlement Period begin, or would. It is sought
-/// near a place.
-pub(crate) fn first_of(
-    rows: &[(ReallocationKey, Reallocation)],
+/// The reallocations of a unit in a Settlement Period, in account order. Looks at the place `near` first.
+pub(crate) fn reallocations_of<'r>(
+    rows: &'r [(ReallocationKey, Reallocation)],
     key: &UnitPeriod,
     near: usize,
-) -> usize
+) -> &'r [(ReallocationKey, Reallocation)]
+    requires { IsTable reallocation_key_cmp rows.now }
+    ensures { result.now ≡ filter (is_of key.now) rows.now }
+{
+    let first = first_of(rows, key, near);
+    let (_, rest) = rows.split_at(first);
+    let count = count_of(rest, key);
+    let (found, _) = rest.split_at(count);
+    found
+}
+
+/// The place where the reallocations of a unit in a Settlement Period begin, or would begin. Looks at the
+/// place `near` first.
+fn first_of(rows: &[(ReallocationKey, Reallocation)], key: &UnitPeriod, near: usize) -> usize
     requires { IsTable reallocation_key_cmp rows.now }
     ensures begins { BeginAt key.now rows.now result }
     ensures within { result ≤ length rows.now }
@@ -26,8 +38,8 @@ pub(crate) fn first_of(
     rows.partition_point(|row| row.0.unit_period.cmp(key).is_lt())
 }
 
-/// Whether the reallocations of a unit in a Settlement Period begin at a place, or would: the row before it
-/// is of an earlier unit or period, and the row at it isn't.
+/// Whether the reallocations of a unit in a Settlement Period begin at a place, or would begin there: the
+/// row before it is of an earlier unit or period, and the row at it isn't.
 fn begin_at(rows: &[(ReallocationKey, Reallocation)], key: &UnitPeriod, place: usize) -> bool
     requires { IsTable reallocation_key_cmp rows.now }
     ensures begins { result ≡ true → BeginAt key.now rows.now place }
@@ -74,7 +86,7 @@ fn is_no_later(row: &(ReallocationKey, Reallocation), key: &UnitPeriod) -> bool
 }
 
 /// How many of the first reallocations are not of a later unit or Settlement Period.
-pub(crate) fn count_of(rows: &[(ReallocationKey, Reallocation)], key: &UnitPeriod) -> usize
+fn count_of(rows: &[(ReallocationKey, Reallocation)], key: &UnitPeriod) -> usize
     ensures front { AllWithin (λ e. is_no_later key.now e ≡ true) rows.now 0 result }
     ensures behind { result < length rows.now
         → HoldsAt (λ e. is_no_later key.now e ≡ false) rows.now result }

@@ -1,10 +1,10 @@
-//! Laws on parts of what is registered and in force, each the contract of a function that does nothing.
+//! Laws on parts of what is registered and in force. Each is the contract of a function that does nothing.
 
 ghost use Rattle.hh_kept_rows.specs.DayBeside.{ReadByWhatIsBeside};
 ghost use Rattle.hh_kept_rows.specs.DayRows.{ContractsByTheirRows, PartsOfParts, ReadByItsRows, RowsOfADate, SettledByItsRows};
 
-/// A Settlement Day is settled alike from all that is registered and in force and from a part that has
-/// the rows of its date.
+/// A Settlement Day has the same settlement from all that is registered and in force as from a part that
+/// has the rows of its date.
 pub fn settled_by_its_rows()
     ensures { SettledByItsRows }
 {}
@@ -15,14 +15,14 @@ pub fn read_by_its_rows()
     ensures { ReadByItsRows }
 {}
 
-/// The contracts of an account on a date are the same of all that is in force and of a part that has the
+/// The contracts of an account on a date are the same by all that is in force as by a part that has the
 /// contracts of the date.
 pub fn contracts_by_their_rows()
     ensures { ContractsByTheirRows }
 {}
 
-/// All parties and units, with the prices, readings, contracts and reallocations of a date, and the
-/// references of these contracts, have the rows of the date.
+/// A part has the rows of a date if it has all parties and units, the prices, readings, contracts and
+/// reallocations of the date, and the references of these contracts.
 pub fn rows_of_a_date()
     ensures { RowsOfADate }
 {}
@@ -32,8 +32,8 @@ pub fn parts_of_parts()
     ensures { PartsOfParts }
 {}
 
-/// What is read of a Settlement Day from the rows of its date and from what is kept beside them is what is
-/// read of it from all tables, where what is kept agrees with these.
+/// If what is kept beside the rows of a date agrees with the tables: what is read of a Settlement Day from
+/// the rows of its date and from what is kept beside them is what is read of it from all tables.
 pub fn read_by_what_is_beside()
     ensures { ReadByWhatIsBeside }
 {}

@@ -1,8 +1,8 @@
-//! What is done with rows that a store keeps, once it has them in the order of their keys: the register
-//! that rows are judged by, the contracts of an account, what a Settlement Day is settled from, and the
-//! reports.
+//! What is computed from the rows that a store keeps, in the order of their keys: the register by which
+//! rows are judged, the contracts of an account, what a Settlement Day is settled from, and the reports.
 #![tactic(auto)]
 
+mod contracts_by_period;
 mod day_beside;
 mod day_places;
 mod kept_contracts;

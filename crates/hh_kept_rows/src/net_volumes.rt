@@ -13,8 +13,8 @@ use hh_rules::{Position, PositionKey};
 use hh_tables::ListTable;
 use std::alloc::{AllocError, Global};
 
-/// What each of these accounts sells less what it buys in a Settlement Period, by the positions, unless one
-/// of theirs is lost.
+/// What each of these accounts sells less what it buys in a Settlement Period, by the positions. `None`
+/// if a position of theirs is lost.
 pub(crate) fn nets_at(
     alloc: Global,
     positions: &ListTable<PositionKey, Position>,
@@ -56,7 +56,7 @@ fn position_at(
     }
 }
 
-/// The net volume of a position, unless that is lost.
+/// The net volume of a position, or `None` if the position is lost.
 fn net_of(position: Position) -> Option<NetKwh>
     ensures known { IfSome result (λ net. position ≡ Known net) }
     ensures size { IfSome result IsNetVolume }

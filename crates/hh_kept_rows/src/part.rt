@@ -1,13 +1,13 @@
-//! The part of what is registered and in force that rows are judged by.
+//! The part of what is registered and in force by which rows are judged.
 
-ghost use Rattle.std.specs.Prelude.{◌≡◌, ◌≤◌, ℕ, [], false, filter, All, IfErr, IfOk, IsOk, OnOk, Some};
+ghost use Rattle.std.specs.Prelude.{◌≡◌, ◌≤◌, ℕ, [], true, false, filter, All, IfErr, IfOk, IsOk, OnOk, Some};
 ghost use Rattle.std.specs.FinMap.{find};
 ghost use Rattle.hh_tables.specs.Tables.{IsTable, put_all};
 ghost use Rattle.hh_rows.specs.Keys.{contract_key_cmp, reallocation_key_cmp, settlement_period_cmp, unit_period_cmp};
 ghost use Rattle.hh_rules.specs.RegisterView.{held_reallocation, holding_reallocation, tables_in, AgreesOnParty, AgreesOnReference, AgreesOnUnit, ServesFor};
 ghost use Rattle.hh_states.specs.Soundness.{AreSound};
 ghost use Rattle.hh_kept_rows.specs.Parts.{whole_of};
-ghost use Rattle.hh_kept_rows.specs.steps.Parts.{is_after, is_named_in, with_reallocations, AgreesOnNames, AreUntil, Grows, IsNamedIn, IsPartOf, NoneNegative};
+ghost use Rattle.hh_kept_rows.specs.steps.Parts.{is_after, is_named_in, with_reallocations, AgreesOnNames, AgreesOnUnits, AreUntil, Grows, IsNamedIn, IsPartOf, NoneNegative};
 
 use crate::kept_register::KeptRegister;
 use hh_names::{PartyId, Reading, Reallocation, Reference, Refusal, UnitId};
@@ -18,8 +18,8 @@ use std::alloc::{AllocError, Global};
 use std::collections::BTreeSet;
 
 impl KeptRegister {
-    /// A register that judges these rows, and is changed by them, as one of everything that is
-    /// registered and in force would. `Store` only where that is not sound.
+    /// A register that judges these rows, and is changed by them, as a register of everything that is
+    /// registered and in force would. `Store` only if what is registered and in force is not sound.
     pub fn register_for(
         &self,
         alloc: Global,
@@ -37,7 +37,7 @@ impl KeptRegister {
     }
 
     /// A register that has what these rows name, and the rows in force of their keys, but no
-    /// reallocation. `Store` only where what is registered and in force is not sound.
+    /// reallocation. `Store` only if what is registered and in force is not sound.
     fn names_of(
         &self,
         alloc: Global,
@@ -53,14 +53,69 @@ impl KeptRegister {
         let parties = count(self.parties.len())?;
         let units = count(self.units.len())?;
         let mut part = Register::part(alloc, lead_minutes, parties, units);
+        let all_units = self.hold_units_for(&mut part, rows)?;
         let last = self.last_reading_for(rows);
         for row in rows {
-            self.hold_names(&mut part, &last, row)?;
+            self.hold_names(&mut part, all_units, &last, row)?;
         }
         Ok(part)
     }
 
-    /// A Settlement Period after which no reading counts, where the rows are readings and any counts.
+    /// Holds all registered units if the rows are readings, and there are at least as many as units. Says
+    /// whether all are held.
+    fn hold_units_for(&self, part: &mut Register, rows: &[Row]) -> Result<bool, StoreFault>
+        ensures grows { OnOk result (Grows self.now part.old part.new) }
+        ensures agrees { (lead_minutes : ℕ) → IsPartOf (whole_of lead_minutes self.now) part.old
+            → IfOk result (λ all. all ≡ true → AgreesOnUnits self.now (tables_in part.new)) }
+        ensures memory_alone { IfErr result (λ fault. fault ≡ StoreFault.Memory) }
+    {
+        if !self.are_many_readings(rows) {
+            return Ok(false);
+        }
+        self.hold_units(part)?;
+        Ok(true)
+    }
+
+    /// Whether the rows are readings, and there are at least as many as units.
+    fn are_many_readings(&self, rows: &[Row]) -> bool {
+        match rows.first() {
+            Some(Row::Meter(_)) => rows.len() >= self.units.len(),
+            _ => false,
+        }
+    }
+
+    /// Holds all registered units.
+    fn hold_units(&self, part: &mut Register) -> Result<(), StoreFault>
+        ensures grows { OnOk result (Grows self.now part.old part.new) }
+        ensures agrees { (lead_minutes : ℕ) → IsPartOf (whole_of lead_minutes self.now) part.old
+            → OnOk result (AgreesOnUnits self.now (tables_in part.new)) }
+        ensures memory_alone { IfErr result (λ fault. fault ≡ StoreFault.Memory) }
+    {
+        for (place, row) in self.units.rows().iter().enumerate() {
+            self.hold_unit_near(part, place, &row.0)?;
+        }
+        Ok(())
+    }
+
+    /// Holds a unit, if it is registered. Looks at the place `near` first.
+    fn hold_unit_near(
+        &self,
+        part: &mut Register,
+        near: usize,
+        unit: &UnitId,
+    ) -> Result<(), StoreFault>
+        ensures grows { OnOk result (Grows self.now part.old part.new) }
+        ensures agrees { (lead_minutes : ℕ) → IsPartOf (whole_of lead_minutes self.now) part.old
+            → OnOk result (AgreesOnUnit self.now (tables_in part.new) unit.now) }
+        ensures memory_alone { IfErr result (λ fault. fault ≡ StoreFault.Memory) }
+    {
+        match self.units.get_near(near, unit) {
+            Some(registration) => Ok(part.hold_unit(*unit, registration)?),
+            None => Ok(()),
+        }
+    }
+
+    /// A Settlement Period after which no reading counts, if the rows are readings and any reading counts.
     fn last_reading_for(&self, rows: &[Row]) -> Option<SettlementPeriod>
         ensures { AreUntil result self.now.meters }
     {
@@ -73,15 +128,18 @@ impl KeptRegister {
         }
     }
 
-    /// Holds what a row names, and the row in force of its key if it isn't a reallocation. No reading
-    /// counts after `last`, if that is a Settlement Period.
+    /// Holds what a row names, and the row in force of its key if it isn't a reallocation. If `last` is a
+    /// Settlement Period, there is no reading after it. If all units are held, the unit of a reading is not
+    /// looked for.
     fn hold_names(
         &self,
         part: &mut Register,
+        all_units: bool,
         last: &Option<SettlementPeriod>,
         row: &Row,
     ) -> Result<(), StoreFault>
-        requires { AreUntil last.now self.now.meters }
+        requires units { all_units ≡ true → AgreesOnUnits self.now (tables_in part.old) }
+        requires until { AreUntil last.now self.now.meters }
         ensures grows { OnOk result (Grows self.now part.old part.new) }
         ensures agrees { (lead_minutes : ℕ) → IsPartOf (whole_of lead_minutes self.now) part.old
             → OnOk result (AgreesOnNames self.now (tables_in part.new) row.now) }
@@ -94,7 +152,7 @@ impl KeptRegister {
                 self.hold_unit(part, &row.unit)
             }
             Row::Meter(row) => {
-                self.hold_unit(part, &row.key.unit)?;
+                self.hold_unit_unless(part, all_units, &row.key.unit)?;
                 self.hold_reading(part, last, &row.key)
             }
             Row::Price(row) => self.hold_price(part, &row.at),
@@ -143,6 +201,25 @@ impl KeptRegister {
         }
     }
 
+    /// Holds a unit, if it is registered and not held yet. Doesn't look for it if all units are held.
+    fn hold_unit_unless(
+        &self,
+        part: &mut Register,
+        all_units: bool,
+        unit: &UnitId,
+    ) -> Result<(), StoreFault>
+        requires { all_units ≡ true → AgreesOnUnits self.now (tables_in part.old) }
+        ensures grows { OnOk result (Grows self.now part.old part.new) }
+        ensures agrees { (lead_minutes : ℕ) → IsPartOf (whole_of lead_minutes self.now) part.old
+            → OnOk result (AgreesOnUnit self.now (tables_in part.new) unit.now) }
+        ensures memory_alone { IfErr result (λ fault. fault ≡ StoreFault.Memory) }
+    {
+        if all_units {
+            return Ok(());
+        }
+        self.hold_unit(part, unit)
+    }
+
     /// Holds the seller and the buyer of a reference, if a row has fixed them.
     fn hold_reference(&self, part: &mut Register, reference: &Reference) -> Result<(), StoreFault>
         ensures grows { OnOk result (Grows self.now part.old part.new) }
@@ -176,8 +253,8 @@ impl KeptRegister {
         }
     }
 
-    /// The reading that counts for a unit in a Settlement Period, if there is one. None counts after
-    /// `last`, if that is a Settlement Period: most readings come in the order of time.
+    /// The reading that counts for a unit in a Settlement Period, if there is one. If `last` is a
+    /// Settlement Period, there is none after it. Most readings come in the order of time.
     fn reading_until(&self, last: &Option<SettlementPeriod>, key: &UnitPeriod) -> Option<Reading>
         requires { AreUntil last.now self.now.meters }
         ensures { result ≡ find unit_period_cmp key.now self.now.meters }
@@ -216,8 +293,8 @@ impl KeptRegister {
         }
     }
 
-    /// Holds all reallocations in force of the units in the Settlement Periods that are named. `Store`
-    /// where more than 100 percent of a unit would be in force.
+    /// Holds all reallocations in force whose unit and Settlement Period are named. `Store` if more than
+    /// 100 percent of a unit would be in force.
     fn hold_reallocations(
         &self,
         part: &mut Register,
@@ -246,7 +323,7 @@ impl KeptRegister {
         ensures rising { IsTable reallocation_key_cmp self.now.reallocations }
     {
         let rows = self.reallocations.rows();
-        // Finds what is known, but carries for the proof that the rows of a table rise.
+        // Finds a row that is known. For the proof: the rows of a table rise.
         if let Some(first) = rows.first() {
             let _first = self.reallocations.get(&first.0);
         }
@@ -254,8 +331,8 @@ impl KeptRegister {
     }
 }
 
-/// Says what the type of a percentage says of those of rows: none is negative. The compiler leaves
-/// nothing of it.
+/// For the proof: no percentage of the rows is negative, as their type says. The compiler leaves nothing of
+/// this.
 fn none_negative(rows: &[(ReallocationKey, Reallocation)])
     ensures { NoneNegative rows.now }
 {
@@ -278,7 +355,7 @@ fn last_period(first: SettlementPeriod, readings: &[(UnitPeriod, Reading)]) -> S
     last
 }
 
-/// How many there are; `Store` where they are more than a `u32` counts, and than any office has.
+/// How many there are. `Store` if a `u32` can't count them, which is more than any office has.
 fn count(rows: usize) -> Result<u32, StoreFault>
     ensures value { IfOk result (λ count. count ≡ rows) }
     ensures counted { rows ≤ u32.MAX → IsOk result }
@@ -289,7 +366,7 @@ fn count(rows: usize) -> Result<u32, StoreFault>
     }
 }
 
-/// Holds a reallocation; `Store` where more than 100 percent of a unit would be in force.
+/// Holds a reallocation. `Store` if more than 100 percent of a unit would be in force.
 fn hold_reallocation(
     part: &mut Register,
     key: ReallocationKey,
@@ -311,7 +388,7 @@ fn hold_reallocation(
     }
 }
 
-/// The units with the Settlement Periods that rows of reallocations name.
+/// The units and Settlement Periods that rows of reallocations name.
 fn periods_named(alloc: Global, rows: &[Row]) -> Result<BTreeSet<UnitPeriod>, AllocError>
     ensures { IfOk result (λ named. All (IsNamedIn named) rows.now) }
 {

@@ -1,4 +1,4 @@
-//! The reports, from rows in the order of their keys.
+//! The reports, written from rows in the order of their keys.
 
 ghost use Rattle.std.specs.Prelude.{◌≡◌, ◌≢◌, map, IfErr, IfOk};
 ghost use Rattle.hh_devices.specs.DeviceChanges.{change};
@@ -18,11 +18,11 @@ use hh_states::PostingKey;
 use hh_store::OutputFault;
 use std::alloc::{AllocError, Global};
 
-/// Writes the results of a run with this summary and these rows (profile).
+/// Writes the results of a run with this summary and these rows.
 ///
 /// # Errors
 ///
-/// `Memory` where memory is refused, `Write` where the output failed or took nothing in this call. A
+/// `Memory` if memory is refused. `Write` if the output failed or took nothing in this call. A
 /// beginning of the text may have gone out.
 pub fn write_results_of<S: Sink>(
     alloc: Global,
@@ -38,11 +38,11 @@ pub fn write_results_of<S: Sink>(
     Ok(write_results(alloc, &reported_as(run, summary), rows, out)?)
 }
 
-/// Writes the day report of a run with this summary and these rows (profile).
+/// Writes the day report of a run with this summary and these rows.
 ///
 /// # Errors
 ///
-/// `Memory` where memory is refused, `Write` where the output failed or took nothing in this call. A
+/// `Memory` if memory is refused. `Write` if the output failed or took nothing in this call. A
 /// beginning of the text may have gone out.
 pub fn write_day_report_of<S: Sink>(
     alloc: Global,
@@ -58,11 +58,11 @@ pub fn write_day_report_of<S: Sink>(
     Ok(write_day_report(alloc, &reported_as(run, summary), rows, out)?)
 }
 
-/// Writes the balances of both accounts of each of these parties, by these postings (profile).
+/// Writes the balances of both accounts of each of these parties, by these postings.
 ///
 /// # Errors
 ///
-/// `Memory` where memory is refused, `Write` where the output failed or took nothing in this call. A
+/// `Memory` if memory is refused. `Write` if the output failed or took nothing in this call. A
 /// beginning of the text may have gone out.
 pub fn write_balances_of<S: Sink>(
     alloc: Global,
@@ -90,7 +90,7 @@ fn reported_as(run: &RunKey, summary: &Summary) -> ReportedRun
     }
 }
 
-/// The ids of parties. `Err` only where memory is refused.
+/// The ids of parties. `Err` only if memory is refused.
 fn party_ids(
     alloc: Global,
     parties: &[(PartyId, PartyRegistration)],
@@ -100,7 +100,7 @@ fn party_ids(
     parties.iter().map(|party| party.0).collect(alloc)
 }
 
-/// The amounts of postings, each under its account. `Err` only where memory is refused.
+/// The amounts of postings, each with its account. `Err` only if memory is refused.
 fn amounts_posted(
     alloc: Global,
     postings: &[(PostingKey, Pence)],

@@ -1,4 +1,4 @@
-//! What is read of runs, from rows in the order of their keys.
+//! What is read of runs, out of rows in the order of their keys.
 
 ghost use Rattle.std.specs.Prelude.{◌≡◌, filter_map, IfOk};
 ghost use Rattle.hh_states.specs.Reads.{posting_to, result_in, summary_on};
@@ -11,7 +11,7 @@ use hh_states::{PostingKey, ResultKey};
 use hh_time::SettlementDate;
 use std::alloc::{AllocError, Global};
 
-/// The runs of a date with their summaries, in the order of the rows. `Err` only where memory is refused.
+/// The runs of a date with their summaries, in the order of the rows. `Err` only if memory is refused.
 pub fn runs_on(
     alloc: Global,
     date: SettlementDate,
@@ -28,7 +28,7 @@ pub fn runs_on(
     Ok(found)
 }
 
-/// The rows of a run's accounts with their Settlement Periods, in the order of the rows. `Err` only where
+/// The rows of a run's accounts with their Settlement Periods, in the order of the rows. `Err` only if
 /// memory is refused.
 pub fn results_of(
     alloc: Global,
@@ -37,7 +37,7 @@ pub fn results_of(
 ) -> Result<Vec<(PeriodNumber, AccountRow)>, AllocError>
     ensures { IfOk result (λ found. found.items ≡ filter_map (result_in run.now) rows.now) }
 {
-    let mut found = Vec::new(alloc);
+    let mut found = Vec::with_capacity(alloc, likely_count(run, rows))?;
     for (key, row) in rows {
         if let Some(row) = result_in(run, *key, *row) {
             found.push(row)?;
@@ -46,7 +46,15 @@ pub fn results_of(
     Ok(found)
 }
 
-/// What the runs posted to an account, in the order of the rows. `Err` only where memory is refused.
+/// How many of these rows are of a run, if they are in the order of their keys. Room is made by this. In
+/// any other order it is wrong, which only costs time or memory.
+fn likely_count(run: &RunKey, rows: &[(ResultKey, AccountRow)]) -> usize {
+    let before = rows.partition_point(|row| row.0.run.cmp(run).is_lt());
+    let up_to = rows.partition_point(|row| row.0.run.cmp(run).is_le());
+    up_to.saturating_sub(before)
+}
+
+/// What the runs posted to an account, in the order of the rows. `Err` only if memory is refused.
 pub fn postings_to(
     alloc: Global,
     account: &Account,

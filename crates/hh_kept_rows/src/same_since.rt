@@ -22,7 +22,7 @@ use std::alloc::{AllocError, Global};
 use std::cmp::Ordering;
 
 impl DayBeside {
-    /// A Settlement Period as the latest run of its date settled it, if that had the period and settled
+    /// A Settlement Period as the latest run of its date settled it, if that run had the period and settled
     /// it for these accounts, and the period was not touched since.
     pub(crate) fn same_since(
         &self,
@@ -51,7 +51,8 @@ impl DayBeside {
         Ok(result)
     }
 
-    /// Whether a Settlement Period is one of so many of its date, and was not touched since its latest run.
+    /// Whether a Settlement Period is one of the `periods` of its date, and was not touched since the
+    /// date's latest run.
     fn is_untouched(&self, periods: u8, at: &SettlementPeriod) -> bool
         ensures within { result ≡ true → (1 ≤ at.now.period) × (at.now.period ≤ periods) }
         ensures untouched { result ≡ true → is_among self.now.touched.items at.now ≡ false }
@@ -72,7 +73,7 @@ fn is_among(periods: &[SettlementPeriod], at: &SettlementPeriod) -> bool
     false
 }
 
-/// The order of a run and a period beside others.
+/// The order of a run and period against another run and period.
 fn order(run: &RunKey, period: PeriodNumber, others: &RunKey, other: PeriodNumber) -> Ordering
     ensures { result ≡ ordering_then (run_key_cmp run.now others.now) (nat_cmp period other) }
 {
@@ -101,7 +102,7 @@ fn result_rows(results: &ListTable<ResultKey, AccountRow>) -> &[(ResultKey, Acco
     ensures rising { IsTable result_key_cmp results.now }
 {
     let rows = results.rows();
-    // Finds what is known, but carries for the proof that the rows of a table rise.
+    // Finds a row that is known. For the proof: the rows of a table rise.
     if let Some(first) = rows.first() {
         let _first = results.get(&first.0);
     }
@@ -130,7 +131,7 @@ fn rows_of_credits(credits: &ListTable<CreditKey, Ticks>) -> &[(CreditKey, Ticks
     ensures rising { IsTable credit_key_cmp credits.now }
 {
     let rows = credits.rows();
-    // Finds what is known, but carries for the proof that the rows of a table rise.
+    // Finds a row that is known. For the proof: the rows of a table rise.
     if let Some(first) = rows.first() {
         let _first = credits.get(&first.0);
     }

@@ -112,7 +112,7 @@ all_append p (x ∷ xs) ys h k =
     let two = and_parts (p x) (list_all p xs) h in
     and_from (p x) (list_all p (xs ++ ys)) two.0 (all_append p xs ys two.1 k)
 
--- lists of which the first parts are equally long
+-- two lists with first parts of the same length
 same_parts : {X : Type 0} (xs ys us vs : List X) → length xs ≡ length ys → xs ++ us ≡ ys ++ vs → (xs ≡ ys) × (us ≡ vs)
 same_parts [] [] us vs long same = (refl, same)
 same_parts [] (y ∷ ys) us vs long same = absurd (cc long)

@@ -1,4 +1,4 @@
--- What a table is after one row was put in the place of those of its key.
+-- What a table is after one row was written and replaced those with its key.
 use Rattle.std.proofs.Common.{◌≡◌, Bool, true, false, cond, not, List, [], ◌∷◌, filter, Option, Some, None, Ordering, Less, Equal, Greater, is_eq, ℤ, refl, sym, ap, subst, ◌∙◌, inl, inr}
 use Rattle.std.specs.Prelude.{filter_map, option_map}
 use Rattle.std.specs.List.{cons_option}
@@ -40,7 +40,7 @@ module _ {K V : Type 0} (R : K → K → Ordering) (total : IsTotalOrder R) (exa
   abbrev pub value_of : Row → Option V
   value_of r = option_map (λ e. e.1) (entry r)
 
-  -- what the first row with this key has
+  -- the value of the first row with this key
   abbrev pub look : K → List Row → Option V
   look q [] = None
   look q (r ∷ rows) = cond (matches q r) (value_of r) (look q rows)
@@ -99,11 +99,11 @@ module _ {K V : Type 0} (R : K → K → Ordering) (total : IsTotalOrder R) (exa
       true≢false (sym has ∙ ap (λ i. has_rowid i r) here ∙ not-true (has_rowid other r) kept)
   lost (other ∷ ids) rows r id h (inr later) has = lost ids (without_rowid other rows) r id h later has
 
-  -- a row with the key of another row
+  -- if a row has a key, it has any equal key
   match_same : (q k : K) (r : Row) → is_eq (R q k) ≡ true → matches q r ≡ true → matches k r ≡ true
   match_same q k r at is = subst (λ x. matches x r ≡ true) (same q k at) is
 
-  -- The rowids are those of the rows with the key of the new row, and of rows of no office; the new rowid is free.
+  -- The rowids are those of the rows with the key of the new row, and of rows that are no entries; the new rowid is free.
   pub table_in-replaced : (rows : List Row) (new : Row) (k : K) (v : V) → entry new ≡ Some (k, v) → (ids : List ℤ) → is_taken (without_all rows ids) new ≡ false
       → ((r : Row) (id : ℤ) → Has rows r → Has ids id → has_rowid id r ≡ true → (q : K) → matches q r ≡ true → q ≡ k)
       → ((r : Row) → Has rows r → matches k r ≡ true → (id : ℤ) × Has ids id × (has_rowid id r ≡ true))

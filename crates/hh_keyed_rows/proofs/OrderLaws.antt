@@ -1,4 +1,4 @@
--- Rows of which no two have one key represent one table in whatever order they are; and what is found under a key.
+-- If no two rows have the same key, rows represent the same table in any order; and what is found under a key.
 use Rattle.std.proofs.Common.{◌≡◌, ℕ, ◌+◌, ◌≤◌, List, [], ◌∷◌, ◌++◌, Bool, true, false, cond, filter, Option, Some, None, Ordering, is_eq, arith, refl, sym, ap, subst, ◌∙◌, inl, inr}
 use Rattle.std.specs.Prelude.{filter_map, option_to_list}
 use Rattle.std.specs.List.{cons_option, flat_map, sum_by}
@@ -91,7 +91,7 @@ module _ {K V : Type 0} (R : K → K → Ordering) (total : IsTotalOrder R) (exa
   distinct_permuted es fs same each =
       counted_once fs (λ q. subst (λ n. n ≤ 1) (sym (sum_by-IsPermutation (mark R q) es fs same)) (one_counted es each q))
 
-  -- ---- what is found in the one is found in the other
+  -- ---- what is found in one list is found in the other
 
   found_stands : (q : K) (v : V) (es : List (K × V)) → find R q es ≡ Some v → Has es (q, v)
   found_stands q v [] found = absurd (none_is_not_some found)

@@ -1,4 +1,4 @@
--- Keys that agree at their places are equal.
+-- Keys that agree in their columns are equal.
 use Rattle.std.proofs.Common.{◌≡◌, ℕ, zero, suc, ℤ, pos, arith, List, [], ◌∷◌, ◌++◌, length, drop, Bool, true, false, Ordering, Less, Equal, Greater, is_eq, int_cmp, Some, refl, sym, ap, ◌∙◌}
 use Rattle.std.specs.List.{list_all}
 use Rattle.std.specs.Ordering.{nat_cmp}
@@ -71,7 +71,7 @@ equal_itself (Int a) p = equal_ints a a ∙ ap is_eq (tied_itself int_cmp_total 
 equal_itself (Text t) p = truth_of _ ∙ ap is_eq (tied_itself value_cmp_total (Text t))
 equal_itself (Blob t) p = truth_of _ ∙ ap is_eq (tied_itself value_cmp_total (Blob t))
 
--- the front of what is left of a row is its column there
+-- the first value of what is left of a row is the column there
 pub column_at : (row : Row) (at : ℕ) (v : Value) (rest : Row) → drop at row ≡ v ∷ rest → column row at ≡ v
 column_at [] zero v rest is = absurd (let e : ◌≡◌ {A = Row} [] (v ∷ rest) = is in cc)
 column_at [] (suc at) v rest is = absurd (let e : ◌≡◌ {A = Row} [] (v ∷ rest) = is in cc)

@@ -1,5 +1,5 @@
--- INSERT OR REPLACE of one row into a table with no reference and no AUTOINCREMENT.
-use Rattle.std.proofs.Common.{◌≡◌, ◌≢◌, ◌⊎◌, inl, inr, ℕ, ℤ, List, [], ◌∷◌, slice_get, length, Bool, true, false, cond, Some, None, Option, Ok, Err, Result, refl, sym, ap, subst, ◌∙◌, if◌then◌else◌, ◌/◌}
+-- INSERT OR REPLACE of rows into a table with no reference and no AUTOINCREMENT.
+use Rattle.std.proofs.Common.{◌≡◌, ◌≢◌, ◌⊎◌, inl, inr, ℕ, ℤ, List, [], ◌∷◌, slice_get, length, map, Bool, true, false, cond, Some, None, Option, Ok, Err, Result, refl, sym, ap, subst, ◌∙◌, if◌then◌else◌, ◌/◌}
 use Rattle.std.specs.List.{AllByRecursion}
 use Rattle.sqlite_value.specs.declared.value.Value.{Value}
 use Rattle.sqlite_value.specs.declared.value.Value.TheVariants.{Null, Int}
@@ -21,7 +21,7 @@ use Rattle.sqlite_rules.proofs.PlaceLemmas.{given}
 use Rattle.sqlite.specs.Edit.{edit_of, next_rowid, without_all, put_all, with_rowid, taken_by}
 use Rattle.sqlite.specs.Cast.{cast, cast_row, cast_all}
 use Rattle.sqlite.specs.declared.error.Error.{Error}
-use Rattle.sqlite.specs.Rows.{Written, Task, stamped, mended, mended_from, nothing, rowids_for, count_of, TriesEach, Tries, Clears, Puts, Counts, InsertsOr}
+use Rattle.sqlite.specs.Rows.{Written, Task, stamped, mended, mended_from, nothing, joined, rowids_for, count_of, TriesEach, Tries, Clears, Puts, Counts, InsertsOr}
 use Rattle.sqlite.specs.Does.{Tally, OnRows, Does, AtPlace}
 use Rattle.sqlite.specs.State.{State, Shows, Executes}
 use Rattle.sqlite.specs.Listing.{understood}
@@ -30,7 +30,12 @@ use Rattle.sqlite.specs.Effect.{Database, IsDatabase, value_rows, edit_error}
 use Rattle.sqlite.proofs.Callers.{one_step, IsPlain, command_of, statement_of, runs_as}
 use Rattle.hh_keyed_rows.specs.Puts.{stored_in, PutsRow}
 
--- a part that gave a value did not stop on the way
+-- rows with these columns are written, one after the other
+abbrev pub PutsEach : {X : Type 0} → Schema → Table → (X → Row) → List X → Trees → Trees → Type 0
+PutsEach schema table columns [] old new = new ≡ old
+PutsEach schema table columns (x ∷ xs) old new = (middle : Trees) × PutsRow schema table old (columns x) middle × PutsEach schema table columns xs middle new
+
+-- if a computation gave a value, none of its steps stopped it
 pub went : {B E R : Type 0} {b : B} {Stops : E → Type 0} → ((stop : E) × Stops stop × (Ok b ≡ Err stop)) ⊎ R → R
 went (inl stopped) = absurd (let e = stopped.2 in cc)
 went (inr on) = on
@@ -102,30 +107,35 @@ module _ (task : Task) (free : (olds news : List Row) → works task.schema task
         ∙ ap (λ vs. with_rowid Chosen (rows_of old) (cast Integer Null ∷ vs)) kept
         ∙ ap (λ v. with_rowid Chosen (rows_of old) (v ∷ columns)) cast_null
 
-    each : (top : ℤ) (d : Written × ℤ) → TriesEach task Replace [] ((Null ∷ columns) ∷ []) top (nothing old) (Ok d) → PutsRow task.schema task.table old columns d.0.trees
-    each top d h =
+  module _ {X : Type 0} (columns : X → Row) (kept : (x : X) → cast_all task.table.columns (columns x) ≡ columns x) (mends : (x : X) → mended_from task.table.key 0 task.table.columns (columns x) ≡ columns x) where
+    each : (xs : List X) (top : ℤ) (before : Written) (d : Written × ℤ) → TriesEach task Replace [] (map (λ x. Null ∷ columns x) xs) top before (Ok d) → PutsEach task.schema task.table columns xs before.trees d.0.trees
+    each [] top before d h = ap (λ (x : Written × ℤ). x.0.trees) (same_value h)
+    each (x ∷ xs) top before d h =
         let one = went h in
-        let trees : d.0.trees ≡ one.0.trees = ap (λ (x : Written × ℤ). x.0.trees) (same_value one.2) in
-        subst (PutsRow task.schema task.table old columns) (sym trees) (tries one.0 (subst (λ (r : Row). Tries task Replace [] r old (Ok one.0)) (new_is top) one.1))
+        let row = new_is before.trees (columns x) (kept x) (mends x) top in (
+          one.0.trees,
+          tries before.trees (columns x) (kept x) (mends x) one.0 (subst (λ (r : Row). Tries task Replace [] r before.trees (Ok one.0)) row one.1),
+          each xs _ (joined before one.0) d one.2,
+        )
 
-    module _ (terms : List Term) (width : ℕ) (values : value_rows (stamped task.table task.params) width (length terms / width) terms ≡ (Null ∷ columns) ∷ []) where
-      pub inserts : (w : Written) → InsertsOr task Replace [] (Values terms width) old (Ok w) → PutsRow task.schema task.table old columns w.trees
-      inserts w h =
+    module _ (xs : List X) (terms : List Term) (width : ℕ) (values : value_rows (stamped task.table task.params) width (length terms / width) terms ≡ map (λ x. Null ∷ columns x) xs) where
+      pub inserts : (old : Trees) (w : Written) → InsertsOr task Replace [] (Values terms width) old (Ok w) → PutsEach task.schema task.table columns xs old w.trees
+      inserts old w h =
           let sourced = went h in
           let counted = went sourced.2 in
           let tried = went counted.2 in
           let ended = went tried.2 in
           let trees : w.trees ≡ ended.0 = ap (λ (x : Written). x.trees) (same_value ended.2) in
           let next : ended.0 ≡ tried.0.0.trees = counts tried.0.0.trees counted.0 tried.0.1 ended.0 ended.1 in
-          subst (PutsRow task.schema task.table old columns) (sym (trees ∙ next))
-          (each (count_of counted.0) tried.0 (subst (λ (rows : List Row). TriesEach task Replace [] rows (count_of counted.0) (nothing old) (Ok tried.0)) (sourced.1.1 ∙ values) tried.1))
+          subst (PutsEach task.schema task.table columns xs old) (sym (trees ∙ next))
+          (each xs (count_of counted.0) (nothing old) tried.0 (subst (λ (rows : List Row). TriesEach task Replace [] rows (count_of counted.0) (nothing old) (Ok tried.0)) (sourced.1.1 ∙ values) tried.1))
 
 -- ---- as a statement
 
--- The statement put the row. Outside a transaction it is committed.
-pub record PutsOne (as_schema : Schema) (table : Table) (columns : Row) (old new : State) : Type 0 where
+-- The statement wrote the rows. Outside a transaction they are committed.
+pub record PutsMany {X : Type 0} (as_schema : Schema) (table : Table) (columns : X → Row) (xs : List X) (old new : State) : Type 0 where
   pub schema : new.now.schema ≡ as_schema
-  pub row : PutsRow as_schema table old.now.trees columns new.now.trees
+  pub each : PutsEach as_schema table columns xs old.now.trees new.now.trees
   pub shown : Shows old new new.now (if old.in_transaction then old.committed else new.now) old.in_transaction
   pub sound : IsDatabase new.now
   pub marks : new.marks ≡ old.marks
@@ -133,11 +143,11 @@ pub record PutsOne (as_schema : Schema) (table : Table) (columns : Row) (old new
 module _ (schema : Schema) (at : ℕ) (table : Table) (listed : slice_get schema.tables at ≡ Some table) (uncounted : table.is_counted ≡ false)
     (free : (olds news : List Row) → works schema Enforced 0 table.tree olds news ≡ [])
     (terms : List Term) (width : ℕ) (sql : List ℕ) (is : command_of (understood schema sql) ≡ InsertOr at Replace (Values terms width) []) (plain : IsPlain (understood schema sql))
-    (params columns : Row) (values : value_rows (stamped table params) width (length terms / width) terms ≡ (Null ∷ columns) ∷ [])
-    (kept : cast_all table.columns columns ≡ columns) (mends : mended_from table.key 0 table.columns columns ≡ columns) where
+    {X : Type 0} (columns : X → Row) (xs : List X) (params : Row) (values : value_rows (stamped table params) width (length terms / width) terms ≡ map (λ x. Null ∷ columns x) xs)
+    (kept : (x : X) → cast_all table.columns (columns x) ≡ columns x) (mends : (x : X) → mended_from table.key 0 table.columns (columns x) ≡ columns x) where
   done_by : (limit : Option ℕ) (text : List ℕ) (db : Database) (tally : Tally) (after : Database) → db.schema ≡ schema
       → Does limit (record { keys = Enforced; in_doubt = false; may_wait = false }) params db text None (InsertOr at Replace (Values terms width) []) (Ok (tally, after))
-      → (after.schema ≡ schema) × PutsRow schema table db.trees columns after.trees
+      → (after.schema ≡ schema) × PutsEach schema table columns xs db.trees after.trees
   done_by limit text db tally after has h =
       let mode : Mode = record { keys = Enforced; in_doubt = false; may_wait = false } in
       let command = InsertOr at Replace (Values terms width) [] in
@@ -147,12 +157,12 @@ module _ (schema : Schema) (at : ℕ) (table : Table) (listed : slice_get schema
       let done = went on in
       let now = ap (λ (p : Tally × Database). p.1) (same_value (went (went done.2).2).2) in (
         ap (λ (d : Database). d.schema) now,
-        subst (λ (d : Database). PutsRow schema table db.trees columns d.trees) (sym now) (inserts task free uncounted db.trees columns kept mends terms width values done.0 done.1),
+        subst (λ (d : Database). PutsEach schema table columns xs db.trees d.trees) (sym now) (inserts task free uncounted columns kept mends xs terms width values db.trees done.0 done.1),
       )
 
   pub put_by : (old new : State) (count : ℕ) → old.now.schema ≡ schema → Executes sql params old new (Ok count)
-      → PutsOne schema table columns old new
+      → PutsMany schema table columns xs old new
   put_by old new count has h =
       let w = runs_as sql params old new schema has (InsertOr at Replace (Values terms width) []) is plain count h in
       let done = done_by old.step_limit (statement_of sql (understood schema sql)) old.now w.tally new.now has w.changed in
-      record { schema = done.0; row = done.1; shown = w.shown; sound = w.sound; marks = w.marks }
+      record { schema = done.0; each = done.1; shown = w.shown; sound = w.sound; marks = w.marks }

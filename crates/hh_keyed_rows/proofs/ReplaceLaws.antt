@@ -38,7 +38,7 @@ use Rattle.hh_keyed_rows.proofs.PlaceLaws.{agree_same, agree_there, equal_ints, 
 -- ---- which rows are replaced
 
 module _ (schema : Schema) (table : Table) {K V : Type 0} (R : K → K → Ordering) (total : IsTotalOrder R) (exact : CmpEqualImpliesEq R) (entry : Row → Option (K × V)) where
-  -- the unique indexes of the table tell its rows apart by their keys
+  -- the unique indexes of the table distinguish its rows by their keys
   abbrev pub TellsApart : List Row → Row → K → Type 0
   TellsApart rows new k = (r : Row) → Has rows r
       → (list_any (shares None table new r) schema.indexes ≡ true → (q : K) → matches R total exact entry q r ≡ true → q ≡ k)
@@ -127,14 +127,14 @@ module _ (schema : Schema) (table : Table) {K V : Type 0} (R : K → K → Order
             indexed r new ∙ subst (λ n. agree plain (places_from 1 n) r (places_from 1 n) new ≡ true) (is_key.wide k) there),
       )
 
-  -- the row under its key takes the place of the one there
+  -- the row is under its key, where it replaces the one there
   pub put_in_table : (old new : Trees) (k : K) (v : V) → key.fits k ≡ true → value.fits v ≡ true → IsShaped shape.Table (old table.tree)
       → PutsRow schema table old (key.write k ++ value.write v) new → table_in R entry (new table.tree) ≡ put R k v (table_in R entry (old table.tree))
   put_in_table old new k v fit_key fit_value shaped puts =
       table_in-put schema table R total exact entry old new (key.write k ++ value.write v) k v
       (entry_written key value is_key is_value (Int (next_rowid (old table.tree))) k v fit_key fit_value) shaped (tells (old table.tree) k v) puts
 
--- ---- the shape of a table stays
+-- ---- the shape of a table does not change
 
 shaped_without : (ids : List ℤ) (rows : List Row) → IsShaped shape.Table rows → IsShaped shape.Table (without_all rows ids)
 shaped_without [] old h = h

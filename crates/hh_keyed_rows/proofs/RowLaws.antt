@@ -1,4 +1,4 @@
--- The laws on rows that represent tables, as contracts state them.
+-- The laws about rows that represent tables, as contracts state them.
 use Rattle.std.proofs.Common.{◌≡◌, List, [], ◌∷◌, ◌++◌, drop, true, Some, Ordering, sym, ap, subst, ◌∙◌}
 use Rattle.std.specs.List.{AllByRecursion}
 use Rattle.std.specs.FinMap.{put}

@@ -1,4 +1,4 @@
--- What the rules of a schema say of the rows of a keyed table: how many columns they have, and that no key comes twice.
+-- What the rules of a schema say about the rows of a keyed table: how many columns they have, and that no key occurs twice.
 use Rattle.std.proofs.Common.{◌≡◌, Bool, true, false, not, ◌&&◌, ◌||◌, ◌+◌, ℕ, zero, suc, List, [], ◌∷◌, ◌++◌, length, drop, map, None, Ordering, Less, Equal, Greater, is_eq, IsTrue, arith, refl, sym, ap, subst, ◌∙◌, inl, inr}
 use Rattle.std.specs.Ordering.{is_ne}
 use Rattle.std.specs.List.{list_all, list_any}
@@ -35,7 +35,7 @@ column_past [] (suc at) is = refl
 column_past (x ∷ row) zero is = absurd (let e : ◌≡◌ {A = Row} (x ∷ row) [] = is in cc)
 column_past (x ∷ row) (suc at) is = column_past row at is
 
--- the place after a place, in two spellings
+-- the place after a place, written in two ways
 next : (at : ℕ) → at + 1 ≡ suc at
 next at = omega arith
 
@@ -84,7 +84,7 @@ pub has_rowid : (row : Row) (n : ℕ) → length (drop 1 row) ≡ suc n → (id 
 has_rowid [] n h = absurd (cc h)
 has_rowid (id ∷ columns) n h = (id, refl)
 
--- a row that has these columns is they
+-- a row with these columns has no others
 abbrev pub HasColumns : Row → ℕ → Row → Type 0
 HasColumns row at [] = Unit {0}
 HasColumns row at (v ∷ vs) = (column row at ≡ v) × HasColumns row (suc at) vs
@@ -105,7 +105,7 @@ columns_are row at (v ∷ vs) long has = go (λ l. columns_are row (suc at) vs l
         let more : ws ≡ vs = sym rest ∙ later (ap length rest ∙ cc h) in
         λ i. first i ∷ more i
 
--- ---- no key comes twice
+-- ---- no key occurs twice
 
 not_tied : (o : Ordering) → is_eq o ≡ false → is_ne o ≡ true
 not_tied Less h = refl

@@ -86,7 +86,7 @@ module _ {K V : Type 0} (R : K → K → Ordering) (total : IsTotalOrder R) wher
 
 -- ---- rows with entries
 
--- what is read of a list
+-- reading the results of a function on a list
 map_read : {X Y Z : Type 0} (f : Y → Option Z) (g : X → Y) (xs : List X) → filter_map f (map g xs) ≡ filter_map (λ x. f (g x)) xs
 map_read f g [] = refl
 map_read f g (x ∷ xs) = ap (cons_option (f (g x))) (map_read f g xs)
@@ -112,7 +112,7 @@ back_read : {X Y : Type 0} (f : Y → Option X) (g : X → Y) (xs : List X) → 
 back_read f g [] each = refl
 back_read f g (x ∷ xs) each = ap (λ o. cons_option o (filter_map f (map g xs))) each.0 ∙ ap (λ ys. x ∷ ys) (back_read f g xs each.1)
 
--- a total order tests as a sort does
+-- a total order compares as a sort does
 no_greater : (o : Ordering) → is_lt o ≡ false → is_gt (ordering_reverse o) ≡ false
 no_greater Less h = h
 no_greater Equal h = refl
@@ -145,7 +145,7 @@ module _ {K V : Type 0} (R : K → K → Ordering) (total : IsTotalOrder R) (exa
   abbrev pub written : K × V → Row
   written e = key.write e.0 ++ value.write e.1
 
-  -- two rows with one key are one row
+  -- two rows with the same key are the same row
   abbrev pub IsOnce : List Row → Type 0
   IsOnce rows = (r s : Row) → Has rows r → Has rows s → (q : K) → matches R total exact entry q r ≡ true → matches R total exact entry q s ≡ true → value_cmp (rowid r) (rowid s) ≡ Equal
 
@@ -197,7 +197,7 @@ module _ {K V : Type 0} (R : K → K → Ordering) (total : IsTotalOrder R) (exa
         let it = full r h in
         (it.0, it.1 ∙ ap (λ cs. it.0 ∷ cs) (entry_only key value is_key is_value it.0 (drop 1 r) e (ap entry (sym it.1) ∙ is)))
 
-    -- of what rows show, what is read is what their entries show
+    -- what is read from the rows' outputs is the outputs of their entries
     outs_read : (rs : List Row) → ((r : Row) → Has rs r → Has rows r) → filter is_read (map out rs) ≡ map shown (filter_map entry rs)
     outs_read [] of = refl
     outs_read (r ∷ rs) of = go (entry r) refl (outs_read rs (λ s h. of s (inr h)))
@@ -212,7 +212,7 @@ module _ {K V : Type 0} (R : K → K → Ordering) (total : IsTotalOrder R) (exa
             ap (λ b. cond b (out r ∷ filter is_read (map out rs)) (filter is_read (map out rs))) (ap is_some (read_out r (of r (inl refl)) ∙ is))
             ∙ (λ i. here i ∷ more i)
 
-    -- what an entry shows is read as the entry
+    -- the output of an entry is read as the entry
     each_read : (rs : List Row) → ((r : Row) → Has rs r → Has rows r) → AllByRecursion (λ e. read (shown e) ≡ Some e) (filter_map entry rs)
     each_read [] of = tt
     each_read (r ∷ rs) of = go (entry r) refl (each_read rs (λ s h. of s (inr h)))
@@ -222,7 +222,7 @@ module _ {K V : Type 0} (R : K → K → Ordering) (total : IsTotalOrder R) (exa
         go None is more = more
         go (Some e) is more = (sym (ap entry (entry_row r e (of r (inl refl)) is).1) ∙ is, more)
 
-    -- rows that pass the test have the entries that do
+    -- the rows that pass the test have the entries that pass it
     as_filtered : (rs : List Row) → ((r : Row) → Has rs r → Has rows r) → filter_map entry (filter test rs) ≡ filter (λ e. p e.0) (filter_map entry rs)
     as_filtered [] of = refl
     as_filtered (r ∷ rs) of = go (as_filtered rs (λ s h. of s (inr h))) (test r) refl (entry r) refl
@@ -241,7 +241,7 @@ module _ {K V : Type 0} (R : K → K → Ordering) (total : IsTotalOrder R) (exa
             let passed : p e.0 ≡ false = sym (tested it.0 e) ∙ ap test (sym it.1) ∙ at in
             more ∙ sym (ap (λ b. cond b (e ∷ filter (λ e. p e.0) (filter_map entry rs)) (filter (λ e. p e.0) (filter_map entry rs))) passed)
 
-    -- what is read of the rows that are answered are those of the keys, in their order
+    -- what is read from the answer is the entries with the keys asked for, in their order
     pub answers : (answer : List Row) (kept ordered : List Output)
         → kept ≡ map out (filter test rows) → IsPermutation kept ordered → Rattle.std.specs.Prelude.IsSorted (output_cmp q) ordered → answer ≡ map (λ o. o.1) ordered
         → filter_map (entry_in key value) answer ≡ filter (λ e. p e.0) (table_in R entry rows)

@@ -5,14 +5,14 @@ use Rattle.sqlite_value.specs.declared.value.Value.{Value}
 use Rattle.sqlite_value.specs.declared.value.Value.TheVariants.{Null, Int, Real, Text, Blob}
 use Rattle.sqlite_value.specs.Order.{Row}
 
--- So many columns, which are written for a value, and are read from the front of a row. Only values that fit are read.
+-- `width` columns that are written for a value, and read from the front of a row. Only values that fit are read.
 pub record Codec (A : Type 0) : Type 0 where
   pub width : ℕ
   pub fits : A → Bool
   pub write : A → Row
   pub read : Row → Option (A × Row)
 
--- a value of SQL that is equal to itself alone: no NULL and no real number
+-- a value of SQL that is equal only to itself: no NULL and no real number
 abbrev pub is_discrete : Value → Bool
 is_discrete Null = false
 is_discrete (Int n) = true
@@ -20,7 +20,7 @@ is_discrete (Real x) = false
 is_discrete (Text t) = true
 is_discrete (Blob b) = true
 
--- What is written for a value that fits is read as that value, and nothing else is read. Two values are written apart.
+-- What is written for a value that fits is read as that value, and nothing else is read. Two values have different columns.
 pub record IsCodec {A : Type 0} (c : Codec A) : Type 0 where
   pub back : (a : A) (rest : Row) → c.fits a ≡ true → c.read (c.write a ++ rest) ≡ Some (a, rest)
   pub only : (row : Row) (a : A) (rest : Row) → c.read row ≡ Some (a, rest) → row ≡ c.write a ++ rest
@@ -68,9 +68,9 @@ text_column = record { width = 1; fits = λ _. true; write = λ t. Text t ∷ []
 abbrev pub blob_column : Codec (List ℕ)
 blob_column = record { width = 1; fits = λ _. true; write = λ b. Blob b ∷ []; read = at_front blob_in }
 
--- ---- codecs of codecs
+-- ---- codecs made from codecs
 
--- one after the other
+-- two codecs, one after the other
 abbrev pub both : {A B : Type 0} → Codec A → Codec B → Codec (A × B)
 both c d = record {
   width = c.width + d.width;
@@ -79,7 +79,7 @@ both c d = record {
   read = λ row. option_and_then (λ x. option_map (λ y. ((x.0, y.0), y.1)) (d.read x.1)) (c.read row);
 }
 
--- of another type that has the same values
+-- the codec of another type with the same values
 abbrev pub via : {A B : Type 0} → (A → B) → (B → A) → Codec A → Codec B
 via to from c = record {
   width = c.width;
@@ -88,7 +88,7 @@ via to from c = record {
   read = λ row. option_map (λ x. (to x.0, x.1)) (c.read row);
 }
 
--- of a type each value of which has a code
+-- the codec of a type whose values have codes
 abbrev pub coded : {A B : Type 0} → (B → A) → (A → Option B) → Codec A → Codec B
 coded code named c = record {
   width = c.width;
@@ -97,7 +97,7 @@ coded code named c = record {
   read = λ row. option_and_then (λ x. option_map (λ b. (b, x.1)) (named x.0)) (c.read row);
 }
 
--- of the values alone that are in a range
+-- a codec for only the values in a range
 abbrev pub within : {A : Type 0} → (A → Bool) → Codec A → Codec A
 within in_range c = record {
   width = c.width;

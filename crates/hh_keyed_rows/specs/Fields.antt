@@ -20,11 +20,11 @@ use Rattle.hh_keyed_rows.specs.Codecs.{Codec, both, coded, int_column, nat_colum
 
 -- ---- one column
 
--- a number up to a greatest
+-- a number up to `most`
 abbrev pub number_column : ℕ → Codec ℕ
 number_column most = within (λ n. nat_le n most) nat_column
 
--- a date, by its days since 1970-01-01
+-- a date, as days since 1970-01-01
 abbrev pub date_column : Codec ℕ
 date_column = within is_accepted nat_column
 
@@ -35,7 +35,7 @@ is_period_number n = nat_le 1 n && nat_le n 50
 abbrev pub period_column : Codec ℕ
 period_column = within is_period_number nat_column
 
--- so many units of a quantity, from its least to its most
+-- a quantity in its units, from `least` to `most`
 abbrev pub units_column : ℤ → ℤ → Codec ℤ
 units_column least most = within (is_between least most) int_column
 
@@ -92,7 +92,7 @@ file_kind_column = coded kind_word kind_value text_column
 abbrev pub lead_minutes_column : Codec ℕ
 lead_minutes_column = number_column 1440
 
--- a column that has one number alone
+-- a column that always has the same number
 abbrev pub only_number : ℕ → Codec ⊤
 only_number n = coded (λ _. n) (λ m. if m == n then Some tt else None) nat_column
 
@@ -102,7 +102,7 @@ only_number n = coded (λ _. n) (λ m. if m == n then Some tt else None) nat_col
 abbrev pub account_columns : Codec Account
 account_columns = via (λ p. record { party = p.0; side = p.1 }) (λ a. (a.party, a.side)) (both party_column side_column)
 
--- the first and the last date of a range, which do not fall
+-- the first and the last date of a range; the last is not before the first
 abbrev pub range_columns : Codec Range
 range_columns = within (λ r. nat_le r.from r.to) (via (λ p. record { from = p.0; to = p.1 }) (λ r. (r.from, r.to)) (both date_column date_column))
 

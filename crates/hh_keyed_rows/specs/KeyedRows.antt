@@ -1,16 +1,16 @@
--- The table of an office that the rows of a table of a database represent.
+-- The office's table that the rows of a database table represent.
 use Rattle.std.specs.Prelude.{◌++◌, List, [], ◌∷◌, filter_map, Option, Some, None, option_and_then}
 use Rattle.std.specs.declared.cmp.Ordering.{Ordering}
 use Rattle.hh_tables.specs.Tables.{Table, in_key_order}
 use Rattle.sqlite_value.specs.Order.{Row}
 use Rattle.hh_keyed_rows.specs.Codecs.{Codec, both}
 
--- what was read, if nothing is left
+-- what was read, if no column is left
 abbrev pub whole : {A : Type 0} → A → Row → Option A
 whole a [] = Some a
 whole a (v ∷ rest) = None
 
--- The key and the value that columns are read as: those of the key come first. None where they are off their form or range.
+-- The key and the value that columns are read as. The columns of the key come first. It is None if they are off their form or range.
 abbrev pub entry_in : {K V : Type 0} → Codec K → Codec V → Row → Option (K × V)
 entry_in key value columns = option_and_then (λ x. whole x.0 x.1) ((both key value).read columns)
 
@@ -23,6 +23,6 @@ abbrev pub stored_entry : {K V : Type 0} → Codec K → Codec V → Row → Opt
 stored_entry key value [] = None
 stored_entry key value (id ∷ columns) = entry_in key value columns
 
--- the table that rows represent, in the order of the keys; rows without an entry are no rows of it
+-- the table that rows represent, in the order of the keys; rows that don't read as an entry are left out
 abbrev pub table_in : {K V : Type 0} → (K → K → Ordering) → (Row → Option (K × V)) → List Row → Table K V
 table_in R entry rows = in_key_order R (filter_map entry rows)

@@ -1,4 +1,4 @@
--- What rows of a database say of a table, for any key and value that have columns.
+-- What rows of a database say about a table, for any key and value that have columns.
 use Rattle.std.specs.Prelude.{◌≡◌, ◌↔◌, ℕ, List, [], ◌∷◌, Bool, true, None, Option, Some, filter, filter_map, ⊤}
 use Rattle.std.specs.List.{AllByRecursion, list_any}
 use Rattle.std.specs.List.Sorted.{IsPermutation}
@@ -25,9 +25,9 @@ use Rattle.hh_keyed_rows.specs.Keys.{contract_key_columns, credit_key_columns, f
 use Rattle.hh_keyed_rows.specs.Puts.{PutsRow}
 use Rattle.hh_keyed_rows.specs.Values.{amounts_columns, file_columns, no_columns, party_columns, position_columns, reading_columns, reallocation_columns, settings_columns, summary_columns, unit_columns}
 
--- ---- that columns are codecs
+-- ---- columns are codecs
 
--- those of single values
+-- the columns of single values
 pub record AreColumnCodecs : Type 0 where
   pub words : (allows : ℕ → Bool) (least most : ℕ) → IsCodec (word_column allows least most)
   pub operator_keys : IsCodec operator_key_column
@@ -42,7 +42,7 @@ pub record AreColumnCodecs : Type 0 where
   pub file_kinds : IsCodec file_kind_column
   pub bytes : IsCodec blob_column
 
--- those of keys
+-- the columns of keys
 pub record AreKeyCodecs : Type 0 where
   pub one_row : IsCodec one_row_column
   pub accounts : IsCodec account_columns
@@ -57,7 +57,7 @@ pub record AreKeyCodecs : Type 0 where
   pub postings : IsCodec posting_key_columns
   pub positions : IsCodec position_key_columns
 
--- those of values
+-- the columns of values
 pub record AreValueCodecs : Type 0 where
   pub settings : IsCodec settings_columns
   pub ranges : IsCodec range_columns
@@ -72,9 +72,9 @@ pub record AreValueCodecs : Type 0 where
   pub positions : IsCodec position_columns
   pub keys_alone : IsCodec no_columns
 
--- ---- of any table
+-- ---- for any table
 
--- an order that is total and tells each two keys apart
+-- an order that is total, and by which different keys are never equal
 abbrev pub IsKeyOrder : {K : Type 0} → (K → K → Ordering) → Type 0
 IsKeyOrder {K} R = IsTotalOrder R × ((a b : K) → R a b ≡ Equal → a ≡ b)
 
@@ -83,25 +83,25 @@ module _ {K V : Type 0} (key : Codec K) (value : Codec V) where
   abbrev pub Fits : K × V → Type 0
   Fits e = (key.fits e.0 ≡ true) × (value.fits e.1 ≡ true)
 
-  -- A row that is written for a key and a value in their ranges is read as these. A row that is read as a key and a value is
-  -- the one that is written for them, and they are in their ranges.
+  -- A row that is written for a key and a value in their ranges is read as them. A row that is read as a key and a value is the row that is
+  -- written for them, and they are in their ranges.
   abbrev pub RowsReadBack : Type 0
   RowsReadBack = IsCodec key → IsCodec value
       → ((e : K × V) → Fits e → entry_in key value (columns_of key value e) ≡ Some e)
       × ((columns : Row) (e : K × V) → entry_in key value columns ≡ Some e → (columns ≡ columns_of key value e) × Fits e)
 
-  -- two rows agree at the places of the key just where they have one key
+  -- two rows agree in the columns of the key exactly if they have the same key
   abbrev pub KeysToldApart : Type 0
   KeysToldApart = IsCodec key → IsCodec value → (r s : Row) (d e : K × V) → stored_entry key value r ≡ Some d → stored_entry key value s ≡ Some e
       → (agree plain (places_from 1 key.width) r (places_from 1 key.width) s ≡ true) ↔ (d.0 ≡ e.0)
 
-  -- a table and its indexes ask that no two rows have one key, and for nothing else
+  -- a table and its indexes require that no two rows have the same key, and nothing else
   abbrev pub IsKeyed : Schema → schema.Table → Type 0
   IsKeyed as_schema table = (r new : Row)
       → list_any (shares None table new r) as_schema.indexes ≡ agree plain (places_from 1 key.width) r (places_from 1 key.width) new
 
 module _ {K V : Type 0} (R : K → K → Ordering) where
-  -- no key stands twice in these
+  -- no key occurs twice
   abbrev pub AreOfOneEach : List (K × V) → Type 0
   AreOfOneEach [] = ⊤
   AreOfOneEach (e ∷ es) = (find R e.0 es ≡ None) × AreOfOneEach es
@@ -111,27 +111,27 @@ abbrev pub first_value : {K V : Type 0} → List (K × V) → Option V
 first_value [] = None
 first_value (e ∷ es) = Some e.1
 
--- what is found under a key is the value of the first entry that has it
+-- what is found under a key is the value of the first entry with that key
 abbrev pub GetsFind : Type 0 → Type 0 → Type 0
 GetsFind K V = (R : K → K → Ordering) (k : K) (table : Table K V) → find R k table ≡ first_value (filter (λ e. is_eq (R k e.0)) table)
 
 module _ {K V : Type 0} (key : Codec K) (value : Codec V) where
-  -- Rows of which no two have one key represent one table, in whatever order they are.
+  -- If no two rows have the same key, rows represent the same table in any order.
   abbrev pub RowsInAnyOrder : Type 0
   RowsInAnyOrder = (R : K → K → Ordering) → IsKeyOrder R → (rows others : List Row) → IsPermutation rows others
       → AreOfOneEach R (filter_map (stored_entry key value) rows) → table_in R (stored_entry key value) others ≡ table_in R (stored_entry key value) rows
 
   module _ (as_schema : Schema) (table : schema.Table) where
-    -- each of the entries is put, the first of them first
+    -- each of the entries is written, in their order
     abbrev pub PutsRows : List (K × V) → Trees → Trees → Type 0
     PutsRows [] old new = new table.tree ≡ old table.tree
     PutsRows (e ∷ es) old new = (middle : Trees) × PutsRow as_schema table old (columns_of key value e) middle × PutsRows es middle new
 
-    -- the rows have rising rowids, and represent this table
+    -- the rowids of the rows rise, and the rows represent this table
     abbrev pub HoldsTable : (K → K → Ordering) → Trees → Table K V → Type 0
     HoldsTable R trees entries = IsShaped shape.Table (trees table.tree) × (table_in R (stored_entry key value) (trees table.tree) ≡ entries)
 
-  -- A row that is put takes the place of the one of its key, and so do rows that are put one after the other.
+  -- Writing a row replaces the one with its key. The same holds for rows that are written one after the other.
   abbrev pub PutsReplace : Type 0
   PutsReplace = IsCodec key → IsCodec value → (R : K → K → Ordering) → IsKeyOrder R
       → (as_schema : Schema) (table : schema.Table) → IsKeyed key value as_schema table → (entries : Table K V) (old new : Trees) → HoldsTable as_schema table R old entries

@@ -1,4 +1,4 @@
--- What putting one row makes of the trees.
+-- What writing one row makes of the trees.
 use Rattle.std.specs.Prelude.{◌≡◌, ◌≢◌, List, ◌∷◌, None}
 use Rattle.std.specs.List.{AllByRecursion}
 use Rattle.sqlite_value.specs.declared.value.Value.TheVariants.{Int}
@@ -14,7 +14,7 @@ use Rattle.sqlite.specs.Edit.{next_rowid, without_all}
 abbrev pub stored_in : List Row → Row → Row
 stored_in rows columns = Int (next_rowid rows) ∷ columns
 
--- the row is put where those that conflict with it were, and each other table is as it was
+-- the row replaces those that conflict with it, and each other table is as it was
 pub record PutsRow (schema : Schema) (table : Table) (old : Trees) (columns : Row) (new : Trees) : Type 0 where
   pub found : List Row
   pub conflicts : AreConflicts None schema.indexes table (old table.tree) (stored_in (old table.tree) columns) found

@@ -1,4 +1,4 @@
--- Why rows of a database are not read or written, by why the database refuses; and how a store and a report tell it.
+-- Why rows of a database are not read or written, given why the database refuses; and how a store and a report tell it.
 use Rattle.sqlite.specs.declared.error.Error.{Error}
 use Rattle.sqlite.specs.declared.error.Error.TheVariants.{SqliteFailure}
 use Rattle.sqlite.specs.declared.error.ErrorCode.TheVariants as code
@@ -9,7 +9,7 @@ use Rattle.hh_store.specs.declared.output_fault.OutputFault.TheVariants as outpu
 use Rattle.hh_store.specs.declared.store_fault.StoreFault.{StoreFault}
 use Rattle.hh_store.specs.declared.store_fault.StoreFault.TheVariants as store
 
--- the database's want of memory is want of memory, and all else is its refusal
+-- if the database lacks memory, memory is refused; all else is a refusal of the database
 abbrev pub database_refused : Error → RowFault
 database_refused (SqliteFailure code.OutOfMemory) = Memory
 database_refused _ = Store

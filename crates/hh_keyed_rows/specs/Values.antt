@@ -1,4 +1,4 @@
--- The columns of the values of tables, in the order in which the tables have them behind their keys.
+-- The columns of the values of tables, in the order in which the tables have them after their keys.
 use Rattle.std.specs.Prelude.{ℕ, ℤ, pos, zero, [], Bool, true, false, Option, Some, None}
 use Rattle.hh_num.specs.Quantities.{amounts_of_cash, energies, multipliers, net_volumes, percentages, volumes}
 use Rattle.hh_names.specs.declared.account.Account.{Account}
@@ -68,12 +68,12 @@ amounts_columns =
     (both (quantity_column energies) (both (quantity_column energies) (both (quantity_column energies)
     (both (quantity_column energies) (both (quantity_column amounts_of_cash) (quantity_column amounts_of_cash))))))
 
--- the net volume of a position, and whether it is lost: then 0 stands in the place of the volume
+-- the net volume of a position, and whether it is lost; if it is lost, the volume is written as 0
 abbrev pub position_numbers : Position → ℤ × Bool
 position_numbers (Known net) = (net, false)
 position_numbers Lost = (pos 0, true)
 
--- the position of a net volume, which is lost or not
+-- the position with a net volume, which may be lost
 abbrev pub position_from : Bool → ℤ → Option Position
 position_from false net = Some (Known net)
 position_from true (pos zero) = Some Lost
@@ -83,7 +83,7 @@ position_from true net = None
 abbrev pub position_columns : Codec Position
 position_columns = coded position_numbers (λ p. position_from p.1 p.0) (both (quantity_column net_volumes) mark_column)
 
--- nothing, of a table whose rows have their keys alone
+-- no column: the value in a table whose rows have only their keys
 abbrev pub no_columns : Codec NoColumns
 no_columns = record { width = 0; fits = λ _. true; write = λ _. []; read = λ row. Some (record {}, row) }
 

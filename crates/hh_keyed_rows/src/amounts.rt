@@ -1,4 +1,4 @@
-//! What an account's row of a run has beside its key.
+//! The columns of an account's row of a run, beside its key.
 
 ghost use Rattle.std.specs.Prelude.{◌≡◌};
 ghost use Rattle.hh_keyed_rows.specs.Values.{amounts_of, account_row_of};
@@ -7,8 +7,8 @@ use hh_calc::AccountRow;
 use hh_names::Account;
 use hh_num::{Pence, Ticks};
 
-/// What an account has, pays and bears in a Settlement Period of a run, without the account, which
-/// its key has: energy in ticks, cash in pence.
+/// What an account has, pays and bears in a Settlement Period of a run. The account itself is in the key.
+/// Energy is in ticks, cash in pence.
 #[derive(Clone, Copy, Debug, PartialEq, Eq)]
 pub struct AccountAmounts {
     pub credited: Ticks,
@@ -21,7 +21,7 @@ pub struct AccountAmounts {
 }
 
 impl AccountAmounts {
-    /// Those of an account's row.
+    /// The amounts of an account's row.
     pub fn of(row: &AccountRow) -> AccountAmounts
         ensures { result ≡ amounts_of row.now }
     {
@@ -35,7 +35,7 @@ impl AccountAmounts {
         }
     }
 
-    /// The row of an account that has these.
+    /// The row of an account with these amounts.
     pub fn with(self, account: Account) -> AccountRow
         ensures { result ≡ account_row_of account self }
     {

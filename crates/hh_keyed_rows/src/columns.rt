@@ -43,7 +43,7 @@ impl<'a> Columns<'a> {
         Columns { row, at: 0, alloc }
     }
 
-    /// The value of the next column, which is read thereby.
+    /// Reads the next column.
     pub fn next(&mut self) -> Option<ValueRef<'a>>
         ensures some { IfSome result (λ value. self.old ≡ owned value ∷ self.new) }
         ensures none { IfNone result (self.old ≡ []) }
@@ -63,7 +63,7 @@ impl<'a> Columns<'a> {
         self.at == self.row.column_count()
     }
 
-    /// The whole number in the next column.
+    /// Reads a whole number from the next column.
     pub fn next_integer(&mut self) -> Result<i64, RowFault>
         ensures ok { IfOk result (λ number. int_column.read self.old ≡ Some (number, self.new)) }
         ensures err { IfErr result (λ fault. (fault ≡ Store) × (int_column.read self.old ≡ None)) }
@@ -74,7 +74,7 @@ impl<'a> Columns<'a> {
         }
     }
 
-    /// The whole number in the next column, which is not negative.
+    /// Reads a whole number that is not negative from the next column.
     pub fn next_natural(&mut self) -> Result<u64, RowFault>
         ensures ok { IfOk result (λ number. nat_column.read self.old ≡ Some (number, self.new)) }
         ensures err { IfErr result (λ fault. (fault ≡ Store) × (nat_column.read self.old ≡ None)) }
@@ -85,7 +85,7 @@ impl<'a> Columns<'a> {
         }
     }
 
-    /// The text in the next column.
+    /// Reads a text from the next column.
     pub fn next_text(&mut self) -> Result<&'a [u8], RowFault>
         ensures ok { IfOk result (λ text. text_column.read self.old ≡ Some (text.now, self.new)) }
         ensures err { IfErr result (λ fault. (fault ≡ Store) × (text_column.read self.old ≡ None)) }
@@ -96,7 +96,7 @@ impl<'a> Columns<'a> {
         }
     }
 
-    /// The bytes in the next column, copied.
+    /// Reads bytes from the next column, and copies them.
     pub fn next_bytes(&mut self) -> Result<Vec<u8>, RowFault>
         ensures ok { IfOk result (λ bytes.
             blob_column.read self.old ≡ Some (bytes.items, self.new)) }
@@ -109,7 +109,7 @@ impl<'a> Columns<'a> {
     }
 }
 
-/// Appends a column. `Err` only where memory is refused: the columns are then as they were.
+/// Appends a column. `Err` only if memory is refused. The columns are as they were then.
 pub(crate) fn push_column<'a>(
     columns: &mut Vec<ValueRef<'a>>,
     value: ValueRef<'a>,

@@ -13,7 +13,7 @@ use sqlite::Row;
 use sqlite::types::ValueRef;
 use std::alloc::{AllocError, Global};
 
-/// The columns of a key and of its value, as a statement takes them. `Err` only where memory is
+/// The columns of a key and of its value, as the parameters of a statement. `Err` only if memory is
 /// refused.
 pub fn columns_of<'a, K: Columned, V: Columned>(
     alloc: Global,
@@ -31,8 +31,7 @@ pub fn columns_of<'a, K: Columned, V: Columned>(
     Ok(columns)
 }
 
-/// The key and the value of a row. `Store` where the row is off its form or range, so that no
-/// office wrote it.
+/// The key and the value of a row. `Store` if the row is off its form or range, so that no office wrote it.
 pub fn read_entry<K: Columned + Drop, V: Columned + Drop>(
     alloc: Global,
     row: &Row,
@@ -50,8 +49,8 @@ pub fn read_entry<K: Columned + Drop, V: Columned + Drop>(
     }
 }
 
-/// The keys and the values of rows, in their order. `Store` where one of the rows is off its form
-/// or range: no row is skipped.
+/// The keys and the values of rows, in their order. `Store` if one of the rows is off its form or range. No
+/// row is skipped.
 pub fn read_entries<K: Columned + Drop, V: Columned + Drop>(
     alloc: Global,
     rows: &[Row],

@@ -1,5 +1,5 @@
-//! Rows of a table of a database as the rows of an office's table: which columns represent a key and
-//! a value, in which ranges, and what rows come to, in the order of their keys.
+//! The rows of a database table as rows of an office's table: which columns represent a key and a value, in
+//! which ranges, and which table the rows represent, in the order of their keys.
 #![tactic(auto)]
 
 mod accounts;

@@ -1,4 +1,4 @@
-//! The value of a table whose rows have their keys alone.
+//! The value of a table whose rows have only their keys.
 
 ghost use Rattle.std.specs.Prelude.{◌≡◌};
 ghost use Rattle.hh_keyed_rows.specs.Values.{no_columns};
@@ -9,7 +9,7 @@ use crate::row_fault::RowFault;
 use sqlite::types::ValueRef;
 use std::alloc::AllocError;
 
-/// What stands behind a key in a row that has nothing else: no column.
+/// The value of a row that has only its key: no column.
 #[derive(Clone, Copy, Debug, PartialEq, Eq, PartialOrd, Ord)]
 pub struct NoColumns;
 

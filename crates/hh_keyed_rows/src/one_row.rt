@@ -9,7 +9,7 @@ use crate::row_fault::RowFault;
 use sqlite::types::ValueRef;
 use std::alloc::AllocError;
 
-/// The key of the row of a table that has one: 1 in the database.
+/// The key of the row in a table that has one row: 1 in the database.
 #[derive(Clone, Copy, Debug, PartialEq, Eq, PartialOrd, Ord)]
 pub struct OneRow;
 

@@ -13,7 +13,7 @@ use std::alloc::{AllocError, AllocFailed};
 pub enum RowFault {
     /// Memory was refused.
     Memory,
-    /// The database refused for another cause, or holds what no office wrote.
+    /// The database refused for another reason, or contains what no office wrote.
     Store,
 }
 
@@ -33,7 +33,7 @@ impl<T: Drop> From<AllocFailed<T>> for RowFault {
     }
 }
 
-/// `Memory` where the database lacked memory, else `Store`.
+/// `Memory` if the database lacked memory, otherwise `Store`.
 impl From<Error> for RowFault {
     ghost from_gives = { λ error fault. fault ≡ database_refused error };
 
@@ -45,7 +45,7 @@ impl From<Error> for RowFault {
     }
 }
 
-/// What a store answers where rows are not read or written.
+/// What a store answers if rows are not read or written.
 impl From<RowFault> for StoreFault {
     ghost from_gives = { λ fault refused. refused ≡ rows_refused fault };
 
@@ -57,7 +57,7 @@ impl From<RowFault> for StoreFault {
     }
 }
 
-/// What a report answers where its rows are not read.
+/// What a report answers if its rows are not read.
 impl From<RowFault> for OutputFault {
     ghost from_gives = { λ fault refused. refused ≡ output_refused fault };
 

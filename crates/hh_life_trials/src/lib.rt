@@ -1,6 +1,8 @@
-//! Commands over the files of an office's database tried from outside: tests of what no clause of theirs says.
+//! Commands over the files of an office's database, tested from outside. The tests cover what no clause
+//! says.
 //!
-//! They stand in a crate of their own, since the tests of a crate are proved with all of it once more.
+//! They are in a crate of their own, because the tests of a crate are proved with all of the crate once
+//! more.
 #![tactic(auto)]
 
 #[cfg(test)]

@@ -1,5 +1,5 @@
-//! What no clause says: that with ample memory an office is made in files in memory, and that commands over them are answered,
-//! however the process of each ends.
+//! Tests of what no clause says: with ample memory an office is made in files in memory, and commands over
+//! them are answered, however the process of each ends.
 
 use hh_file_life::{Ending, FileCommand, LifeStop, make_office, run_all};
 use hh_names::{FileName, Refusal};
@@ -15,7 +15,7 @@ use std::test::Fail;
 /// A file of parties with fewer of them.
 const FEWER: &str = "party,from,to,key\nGENCO,2024-01-01,,genco0001\n";
 
-/// A command that loads a file of parties, under one name for each.
+/// A command that loads a file of parties. All such files have the same name.
 fn load(alloc: Global, text: &str, ending: Ending) -> Result<FileCommand, Fail> {
     let upload = Upload {
         kind: FileKind::Parties,
@@ -29,7 +29,7 @@ fn load(alloc: Global, text: &str, ending: Ending) -> Result<FileCommand, Fail> 
     })
 }
 
-/// The first file is loaded, another is sent under its name, and the first again.
+/// The first file is loaded, then another is sent under its name, and then the first again.
 fn commands(alloc: Global) -> Result<Vec<FileCommand>, Fail> {
     let mut commands = Vec::new(alloc);
     commands.push(load(alloc, PARTIES, Ending::Left)?)?;
@@ -38,7 +38,7 @@ fn commands(alloc: Global) -> Result<Vec<FileCommand>, Fail> {
     Ok(commands)
 }
 
-/// What a reply says, by a letter: that a file is loaded, or that its name is taken.
+/// What a reply says, as a letter: a file is loaded, or its name is taken.
 fn letter_of(reply: &Reply) -> u8 {
     match reply {
         Reply::Loaded(loaded) if loaded.applied == 2 => b'l',
@@ -47,7 +47,7 @@ fn letter_of(reply: &Reply) -> u8 {
     }
 }
 
-/// Whether these replies say what these letters stand for.
+/// Whether these replies say what these letters mean.
 fn say(replies: &[Reply], letters: &[u8]) -> bool {
     replies.len() == letters.len()
         && replies

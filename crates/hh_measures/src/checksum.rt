@@ -1,4 +1,4 @@
-//! A number that tells settled periods apart.
+//! A number by which settled periods are compared.
 
 use hh_calc::{AccountRow, CreditRow, PeriodResult};
 
@@ -22,7 +22,7 @@ fn mixed_credit(sum: u64, row: &CreditRow) -> u64 {
     mixed(sum, row.credited.units())
 }
 
-/// A checksum with one number more.
+/// A checksum with one more number.
 pub(crate) fn mixed(sum: u64, number: i64) -> u64 {
     let sum = sum.wrapping_mul(1_099_511_628_211);
     sum.wrapping_add(number.unsigned_abs())

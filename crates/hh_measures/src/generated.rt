@@ -13,10 +13,10 @@ const UNITS: u32 = 2_000;
 
 const CONTRACTS: u32 = 400;
 
-/// The accounts of a unit stand so far apart that none of the four is another's.
+/// The four accounts of a unit are this many places apart, so that they are different.
 const STEP: u32 = 199;
 
-/// The period: always the same.
+/// The period. It is always the same.
 pub(crate) fn generated_period(alloc: Global) -> Option<PeriodData> {
     let mut draw = Draw::new();
     let accounts = accounts(alloc)?;
@@ -54,8 +54,8 @@ fn units(alloc: Global, accounts: &[Account], draw: &mut Draw) -> Option<Vec<Uni
     Some(units)
 }
 
-/// A unit, whose lead account is looked for where it stands, as in a period of the store: one of ten is
-/// an interconnector's.
+/// A unit. Its lead account is searched for by its key, as in a period of the store. One unit in ten is an
+/// interconnector's.
 fn unit(alloc: Global, accounts: &[Account], number: u32, draw: &mut Draw) -> Option<UnitData> {
     let id = format!(in alloc; "T_UNIT-{number}").ok()?;
     let lead = draw.below(ACCOUNTS);
@@ -75,7 +75,7 @@ fn unit(alloc: Global, accounts: &[Account], number: u32, draw: &mut Draw) -> Op
     Some(data.with_lead_near(lead as usize))
 }
 
-/// The three subsidiaries of a unit whose lead account has this place.
+/// The three subsidiaries of a unit whose lead account is at this place.
 fn subsidiaries(
     alloc: Global,
     accounts: &[Account],
@@ -113,7 +113,7 @@ fn contracts(alloc: Global, accounts: &[Account], draw: &mut Draw) -> Option<Vec
     Some(contracts)
 }
 
-/// The account at a place, counted round.
+/// The account at a place. After the last place the first follows.
 fn account_at(accounts: &[Account], place: u32) -> Option<Account> {
     accounts.get((place % ACCOUNTS) as usize).copied()
 }

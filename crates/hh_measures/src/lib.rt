@@ -1,10 +1,10 @@
-//! What is measured, each in a command of its own.
+//! Measurements, each by a command of its own.
 //!
-//! - `settle TIMES` settles a period of the market's size so often.
-//! - `read KIND FILE TIMES` reads a file of a kind so often.
+//! - `settle TIMES` settles a period of the market's size TIMES times.
+//! - `read KIND FILE TIMES` reads a file of a kind TIMES times.
 //! - `load KIND FILE ..` reads files and applies their rows to a new register.
 //!
-//! What was done goes to standard output, and the nanoseconds that it took to standard error.
+//! What was done is written to standard output, and the nanoseconds that it took to standard error.
 #![tactic(auto)]
 
 mod checksum;
@@ -28,7 +28,7 @@ pub use stop::{MeasureStop, tell};
 pub use watch::Watch;
 use words::{Command, read_words};
 
-/// Does what the program's words ask for, its own name in front.
+/// Does what the program's words ask for. They begin with its own name.
 pub fn measure<R: Files + Clock + Print + Eprint + AllocGlobal>(
     rt: &R,
     words: &[String],
@@ -40,7 +40,7 @@ pub fn measure<R: Files + Clock + Print + Eprint + AllocGlobal>(
     }
 }
 
-/// The program's words, its own name in front.
+/// The program's words, which begin with its own name.
 pub fn words_of<R: Env + AllocGlobal>(rt: &R) -> Result<Vec<String>, MeasureStop> {
     match env::args(rt) {
         Ok(words) => Ok(words.collect(rt.alloc())?),

@@ -1,4 +1,4 @@
-//! The command `load`: rows judged, and applied to a register.
+//! The command `load`: judges rows, and applies them to a register.
 
 use crate::stop::MeasureStop;
 use crate::watch::Watch;
@@ -23,7 +23,7 @@ struct Counts {
 }
 
 impl Counts {
-    /// Counts one row more. `Err` only where memory was refused.
+    /// Counts one more row. `Err` only if memory was refused.
     fn add(&mut self, judged: Result<RowDone, Fault>) -> Result<(), MeasureStop> {
         match judged {
             Ok(RowDone::Applied { .. }) => self.applied = self.applied.saturating_add(1),

@@ -1,4 +1,4 @@
-//! The command `read`: the rows of a file's bytes.
+//! The command `read`: reads rows from the bytes of a file.
 
 use crate::row_checksum::checksum_of_rows;
 use crate::stop::MeasureStop;
@@ -17,8 +17,8 @@ enum Outcome {
     Refused(Refusal),
 }
 
-/// Reads the rows of a file so often, and prints what the last time gave. The file's bytes are
-/// read once, before.
+/// Reads the rows of a file `times` times, and prints what the last time gave. The file's bytes are read
+/// once, before that.
 pub(crate) fn read_again<R: Files + Clock + Print + Eprint + AllocGlobal>(
     rt: &R,
     file: NamedFile<'_>,

@@ -1,4 +1,4 @@
-//! A number that tells lists of rows apart.
+//! A number by which lists of rows are compared.
 
 use crate::checksum::mixed;
 use hh_rules::{

@@ -1,4 +1,4 @@
-//! The command `settle`: settlement alone, on values in memory.
+//! The command `settle`: only settlement, on values in memory.
 
 use crate::checksum::checksum_of;
 use crate::generated::generated_period;
@@ -9,7 +9,7 @@ use hh_rules::Refusal;
 use std::io::{Eprint, Print};
 use std::rt::Clock;
 
-/// Settles the generated period so often, and prints the checksum of the last time.
+/// Settles the generated period `times` times, and prints the checksum of the last time.
 pub(crate) fn settle_again<R: Clock + Print + Eprint + AllocGlobal>(
     rt: &R,
     times: u32,

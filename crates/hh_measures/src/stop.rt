@@ -23,7 +23,7 @@ pub enum MeasureStop {
     Input,
     /// Standard output or standard error cannot be written.
     Output,
-    /// A promise doesn't hold of an input or a call that was tried.
+    /// A promise doesn't hold for an input or a call that was tried.
     Broken,
 }
 

@@ -5,21 +5,21 @@ use std::io::Eprint;
 use std::rt::Clock;
 use std::time::Instant;
 
-/// When something began that is measured.
+/// The time at which something began that is measured.
 #[derive(Clone, Copy)]
 pub struct Watch {
     begin: Instant,
 }
 
 impl Watch {
-    /// It begins now.
+    /// Begins to measure now.
     pub fn start<R: Clock>(rt: &R) -> Result<Watch, MeasureStop> {
         Ok(Watch {
             begin: Instant::now(rt)?,
         })
     }
 
-    /// It ends now: prints on standard error the nanoseconds that it took.
+    /// Ends now, and prints on standard error the nanoseconds that it took.
     pub fn stop<R: Clock + Eprint>(self, rt: &R) -> Result<(), MeasureStop> {
         let taken = self.begin.elapsed(rt)?;
         eprintln!(rt; "{}", taken.as_nanos()).map_err(|_| MeasureStop::Output)

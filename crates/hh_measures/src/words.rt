@@ -19,7 +19,7 @@ pub(crate) struct NamedFile<'a> {
     pub(crate) path: &'a str,
 }
 
-/// Reads a line of words, the program's own name in front.
+/// Reads a line of words, which begins with the program's own name.
 pub(crate) fn read_words(alloc: Global, words: &[String]) -> Result<Command<'_>, MeasureStop> {
     let [_, command, given @ ..] = words else {
         return Err(MeasureStop::Words);

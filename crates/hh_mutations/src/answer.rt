@@ -1,8 +1,8 @@
-//! What inputs and questions are answered.
+//! The answers to inputs and questions.
 
 use hh_names::Refusal;
 
-/// What an input or a question came to.
+/// The answer to an input or a question.
 #[derive(Clone, Copy, Debug, PartialEq, Eq)]
 pub(crate) enum Answer {
     /// It was read, or answered.
@@ -15,7 +15,7 @@ pub(crate) enum Answer {
     Refused(Refusal),
 }
 
-/// A number below which the number of each answer is.
+/// The number of each answer is below this.
 pub(crate) const ANSWERS: usize = 100;
 
 impl Answer {

@@ -6,46 +6,46 @@ use crate::place::Place;
 use crate::sums::{FRAME_HEAD, LOG_HEAD};
 use std::alloc::{AllocError, Global};
 
-/// How many bytes a page of a database has, as a new one is made.
+/// How many bytes a page of a new database has.
 const PAGE: usize = 4_096;
 
-/// At most so many bytes are put in or stand twice.
+/// At most this many bytes are inserted or doubled.
 const MOST_BYTES: usize = 4_096;
 
-/// One way to change some bytes.
+/// One way to change an input's bytes.
 #[derive(Clone, Copy, Debug, PartialEq, Eq)]
 pub(crate) enum Change {
-    /// A bit is turned.
+    /// A bit is flipped.
     Bit,
-    /// A byte is set to one that means something.
+    /// A byte is set to one that has a meaning.
     Byte,
-    /// Some bytes are put in.
+    /// Some bytes are inserted.
     Insertion,
-    /// A range is taken out.
+    /// A range is removed.
     Removal,
-    /// A range stands twice.
+    /// A range is doubled.
     Doubling,
-    /// A piece of another file of the corpus is put in.
+    /// A piece of another file of the corpus is inserted.
     Piece,
-    /// A word is put in.
+    /// A word is inserted.
     Word,
-    /// A word stands in the place of a field.
+    /// A word replaces a field.
     Field,
-    /// A field of another file of the corpus stands in the place of a field.
+    /// A field of another file of the corpus replaces a field.
     OtherField,
-    /// A line is taken out.
+    /// A line is removed.
     LineRemoval,
-    /// A line stands twice.
+    /// A line is doubled.
     LineDoubling,
-    /// A line of another file of the corpus is put in.
+    /// A line of another file of the corpus is inserted.
     OtherLine,
-    /// A number of four bytes is written over some bytes.
+    /// A number of four bytes overwrites some bytes.
     Number,
-    /// A piece of another file of the corpus is written over some bytes.
+    /// A piece of another file of the corpus overwrites some bytes.
     Overwriting,
-    /// A page is written over another.
+    /// A page overwrites another.
     Page,
-    /// A page of another file of the corpus is written over the one at its place.
+    /// A page of another file of the corpus overwrites the page at the same place.
     OtherPage,
     /// The end is cut off.
     End,
@@ -56,13 +56,13 @@ pub(crate) enum Change {
 pub(crate) enum Places {
     /// At any byte.
     Anywhere,
-    /// In the pages of a database: at their heads, or where a byte isn't 0.
+    /// In the pages of a database: in their heads, or at a byte that isn't 0.
     Pages,
-    /// In the log of a database: at its head, at those of its pages, or where a byte isn't 0.
+    /// In the log of a database: in its head, in the heads of its pages, or at a byte that isn't 0.
     Frames,
 }
 
-/// What changes are made of.
+/// What is needed to make changes.
 #[derive(Drop)]
 pub(crate) struct Changer<'a> {
     pub(crate) alloc: Global,
@@ -74,7 +74,7 @@ pub(crate) struct Changer<'a> {
 }
 
 impl<'a> Changer<'a> {
-    /// The bytes behind a change.
+    /// The bytes after a change.
     pub(crate) fn changed(
         &mut self,
         change: Change,
@@ -93,7 +93,7 @@ impl<'a> Changer<'a> {
         }
     }
 
-    /// A byte is changed.
+    /// Changes a byte.
     fn touched(&mut self, change: Change, mut bytes: Vec<u8>) -> Vec<u8> {
         let at = self.place_in(&bytes);
         let bit = 1u8.wrapping_shl(self.draw.below(8) as u32);
@@ -108,7 +108,7 @@ impl<'a> Changer<'a> {
         bytes
     }
 
-    /// Something is put in.
+    /// Inserts something.
     fn put_in(&mut self, change: Change, bytes: &[u8]) -> Result<Vec<u8>, AllocError> {
         let place = Place::before(self.place_in(bytes));
         match change {
@@ -129,7 +129,7 @@ impl<'a> Changer<'a> {
         }
     }
 
-    /// A range is taken out, stands twice, or is the end that is cut off.
+    /// Removes a range, doubles it, or cuts off the end.
     fn cut(&mut self, change: Change, bytes: &[u8]) -> Result<Vec<u8>, AllocError> {
         let range = self.range_in(bytes);
         match change {
@@ -141,7 +141,7 @@ impl<'a> Changer<'a> {
         }
     }
 
-    /// Another field stands in the place of one.
+    /// Replaces a field by another.
     fn other_field(&mut self, change: Change, bytes: &[u8]) -> Result<Vec<u8>, AllocError> {
         let place = Place::field(bytes, self.place_in(bytes));
         if change == Change::Field {
@@ -153,7 +153,7 @@ impl<'a> Changer<'a> {
         place.replaced(self.alloc, bytes, field)
     }
 
-    /// A line is taken out, stands twice, or another file's is put in.
+    /// Removes a line, doubles it, or inserts another file's.
     fn other_line(&mut self, change: Change, bytes: &[u8]) -> Result<Vec<u8>, AllocError> {
         let line = Place::line(bytes, self.place_in(bytes));
         match change {
@@ -169,7 +169,7 @@ impl<'a> Changer<'a> {
         }
     }
 
-    /// Something is written over some bytes.
+    /// Overwrites some bytes.
     fn written_over(&mut self, change: Change, bytes: &[u8]) -> Result<Vec<u8>, AllocError> {
         let at = self.place_in(bytes);
         if change == Change::Number {
@@ -181,7 +181,7 @@ impl<'a> Changer<'a> {
         Place::of(at, piece.len()).replaced(self.alloc, bytes, piece)
     }
 
-    /// Another page stands in the place of one.
+    /// Replaces a page by another.
     fn other_page(&mut self, change: Change, bytes: &[u8]) -> Result<Vec<u8>, AllocError> {
         let place = self.page_in(bytes);
         if change == Change::Page {
@@ -206,7 +206,7 @@ impl<'a> Changer<'a> {
         }
     }
 
-    /// Bytes that mean something, and one that may be any.
+    /// Bytes that have a meaning, and one that may be any byte.
     fn drawn_bytes(&mut self) -> [u8; 8] {
         let mut drawn = [self.draw.below(256) as u8; 8];
         for byte in drawn.iter_mut().skip(1) {
@@ -215,7 +215,7 @@ impl<'a> Changer<'a> {
         drawn
     }
 
-    /// A range: mostly of a few bytes, and of so many that may be put in at most.
+    /// A range, mostly of a few bytes, and of no more bytes than may be inserted.
     fn range_in(&mut self, bytes: &[u8]) -> Place {
         let from = self.place_in(bytes);
         let most = if self.draw.once_in(4) { MOST_BYTES } else { 16 };
@@ -234,7 +234,7 @@ impl<'a> Changer<'a> {
         }
     }
 
-    /// Where one of the pages begins that stand behind a head, each of this size.
+    /// The place where one of the pages after a head begins. Each page has `size` bytes.
     fn start_in(&mut self, bytes: &[u8], head: usize, size: usize) -> usize {
         let count = bytes.len().saturating_sub(head).wrapping_div(size.max(1));
         self.draw
@@ -260,7 +260,8 @@ impl<'a> Changer<'a> {
         }
     }
 
-    /// Any place, a late one more often than an early one, since what is wrong at the beginning hides the rest.
+    /// Any place. Late places are more frequent than early ones, because a mistake at the beginning hides
+    /// the rest.
     fn late_place_in(&mut self, bytes: &[u8]) -> usize {
         let places = bytes.len().saturating_add(1);
         let at = self.draw.below(places);

@@ -7,7 +7,7 @@ use std::alloc::Global;
 use std::fs;
 use std::rt::Files;
 
-/// The files from which inputs are made. Where these are logs, there is one for each file of a database.
+/// The files from which inputs are made. If these are logs, there is one for each file of a database.
 #[derive(Drop)]
 pub(crate) struct Corpus {
     files: Vec<Vec<u8>>,
@@ -29,7 +29,7 @@ impl Corpus {
         Ok(Corpus { files, logs })
     }
 
-    /// From what the inputs of a kind are made.
+    /// The texts from which the inputs of a kind are made.
     pub(crate) fn seeds(&self, kind: Kind) -> &[Vec<u8>] {
         match kind {
             Kind::Log => &self.logs,
@@ -37,18 +37,18 @@ impl Corpus {
         }
     }
 
-    /// From what the input of this number is made.
+    /// The text from which the input of this number is made.
     pub(crate) fn seed_of(&self, kind: Kind, number: u64) -> &[u8] {
         nth(self.seeds(kind), number)
     }
 
-    /// The file beside which the log of this number stands.
+    /// The database file to which the log of this number belongs.
     pub(crate) fn file_of(&self, number: u64) -> &[u8] {
         nth(&self.files, number)
     }
 }
 
-/// The text whose turn it is: the first for 0, and behind the last the first again.
+/// The text with this number. The first is 0, and after the last the first follows again.
 fn nth(texts: &[Vec<u8>], number: u64) -> &[u8] {
     if texts.is_empty() {
         return &[];

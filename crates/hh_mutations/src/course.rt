@@ -1,4 +1,4 @@
-//! What came of an office's database: what was answered, what was told, and what is left.
+//! What came of an office's database: the answers, what was told, and what is left.
 
 use crate::answer::Answer;
 use crate::question::{Form, QUESTIONS, Question};
@@ -18,7 +18,8 @@ use std::alloc::Global;
 /// More bytes than all replies and reports have.
 const ROOM: usize = 16_777_216;
 
-/// When runs are ordered, 2024-07-02T23:00:00Z, and when all else is asked, 2024-06-29T22:26:40Z.
+/// The moment at which runs are ordered, 2024-07-02T23:00:00Z, and the moment of all other requests,
+/// 2024-06-29T22:26:40Z.
 const ORDERED_AT: i64 = 1_719_961_200;
 
 const ASKED_AT: i64 = 1_719_700_000;
@@ -33,7 +34,7 @@ pub(crate) struct Course {
 }
 
 impl Course {
-    /// Nothing came so far.
+    /// Nothing has come yet.
     pub(crate) fn new(alloc: Global) -> Result<Course, MeasureStop> {
         Ok(Course {
             answers: Vec::new(alloc),
@@ -49,7 +50,7 @@ impl Course {
         Ok(())
     }
 
-    /// Notes what the files hold in the end.
+    /// Notes what the files contain in the end.
     pub(crate) fn leave(&mut self, db: &[u8], log: &[u8]) -> Result<(), MeasureStop> {
         self.db.extend_from_slice(db)?;
         self.log.extend_from_slice(log)?;
@@ -67,7 +68,7 @@ impl Course {
         log
     }
 
-    /// Whether each question got an answer that it may get.
+    /// Whether each question got an answer that is allowed.
     pub(crate) fn is_allowed(&self) -> bool {
         self.answers.iter().all(|entry| may_be(entry.0, entry.1))
     }
@@ -114,7 +115,7 @@ impl Course {
         Ok(())
     }
 
-    /// Asks an office what a request asks.
+    /// Asks an office one request.
     fn ask_request<T: Tables>(
         &mut self,
         alloc: Global,
@@ -132,7 +133,7 @@ impl Course {
         Ok(answer_of(&reply))
     }
 
-    /// Writes a reply behind what was told so far.
+    /// Writes a reply after what was told so far.
     fn tell(&mut self, alloc: Global, reply: &Reply) -> Result<(), MeasureStop> {
         match write_reply(alloc, reply, false, &mut self.told) {
             Ok(()) => Ok(()),
@@ -140,7 +141,7 @@ impl Course {
         }
     }
 
-    /// Asks an office for the report for which a line of a script asks.
+    /// Asks an office for the report that a line of a script asks for.
     fn ask_report<T: Tables>(
         &mut self,
         alloc: Global,
@@ -161,7 +162,7 @@ impl Course {
     }
 }
 
-/// Whether a question may get an answer.
+/// Whether an answer to a question is allowed.
 fn may_be(question: Question, answer: Answer) -> bool {
     answer == Answer::Answered || question.refusals().contains(&answer.number())
 }
@@ -174,7 +175,7 @@ fn answer_of(reply: &Reply) -> Answer {
     }
 }
 
-/// When a question is asked.
+/// The moment of a question.
 fn moment_of(question: Question) -> i64 {
     match question {
         Question::FirstRun | Question::LaterRun => ORDERED_AT,

@@ -1,4 +1,5 @@
-//! What the database of an office may be answered, and what its questions may be.
+//! Damaged databases of an office: which answers are allowed for them and for the questions to their
+//! office.
 
 use crate::answer::Answer;
 use crate::course::Course;
@@ -11,7 +12,8 @@ use sqlite::{Connection, Error, ErrorCode, FileStore, Options};
 use sqlite_disk::{Disk, Files, Memory};
 use std::alloc::Global;
 
-/// Whether a database of these two files comes to what it may come to, and to the same again. What it comes to is counted.
+/// Whether what comes of a database of these two files is allowed, and the same when it is tried again. It
+/// is counted.
 pub(crate) fn database_holds(
     alloc: Global,
     db: &[u8],
@@ -24,7 +26,7 @@ pub(crate) fn database_holds(
     Ok(course.is_allowed() && course.is_same(&again))
 }
 
-/// The log that stands beside the file of an office's database when its questions were asked, and it was not closed.
+/// The log beside an office's database file after its questions were asked and it was not closed.
 pub(crate) fn log_of(alloc: Global, db: &[u8]) -> Result<Vec<u8>, MeasureStop> {
     let course = course_of(alloc, db, &[])?;
     Ok(course.into_log())
@@ -59,7 +61,8 @@ fn disk_of(alloc: Global, bytes: &[u8]) -> Result<Memory, MeasureStop> {
     Ok(disk)
 }
 
-/// Asks the office of a database its questions, if it is one. The files as they are then, with nothing copied.
+/// Asks the office in a database its questions, if it is an office's. Returns the files as they are then,
+/// with nothing copied.
 fn used<D: Disk + Drop>(
     alloc: Global,
     connection: Connection<FileStore<D>>,

@@ -1,12 +1,12 @@
-//! Words that mean something to a reader, or lie at the limit of what does.
+//! Words that have a meaning for a reader, or are at a limit.
 
-/// Bytes that mean something somewhere.
+/// Bytes that have a meaning somewhere.
 pub(crate) const BYTES: [u8; 26] = [
     0, 0xff, 0x7f, 0x80, 0xef, 0xbb, 0xbf, b'"', b',', b'\r', b'\n', b'\t', b' ', b':', b'/', b'?',
     b'0', b'1', b'5', b'9', b'-', b'+', b'.', b'A', b'P', b'z',
 ];
 
-/// Numbers that stand in the pages of a database, or lie at a limit of what may stand there.
+/// Numbers that occur in the pages of a database, or are at a limit there.
 pub(crate) const NUMBERS: [u32; 20] = [
     0,
     1,

@@ -2,7 +2,7 @@
 
 ghost use Rattle.std.specs.Prelude.{◌<◌};
 
-/// The odd number by which a generator goes on.
+/// The odd number that a generator adds at each step.
 const STEP: u64 = 0x9e37_79b9_7f4a_7c15;
 
 /// A generator of 64 bits.
@@ -24,7 +24,7 @@ impl Draw {
         spread(self.state)
     }
 
-    /// The next number, below a limit. It is 0 where the limit is 0.
+    /// The next number, below a limit. It is 0 if the limit is 0.
     pub(crate) fn below(&mut self, limit: usize) -> usize
         ensures { 0 < limit → result < limit }
     {
@@ -35,7 +35,7 @@ impl Draw {
         (drawn % limit as u64) as usize
     }
 
-    /// Whether what comes once in so many times comes now.
+    /// Whether something that happens once in `times` times happens now.
     pub(crate) fn once_in(&mut self, times: usize) -> bool {
         self.below(times) == 0
     }
@@ -46,7 +46,7 @@ impl Draw {
     }
 }
 
-/// A number each bit of which depends on all bits of another.
+/// A number whose bits each depend on all bits of another number.
 fn spread(number: u64) -> u64 {
     let number = (number ^ (number >> 30)).wrapping_mul(0xbf58_476d_1ce4_e5b9);
     let number = (number ^ (number >> 27)).wrapping_mul(0x94d0_49bb_1331_11eb);

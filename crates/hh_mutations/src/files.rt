@@ -1,4 +1,4 @@
-//! What files of rows may be answered.
+//! Damaged files of rows: which answers are allowed.
 
 use crate::answer::Answer;
 use hh_names::{Fault, Refusal};
@@ -9,7 +9,7 @@ use std::alloc::Global;
 /// More columns than any file has.
 const MOST_COLUMNS: u32 = 6;
 
-/// What the bytes of a file come to, if they come to it twice and may come to it.
+/// The answer to the bytes of a file, if it is the same when they are read again, and is allowed.
 pub(crate) fn file_answer(alloc: Global, kind: FileKind, bytes: &[u8]) -> Option<Answer> {
     let read = read_file(alloc, kind, bytes);
     if read != read_file(alloc, kind, bytes) {
@@ -23,7 +23,7 @@ pub(crate) fn file_answer(alloc: Global, kind: FileKind, bytes: &[u8]) -> Option
     }
 }
 
-/// Whether a file of these bytes may be refused so.
+/// Whether a file of these bytes may be refused with this fault.
 fn may_be(fault: &Fault, bytes: &[u8]) -> bool {
     let is_large = bytes.len() > MOST_BYTES;
     is_large == (fault.refusal == Refusal::FileTooLarge)
@@ -32,7 +32,7 @@ fn may_be(fault: &Fault, bytes: &[u8]) -> bool {
         && has_its_places(fault)
 }
 
-/// Whether a refusal has a row and a column just where it names them.
+/// Whether a refusal has a row and a column exactly if it names them.
 fn has_its_places(fault: &Fault) -> bool {
     let row = fault.row.map(|row| (1..=MOST_ROWS).contains(&row));
     let column = fault

@@ -1,4 +1,4 @@
-//! The inputs, each of which is determined by its number and the corpus.
+//! The inputs. Each is determined by its number and the corpus.
 
 use crate::change::Changer;
 use crate::corpus::Corpus;
@@ -8,7 +8,7 @@ use crate::length::lengthened;
 use crate::sums::make_right;
 use std::alloc::{AllocError, Global};
 
-/// At most so many changes make an input.
+/// The most changes that make an input.
 const MOST_CHANGES: usize = 8;
 
 /// The bytes of the input of this number.
@@ -41,7 +41,8 @@ pub(crate) fn input_of(
     }
 }
 
-/// The bytes behind so many changes at most, or none. Few are more frequent than many.
+/// The bytes after some changes, at most `MOST_CHANGES`, or after none. Few changes are more frequent than
+/// many.
 fn changed_often(
     changer: &mut Changer<'_>,
     kind: Kind,

@@ -9,11 +9,11 @@ use hh_rows::FileKind;
 pub(crate) enum Kind {
     /// A file that is loaded.
     File(FileKind),
-    /// What a client sends.
+    /// The bytes that a client sends.
     Request,
     /// A script.
     Script,
-    /// The file of an office's database, with no log.
+    /// The file of an office's database, without a log.
     Database,
     /// The log beside the file of an office's database.
     Log,
@@ -31,7 +31,7 @@ impl Kind {
         }
     }
 
-    /// The words that are put into an input.
+    /// The words that are inserted into an input.
     pub(crate) fn words(self) -> &'static [&'static str] {
         match self {
             Kind::File(_) => FILE_WORDS,
@@ -41,7 +41,7 @@ impl Kind {
         }
     }
 
-    /// The changes that are made, each as often as it stands here.
+    /// The changes that are made. Each is as frequent as it is listed here.
     pub(crate) fn changes(self) -> &'static [Change] {
         match self {
             Kind::File(_) | Kind::Request | Kind::Script => &[
@@ -81,7 +81,7 @@ impl Kind {
         }
     }
 
-    /// Where they are made.
+    /// Where changes are made.
     pub(crate) fn places(self) -> Places {
         match self {
             Kind::File(_) | Kind::Request | Kind::Script => Places::Anywhere,
@@ -90,7 +90,8 @@ impl Kind {
         }
     }
 
-    /// Once in how many inputs one is made longer than a limit, or a little shorter. It is rare where it takes long.
+    /// One in how many inputs is made longer than a limit, or a little shorter. It is rare if reading takes
+    /// long.
     pub(crate) fn lengthened_once_in(self) -> Option<usize> {
         match self {
             Kind::File(_) => Some(250),

@@ -6,14 +6,14 @@ use crate::place::Place;
 use hh_texts::MOST_BYTES;
 use std::alloc::{AllocError, Global};
 
-/// A little less than the rows that a file may have at most, the bytes of a head, and its headers.
+/// A little less than the greatest number of rows of a file, of bytes of a head, and of its headers.
 const MOST_ROWS: usize = 19_985;
 
 const MOST_HEAD: usize = 8_100;
 
 const MOST_HEADERS: usize = 28;
 
-/// The bytes made about as long as an input of their kind may be.
+/// The bytes, made about as long as an input of their kind may be.
 pub(crate) fn lengthened(
     alloc: Global,
     draw: &mut Draw,
@@ -29,14 +29,14 @@ pub(crate) fn lengthened(
     }
 }
 
-/// A file that is filled up to the most bytes, or to one more.
+/// A file that is filled up to the greatest number of bytes, or to one more.
 fn filled(draw: &mut Draw, mut bytes: Vec<u8>) -> Result<Vec<u8>, AllocError> {
     let length = MOST_BYTES.saturating_add(draw.below(2));
     bytes.resize(length, b'\n')?;
     Ok(bytes)
 }
 
-/// A file whose first row stands about as often as a file may have rows.
+/// A file whose first row is repeated about as often as a file may have rows.
 fn with_rows(draw: &mut Draw, mut bytes: Vec<u8>) -> Result<Vec<u8>, AllocError> {
     let alloc = *bytes.allocator();
     let header = Place::line(&bytes, 0);
@@ -47,7 +47,7 @@ fn with_rows(draw: &mut Draw, mut bytes: Vec<u8>) -> Result<Vec<u8>, AllocError>
     Ok(bytes)
 }
 
-/// A request with a header that makes its head about as long as one may be.
+/// A request with a header that makes its head about as long as a head may be.
 fn with_long_header(alloc: Global, draw: &mut Draw, bytes: &[u8]) -> Result<Vec<u8>, AllocError> {
     let mut header = Vec::from_slice(alloc, b"a: ")?;
     header.resize(MOST_HEAD.saturating_sub(draw.below(200)), b'a')?;
@@ -55,7 +55,7 @@ fn with_long_header(alloc: Global, draw: &mut Draw, bytes: &[u8]) -> Result<Vec<
     behind_first_line(alloc, bytes, &header)
 }
 
-/// A request with about as many headers as one may have.
+/// A request with about as many headers as a head may have.
 fn with_headers(alloc: Global, draw: &mut Draw, bytes: &[u8]) -> Result<Vec<u8>, AllocError> {
     let mut headers = Vec::new(alloc);
     for _ in 0..MOST_HEADERS.saturating_add(draw.below(6)) {
@@ -64,7 +64,7 @@ fn with_headers(alloc: Global, draw: &mut Draw, bytes: &[u8]) -> Result<Vec<u8>,
     behind_first_line(alloc, bytes, &headers)
 }
 
-/// The bytes with lines behind their first line.
+/// The bytes, with lines after their first line.
 fn behind_first_line(alloc: Global, bytes: &[u8], lines: &[u8]) -> Result<Vec<u8>, AllocError> {
     let first = Place::line(bytes, 0);
     Place::before(first.to).replaced(alloc, bytes, lines)

@@ -1,14 +1,15 @@
-//! Damaged inputs, which are made from the files of a corpus by drawn changes: files of rows, requests, scripts, and the
-//! database of an office. Whatever one holds, it is answered, or refused by a number that it may get, and by the same again.
-//! No other program is asked for the right answer.
+//! Damaged inputs: files of rows, requests, scripts, and databases of an office. They are made from the
+//! files of a corpus by changes that are drawn at random. Whatever an input contains, it must be answered,
+//! or refused with a number that is allowed. The answer must be the same when the input is tried again. No
+//! other program is asked for the right answer.
 //!
-//! - `mutate KIND FIRST COUNT FILE ..` tries so many inputs, from the one of the number FIRST on, and prints how many came to
-//!   which answer, and `wrong N` for each that came to another.
+//! - `mutate KIND FIRST COUNT FILE ..` tries COUNT inputs, from number FIRST on. It prints how many inputs
+//!   got which answer, and `wrong N` for each input with an answer that is not allowed.
 //! - `mutated KIND NUMBER FILE ..` writes the bytes of one input.
 //!
-//! KIND is the word of a kind of file, `request`, `script`, `database`, or `log`. Inputs of `log` are logs that stand beside
-//! an office's file of a database, which is whole. The input of a number is made from the file whose turn it is, and is
-//! always the same for the same files.
+//! KIND is the word of a kind of file, `request`, `script`, `database`, or `log`. Inputs of `log` are logs
+//! beside a database file of an office, which is not damaged. Each input is made from one of the files,
+//! which are taken in turn. An input with the same number is always the same for the same files.
 #![tactic(auto)]
 
 mod answer;
@@ -38,7 +39,7 @@ use input::input_of;
 use trial::try_inputs;
 use words::{Deed, is_task, read_words};
 
-/// Whether a line of words, the program's own name in front, is one of these commands.
+/// Whether a line of words, which begins with the program's own name, is one of these commands.
 pub fn is_mutations(words: &[String]) -> bool {
     is_task(words)
 }

@@ -2,7 +2,7 @@
 
 use std::alloc::{AllocError, Global};
 
-/// A range of bytes. What lies past the end isn't there.
+/// A range of bytes. The part of it after the end of the bytes is ignored.
 #[derive(Clone, Copy)]
 pub(crate) struct Place {
     pub(crate) from: usize,
@@ -10,12 +10,12 @@ pub(crate) struct Place {
 }
 
 impl Place {
-    /// The place in front of a byte.
+    /// The place before a byte.
     pub(crate) fn before(at: usize) -> Place {
         Place { from: at, to: at }
     }
 
-    /// The place of so many bytes.
+    /// The place of `length` bytes.
     pub(crate) fn of(from: usize, length: usize) -> Place {
         Place {
             from,
@@ -23,7 +23,7 @@ impl Place {
         }
     }
 
-    /// The field that this byte lies in, between what parts fields.
+    /// The field in which this byte is, between the bytes that separate fields.
     pub(crate) fn field(bytes: &[u8], at: usize) -> Place {
         let (front, back) = parted(bytes, at);
         let end = back.iter().position(|byte| parts_fields(*byte));
@@ -36,7 +36,7 @@ impl Place {
         }
     }
 
-    /// The line that this byte lies in, with what ends it.
+    /// The line in which this byte is, with its line end.
     pub(crate) fn line(bytes: &[u8], at: usize) -> Place {
         let (front, back) = parted(bytes, at);
         let end = back.iter().position(|byte| *byte == b'\n');
@@ -49,14 +49,14 @@ impl Place {
         }
     }
 
-    /// The bytes that are here.
+    /// The bytes at this place.
     pub(crate) fn piece(self, bytes: &[u8]) -> &[u8] {
         bytes
             .get(self.from..self.to.min(bytes.len()))
             .unwrap_or_default()
     }
 
-    /// The bytes with a piece in the place of those that are here.
+    /// The bytes, with a piece in the place of those at this place.
     pub(crate) fn replaced(
         self,
         alloc: Global,
@@ -72,7 +72,7 @@ impl Place {
     }
 }
 
-/// The bytes in front of a place, and those behind it.
+/// The bytes before a place, and those after it.
 fn parted(bytes: &[u8], at: usize) -> (&[u8], &[u8]) {
     match bytes.split_at_checked(at) {
         Some(parts) => parts,
@@ -80,7 +80,7 @@ fn parted(bytes: &[u8], at: usize) -> (&[u8], &[u8]) {
     }
 }
 
-/// Whether a byte parts fields, of a row, of a line or of a path.
+/// Whether a byte separates fields of a row, a line or a path.
 fn parts_fields(byte: u8) -> bool {
     matches!(byte, b',' | b' ' | b'/' | b':' | b'\r' | b'\n')
 }

@@ -1,9 +1,9 @@
-//! What is asked of the office whose database an input is.
+//! The questions to the office whose database is an input.
 
-/// What is asked, in this order.
+/// The questions, in the order in which they are asked.
 #[derive(Clone, Copy, Debug, PartialEq, Eq)]
 pub(crate) enum Question {
-    /// The input as such: whether it is read, or taken over as an office's database.
+    /// The input itself: whether it is read, or taken over as an office's database.
     Input,
     Runs,
     Day,
@@ -20,7 +20,7 @@ pub(crate) enum Question {
     LaterBalances,
 }
 
-/// All of them.
+/// All questions.
 pub(crate) const QUESTIONS: [Question; 14] = [
     Question::Input,
     Question::Runs,
@@ -38,10 +38,10 @@ pub(crate) const QUESTIONS: [Question; 14] = [
     Question::LaterBalances,
 ];
 
-/// How a question is put.
+/// How a question is asked.
 #[derive(Clone, Copy)]
 pub(crate) enum Form {
-    /// It is none that an office is asked.
+    /// It is not asked of an office.
     None,
     /// As a request over HTTP.
     Request(&'static str),
@@ -50,7 +50,7 @@ pub(crate) enum Form {
 }
 
 impl Question {
-    /// What stands in front of its counts.
+    /// The text before the counts of its answers.
     pub(crate) fn label(self) -> &'static str {
         match self {
             Question::Input => "",
@@ -70,7 +70,7 @@ impl Question {
         }
     }
 
-    /// How it is put.
+    /// How it is asked.
     pub(crate) fn form(self) -> Form {
         match self {
             Question::Input => Form::None,
@@ -84,7 +84,7 @@ impl Question {
         }
     }
 
-    /// The request by which it is put, if it is put by one.
+    /// The request by which it is asked, if it is asked by one.
     fn request(self) -> &'static str {
         match self {
             Question::Runs => "GET /runs/2024-07-01 HTTP/1.0\r\nx-office-key: genco0001\r\n\r\n",
@@ -113,7 +113,7 @@ impl Question {
         }
     }
 
-    /// The numbers of the refusals that it may get.
+    /// The numbers of the refusals that are allowed for it.
     pub(crate) fn refusals(self) -> &'static [u8] {
         match self {
             Question::Input => &[91],

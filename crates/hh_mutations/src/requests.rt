@@ -1,4 +1,4 @@
-//! What requests may be answered before the office is asked.
+//! Damaged requests: which answers are allowed before the office is asked.
 
 use crate::answer::Answer;
 use hh_devices::MemorySource;
@@ -8,7 +8,8 @@ use hh_requests::{Action, Request};
 use hh_wire::{Incoming, Routes, WireFault, read_request};
 use std::alloc::Global;
 
-/// What the bytes of a client come to, if they come to it at once and in pieces of so many bytes, and may come to it.
+/// The answer to the bytes of a client, if it is the same when they come at once and when they come in
+/// pieces, and is allowed.
 pub(crate) fn request_answer(alloc: Global, bytes: &[u8], piece: usize) -> Option<Answer> {
     let whole = read_in_pieces(alloc, bytes, bytes.len());
     if comes_again(alloc, bytes, piece, &whole) {
@@ -18,7 +19,7 @@ pub(crate) fn request_answer(alloc: Global, bytes: &[u8], piece: usize) -> Optio
     }
 }
 
-/// Whether the same comes of a client that sends so many of its bytes at a time.
+/// Whether the same comes of a client that sends `piece` of its bytes at a time.
 fn comes_again(
     alloc: Global,
     bytes: &[u8],
@@ -29,7 +30,7 @@ fn comes_again(
     are_same(whole, &again)
 }
 
-/// What was read of a client that sends anything or nothing, if it may be.
+/// The answer to what was read from a client that sends something or nothing, if it is allowed.
 fn answer_of(read: &Result<Incoming, WireFault>, is_nothing: bool) -> Option<Answer> {
     match read {
         Ok(Incoming::Closed) if is_nothing => Some(Answer::Closed),
@@ -39,13 +40,13 @@ fn answer_of(read: &Result<Incoming, WireFault>, is_nothing: bool) -> Option<Ans
     }
 }
 
-/// What is read of a client that sends so many of its bytes at a time.
+/// What is read from a client that sends `piece` of its bytes at a time.
 fn read_in_pieces(alloc: Global, bytes: &[u8], piece: usize) -> Result<Incoming, WireFault> {
     let mut source = MemorySource::new(bytes).in_pieces(piece.max(1));
     read_request(alloc, &mut Routes::new(), &mut source)
 }
 
-/// A refusal, if it is one that a request may get.
+/// A refusal, if it is allowed for a request.
 fn refused_answer(refusal: Refusal) -> Option<Answer> {
     match refusal {
         Refusal::NoRoute
@@ -57,7 +58,7 @@ fn refused_answer(refusal: Refusal) -> Option<Answer> {
     }
 }
 
-/// Whether two readings came to the same.
+/// Whether two readings gave the same.
 fn are_same(first: &Result<Incoming, WireFault>, second: &Result<Incoming, WireFault>) -> bool {
     match (first, second) {
         (Ok(Incoming::Closed), Ok(Incoming::Closed)) => true,

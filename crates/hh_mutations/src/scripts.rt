@@ -1,10 +1,10 @@
-//! What scripts may be answered.
+//! Damaged scripts: which answers are allowed.
 
 use crate::answer::Answer;
 use hh_script::{ScriptFault, read_script};
 use std::alloc::Global;
 
-/// What the bytes of a script come to, if they come to it twice and may come to it.
+/// The answer to the bytes of a script, if it is the same when they are read again, and is allowed.
 pub(crate) fn script_answer(alloc: Global, bytes: &[u8]) -> Option<Answer> {
     let read = read_script(alloc, bytes);
     if read != read_script(alloc, bytes) {
@@ -19,7 +19,7 @@ pub(crate) fn script_answer(alloc: Global, bytes: &[u8]) -> Option<Answer> {
     }
 }
 
-/// How many lines bytes have at most: one for each that is ended, and the last.
+/// The greatest number of lines that bytes may have: one for each line end, and the last.
 fn most_lines(bytes: &[u8]) -> usize {
     let ends = bytes.iter().filter(|byte| **byte == b'\n').count();
     ends.saturating_add(1)

@@ -1,28 +1,28 @@
-//! Logs of databases whose sums are right again behind changes.
+//! Logs of databases whose checksums are made right again after changes.
 
 use crate::place::Place;
 
-/// How many bytes the head of a log has, and that of each page in it.
+/// How many bytes the head of a log has, and the head of each page in it.
 pub(crate) const LOG_HEAD: usize = 32;
 
 pub(crate) const FRAME_HEAD: usize = 24;
 
-/// Where a log's head has the bytes that each page has too, and so many they are.
+/// The place in a log's head of the bytes that the head of each page has too, and how many bytes these are.
 const SALT: usize = 16;
 
 const SALT_LENGTH: usize = 8;
 
-/// The two sums that a log keeps of its bytes up to a place.
+/// The two sums over a log's bytes up to a place.
 #[derive(Clone, Copy)]
 struct Sums {
     first: u32,
     second: u32,
-    /// Whether the first byte of a word counts most.
+    /// Whether words are read with their most significant byte first.
     is_big: bool,
 }
 
 impl Sums {
-    /// The sums of some bytes more.
+    /// The sums after some more bytes.
     fn over(self, bytes: &[u8]) -> Sums {
         let mut sums = self;
         for pair in bytes.chunks(8) {
@@ -47,14 +47,14 @@ impl Sums {
         }
     }
 
-    /// Writes them.
+    /// Writes the sums.
     fn write(self, bytes: &mut [u8], at: usize) {
         write_over(bytes, at, &self.first.to_be_bytes());
         write_over(bytes, at.saturating_add(4), &self.second.to_be_bytes());
     }
 }
 
-/// Makes the sums of a log right, and takes each of its pages for one of this log.
+/// Makes the sums of a log right, and makes each of its pages one of this log.
 pub(crate) fn make_right(bytes: &mut [u8]) {
     let mut sums = Sums {
         first: 0,
@@ -71,7 +71,7 @@ pub(crate) fn make_right(bytes: &mut [u8]) {
     }
 }
 
-/// Makes the sums of a page right, and gives them.
+/// Makes the sums of a page right, and returns them.
 fn make_frame_right(bytes: &mut [u8], at: usize, page: usize, sums: Sums) -> Sums {
     let salt = salt_of(bytes);
     write_over(bytes, at.saturating_add(8), &salt);
@@ -81,7 +81,7 @@ fn make_frame_right(bytes: &mut [u8], at: usize, page: usize, sums: Sums) -> Sum
     sums
 }
 
-/// How many bytes the pages have, as the head says, or as most have.
+/// How many bytes the pages have: what the head says, or otherwise the usual number.
 fn page_size(bytes: &[u8]) -> usize {
     match Place::of(8, 4).piece(bytes) {
         [0, 0, high, low] => usize::from(u16::from_be_bytes([*high, *low])).max(512),
@@ -95,7 +95,7 @@ fn salt_of(bytes: &[u8]) -> [u8; SALT_LENGTH] {
     salt
 }
 
-/// Writes a piece over some bytes, as far as they are there.
+/// Overwrites some bytes by a piece, as far as there are bytes.
 fn write_over(bytes: &mut [u8], at: usize, piece: &[u8]) {
     for (byte, new) in bytes.iter_mut().skip(at).zip(piece) {
         *byte = *new;

@@ -1,4 +1,4 @@
-//! How often each answer came.
+//! How often each answer was given.
 
 use crate::answer::{ANSWERS, Answer};
 use crate::question::{QUESTIONS, Question};
@@ -6,7 +6,7 @@ use hh_measures::MeasureStop;
 use std::alloc::{AllocError, Global};
 use std::io::Print;
 
-/// How often each answer came to each question.
+/// How often each answer was given to each question.
 #[derive(Drop)]
 pub(crate) struct Tally {
     counts: Vec<u64>,
@@ -26,7 +26,7 @@ impl Tally {
         }
     }
 
-    /// Prints a line for each answer that came.
+    /// Prints a line for each answer that was given.
     pub(crate) fn print<R: Print>(&self, rt: &R) -> Result<(), MeasureStop> {
         for question in QUESTIONS {
             self.print_answers(rt, question)?;
@@ -45,7 +45,7 @@ impl Tally {
     }
 }
 
-/// Where the count of an answer stands.
+/// The place of the count of an answer.
 fn place_of(question: Question, number: u8) -> usize {
     (question as usize)
         .saturating_mul(ANSWERS)

@@ -15,10 +15,11 @@ use hh_measures::MeasureStop;
 use std::alloc::Global;
 use std::io::Print;
 
-/// At most so many bytes of a request come at a time, where it comes in pieces.
+/// The most bytes of a request that come at a time, if it comes in pieces.
 const MOST_PIECE: usize = 600;
 
-/// Tries so many inputs from the first on, tells those of which a promise doesn't hold, and prints what the others came to.
+/// Tries `count` inputs from number `first` on. Prints the numbers of those for which a promise doesn't
+/// hold, and how many of the others got which answer.
 pub(crate) fn try_inputs<R: Print + AllocGlobal>(
     rt: &R,
     kind: Kind,
@@ -42,7 +43,7 @@ pub(crate) fn try_inputs<R: Print + AllocGlobal>(
     }
 }
 
-/// Whether the promises hold of an input. What it came to is counted.
+/// Whether the promises hold for an input. Its answers are counted.
 fn input_holds(
     alloc: Global,
     kind: Kind,
@@ -58,7 +59,7 @@ fn input_holds(
     }
 }
 
-/// What an input of text comes to, if it may come to it.
+/// The answer to an input of text, if it is allowed.
 fn text_answer(alloc: Global, kind: Kind, number: u64, bytes: &[u8]) -> Option<Answer> {
     match kind {
         Kind::File(kind) => file_answer(alloc, kind, bytes),

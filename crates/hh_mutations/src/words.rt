@@ -8,20 +8,20 @@ use hh_measures::MeasureStop;
 pub(crate) struct Task<'a> {
     pub(crate) deed: Deed,
     pub(crate) kind: Kind,
-    /// Where the files of the corpus lie.
+    /// The paths of the files of the corpus.
     pub(crate) paths: &'a [String],
 }
 
 /// What is to be done with inputs.
 #[derive(Clone, Copy)]
 pub(crate) enum Deed {
-    /// So many are read and answered, from the one of a number on.
+    /// `count` inputs are read and answered, from number `first` on.
     Try { first: u64, count: u64 },
-    /// The bytes of one are written.
+    /// The bytes of one input are written.
     Show { number: u64 },
 }
 
-/// Whether a line of words, the program's own name in front, is one of these commands.
+/// Whether a line of words, which begins with the program's own name, is one of these commands.
 pub(crate) fn is_task(words: &[String]) -> bool {
     match words {
         [_, command, ..] => matches!(command.as_str(), "mutate" | "mutated"),

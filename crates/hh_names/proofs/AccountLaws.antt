@@ -1,4 +1,4 @@
--- The order of accounts is total, and tells each two accounts apart.
+-- The order of accounts is total, and two accounts that it finds equal are the same.
 use Rattle.std.proofs.Common.{ℕ, List, refl, ap}
 use Rattle.std.specs.Cmp.{IsTotalOrder, nat_cmp_total, on_total, then_total}
 use Rattle.std.specs.Cmp.Lexicographic.{nat_list_cmp_total}

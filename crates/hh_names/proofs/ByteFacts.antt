@@ -1,4 +1,4 @@
--- The order of bytes, in parts, from the numbers that they spell, and in padded buffers.
+-- The order of bytes: compared in parts, as the numbers that they spell, and in padded buffers.
 use Rattle.std.proofs.Common.{◌≡◌, ℕ, zero, suc, ◌+◌, ◌*◌, ◌<◌, ◌≤◌, ◌++◌, List, [], ◌∷◌, length, get_or, take, drop, replicate, true, false, refl, sym, ap, ◌∙◌, arith}
 use Rattle.std.proofs.Math.Bool.{true≢false}
 use Rattle.std.proofs.lemmas.Bool.{and_parts}
@@ -27,7 +27,7 @@ then_level Less b e = absurd (true≢false e)
 then_level Equal b e = refl
 then_level Greater b e = absurd (true≢false e)
 
--- ---- the first n bytes of each, and then the rest
+-- ---- comparing the first n bytes of each text, and then the rest
 order_in_parts : (n : ℕ) (xs ys : List ℕ) → n ≤ length xs → n ≤ length ys
     → slice_cmp nat_cmp xs ys ≡ ordering_then (slice_cmp nat_cmp (take n xs) (take n ys)) (slice_cmp nat_cmp (drop n xs) (drop n ys))
 order_in_parts zero xs ys p q = refl
@@ -46,8 +46,8 @@ module _ (n : ℕ) (xs ys front_x front_y rest_x rest_y : List ℕ) (r : Orderin
   pub fronts_level : is_ne r ≡ false → slice_cmp nat_cmp xs ys ≡ slice_cmp nat_cmp rest_x rest_y
   fronts_level e = in_parts ∙ then_level r _ e
 
--- ---- as many bytes of each as two numbers
--- how n and m lie when a byte is put after each
+-- ---- comparing equally many bytes of each text as two numbers
+-- the order of n and m after a byte is put behind each
 lie : (n m x y : ℕ) → x < 256 → y < 256 → (r s : Ordering) → MatchOrdering r (n < m) (n ≡ m) (m < n) → MatchOrdering s (x < y) (x ≡ y) (y < x)
     → MatchOrdering (ordering_then r s) (n * 256 + x < m * 256 + y) (n * 256 + x ≡ m * 256 + y) (m * 256 + y < n * 256 + x)
 lie n m x y p q Less s g h = let l : n < m = g in omega arith

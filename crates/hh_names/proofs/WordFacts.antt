@@ -13,7 +13,7 @@ use Rattle.hh_names.proofs.AsciiLaws.{all_ascii}
 use Rattle.hh_names.proofs.ByteFacts.{padded_order}
 use Rattle.hh_names.specs.Words.{is_letter_or_digit, is_not_zero, is_operator_key, is_reference_byte, is_word, padded, word_in}
 
--- ---- bytes that are no zeros
+-- ---- bytes other than zero
 suc_is_not_zero : (b : ℕ) → is_not_zero (suc b) ≡ true
 suc_is_not_zero b = grind (arith, nat_tests)
 
@@ -30,7 +30,7 @@ allowed_not_zero allows no_zero [] h = refl
 allowed_not_zero allows no_zero (zero ∷ rest) h = absurd (true≢false (sym (and_parts (allows 0) (list_all allows rest) h).0 ∙ no_zero))
 allowed_not_zero allows no_zero (suc b ∷ rest) h = and_from _ _ (suc_is_not_zero b) (allowed_not_zero allows no_zero rest (and_parts (allows (suc b)) (list_all allows rest) h).1)
 
--- ---- texts in buffers of zeros
+-- ---- texts in buffers filled up with zeros
 word_before_zeros : (text : List ℕ) (n : ℕ) → list_all is_not_zero text ≡ true → word_in (text ++ replicate n 0) ≡ text
 word_before_zeros [] zero h = refl
 word_before_zeros [] (suc n) h = refl
@@ -69,7 +69,7 @@ module _ (allows : ℕ → Bool) (least most : ℕ) where
       (λ i. slice_cmp nat_cmp (sym p.0 i) (sym q.0 i))
       ∙ padded_order (word_in a) (word_in b) (most - length (word_in a)) (most - length (word_in b)) (omega arith) (word_not_zero a) (word_not_zero b)
 
--- an operator's key is a word of the bytes of references
+-- each byte of an operator's key is one that references may have
 letters_allowed : (rest : List ℕ) → list_all is_letter_or_digit rest ≡ true → list_all is_reference_byte rest ≡ true
 letters_allowed [] h = refl
 letters_allowed (b ∷ rest) h =

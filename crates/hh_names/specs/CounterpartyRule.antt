@@ -1,4 +1,4 @@
--- Why a contract's row is refused for its seller and buyer: 35 and 36.
+-- Why a contract's row is refused for its seller and buyer: refusals 35 and 36.
 use Rattle.std.specs.Prelude.{List, [], ◌∷◌, Bool, false, not, ◌&&◌, Option, Some, None}
 use Rattle.hh_names.specs.declared.fault.Refusal.{Refusal}
 use Rattle.hh_names.specs.declared.fault.Refusal.TheVariants.{ReferenceMoved, SameAccount}
@@ -9,12 +9,12 @@ use Rattle.hh_names.specs.Accounts.{is_same_account}
 abbrev pub are_same_counterparties : Counterparties → Counterparties → Bool
 are_same_counterparties a b = is_same_account a.seller b.seller && is_same_account a.buyer b.buyer
 
--- whether a reference that may be known has another seller or buyer than this
+-- whether a reference, if it is known, has another seller or buyer than this
 abbrev pub is_moved : Option Counterparties → Counterparties → Bool
 is_moved None counterparties = false
 is_moved (Some known) counterparties = not (are_same_counterparties known counterparties)
 
--- the refusals for a seller and a buyer whose reference may be known, with their conditions, by their numbers
+-- the refusals for a seller and a buyer, with their conditions, in the order of their numbers; the reference may be known
 abbrev pub counterparty_refusals : Option Counterparties → Counterparties → List (Refusal × Bool)
 counterparty_refusals known counterparties =
     (SameAccount, is_same_account counterparties.seller counterparties.buyer)

@@ -1,11 +1,11 @@
--- Refusals with the places that they have.
+-- Refusals with their places.
 use Rattle.std.specs.Prelude.{◌≡◌, ℕ, ◌≤◌, List, [], ◌∷◌, Bool, true, Option, Some, None, Result, Ok, Err, codes, if◌then◌else◌}
 use Rattle.std.specs.List.{AllByRecursion}
 use Rattle.hh_names.specs.declared.fault.Fault.{Fault}
 use Rattle.hh_names.specs.declared.fault.Refusal.{Refusal}
 use Rattle.hh_names.specs.declared.fault.Refusal.TheVariants as refusal
 
--- a refusal of the whole
+-- a refusal with no place
 abbrev pub plain_fault : Refusal → Fault
 plain_fault r = record { refusal = r; row = None; column = None; unit = None; period = None }
 
@@ -13,7 +13,7 @@ plain_fault r = record { refusal = r; row = None; column = None; unit = None; pe
 abbrev pub row_fault : Refusal → ℕ → Fault
 row_fault r row = record (plain_fault r) { row = Some row }
 
--- a field off its grammar or range; columns are numbered from 1
+-- a refusal of a field that is off its grammar or range; columns are numbered from 1
 abbrev pub field_fault : ℕ → ℕ → Fault
 field_fault row column = record (plain_fault refusal.BadField) { row = Some row; column = Some column }
 
@@ -26,22 +26,22 @@ abbrev pub ByRefusal : Refusal → Type 0 → Type 0 → Type 0
 ByRefusal refusal.Memory memory other = memory
 ByRefusal refusal memory other = other
 
--- a type of errors that are refusals: which refusal each is, and the one by which memory is refused
+-- a type of errors that are refusals: which refusal each is, and the error for refused memory
 pub record Refusing (E : Type 0) : Type 0 where
   pub refusal : E → Refusal
   pub memory : E
 
 module _ {E : Type 0} (errors : Refusing E) where
-  -- an error that was answered is the outcome's; the refusal of memory may stand in the place of any outcome
+  -- an error that was answered is the outcome's; if memory was refused, the outcome may be another
   abbrev pub Refuses : {Y : Type 0} → E → Result Y E → Type 0
   Refuses e outcome = ByRefusal (errors.refusal e) (e ≡ errors.memory) (outcome ≡ Err e)
 
-  -- what was answered is the outcome, or the refusal of memory in its place
+  -- the answer is the outcome, or that memory was refused
   abbrev pub Gives : {X Y : Type 0} → (X → Y) → Result X E → Result Y E → Type 0
   Gives view (Ok x) outcome = outcome ≡ Ok (view x)
   Gives view (Err e) outcome = Refuses e outcome
 
--- faults as such errors
+-- faults as a type of errors
 abbrev pub faults : Refusing Fault
 faults = record { refusal = λ fault. fault.refusal; memory = memory_fault }
 
@@ -122,6 +122,6 @@ refusal_name refusal.BodyTooLarge = codes "BodyTooLarge"
 refusal_name refusal.Memory = codes "Memory"
 refusal_name refusal.Store = codes "Store"
 
--- of the refusals of a list whose conditions are met, none has a lesser number
+-- no refusal of the list whose condition is met has a lesser number
 abbrev pub IsLeast : Refusal → List (Refusal × Bool) → Type 0
 IsLeast least rs = AllByRecursion (λ r. r.1 ≡ true → refusal_number least ≤ refusal_number r.0) rs

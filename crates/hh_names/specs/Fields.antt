@@ -1,4 +1,4 @@
--- The number of a Settlement Period and the marks that fields write.
+-- The number of a Settlement Period, and marks of yes or no, as fields have them.
 use Rattle.std.specs.Prelude.{ℕ, pos, unsigned_abs, Bool, true, false, List, Option, Some, None, option_map, codes, bytes_eq, if◌then◌else◌}
 use Rattle.hh_num.specs.Ranges.{fixed_between}
 

@@ -7,7 +7,7 @@ use Rattle.std.specs.List.{list_all, take_while}
 unfoldable pub is_word : (ℕ → Bool) → ℕ → ℕ → List ℕ → Bool
 is_word allows least most text = nat_le least (length text) && nat_le (length text) most && list_all allows text
 
--- the word that a text is, if it is one
+-- the text as a word, if it is one
 abbrev pub word_value : (ℕ → Bool) → ℕ → ℕ → List ℕ → Option (List ℕ)
 word_value allows least most text = if is_word allows least most text then Some text else None
 
@@ -31,7 +31,7 @@ is_letter_or_digit = is_ascii_alphanumeric
 abbrev pub is_file_name_byte : ℕ → Bool
 is_file_name_byte b = is_ascii_alphanumeric b || b == 46 || b == 95 || b == 45
 
--- the texts that are the id of a party or of a unit, a reference, an access key or the name of a file
+-- whether a text is the id of a party or of a unit, a reference, an access key or the name of a file
 abbrev pub is_party_id : List ℕ → Bool
 is_party_id = is_word is_capital_or_digit 1 10
 
@@ -47,7 +47,7 @@ is_access_key = is_word is_letter_or_digit 8 64
 abbrev pub is_file_name : List ℕ → Bool
 is_file_name = is_word is_file_name_byte 1 64
 
--- the ids, references and keys that texts are
+-- a text as an id, a reference or a key, if it is one
 abbrev pub party_value : List ℕ → Option (List ℕ)
 party_value = word_value is_capital_or_digit 1 10
 
@@ -67,14 +67,14 @@ is_operator_key text = bytes_eq (take 3 text) (codes "op-") && is_word is_letter
 abbrev pub operator_key_value : List ℕ → Option (List ℕ)
 operator_key_value text = if is_operator_key text then Some text else None
 
--- a byte of a word, no filling
+-- a byte of a word: the filling is zero
 abbrev pub is_not_zero : ℕ → Bool
 is_not_zero b = not (b == 0)
 
--- the word in a buffer: what stands before the first zero
+-- the word in a buffer: the bytes before the first zero
 abbrev pub word_in : List ℕ → List ℕ
 word_in buffer = take_while is_not_zero buffer
 
--- a word in a buffer of this length: zeros follow it
+-- a word in a buffer of this length, filled up with zeros
 abbrev pub padded : ℕ → List ℕ → List ℕ
 padded most text = text ++ replicate (most - length text) 0

@@ -11,7 +11,7 @@ use crate::word::PartyId;
 use std::cmp::Ordering;
 use std::fmt;
 
-/// Which of a party's two accounts (Section P in shape).
+/// Which of a party's two accounts an account is (Section P in shape).
 #[derive(Clone, Copy, Debug, PartialEq, Eq, PartialOrd, Ord)]
 pub enum Side {
     Production,

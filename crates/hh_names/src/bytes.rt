@@ -8,7 +8,7 @@ ghost use Rattle.std.specs.Slice.Scan.{big_endian};
 use std::cmp::Ordering;
 
 /// The order of two texts by their bytes: eight of each at a time, and the last few one by one.
-// Put in line, so that at two buffers of a constant length no loop is left.
+// Inlined, so that no loop is left for two buffers of a constant length.
 #[inline(always)]
 pub(crate) fn order_of_bytes(first: &[u8], second: &[u8]) -> Ordering
     ensures { result ≡ slice_cmp nat_cmp first.now second.now }
@@ -29,7 +29,7 @@ pub(crate) fn order_of_bytes(first: &[u8], second: &[u8]) -> Ordering
     first_rest.cmp(&second_rest)
 }
 
-/// The order of eight bytes and eight others: that of the numbers that they spell.
+/// The order of two groups of eight bytes, which is that of the numbers that they spell.
 #[inline(always)]
 fn order_of_eight(first: &[u8; 8], second: &[u8; 8]) -> Ordering
     ensures { result ≡ slice_cmp nat_cmp first.now second.now }
@@ -37,7 +37,7 @@ fn order_of_eight(first: &[u8; 8], second: &[u8; 8]) -> Ordering
     number_of(first).cmp(&number_of(second))
 }
 
-/// The number that eight bytes spell, the first of them the greatest.
+/// The number that eight bytes spell, the first byte being the most significant.
 #[inline(always)]
 fn number_of(eight: &[u8; 8]) -> u64
     ensures { result ≡ big_endian 0 eight.now }

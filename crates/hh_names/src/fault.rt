@@ -7,7 +7,7 @@ use crate::period_number::PeriodNumber;
 use crate::word::UnitId;
 use std::alloc::{AllocError, AllocFailed};
 
-/// What a refusal is (profile).
+/// The kinds of refusal.
 #[derive(Clone, Copy, Debug, PartialEq, Eq)]
 pub enum Refusal {
     /// The file has more bytes than the limit.
@@ -18,24 +18,24 @@ pub enum Refusal {
     BadHeader,
     /// A record has another number of fields than the header.
     BadRecord,
-    /// A field is off its grammar or range, or ends a range of dates before it begins.
+    /// A field is off its grammar or range, or a range of dates ends before it begins.
     BadField,
-    /// A file of this kind and name was accepted with other bytes.
+    /// A file of this kind and name was accepted with other bytes before.
     FileChanged,
-    /// A party, or an account's party, is not registered.
+    /// A party, or the party of an account, is not registered.
     UnknownParty,
     /// The unit is not registered.
     UnknownUnit,
-    /// The date is outside the range of the unit or of an account's party; of a row of units, its range
-    /// is not inside its party's.
+    /// The date is outside the range of the unit or of an account's party. For a row of units: its
+    /// range is not inside that of its party.
     NotEffective,
-    /// The period is above the date's count.
+    /// The number of the period is above the date's count.
     NoSuchPeriod,
     /// Seller and buyer are the same account.
     SameAccount,
-    /// The reference has another seller or buyer.
+    /// The reference has another seller or buyer already.
     ReferenceMoved,
-    /// A reallocation to the unit's own lead account.
+    /// The reallocation is to the unit's own lead account.
     OwnLead,
     /// More than 100 percent of the unit would be reallocated.
     OverHundred,
@@ -45,7 +45,7 @@ pub enum Refusal {
     UnitMoved,
     /// The new lead account is a subsidiary of the unit.
     LeadIsSubsidiary,
-    /// A new party or unit above the limit.
+    /// A new party or unit would be above the limit.
     TooMany,
     /// The kind of run comes before the latest run of the date.
     RunOrder,
@@ -63,7 +63,7 @@ pub enum Refusal {
     Forbidden,
     /// There is no such path.
     NoRoute,
-    /// The path has another method.
+    /// The path does not allow this method.
     BadMethod,
     /// The date has no such run that holds the account.
     NoRun,
@@ -163,8 +163,7 @@ impl Refusal {
     }
 }
 
-/// A refusal, with the places that it has. Rows are numbered from 1 without the header, columns
-/// from 1.
+/// A refusal, with its places. Rows are numbered from 1 without the header, columns from 1.
 #[derive(Clone, Copy, Debug, PartialEq, Eq)]
 pub struct Fault {
     pub refusal: Refusal,
@@ -175,7 +174,7 @@ pub struct Fault {
 }
 
 impl Fault {
-    /// A refusal of the whole.
+    /// A refusal with no place.
     pub fn of(refusal: Refusal) -> Fault
         ensures { result ≡ plain_fault refusal }
     {
@@ -198,7 +197,7 @@ impl Fault {
         }
     }
 
-    /// The refusal of a field off its grammar or range.
+    /// The refusal of a field that is off its grammar or range.
     pub fn at_field(row: u32, column: u32) -> Fault
         ensures { result ≡ field_fault row column }
     {

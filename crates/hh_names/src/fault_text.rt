@@ -9,7 +9,7 @@ use crate::word::UnitId;
 use std::error::Error;
 use std::fmt;
 
-/// The text is `refused <number> <name>`, and the places that the refusal has.
+/// The text is `refused <number> <name>`, followed by the refusal's places.
 impl fmt::Display for Fault {
     ghost output = { λ fault. Some (fault_text fault) };
 
@@ -29,7 +29,7 @@ fn write_head<W: fmt::Write>(f: &mut fmt::Formatter<W>, fault: &Fault) -> fmt::R
     write!(f, "refused {number} {name}")
 }
 
-/// The row, the column, the unit and the period, where the refusal has them.
+/// The row, the column, the unit and the period, if the refusal has them.
 fn write_places<W: fmt::Write>(f: &mut fmt::Formatter<W>, fault: &Fault) -> fmt::Result
     ensures { DisplaysOnOk W.write_str_gives f.old result (Some (refusal_places fault.now)) f.new }
 {
@@ -43,7 +43,7 @@ fn write_places<W: fmt::Write>(f: &mut fmt::Formatter<W>, fault: &Fault) -> fmt:
     )
 }
 
-/// A number behind its word, where there is one.
+/// A number behind its word, if there is one.
 fn write_number<W: fmt::Write>(
     f: &mut fmt::Formatter<W>,
     word: &str,
@@ -58,7 +58,7 @@ fn write_number<W: fmt::Write>(
     }
 }
 
-/// A unit's id behind its word, where there is one.
+/// A unit's id behind its word, if there is one.
 fn write_unit<W: fmt::Write>(f: &mut fmt::Formatter<W>, unit: Option<UnitId>) -> fmt::Result
     ensures { DisplaysOnOk W.write_str_gives f.old result (Some (unit_place unit)) f.new }
 {

@@ -7,7 +7,7 @@ use crate::word::{AccessKeyAlphabet, ReferenceAlphabet, Word, is_word_of};
 use std::marker::Model;
 
 /// The key that the operator shows: `op-` and 8 to 61 letters or digits (profile). No party's key
-/// has a dash, so it is never one of these. Contracts see the list of the bytes.
+/// has a dash, so no party has this key. Contracts see the list of the bytes.
 #[derive(Clone, Copy, Debug, PartialEq, Eq)]
 pub struct OperatorKey {
     text: Word<ReferenceAlphabet, 11, 64>,
@@ -27,7 +27,7 @@ impl Model for OperatorKey {
 }
 
 impl OperatorKey {
-    /// The operator's key that these bytes are, if they are one.
+    /// These bytes as the operator's key, if they are one.
     #[tactic(auto, using(crate::proofs::WordFacts::operator_key_is_word), unfolding(crate::specs::Words::is_operator_key))]
     pub fn read(text: &[u8]) -> Option<OperatorKey>
         ensures { result ≡ operator_key_value text.now }

@@ -36,7 +36,7 @@ impl PeriodNumber {
         }
     }
 
-    /// The period that a text numbers: 1 to 50, in the grammar of `read_fixed` without decimals.
+    /// The period whose number a text writes: 1 to 50, in the grammar of `read_fixed` without decimals.
     #[tactic(auto, unfolding(crate::specs::Fields::period_value))]
     pub fn read(text: &[u8]) -> Option<PeriodNumber>
         ensures { result ≡ period_value text.now }

@@ -25,9 +25,9 @@ pub struct Counterparties {
 }
 
 impl Counterparties {
-    /// Why a row with these counterparties is refused whose reference has those that are known, if
-    /// it is: 35 where both are one account, before 36 where the reference has others (Section P in
-    /// shape).
+    /// Why a row with these counterparties is refused, if it is. `known` has those of its reference, if
+    /// it is known. 35: both are one account. 36: the reference has others. 35 is tested first (Section P
+    /// in shape).
     pub fn refusal_beside(self, known: Option<Counterparties>) -> Option<Refusal>
         ensures { result ≡ first_met (counterparty_refusals known self) }
     {
@@ -41,7 +41,7 @@ impl Counterparties {
     }
 }
 
-/// A contract volume, in kWh: it counts for the seller and against the buyer, and may be negative
+/// A contract volume, in kWh. It counts for the seller and against the buyer, and may be negative
 /// (Section P).
 #[derive(Clone, Copy, Debug, PartialEq, Eq)]
 pub struct Contract {

@@ -72,7 +72,7 @@ impl<A: Alphabet, const LEAST: usize, const MOST: usize> Word<A, LEAST, MOST> {
         }
     }
 
-    /// The word that these bytes are, if they are one.
+    /// These bytes as a word, if they are one.
     pub fn read(text: &[u8]) -> Option<Self>
         ensures { result ≡ word_value A.allows LEAST MOST text.now }
     {
@@ -83,7 +83,7 @@ impl<A: Alphabet, const LEAST: usize, const MOST: usize> Word<A, LEAST, MOST> {
         }
     }
 
-    /// The word that these bytes are.
+    /// These bytes as a word, which they must be.
     #[tactic(auto, unfolding(crate::specs::Words::is_word))]
     pub(crate) fn of(text: &[u8]) -> Self
         requires { is_word A.allows LEAST MOST text.now ≡ true }
@@ -98,7 +98,7 @@ impl<A: Alphabet, const LEAST: usize, const MOST: usize> Word<A, LEAST, MOST> {
     }
 }
 
-/// Whether the bytes are `least` to `most` bytes of the alphabet.
+/// Whether the text is a word: `least` to `most` bytes, all of the alphabet.
 #[tactic(auto, unfolding(crate::specs::Words::is_word))]
 pub(crate) fn is_word_of<A: Alphabet>(text: &[u8], least: usize, most: usize) -> bool
     ensures { result ≡ is_word A.allows least most text.now }
@@ -231,7 +231,7 @@ impl<A: Alphabet, const LEAST: usize, const MOST: usize> Ord for Word<A, LEAST, 
 
     ghost matches_eq = { Prim.search (comparing, rules) };
 
-    // The buffers decide: zeros follow the words, and no word has one.
+    // Comparing the buffers is enough: zeros follow the words, and no word has a zero.
     fn cmp(&self, other: &Word<A, LEAST, MOST>) -> Ordering {
         order_of_bytes(&self.bytes, &other.bytes)
     }

@@ -3,7 +3,7 @@
 ghost use Rattle.std.specs.Prelude.{◌≡◌};
 ghost use Rattle.hh_names.specs.Fields.{yes_no_value};
 
-/// Whether a mark says `yes`, and `None` where it says neither `yes` nor `no` (profile).
+/// Whether a mark says `yes`, or `None` if it says neither `yes` nor `no` (profile).
 #[tactic(auto, unfolding(crate::specs::Fields::yes_no_value))]
 pub fn read_yes_no(text: &[u8]) -> Option<bool>
     ensures { result ≡ yes_no_value text.now }

@@ -1,11 +1,11 @@
 -- Reading of numbers with a point.
-use Rattle.std.proofs.Common.{◌≡◌, ℕ, zero, suc, ◌+◌, ◌-◌, ◌*◌, ◌^◌, ◌<◌, ◌≤◌, Bool, true, false, cond, ◌&&◌, List, [], ◌∷◌, ◌++◌, length, get_or, set, drop, Option, Some, None, option_map, refl, sym, ap, ◌∙◌, arith, lit<, ◌/◌, ◌%◌}
+use Rattle.std.proofs.Common.{◌≡◌, ℕ, zero, suc, ◌+◌, ◌-◌, ◌*◌, ◌^◌, ◌<◌, ◌≤◌, Bool, true, false, cond, ◌&&◌, List, [], ◌∷◌, ◌++◌, length, get_or, drop, Option, Some, None, option_map, refl, ◌∙◌, arith, lit<}
 use Rattle.std.specs.Char.{digit_value}
 use Rattle.std.specs.Str.Parse.{digits_value_after}
 use Rattle.std.proofs.lemmas.Bool.Decides.{nat_tests}
-use Rattle.std.proofs.lemmas.List.{at_drop_more, drop-set, length-set}
-use Rattle.std.proofs.Math.Nat.{div-div-eq-div-mul, mul-le-mul_left, one-le-pow, pow-suc}
-use Rattle.hh_num.specs.Fixed.{units_of, all_digits, kept_if, fits_u64, fits_i64, last_digits, signed}
+use Rattle.std.proofs.lemmas.List.{at_drop_more}
+use Rattle.std.proofs.Math.Nat.{mul-le-mul_left, one-le-pow}
+use Rattle.hh_num.specs.Fixed.{units_of, all_digits, kept_if, fits_u64, fits_i64, signed}
 use Rattle.hh_num.specs.steps.Fixed.{digits_behind}
 
 -- more digits make no smaller number
@@ -16,7 +16,7 @@ digits_value_after_ge n (d ∷ ds) = omega (arith, digits_value_after_ge (n * 10
 digits_behind_past : (n : ℕ) (ds : List ℕ) → 2 ^ 64 ≤ n → kept_if fits_u64 (digits_behind n ds) ≡ None
 digits_behind_past n ds h = let k = digits_value_after_ge n ds in grind (arith, nat_tests)
 
--- a digit past the limit leaves nothing to read
+-- a digit that takes the number to 2 ^ 64 or more leaves no number to read
 pub digits_behind_large : (n i : ℕ) (ds : List ℕ) → i < length ds → 2 ^ 64 ≤ n * 10 + (get_or ds i 0 - 48) → kept_if fits_u64 (digits_behind n (drop i ds)) ≡ None
 digits_behind_large n i ds lt h =
     at_drop_more (λ xs. kept_if fits_u64 (digits_behind n xs)) ds i 0 lt ∙ one (get_or ds i 0) (drop (i + 1) ds) h
@@ -28,14 +28,14 @@ pub digits_value_after-append : (n : ℕ) (xs ys : List ℕ) → digits_value_af
 digits_value_after-append n [] ys = refl
 digits_value_after-append n (x ∷ xs) ys = digits_value_after-append (n * 10 + digit_value x) xs ys
 
--- what `units_of` is where the lengths are right
+-- the value of `units_of` if the lengths are right
 units_of_is : (decimals : ℕ) (whole fraction : List ℕ) → 0 < length whole → length fraction ≤ decimals
     → units_of decimals whole fraction
     ≡ cond (all_digits whole && all_digits fraction) (Some (digits_value_after 10 (digits_value_after 10 0 whole) fraction * 10 ^ (decimals - length fraction))) None
 units_of_is decimals [] fraction some few = absurd (omega arith)
 units_of_is decimals (b ∷ whole) fraction some few = let e = digits_value_after-append 0 (b ∷ whole) fraction in grind (arith, nat_tests)
 
-scaled_ge : (n k : ℕ) → n ≤ n * 10 ^ k
+pub scaled_ge : (n k : ℕ) → n ≤ n * 10 ^ k
 scaled_ge n k = let p = one-le-pow k 10 (lit< tt) in omega (arith, mul-le-mul_left {m = 1} {n = 10 ^ k} n p)
 
 pub units_of_whole : (decimals : ℕ) (whole fraction : List ℕ) → 0 < length whole → length fraction ≤ decimals
@@ -57,7 +57,7 @@ pub units_of_all : (decimals n k : ℕ) (whole fraction : List ℕ) → 0 < leng
     → units_of decimals whole fraction ≡ Some (k * 10 ^ (decimals - length fraction))
 units_of_all decimals n k whole fraction some few h g = rw (units_of_is decimals whole fraction some few) (grind (arith, nat_tests))
 
--- what no u64 holds no i64 holds
+-- a size that fits no u64 gives a number that fits no i64
 pub kept_signed_none : (negative : Bool) (units : Option ℕ) → kept_if fits_u64 units ≡ None → kept_if fits_i64 (option_map (signed negative) units) ≡ None
 kept_signed_none negative None h = refl
 kept_signed_none true (Some zero) h = cc h
@@ -69,34 +69,3 @@ kept_signed_some negative None n h = cc h
 kept_signed_some negative (Some k) n h = grind (arith, nat_tests)
 
 pub ruleset kept_signed = (kept_signed_none, kept_signed_some)
-
-pub ten_pow_pos : (k : ℕ) → 0 < 10 ^ k
-ten_pow_pos k = one-le-pow k 10 (lit< tt)
-
--- one more of the last digits, in front of those that stand behind a place
-digits_next : (n k i rest : ℕ) (ds : List ℕ) → i < length ds → rest ≡ n / 10 ^ k → drop (i + 1) ds ≡ last_digits k n
-    → drop i (set ds i (48 + rest % 10)) ≡ last_digits (suc k) n
-digits_next n k i rest ds inside left stand =
-    drop-set ds i (48 + rest % 10) inside ∙ ap (λ more. (48 + rest % 10) ∷ more) stand ∙ ap (λ r. (48 + r % 10) ∷ last_digits k n) left
-
--- the digits that stand behind a place, after one more
-abbrev after_put : ℕ → ℕ → List ℕ → ℕ
-after_put p rest ds = length (set ds (p - 1) (48 + rest % 10)) - (p - 1)
-
-one_more : (p rest : ℕ) (ds : List ℕ) → 0 < p → p ≤ length ds → after_put p rest ds ≡ suc (length ds - p)
-one_more p rest ds some inside = omega (arith, length-set ds (p - 1) (48 + rest % 10))
-
-pub digit_put : (n p rest : ℕ) (ds : List ℕ) → 0 < p → p ≤ length ds → drop p ds ≡ last_digits (length ds - p) n → rest ≡ n / 10 ^ (length ds - p)
-    → drop (p - 1) (set ds (p - 1) (48 + rest % 10)) ≡ last_digits (length (set ds (p - 1) (48 + rest % 10)) - (p - 1)) n
-digit_put n p rest ds some inside stand left =
-    let at : p - 1 + 1 ≡ p = omega arith in
-    let within : p - 1 < length ds = omega arith in
-    digits_next n (length ds - p) (p - 1) rest ds within left (ap (λ j. drop j ds) at ∙ stand)
-    ∙ sym (ap (λ k. last_digits k n) (one_more p rest ds some inside))
-
-pub rest_left : (n p rest : ℕ) (ds : List ℕ) → 0 < p → p ≤ length ds → rest ≡ n / 10 ^ (length ds - p)
-    → rest / 10 ≡ n / 10 ^ (length (set ds (p - 1) (48 + rest % 10)) - (p - 1))
-rest_left n p rest ds some inside left =
-    ap (λ r. r / 10) left ∙ div-div-eq-div-mul n (10 ^ (length ds - p)) 10
-    ∙ ap (λ m. n / m) (sym (pow-suc 10 (length ds - p)))
-    ∙ sym (ap (λ k. n / 10 ^ k) (one_more p rest ds some inside))

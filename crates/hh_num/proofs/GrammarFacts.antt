@@ -1,4 +1,4 @@
--- The grammar of numbers with a point, and what reads it.
+-- The grammar of numbers with a point, and how a text in it is read.
 use Rattle.std.proofs.Common.{◌≡◌, ℕ, zero, suc, ◌+◌, ◌-◌, ◌*◌, ◌^◌, ◌/◌, ◌%◌, ◌<◌, ◌≤◌, Bool, true, false, cond, ◌&&◌, ltb, leb, eqb, List, [], ◌∷◌, ◌++◌, length, get_or, take, drop, Option, Some, None, option_map, refl, sym, ap, ◌∙◌, arith, add-one, append-nil, append_assoc, length-append, length-drop, take-append-drop, ℤ, pos, negsuc, unsigned_abs, position, IfSome, IfNone, FitsSigned, w64}
 use Rattle.std.proofs.lemmas.Grind.{common_steps}
 use Rattle.std.proofs.lemmas.Bool.Decides.{nat_tests}
@@ -13,7 +13,7 @@ use Rattle.std.proofs.lemmas.Fmt.{decimal_by_steps}
 use Rattle.std.proofs.Math.Nat.{div-div-eq-div-mul, div-le_self, sub_self}
 use Rattle.std.specs.Fmt.{decimal}
 
-digit_no_point : (b : ℕ) → is_ascii_digit b ≡ true → is_point b ≡ false
+pub digit_no_point : (b : ℕ) → is_ascii_digit b ≡ true → is_point b ≡ false
 digit_no_point b h = grind (arith, nat_tests)
 
 and_true : (a b : Bool) → (a && b) ≡ true → (a ≡ true) × (b ≡ true)
@@ -21,11 +21,11 @@ and_true true b h = (refl, h)
 and_true false b h = cc h
 
 -- a list of digits, taken apart
-digits-cons : (b : ℕ) (bs : List ℕ) → all_digits (b ∷ bs) ≡ true → (is_ascii_digit b ≡ true) × (all_digits bs ≡ true)
+pub digits-cons : (b : ℕ) (bs : List ℕ) → all_digits (b ∷ bs) ≡ true → (is_ascii_digit b ≡ true) × (all_digits bs ≡ true)
 digits-cons b bs h = and_true (is_ascii_digit b) (all_digits bs) h
 
 -- the first point behind digits
-place-digits : (ds rest : List ℕ) → all_digits ds ≡ true → position_or_len is_point (ds ++ 46 ∷ rest) ≡ length ds
+pub place-digits : (ds rest : List ℕ) → all_digits ds ≡ true → position_or_len is_point (ds ++ 46 ∷ rest) ≡ length ds
 place-digits [] rest h = refl
 place-digits (d ∷ ds) rest h =
     let (digit, digits) = digits-cons d ds h in
@@ -49,15 +49,15 @@ drop-behind : (xs : List ℕ) (x : ℕ) (rest : List ℕ) → drop (length xs + 
 drop-behind [] x rest = refl
 drop-behind (y ∷ ys) x rest = simp add-one (simp add-one at (drop-behind ys x rest))
 
--- digits alone, and digits round a point
-unsigned_units-whole : (decimals : ℕ) (whole : List ℕ) → all_digits whole ≡ true → unsigned_units decimals whole ≡ units_of decimals whole []
+-- a text of digits alone, and a text of digits before and behind a point
+pub unsigned_units-whole : (decimals : ℕ) (whole : List ℕ) → all_digits whole ≡ true → unsigned_units decimals whole ≡ units_of decimals whole []
 unfolding unsigned_units
 unsigned_units-whole decimals whole h =
     let place = place-none whole h in
     let none : position is_point whole ≡ None = grind (arith, nat_tests) in
     ap (units_at decimals whole) none
 
-unsigned_units-point : (decimals b : ℕ) (whole bytes : List ℕ) → all_digits whole ≡ true → unsigned_units decimals (whole ++ 46 ∷ b ∷ bytes) ≡ units_of decimals whole (b ∷ bytes)
+pub unsigned_units-point : (decimals b : ℕ) (whole bytes : List ℕ) → all_digits whole ≡ true → unsigned_units decimals (whole ++ 46 ∷ b ∷ bytes) ≡ units_of decimals whole (b ∷ bytes)
 unfolding unsigned_units
 unsigned_units-point decimals b whole bytes h =
     let text = whole ++ 46 ∷ b ∷ bytes in
@@ -69,7 +69,7 @@ unsigned_units-point decimals b whole bytes h =
     let back : drop (length whole + 1) text ≡ b ∷ bytes = drop-behind whole 46 (b ∷ bytes) in
     ap (units_at decimals text) some ∙ rw (inside, front, back) refl
 
-units_of-good : (decimals : ℕ) (whole fraction : List ℕ) → are_digits whole ≡ true → all_digits fraction ≡ true → length fraction ≤ decimals
+pub units_of-good : (decimals : ℕ) (whole fraction : List ℕ) → are_digits whole ≡ true → all_digits fraction ≡ true → length fraction ≤ decimals
     → units_of decimals whole fraction ≡ Some (digits_value 10 (whole ++ fraction) * 10 ^ (decimals - length fraction))
 units_of-good decimals whole fraction w f few = let fits : leb (length fraction) decimals ≡ true = grind (arith, nat_tests) in rw (w, f, fits) refl
 
@@ -94,7 +94,7 @@ fixed_value-from decimals text v h = rw (h.spelled, h.valued) (go h.negative h.w
         let other : eqb b 45 ≡ false = grind (arith, nat_tests) in
         rw other (ap (option_map (signed false)) (unsigned_units-body decimals (b ∷ bs) fraction w f few))
 
--- What a text with no sign reads as, taken apart.
+-- a text with no sign, split into its parts
 record Parts (decimals : ℕ) (text : List ℕ) (n : ℕ) : Type 0 where
   whole : List ℕ
   fraction : List ℕ
@@ -190,7 +190,7 @@ kept_fixed_none decimals text None e = λ v h fits.
 
 pub ruleset kept_fixed = (kept_fixed_some, kept_fixed_none)
 
--- What is written is in the grammar.
+-- a written text is in the grammar
 all_digits-push : (ds : List ℕ) (d : ℕ) → all_digits ds ≡ true → is_ascii_digit d ≡ true → all_digits (ds ++ d ∷ []) ≡ true
 all_digits-push [] d h e = rw e refl
 all_digits-push (x ∷ xs) d h e =
@@ -222,7 +222,7 @@ last_digits-digits : (k n : ℕ) → all_digits (last_digits k n) ≡ true
 last_digits-digits zero n = refl
 last_digits-digits (suc k) n = rw (glyph_digit (n / 10 ^ k % 10) (omega arith)) (last_digits-digits k n)
 
-length-last_digits : (k n : ℕ) → length (last_digits k n) ≡ k
+pub length-last_digits : (k n : ℕ) → length (last_digits k n) ≡ k
 length-last_digits zero n = refl
 length-last_digits (suc k) n = ap (λ m. suc m) (length-last_digits k n)
 
@@ -239,7 +239,7 @@ signed_back : (v : ℤ) → v ≡ signed (is_negative v) (unsigned_abs v)
 signed_back (pos n) = refl
 signed_back (negsuc n) = refl
 
-are-from-all : (ds : List ℕ) → all_digits ds ≡ true → 0 < length ds → are_digits ds ≡ true
+pub are-from-all : (ds : List ℕ) → all_digits ds ≡ true → 0 < length ds → are_digits ds ≡ true
 are-from-all [] h some = absurd (omega arith)
 are-from-all (d ∷ ds) h some = h
 

@@ -1,6 +1,9 @@
+pub mod FewDigits
 pub mod FixedFacts
 pub mod GrammarFacts
 pub mod NaturalFacts
+pub mod RoomFacts
 pub mod RoundingFacts
+pub mod ShortFacts
 pub mod SizeLaws
 pub mod TotalLaws

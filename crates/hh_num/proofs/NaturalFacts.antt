@@ -3,13 +3,13 @@ use Rattle.std.proofs.Common.{◌≡◌, ℕ, ◌<◌, List, [], ◌∷◌, leng
 use Rattle.hh_num.specs.steps.Fixed.{digits_behind}
 use Rattle.hh_num.specs.Naturals.{natural_value}
 
--- no digits are no number
+-- an empty text is no number
 pub natural_value-empty : (text : List ℕ) → length text ≡ 0 → natural_value text ≡ None
 unfolding natural_value
 natural_value-empty [] none = refl
 natural_value-empty (b ∷ text) none = absurd (omega arith)
 
--- digits are the number that they write behind none
+-- the number of digits is the number that they write behind no others
 pub natural_value-some : (text : List ℕ) → 0 < length text → natural_value text ≡ digits_behind 0 text
 unfolding natural_value
 natural_value-some [] some = absurd (omega arith)

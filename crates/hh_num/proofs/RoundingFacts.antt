@@ -1,4 +1,4 @@
--- That `near` is nearest, and that no other number is.
+-- `near` is a nearest whole number, and no other number is.
 use Rattle.std.proofs.Common.{◌≡◌, ℕ, suc, ◌+◌, ◌*◌, ◌<◌, ◌≤◌, ℤ, pos, negsuc, neg_ℤ, ◌-ℤ◌, ◌*ℤ◌, ◌<ℤ◌, unsigned_abs, sym, ap, ◌∙◌, arith}
 use Rattle.std.proofs.Math.IntN.{neg_ℤ-neg_ℤ, neg_ℤ-+ℤ}
 use Rattle.std.proofs.Math.Nat.{le-div_iff_mul-le}
@@ -6,7 +6,7 @@ use Rattle.std.proofs.lemmas.Int.{ints}
 use Rattle.hh_num.specs.Rounding.{doubled_distance, IsNear, near_part, near}
 use Rattle.hh_num.proofs.SizeLaws.{unsigned_abs-neg, unsigned_abs-sub, neg-mul}
 
--- both signs turned, the distance is the same
+-- changing both signs leaves the distance
 doubled_distance-neg : (n r : ℤ) (b : ℕ) → doubled_distance (neg_ℤ n) (pos b) (neg_ℤ r) ≡ doubled_distance n (pos b) r
 doubled_distance-neg n r b =
     ap (λ z. 2 * z) (

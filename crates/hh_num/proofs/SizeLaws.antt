@@ -2,7 +2,7 @@
 use Rattle.std.proofs.Common.{◌≡◌, ℕ, zero, suc, ◌+◌, ◌-◌, ◌*◌, ℤ, pos, negsuc, neg_ℤ, ◌-ℤ◌, ◌*ℤ◌, unsigned_abs, refl, sym, arith}
 use Rattle.std.proofs.Math.IntN.{neg_ℤ-neg_ℤ}
 
--- the other sign leaves the size
+-- changing the sign leaves the size
 pub unsigned_abs-neg : (z : ℤ) → unsigned_abs (neg_ℤ z) ≡ unsigned_abs z
 unsigned_abs-neg (pos zero) = refl
 unsigned_abs-neg (pos (suc n)) = refl
@@ -13,7 +13,7 @@ pub unsigned_abs-sub : (a b : ℕ) → unsigned_abs (pos a -ℤ pos b) ≡ (a - 
 unsigned_abs-sub a zero = omega arith
 unsigned_abs-sub a (suc b) = grind arith
 
--- a sign goes before a product
+-- the sign of a product is taken out in front of it
 pub neg-mul : (r : ℤ) (b : ℕ) → neg_ℤ r *ℤ pos b ≡ neg_ℤ (r *ℤ pos b)
 neg-mul (pos zero) b = let e : 0 * b ≡ 0 = omega arith in rw e refl
 neg-mul (pos (suc n)) b = refl

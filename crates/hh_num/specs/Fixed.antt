@@ -1,5 +1,5 @@
 -- Numbers with a point, `-?digits(.digits)?`, as whole numbers of units of 10 ^ -decimals.
-use Rattle.std.specs.Prelude.{◌≡◌, ℕ, zero, suc, ◌/◌, ◌%◌, decimal, unsigned_abs, ◌+◌, ◌-◌, ◌*◌, ◌^◌, ◌≤◌, Bool, true, false, ◌&&◌, nat_lt, nat_le, ◌==◌, if◌then◌else◌, List, [], ◌∷◌, ◌++◌, length, take, drop, slice_index, Option, Some, None, option_map, ℤ, pos, negsuc, neg_ℤ}
+use Rattle.std.specs.Prelude.{◌≡◌, ℕ, zero, suc, ◌/◌, ◌%◌, decimal, unsigned_abs, ◌+◌, ◌-◌, ◌*◌, ◌^◌, ◌≤◌, Bool, true, false, ◌&&◌, nat_lt, nat_le, ◌==◌, if◌then◌else◌, List, [], ◌∷◌, ◌++◌, length, take, drop, slice_index, replicate, Option, Some, None, option_map, ℤ, pos, negsuc, neg_ℤ}
 use Rattle.std.specs.Char.{is_ascii_digit}
 use Rattle.std.specs.List.{list_all, position}
 use Rattle.std.specs.Str.Parse.{digits_value}
@@ -15,13 +15,13 @@ abbrev pub are_digits : List ℕ → Bool
 are_digits [] = false
 are_digits (b ∷ bytes) = all_digits (b ∷ bytes)
 
--- digits before a point and behind it, as one number of units, where there are not too many behind it
+-- the digits before a point and behind it as one number of units, if there are not too many behind it
 abbrev pub units_of : ℕ → List ℕ → List ℕ → Option ℕ
 units_of decimals whole fraction =
     if are_digits whole && all_digits fraction && nat_le (length fraction) decimals
     then Some (digits_value 10 (whole ++ fraction) * 10 ^ (decimals - length fraction)) else None
 
--- the units of a text with no sign that is cut at this place, where it has one
+-- the units of a text with no sign that has its point at this place, or has none
 abbrev pub units_at : ℕ → List ℕ → Option ℕ → Option ℕ
 units_at decimals text None = units_of decimals text []
 units_at decimals text (Some point) =
@@ -41,7 +41,7 @@ unfoldable pub fixed_value : ℕ → List ℕ → Option ℤ
 fixed_value decimals text =
     if slice_index text 0 == 45 then option_map (signed true) (unsigned_units decimals (drop 1 text)) else option_map (signed false) (unsigned_units decimals text)
 
--- the value, where it passes a test
+-- the value, if it passes a test
 abbrev pub kept_if : {A : Type 0} → (A → Bool) → Option A → Option A
 kept_if test None = None
 kept_if test (Some x) = if test x then Some x else None
@@ -58,7 +58,7 @@ abbrev pub minus_of : Bool → List ℕ
 minus_of true = 45 ∷ []
 minus_of false = []
 
--- a point stands only before digits
+-- a point is written only if digits follow it
 abbrev pub point_and : List ℕ → List ℕ
 point_and [] = []
 point_and (b ∷ bytes) = 46 ∷ b ∷ bytes
@@ -79,7 +79,7 @@ abbrev pub last_digits : ℕ → ℕ → List ℕ
 last_digits zero n = []
 last_digits (suc k) n = (48 + n / 10 ^ k % 10) ∷ last_digits k n
 
--- the point and so many last digits behind it, where there are any
+-- the point and so many last digits behind it, or nothing if there are to be none
 abbrev pub fraction_text : ℕ → ℕ → List ℕ
 fraction_text decimals n = point_and (last_digits decimals n)
 
@@ -87,7 +87,11 @@ abbrev pub is_negative : ℤ → Bool
 is_negative (pos n) = false
 is_negative (negsuc n) = true
 
--- the one spelling of units: no needless zero in front, and just so many digits behind the point
+-- the one spelling of units: no needless zero in front, and exactly so many digits behind the point
 abbrev pub fixed_text : ℕ → ℤ → List ℕ
 fixed_text decimals v =
     minus_of (is_negative v) ++ decimal (unsigned_abs v / 10 ^ decimals) ++ fraction_text decimals (unsigned_abs v)
+
+-- a text, with so many blanks in front that it fills a width
+unfoldable pub flush_right : ℕ → List ℕ → List ℕ
+flush_right width text = replicate (width - length text) 32 ++ text

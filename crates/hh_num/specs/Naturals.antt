@@ -7,6 +7,6 @@ use Rattle.hh_num.specs.Fixed.{are_digits, kept_if}
 unfoldable pub natural_value : List ℕ → Option ℕ
 natural_value text = if are_digits text then Some (digits_value 10 text) else None
 
--- that number, where it is at most so much
+-- that number, if it is at most so much
 abbrev pub natural_up_to : ℕ → List ℕ → Option ℕ
 natural_up_to most text = kept_if (λ n. nat_le n most) (natural_value text)

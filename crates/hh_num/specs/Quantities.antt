@@ -1,8 +1,8 @@
--- The market's quantities: how many decimals their texts have, and which whole numbers of units they are.
+-- The market's quantities: the decimals of their texts, and their ranges in units.
 use Rattle.std.specs.Prelude.{ℕ, ℤ, pos, neg_ℤ, List, Option}
 use Rattle.hh_num.specs.Ranges.{fixed_between}
 
--- the decimals of a quantity's text, a unit being 10^-decimals, and its least and its greatest number of units
+-- the decimals of a quantity's text (a unit is 10^-decimals), and its least and greatest number of units
 pub record Measure : Type 0 where
   pub decimals : ℕ
   pub least : ℤ

@@ -1,13 +1,13 @@
-//! Quantities of the market as scaled whole numbers, each kind a type of its own.
+//! Quantities of the market as scaled whole numbers. Each kind has a type of its own.
 
-ghost use Rattle.std.specs.Prelude.{◌≡◌, ◌≤◌, ◌++◌, ℤ, ℕ, SomeIff, OnOk, OnErr, FitsSigned};
+ghost use Rattle.std.specs.Prelude.{◌≡◌, ◌≤◌, ◌∷◌, ◌++◌, ℤ, ℕ, SomeIff, OnOk, OnErr, FitsSigned};
 ghost use Rattle.std.specs.Int.{w64};
 ghost use Rattle.std.proofs.Common.{rules};
-ghost use Rattle.hh_num.specs.Fixed.{fixed_text};
+ghost use Rattle.hh_num.specs.Fixed.{fixed_text, flush_right};
 ghost use Rattle.hh_num.specs.Quantities.{amounts_of_cash, energies, multipliers, net_volumes, percentages, prices, volumes};
 ghost use Rattle.hh_num.specs.Ranges.{IsBetween, fixed_between};
 
-use crate::fixed::{read_fixed, write_fixed};
+use crate::fixed::{read_fixed, write_field, write_fixed};
 use std::alloc::AllocError;
 use std::marker::{Model, PhantomData};
 
@@ -36,7 +36,7 @@ pub trait Quantity {
     ghost in_words: { FitsSigned w64 least × FitsSigned w64 most };
 }
 
-/// A whole number of units of one quantity, within its range (profile). Contracts see the number.
+/// A whole number of units of one quantity, within its range. Contracts see the number.
 #[derive(Clone, Copy, Debug, PartialEq, Eq, PartialOrd, Ord)]
 pub struct Scaled<Q: Quantity> {
     units: i64,
@@ -54,7 +54,7 @@ impl<Q: Quantity> Model for Scaled<Q> {
 }
 
 impl<Q: Quantity> Scaled<Q> {
-    /// So many units, or `None` where they lie outside the range.
+    /// The number with these units, or `None` if they are outside the range.
     pub fn new(units: i64) -> Option<Self>
         ensures { SomeIff result (IsBetween Q.least Q.most units) units }
     {
@@ -65,7 +65,7 @@ impl<Q: Quantity> Scaled<Q> {
         }
     }
 
-    /// So many units, which lie in the range.
+    /// The number with these units, which must be in the range.
     pub fn of(units: i64) -> Self
         requires { IsBetween Q.least Q.most units }
         ensures { result ≡ units }
@@ -85,20 +85,31 @@ impl<Q: Quantity> Scaled<Q> {
     }
 
     /// The number that a decimal text writes, in the grammar of `read_fixed` and with at most the
-    /// quantity's decimals. `None` for any other text, and where the number is out of the range.
+    /// quantity's decimals. `None` for any other text, and if the number is out of the range.
     pub fn read(text: &[u8]) -> Option<Self>
         ensures { result ≡ fixed_between Q.decimals Q.least Q.most text.now }
     {
         Scaled::new(read_fixed(text, Q::decimals())?)
     }
 
-    /// Appends the number's one spelling, with all its decimals. `Err` only where memory is refused:
+    /// Appends the number's one spelling, with all its decimals. `Err` only if memory is refused:
     /// the text is then as it was.
     pub fn write_to(self, text: &mut Vec<u8>) -> Result<(), AllocError>
         ensures ok { OnOk result (text.new.items ≡ text.old.items ++ fixed_text Q.decimals self) }
         ensures err { OnErr result (text.new.items ≡ text.old.items) }
     {
         write_fixed(self.units, Q::decimals(), text)
+    }
+
+    /// Appends a mark, and behind it the number's one spelling, with blanks before it to fill a width of
+    /// at most 39. `Err` only if memory is refused: the text is then as it was.
+    pub fn write_field(self, mark: u8, width: usize, text: &mut Vec<u8>) -> Result<(), AllocError>
+        requires { width ≤ 39 }
+        ensures ok { OnOk result (text.new.items
+            ≡ text.old.items ++ mark ∷ flush_right width (fixed_text Q.decimals self)) }
+        ensures err { OnErr result (text.new.items ≡ text.old.items) }
+    {
+        write_field(self.units, Q::decimals(), mark, width, text)
     }
 }
 
@@ -195,7 +206,7 @@ impl Quantity for Energy {
 /// An energy in ticks, 10^10 to the MWh, so that kWh times a scaled loss multiplier is ticks.
 pub type Ticks = Scaled<Energy>;
 
-/// Cash: whole pence, positive where the account pays.
+/// Cash: whole pence, positive if the account pays.
 #[derive(Clone, Copy, Debug, PartialEq, Eq, PartialOrd, Ord)]
 pub struct Cash;
 

@@ -3,7 +3,7 @@
 ghost use Rattle.std.specs.Prelude.{◌≡◌, ◌≤◌, ◌^◌, ℤ, pos, ◌<ℤ◌, unsigned_abs};
 ghost use Rattle.hh_num.specs.Rounding.{IsNear, near};
 
-/// The whole number nearest to `n / m`, and of two such the one farther from zero (profile).
+/// The whole number nearest to `n / m`. If two are nearest, it is the one farther from zero (profile).
 ///
 /// `m` is above 0, and both are at most 10^30 in size, so that nothing overflows.
 pub fn round_div(n: i128, m: i128) -> i128

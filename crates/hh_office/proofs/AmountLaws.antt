@@ -1,4 +1,4 @@
--- What accounts have and pay, by the tables of a state that the machine reaches, fits the types of replies.
+-- What accounts have and pay fits the types of replies, in the tables of a state that the machine reaches.
 use Rattle.std.proofs.Common.{◌≡◌, ℕ, List, [], ◌∷◌, sym, ap, subst, ◌∙◌, true, Option, Some, None}
 use Rattle.std.specs.Prelude.{ℤ, ◌+ℤ◌, ◌==◌, IfSome, is_some, option_map, unwrap_or}
 use Rattle.std.specs.List.{AllByRecursion}
@@ -25,12 +25,12 @@ use Rattle.hh_office.specs.steps.Reads.{latest_key}
 use Rattle.hh_office.specs.Views.{OfficeView, midnight_of}
 use Rattle.hh_office.proofs.EnquiryLaws.{latest_holds, latest_is}
 
--- what an account's own rows come to is what it pays by all rows
+-- what an account's own rows come to is what the account pays by all rows
 pub own_rows : (a : Account) (rows : List (ℕ × AccountRow)) → net_of_rows (rows_of_account a rows) ≡ paid_in a rows
 own_rows a rows = total-filter (λ (e : ℕ × AccountRow). e.1.charge +ℤ e.1.share) (λ e. is_same_account e.1.account a) rows
 
 module _ (midnight : Midnights) (s : State) (reached : IsReached midnight s) where
-  -- by the rows of the latest run of a date it is a day net
+  -- what it pays by the rows of the latest run of a date is a day net
   pub latest_net_fits : PaidWithin → (a : Account) (date : ℕ)
       → IfSome (latest_run date s.runs) (λ r. IsBetween day_cash.least day_cash.most (net_of_rows (rows_of_account a (results_in (tables_of midnight s) r.key))) × ((r.key.date == date) ≡ true))
   latest_net_fits paid a date =
@@ -41,7 +41,7 @@ module _ (midnight : Midnights) (s : State) (reached : IsReached midnight s) whe
       each [] within = tt
       each (r ∷ runs) within = (subst (IsBetween day_cash.least day_cash.most) (sym (own_rows a (results_in (tables_of midnight s) r.key))) within.0, each runs within.1)
 
--- what an account pays by the rows of the latest run of a date is a day net, in the tables of an office that stands for a state
+-- the same in the tables of an office that represents a state
 pub net_fits : (office : OfficeView) (s : State) → Stands office s → HoldsRuns → PaidWithin → (a : Account) (date : ℕ) (key : RunKey)
     → Some key ≡ latest_key date (runs_in office.content date)
     → IsBetween day_cash.least day_cash.most (net_of_rows (rows_of_account a (results_in office.content key)))

@@ -1,4 +1,4 @@
--- What a crash leaves behind the parts of a request, one after the other.
+-- What a crash leaves after the parts of a request, one after the other.
 use Rattle.std.proofs.Common.{◌≡◌, inl, inr, List, [], ◌∷◌, ◌++◌, length, map, cond, refl, sym, ap, subst, ◌∙◌, arith, Bool, true, false, Result, Ok, Err}
 use Rattle.std.specs.Prelude.{◌⊎◌, ℤ, IsTrue, MatchBool, OnOk, filter, not, zip}
 use Rattle.std.specs.List.{AllByRecursion}
@@ -26,7 +26,7 @@ use Rattle.hh_office.specs.steps.Promises.{reply_of}
 use Rattle.hh_office.proofs.StepLaws.{accepts}
 
 module _ {T L : Type 0} (H : T → Type 0) (O : T → Bool) (M : T → L → Type 0) (holds : L → Content → Type 0) where
-  -- ---- calls one after the other, the first of which was answered
+  -- ---- two calls, one after the other, if the first was answered
 
   pub only_then : (old mid new : T) (If : Type 0 → Type 0) (Made : Content → Type 0) → AddsNothing H O M old mid (λ P. P) → AddsOnly H O M holds mid new If Made
       → AddsOnly H O M holds old new If Made
@@ -35,20 +35,20 @@ module _ {T L : Type 0} (H : T → Type 0) (O : T → Bool) (M : T → L → Typ
       let a = first b.0 in
       (a.0, λ stood. let at = a.1 stood in let behind = b.1 at.0 in (behind.0, λ left may. elim (behind.1 left may) [ inl before ↦ inl (at.1 left before) | inr made ↦ inr made ]))
 
-  -- ---- the same call, by what is known of its answer
+  -- ---- the same call, with something else known about its answer
 
   pub only_as : (old new : T) (If As : Type 0 → Type 0) (Made : Content → Type 0) → (If (IsTrue (O new)) → As (IsTrue (O new))) → AddsOnly H O M holds old new If Made
       → AddsOnly H O M holds old new As Made
   only_as old new If As Made so adds honest = let a = adds honest in (a.0, λ stood. let at = a.1 stood in (so at.0, at.1))
 
-  -- a call that may leave this may leave what comes of it, where the tables before it stood
+  -- a call that may leave `Made` may leave `Other`, if that follows when the tables were open before the call
   pub only_made : (old new : T) (If : Type 0 → Type 0) (Made Other : Content → Type 0)
       → (H old → IsTrue (O old) → (left : Content) → Made left → Other left) → AddsOnly H O M holds old new If Made → AddsOnly H O M holds old new If Other
   only_made old new If Made Other so adds honest =
       let a = adds honest in
       (a.0, λ stood. let at = a.1 stood in (at.0, λ left may. elim (at.1 left may) [ inl before ↦ inl before | inr made ↦ inr (made.0, made.1, so a.0 stood made.0 made.2) ]))
 
-  -- and it is the last of calls of which the one before was answered
+  -- the same for the last of two calls, if the first was answered
   pub only_made_then : (old mid new : T) (If : Type 0 → Type 0) (Made Other : Content → Type 0)
       → (IsTrue (O mid) → (left : Content) → Made left → Other left) → AddsNothing H O M old mid (λ P. P) → AddsOnly H O M holds mid new If Made
       → AddsOnly H O M holds old new If Other
@@ -65,30 +65,30 @@ either_way false P p = p
 pub replied_anyway : (given : Reply) (P : Type 0) → P → IfReplied given P
 replied_anyway given P p = either_way (is_given_up given) P p
 
--- the fault of a store gives a request up
+-- if the store has a fault, the request is given up
 pub store_replied : (result : Result Reply Fault) (e : StoreFault) (P : Type 0) → IsErr result × IsErrAnd result (λ f. f ≡ store_fault e) → IfReplied (reply_of result) P
 store_replied (Ok x) e P passed = absurd (false_is_not_true passed.0)
 store_replied (Err f) Memory P passed = subst (λ (f : Fault). UnlessFailed f P) (sym passed.1) tt
 store_replied (Err f) Store P passed = subst (λ (f : Fault). UnlessFailed f P) (sym passed.1) tt
 
--- nothing is known of an answer that fails
+-- if an answer fails, nothing has to be known about its value
 pub failed_ok : {X E : Type 0} (result : Result X E) (P : Type 0) → IsErr result → OnOk result P
 failed_ok (Ok x) P fails = absurd (false_is_not_true fails)
 failed_ok (Err e) P fails = tt
 
 -- ---- changes
 
--- a load that the store may have made, for each load that the machine makes and for which it writes this
+-- a load that the store may have made is made for each load of the machine for which this is written
 pub load_leaves : LoadEffect → (office : OfficeView) (load : LoadWrites) (left : Content) → MakesLoad load office.content left → IsLoadedContent office load left
 load_leaves effect office writes left made s load stands can is =
     let midnight = midnight_of office in
     ap (with_content office) (made midnight (s, load, stands, can, is) ∙ (λ i. effect_of_load (is i) (stands.1 i)) ∙ sym (effect midnight s load stands.0 can))
 
--- a file that is accepted leaves what its load leaves
+-- an accepted file leaves what its load leaves
 pub accept_leaves : (office : OfficeView) (load : LoadWrites) (left : Content) → IsLoadedContent office load left → IsAcceptedContent office load left
 accept_leaves office writes left leaves = accepts office (with_content office left) writes (loaded_reply writes.file) refl leaves
 
--- and a run
+-- the same for a run
 pub run_leaves : RunEffect → (office : OfficeView) (run : RunWrites) (left : Content) → MakesRun run office.content left → IsRunContent office run left
 run_leaves effect office writes left made s moment key stands can is =
     let midnight = midnight_of office in
@@ -102,7 +102,7 @@ made_by : (b : Bool) (office : OfficeView) (given : Reply) (t : Transition) (lef
 made_by true office given t left is makes = absurd (false_is_not_true (sym is))
 made_by false office given t left is makes = ap (λ (o : OfficeView). o.content) makes.1
 
--- what is left where a transition was made
+-- what is left after a transition was made
 pub made_after : (office : OfficeView) (transition : Midnights → State → Transition) (left : Content) → MadeInEachState office transition left
     → (s : State) → Stands office s → left ≡ tables_of (midnight_of office) (transition (midnight_of office) s).state
 made_after office transition left made s stands =
@@ -114,7 +114,7 @@ made_after office transition left made s stands =
 abbrev pub AreReplied : List Reply → Type 0
 AreReplied given = AllByRecursion (λ reply. is_given_up reply ≡ false) given
 
--- all of them were served then
+-- then all of them were served
 pub served_all : (requests : List Timed) (given : List Reply) → AreReplied given → length given ≡ length requests → map (λ r. r.0) (served requests given) ≡ requests
 served_all [] given all count = none_of given
   where
@@ -126,12 +126,12 @@ served_all (t ∷ ts) (g ∷ gs) all count =
     ap (λ b. map (λ (r : Timed × Reply). r.0) (cond (not b) ((t, g) ∷ served ts gs) (served ts gs))) all.0
     ∙ ap (λ rest. t ∷ rest) (served_all ts gs all.1 (omega (arith, count)))
 
--- those before the last of them were replied to, and the last was
+-- if none of a list was given up, neither the last nor any before it was
 pub replied_before : (before : List Reply) (last : Reply) → AreReplied (before ++ last ∷ []) → AreReplied before × (is_given_up last ≡ false)
 replied_before [] last all = (tt, all.0)
 replied_before (g ∷ gs) last all = let rest = replied_before gs last all.1 in ((all.0, rest.0), rest.1)
 
--- what holds behind a reply holds where the request was not given up
+-- what holds if a request was not given up holds, as it was not
 pub behind_reply : (given : Reply) (P : Type 0) → is_given_up given ≡ false → IfReplied given P → P
 behind_reply given P replied behind = subst (λ b. MatchBool b (Unit {0}) P) replied behind
 
@@ -144,7 +144,7 @@ module _ {T L : Type 0} (H : T → Type 0) (O : T → Bool) (M : T → L → Typ
   step_by true given t left stood makes may either = either
   step_by false given t left stood makes may either = subst (λ (o : OfficeView). holds left o.content) (makes stood).1 (shows stood left may)
 
-  -- a request on tables that stood
+  -- a request on tables that were open
   pub crash_step : LeavesContent O M holds old.tables old.seen.content → (moment : ℤ) (request : Request) (given : Reply)
       → AddsOnly H O M holds old.tables new.tables (IfReplied given) (MadeInEachState old.seen (λ midnight s. step midnight s moment request))
       → (IsTrue (O new.tables) → HandleStep old.seen new.seen moment request given) → CrashStep H O M holds old new moment request given
@@ -156,7 +156,7 @@ module _ {T L : Type 0} (H : T → Type 0) (O : T → Bool) (M : T → L → Typ
         | inr made ↦ inr (subst (holds left) (made_after old.seen (λ midnight s. step midnight s moment request) made.0 made.2 s stands) made.1)
       ])
 
-  -- a list of requests on tables that stood
+  -- a list of requests on tables that were open
   pub crash_after_all : (requests : List Timed) (given : List Reply) → (H new.tables → IsTrue (O old.tables) → AreReplied given → IsTrue (O new.tables))
       → (IsTrue (O new.tables) → RunAllStep old.seen new.seen requests given) → CrashAfterAll H O M holds old new requests given
   crash_after_all requests given standing runs all honest stood s stands left may =

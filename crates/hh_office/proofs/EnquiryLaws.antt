@@ -1,4 +1,4 @@
--- What the office replies to what is asked of accounts and runs.
+-- What the office replies to enquiries about accounts and runs.
 use Rattle.std.proofs.Common.{◌≡◌, ℕ, List, [], ◌∷◌, map, length, refl, sym, ap, subst, ◌∙◌, ◌-◌, Bool, true, false, cond, Option, Some, None, Result, arith}
 use Rattle.std.specs.Prelude.{◌==◌, IfSome, filter, option_map, slice_get}
 use Rattle.std.specs.List.{AllByRecursion}
@@ -27,7 +27,7 @@ use Rattle.hh_office.specs.Transitions.{unchanged}
 use Rattle.hh_office.specs.Views.{OfficeView, midnight_of}
 use Rattle.hh_office.proofs.StepLaws.{comes_unchanged, comes_replied}
 
--- the last of a list stands at its last place
+-- the last item of a list is at its last place
 last_at : {X : Type 0} (x : X) (xs : List X) → last_of (x ∷ xs) ≡ slice_get (x ∷ xs) (length xs)
 last_at x [] = refl
 last_at x (y ∷ xs) = last_at y xs
@@ -38,12 +38,12 @@ last_there (x ∷ xs) =
     let less : length xs ≡ length (x ∷ xs) - 1 = omega arith in
     last_at x xs ∙ ap (slice_get (x ∷ xs)) less
 
--- the key of the latest of the runs that stand for a date
+-- the key of the latest of the runs of a date
 pub latest_there : (date : ℕ) (runs : List (RunKind × Summary))
     → option_map (λ (r : RunKind × Summary). record { date = date; kind = r.0 }) (slice_get runs (length runs - 1)) ≡ latest_key date runs
 latest_there date runs = ap (option_map (λ r. record { date = date; kind = r.0 })) (sym (last_there runs))
 
--- what is made of the last is the last of what is made of each
+-- if a function is applied to each item, the last result is that of the last item
 pub last-map : {X Y : Type 0} (f : X → Y) (xs : List X) → last_of (map f xs) ≡ option_map f (last_of xs)
 last-map f [] = refl
 last-map f (x ∷ []) = refl
@@ -53,7 +53,7 @@ pub option_map-twice : {X Y Z : Type 0} (f : Y → Z) (g : X → Y) (o : Option 
 option_map-twice f g None = refl
 option_map-twice f g (Some x) = refl
 
--- what holds of each that passes a test and of those alone
+-- what holds for the items that pass a test holds for the filtered list, and its items pass the test
 passing : {X : Type 0} (P : X → Type 0) (test : X → Bool) (xs : List X) → AllByRecursion P xs → AllByRecursion (λ x. P x × (test x ≡ true)) (filter test xs)
 passing P test [] all = tt
 passing P test (x ∷ xs) all =
@@ -62,23 +62,23 @@ passing P test (x ∷ xs) all =
       | false ↦ λ is. passing P test xs all.1
     ] refl
 
--- what holds of each holds of the last
+-- what holds for each item holds for the last
 last_holds : {X : Type 0} (P : X → Type 0) (xs : List X) → AllByRecursion P xs → IfSome (last_of xs) P
 last_holds P [] all = tt
 last_holds P (x ∷ []) all = all.0
 last_holds P (x ∷ y ∷ xs) all = last_holds P (y ∷ xs) all.1
 
--- the latest run of a date is of that date, and what holds of each run holds of it
+-- the latest run of a date is of that date, and what holds for each run holds for it
 pub latest_holds : (P : Run → Type 0) (date : ℕ) (runs : List Run) → AllByRecursion P runs → IfSome (latest_run date runs) (λ r. P r × ((r.key.date == date) ≡ true))
 latest_holds P date runs all =
     last_holds (λ r. P r × ((r.key.date == date) ≡ true)) (runs_of_date date runs) (passing P (λ r. r.key.date == date) runs all)
 
--- anything holds of each
+-- the trivial fact holds for each item
 pub all_plain : {X : Type 0} (xs : List X) → AllByRecursion (λ x. Unit {0}) xs
 all_plain [] = tt
 all_plain (x ∷ xs) = (tt, all_plain xs)
 
--- the key of a run of a date is the date with its kind
+-- the key of a run of a date is the date with the run's kind
 pub key_by : (date : ℕ) (o : Option Run) → IfSome o (λ r. Unit {0} × ((r.key.date == date) ≡ true))
     → option_map (λ r. record { date = date; kind = r.key.kind }) o ≡ option_map (λ r. r.key) o
 key_by date None is = refl

@@ -1,4 +1,4 @@
--- What an office stands for after a request.
+-- What state an office represents after a request.
 use Rattle.std.proofs.Common.{◌≡◌, ℤ, List, refl, sym, ap, subst, Bool, true, false, cond, map}
 use Rattle.std.specs.Prelude.{MatchBool}
 use Rattle.hh_time.specs.Days.{Midnights}
@@ -23,25 +23,25 @@ stands_by : (b : Bool) (old new : OfficeView) (s t : State) (P : Type 0) → Sta
 stands_by true old new s t P stands reached same = subst (λ o. Stands o s) (sym same) stands
 stands_by false old new s t P stands reached comes = subst (λ o. Stands o t) (sym comes.1) (reached, refl)
 
--- an office that steps as the machine stands for its state
+-- if an office steps as the machine, it represents the machine's state
 pub stands_after : (old new : OfficeView) (moment : ℤ) (request : Request) (given : Reply) → NamesItsFile request.action → HandleStep old new moment request given
     → StandsAfter old new moment request given
 stands_after old new moment request given named steps s stands =
     let t : State = next (midnight_of old) s moment request in
     stands_by (is_given_up given) old new s t (given ≡ answer (midnight_of old) s moment request) stands (next_reached (midnight_of old) s moment request named stands.0) (steps s stands)
 
--- an office that stands for a state has tables that add up
+-- if an office represents a state, its tables add up
 stands_conserves : ReachedConserve → (office : OfficeView) (midnight : Midnights) (s : State) → midnight ≡ midnight_of office → Stands office s
     → Conserves midnight s office.content
 stands_conserves law office midnight s zone stands =
     subst (λ m. Conserves m s office.content) (sym zone) (subst (Conserves (midnight_of office) s) (sym stands.1) (law (midnight_of office) s stands.0))
 
--- the zone of an office stays with a request
+-- a request leaves the zone of an office as it is
 zone_by : (b : Bool) (old new : OfficeView) (P : Type 0) (content : Content) → MatchBool b (new ≡ old) (P × (new ≡ record old { content = content })) → new.zone ≡ old.zone
 zone_by true old new P content same = ap (λ o. o.zone) same
 zone_by false old new P content comes = ap (λ (o : OfficeView). o.zone) comes.1
 
--- an office that steps as the machine has tables that add up afterwards
+-- if an office steps as the machine, its tables add up afterwards
 pub conserves_after : ReachedConserve → (old new : OfficeView) (moment : ℤ) (request : Request) (given : Reply) → NamesItsFile request.action → HandleStep old new moment request given
     → ConservesAfter old new moment request given
 conserves_after law old new moment request given named steps s stands =
@@ -49,7 +49,7 @@ conserves_after law old new moment request given named steps s stands =
     let zone : new.zone ≡ old.zone = zone_by (is_given_up given) old new (given ≡ answer (midnight_of old) s moment request) (tables_of (midnight_of old) t) (steps s stands) in
     stands_conserves law new (midnight_of old) (cond (is_given_up given) s t) (ap (λ z. midnight_in (plain_zone z)) (sym zone)) (stands_after old new moment request given named steps s stands)
 
--- an office that runs as the machine stands for its state
+-- if an office runs a list as the machine, it represents the machine's state
 pub stands_after_all : (old new : OfficeView) (requests : List Timed) (given : List Reply) → AreNamed requests → RunAllStep old new requests given
     → StandsAfterAll old new requests given
 stands_after_all old new requests given named runs s stands =
@@ -57,13 +57,13 @@ stands_after_all old new requests given named runs s stands =
     let done : List Timed = map (λ (r : Timed × Reply). r.0) (served requests given) in
     subst (λ (o : OfficeView). Stands o (state_after (midnight_of old) s done)) (sym ran.tables) (served_reached (midnight_of old) s requests given named stands.0, refl)
 
--- so it stands for some state afterwards, if it did before
+-- so it represents some state afterwards, if it did before
 pub stands_for_some : (old new : OfficeView) (requests : List Timed) (given : List Reply) → AreNamed requests → RunAllStep old new requests given
     → StandsForSome old → StandsForSome new
 stands_for_some old new requests given named runs (s, stands) =
     (state_after (midnight_of old) s (map (λ (r : Timed × Reply). r.0) (served requests given)), stands_after_all old new requests given named runs s stands)
 
--- an office that runs as the machine has tables that add up afterwards
+-- if an office runs a list as the machine, its tables add up afterwards
 pub conserves_after_all : ReachedConserve → (old new : OfficeView) (requests : List Timed) (given : List Reply) → AreNamed requests → RunAllStep old new requests given
     → ConservesAfterAll old new requests given
 conserves_after_all law old new requests given named runs s stands =

@@ -14,14 +14,14 @@ use Rattle.hh_office.specs.Promises.{MakesTransition, HandleStep, RunAllStep, Ru
 use Rattle.hh_office.specs.Views.{OfficeView, midnight_of}
 use Rattle.hh_office.proofs.OnceLaws.{AreNamed, served_reached}
 
--- one more on either side is one more pair
+-- one more item on either side makes one more pair
 zip_more : {X Y : Type 0} (xs : List X) (ys : List Y) (x : X) (y : Y) → length ys ≡ length xs → zip (xs ++ x ∷ []) (ys ++ y ∷ []) ≡ zip xs ys ++ (x, y) ∷ []
 zip_more [] [] x y same = refl
 zip_more [] (b ∷ ys) x y same = absurd (cc same)
 zip_more (a ∷ xs) [] x y same = absurd (cc same)
 zip_more (a ∷ xs) (b ∷ ys) x y same = ap (λ rest. (a, b) ∷ rest) (zip_more xs ys x y (cc same))
 
--- a request that was given up is not among those that were served, any other is the last of them
+-- a request that was given up is not among those served; any other is the last of them
 served_more : (ts : List Timed) (rs : List Reply) (t : Timed) (r : Reply) → length rs ≡ length ts
     → served (ts ++ t ∷ []) (rs ++ r ∷ []) ≡ served ts rs ++ cond (not (is_given_up r)) ((t, r) ∷ []) []
 served_more ts rs t r same =
@@ -38,9 +38,9 @@ state_more : (midnight : Midnights) (s : State) (ts : List Timed) (t : Timed)
 state_more midnight s [] t = refl
 state_more midnight s (u ∷ ts) t = state_more midnight (next midnight s u.0 u.1) ts t
 
--- An office stood for a state, and requests were served.
+-- An office represented a state, and requests were served.
 module _ (old : OfficeView) (s : State) where
-  -- the replies are the machine's, and so are the tables
+  -- the replies and the tables are the machine's
   abbrev Served : List (Timed × Reply) → OfficeView → Type 0
   Served done now =
       (map (λ x. x.1) done ≡ replies_to (midnight_of old) s (map (λ x. x.0) done))
@@ -71,7 +71,7 @@ module _ (old : OfficeView) (s : State) where
             )
       ]
 
--- what the office did with requests and does with one more, it does with all of them
+-- if the office did requests and then one more, it did all of them
 pub run_more : (old now new : OfficeView) (ts : List Timed) (rs : List Reply) (t : Timed) (r : Reply)
     → AreNamed ts → RunAllStep old now ts rs → HandleStep now new t.0 t.1 r → RunAllStep old new (ts ++ t ∷ []) (rs ++ r ∷ [])
 run_more old now new ts rs t r named before steps s stands =
@@ -88,11 +88,11 @@ run_more old now new ts rs t r named before steps s stands =
       tables = more.1;
     }
 
--- what ran up to the end has run
+-- requests up to the end are all requests
 pub run_to_the_end : (old new : OfficeView) (ts : List Timed) (rs : List Reply) (count : ℕ) → count ≡ length ts
     → RunAllStep old new (take count ts) rs → RunAllStep old new ts rs
 run_to_the_end old new ts rs count end run = subst (λ done. RunAllStep old new done rs) (ap (λ n. take n ts) end ∙ take-length ts) run
 
--- what is named up to the end is named
+-- the same for their names
 pub all_named : (ts : List Timed) (count : ℕ) → count ≡ length ts → AreNamed (take count ts) → AreNamed ts
 all_named ts count end = subst AreNamed (ap (λ n. take n ts) end ∙ take-length ts)

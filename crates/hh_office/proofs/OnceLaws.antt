@@ -1,4 +1,4 @@
--- A file that was accepted stays, and gets the same reply when it comes again.
+-- A file that was accepted stays kept, and gets the same reply if it comes again. So does a run that was made.
 use Rattle.std.proofs.Common.{◌≡◌, ℕ, ℤ, List, [], ◌∷◌, ◌++◌, length, refl, sym, ap, subst, ◌∙◌, Bool, true, false, cond, Option, Some, None, Result, Ok, Err, Ordering}
 use Rattle.std.specs.Prelude.{IsFalse, IsTrue, MatchBool, map, nat_lt, not}
 use Rattle.std.specs.List.{AllByRecursion}
@@ -46,7 +46,7 @@ use Rattle.hh_office.specs.Runs.{made_or_refused, run, run_beside}
 use Rattle.std.proofs.lemmas.Option.{none-some}
 use Rattle.std.specs.FinMap.Entries.{find-put}
 
--- this holds of the name of a file that is sent
+-- if an action sends a file, `N` holds for the file's name
 abbrev pub Passes : (List ℕ → Type 0) → Action → Type 0
 Passes N (ask.Load upload) = N upload.name
 Passes N _ = Unit {0}
@@ -72,7 +72,7 @@ any_passes (ask.Balance account) = tt
 any_passes (ask.Contracts account date) = tt
 any_passes (ask.Runs date) = tt
 
--- a load can be made if its name is in its grammar
+-- a load can be made, if its name is in its grammar
 pub record MayLoad (midnight : Midnights) (s : State) (load : Load) : Type 0 where
   pub new : find file_key_cmp load.key s.files ≡ None
   pub file : IsFileOf load.key.kind load.body load.rows
@@ -81,8 +81,8 @@ pub record MayLoad (midnight : Midnights) (s : State) (load : Load) : Type 0 whe
 can_load : (midnight : Midnights) (s : State) (load : Load) → IsFileName load.key.name → MayLoad midnight s load → CanLoad midnight s load
 can_load midnight s load named may = record { new = may.new; named = named; file = may.file; accepted = may.accepted }
 
--- what holds of a state, of each state after an accepted load whose name passes and of each state after a run that is made holds of
--- the state after any request whose name passes
+-- If something holds for a state, and for each state after an accepted load whose name passes or after a run that is made, it holds for the
+-- state after any request whose name passes.
 module _ (midnight : Midnights) (s : State) (N : List ℕ → Type 0) (P : State → Type 0) (same : P s)
     (more : (load : Load) → N load.key.name → MayLoad midnight s load → P (after_load midnight s load))
     (more_run : (moment : ℤ) (key : RunKey) → CanRun midnight s moment key → P (after_run s key)) where
@@ -136,7 +136,7 @@ module _ (midnight : Midnights) (s : State) (N : List ℕ → Type 0) (P : State
       elim (may midnight s request.key request.action) as (λ b. P (cond b (act midnight s moment request.action) (refused_for s Forbidden)).state)
       [ true ↦ by_act moment request.action named | false ↦ same ]
 
--- what each request keeps, a list of requests keeps
+-- what each request preserves, a list of requests preserves
 pub after_by : (midnight : Midnights) (P : State → Type 0) → ((s : State) (moment : ℤ) (request : Request) → P s → P (next midnight s moment request))
     → (s : State) (ts : List Timed) → P s → P (state_after midnight s ts)
 after_by midnight P keeps s [] holds = holds
@@ -158,7 +158,7 @@ pub all_reached : (midnight : Midnights) (s : State) (ts : List Timed) → AreNa
 all_reached midnight s [] named reached = reached
 all_reached midnight s (t ∷ ts) named reached = all_reached midnight (next midnight s t.0 t.1) ts named.1 (next_reached midnight s t.0 t.1 named.0 reached)
 
--- so are those of them that were served
+-- the same for those of the requests that were served
 named_served : (ts : List Timed) (rs : List Reply) → AreNamed ts → AreNamed (map (λ (x : Timed × Reply). x.0) (served ts rs))
 named_served [] rs named = tt
 named_served (t ∷ ts) [] named = tt
@@ -171,12 +171,12 @@ pub served_reached : (midnight : Midnights) (s : State) (ts : List Timed) (rs : 
     → IsReached midnight (state_after midnight s (map (λ (x : Timed × Reply). x.0) (served ts rs)))
 served_reached midnight s ts rs named reached = all_reached midnight s (map (λ (x : Timed × Reply). x.0) (served ts rs)) (named_served ts rs named) reached
 
--- one more is named too
+-- the same with one more request
 pub named_more : (ts : List Timed) (t : Timed) → AreNamed ts → NamesItsFile t.1.action → AreNamed (ts ++ t ∷ [])
 named_more [] t named one = (one, tt)
 named_more (u ∷ ts) t named one = (named.0, named_more ts t named.1 one)
 
--- the settings stay
+-- the settings do not change
 same_settings : (midnight : Midnights) (s : State) (moment : ℤ) (request : Request) (settings : Settings) → s.settings ≡ settings → (next midnight s moment request).settings ≡ settings
 same_settings midnight s moment request settings is = next_by midnight s (λ _. Unit {0}) (λ t. t.settings ≡ settings) is (λ load _ may. is) (λ at key can. is) moment request (any_passes request.action)
 
@@ -191,14 +191,14 @@ find-push R q (x ∷ es) e =
 abbrev IsKept : FileKey → AcceptedFile → State → Type 0
 IsKept key file s = find file_key_cmp key s.files ≡ Some file
 
--- a file that is kept stays
+-- a file that is kept stays kept
 stays : (midnight : Midnights) (key : FileKey) (file : AcceptedFile) (s : State) (moment : ℤ) (request : Request) → IsKept key file s → IsKept key file (next midnight s moment request)
 stays midnight key file s moment request kept =
     next_by midnight s (λ _. Unit {0}) (IsKept key file) kept
     (λ load _ may. find-push file_key_cmp key s.files (load.key, kept_file (timetable_at midnight s) load)
     ∙ ap (λ o. option_or o (find file_key_cmp key ((load.key, kept_file (timetable_at midnight s) load) ∷ []))) kept) (λ at run can. kept) moment request (any_passes request.action)
 
--- a file that is accepted is kept, with its reply
+-- if a file is accepted, it is kept with its reply
 abbrev Keeps : Upload → Transition → Type 0
 Keeps upload transition = IsFalse (is_refused transition.reply)
     → (file : AcceptedFile) × IsKept (key_of upload) file transition.state × (repeat_reply file upload.body ≡ transition.reply)
@@ -207,7 +207,7 @@ not_refused : {X : Type 0} → true ≡ false → X
 not_refused e = absurd (false_is_not_true (sym e))
 
 module _ (midnight : Midnights) (s : State) (moment : ℤ) (upload : Upload) where
-  -- a new file is found once it is kept
+  -- a new file is found after it is kept
   new_kept : (file : AcceptedFile) → find file_key_cmp (key_of upload) s.files ≡ None → find file_key_cmp (key_of upload) (s.files ++ (key_of upload, file) ∷ []) ≡ Some file
   new_kept file new =
       find-push file_key_cmp (key_of upload) s.files (key_of upload, file)
@@ -241,7 +241,7 @@ module _ (midnight : Midnights) (key : List ℕ) (upload : Upload) where
   abbrev asked : Request
   asked = record { key = key; action = ask.Load upload }
 
-  -- where it is accepted, the key is the operator's, the file is not too large, and it is kept with its reply
+  -- if the file is accepted, the key is the operator's, the file is not too large, and it is kept with its reply
   abbrev WasAccepted : State → Transition → Type 0
   WasAccepted s transition = IsFalse (is_refused transition.reply)
       → (is_operator midnight s key ≡ true) × (nat_lt most_bytes (length upload.body) ≡ false)
@@ -262,7 +262,7 @@ module _ (midnight : Midnights) (key : List ℕ) (upload : Upload) where
               ] refl
         ] refl
 
-    -- it comes again to a state in which it is kept
+    -- the file comes again, in a state in which it is kept
     again : (file : AcceptedFile) → IsKept (key_of upload) file s → nat_lt most_bytes (length upload.body) ≡ false → is_operator midnight s key ≡ true
         → step midnight s moment asked ≡ unchanged s (repeat_reply file upload.body)
     again file kept small operator =
@@ -270,13 +270,13 @@ module _ (midnight : Midnights) (key : List ℕ) (upload : Upload) where
         ∙ ap (λ b. cond b (refused_for s FileTooLarge) beside) small
         ∙ ap (λ found. load_beside midnight s found moment upload) kept
 
--- nothing has changed, whether the request was given up or not
+-- nothing changed, whether the request was given up or not
 unchanged_by : (b : Bool) (old new : OfficeView) (s : State) (P : Type 0) → old.content ≡ tables_of (midnight_of old) s
     → MatchBool b (new ≡ old) (P × (new ≡ record old { content = tables_of (midnight_of old) s })) → MatchBool b (Unit {0}) P × (new ≡ old)
 unchanged_by true old new s P stands same = (tt, same)
 unchanged_by false old new s P stands comes = (comes.0, comes.1 ∙ ap (λ c. record old { content = c }) (sym stands))
 
--- an office that steps as the machine answers a repeated file as before
+-- if an office steps as the machine, it answers a repeated file as before
 pub repeats_upload : (key : List ℕ) (upload : Upload) (old new : OfficeView) (moment : ℤ) (given : Reply)
     → HandleStep old new moment (asked (midnight_of old) key upload) given → RepeatsOnce old new (asked (midnight_of old) key upload) given
 repeats_upload key upload old new moment given steps s earlier between reached loads fine stands =
@@ -293,16 +293,16 @@ repeats_upload key upload old new moment given steps s earlier between reached l
     subst (λ r. MatchBool (is_given_up given) (Unit {0}) (given ≡ r) × (new ≡ old)) same
     (unchanged_by (is_given_up given) old new t (given ≡ repeat_reply file upload.body) stands.1 comes)
 
--- files have names in their grammar
+-- the names of files are in their grammar
 abbrev HaveNames : List (FileKey × AcceptedFile) → Type 0
 HaveNames files = AllByRecursion (λ f. IsFileName f.0.name) files
 
--- where they have with one more, they and that one have
+-- if that holds with one more file, it holds for the files and for that one
 named_files : (files : List (FileKey × AcceptedFile)) (f : FileKey × AcceptedFile) → HaveNames (files ++ f ∷ []) → HaveNames files × IsFileName f.0.name
 named_files [] f named = (tt, named.0)
 named_files (e ∷ files) f named = let parts = named_files files f named.1 in ((named.0, parts.0), parts.1)
 
--- the files of a reached state have
+-- it holds for the files of a reached state
 reached_names : (files : List (FileKey × AcceptedFile)) → AllByRecursion (λ f. IsKeptFile f.0 f.1) files → HaveNames files
 reached_names [] all = tt
 reached_names (f ∷ files) all = (all.0.named, reached_names files all.1)
@@ -312,38 +312,38 @@ module _ (midnight : Midnights) (shown : List ℕ) (key : RunKey) where
   abbrev ordered : Request
   ordered = record { key = shown; action = ask.Run key }
 
-  -- the run is there with this summary, in a state that the machine reaches
+  -- the run exists with this summary, in a state that the machine reaches
   abbrev IsMade : Summary → State → Type 0
   IsMade summary s = IsReached midnight s × (kept_summary midnight s key ≡ Some summary)
 
-  -- the same, if all files have names in their grammar
+  -- the same, if the names of all files are in their grammar
   abbrev IsMadeIfNamed : Summary → State → Type 0
   IsMadeIfNamed summary s = HaveNames s.files → IsMade summary s
 
-  -- where it is made, it is there with its reply
+  -- if the run is made, it exists with its reply
   abbrev WasMadeHere : State → Transition → Type 0
   WasMadeHere s transition = IsFalse (is_refused transition.reply)
       → (summary : Summary) × IsMade summary transition.state × (reply.Ran key summary ≡ transition.reply)
 
-  -- where it is made, the key is the operator's besides
+  -- if the run is made, the key is the operator's as well
   abbrev WasMade : State → Transition → Type 0
   WasMade s transition = IsFalse (is_refused transition.reply)
       → (is_operator midnight s shown ≡ true)
       × ((summary : Summary) × IsMade summary transition.state × (reply.Ran key summary ≡ transition.reply))
 
-  -- it is ordered again where it is there
+  -- a run that exists is ordered again
   repeated : (s : State) (moment : ℤ) (summary : Summary) → kept_summary midnight s key ≡ Some summary → is_operator midnight s shown ≡ true
       → step midnight s moment ordered ≡ unchanged s (reply.Ran key summary)
   repeated s moment summary kept operator =
       ap (λ b. cond b (run midnight s moment key) (refused_for s Forbidden)) operator ∙ ap (λ found. run_beside midnight s found moment key) kept
 
-  -- The tables hold the summaries of a state's runs, and what a load and a run write makes those of the state after it.
+  -- The tables contain the summaries of a state's runs. What a load or a run writes makes the tables of the state after it.
   module _ (holds : HoldsSummaries) (loads : LoadEffect) (runs : RunEffect) (files : ReachedFiles) where
-    -- a summary is that of the tables
+    -- the summary in the tables is the one that is kept
     kept_in : (t : State) (summary : Option Summary) → find run_key_cmp key (tables_of midnight t).runs ≡ summary → kept_summary midnight t key ≡ summary
     kept_in t summary found = sym (holds midnight t key) ∙ found
 
-    -- a run that is there stays with a load
+    -- a load leaves a run that exists
     stays_with_load : (summary : Summary) (s : State) (load : Load) → CanLoad midnight s load → IsMade summary s → IsMade summary (after_load midnight s load)
     stays_with_load summary s load can (reached, kept) = (
       by_load s load reached can,
@@ -351,13 +351,13 @@ module _ (midnight : Midnights) (shown : List ℕ) (key : RunKey) where
           (ap (λ (c : Content). find run_key_cmp key c.runs) (loads midnight s load reached can) ∙ holds midnight s key ∙ kept),
     )
 
-    -- so it does where the load's name is known from the files in the state after it
+    -- the same if the load's name is known from the files in the state after it
     stays_if_named : (summary : Summary) (s : State) (load : Load) → MayLoad midnight s load → IsMadeIfNamed summary s → IsMadeIfNamed summary (after_load midnight s load)
     stays_if_named summary s load may made = λ names.
         let parts = named_files s.files (load.key, kept_file (timetable_at midnight s) load) names in
         stays_with_load summary s load (can_load midnight s load parts.1 may) (made parts.0)
 
-    -- what is found under the key once a run is made
+    -- what is found under the key after a run is made
     found_after : (s : State) (moment : ℤ) (made : RunKey) → CanRun midnight s moment made
         → kept_summary midnight (after_run s made) key ≡ cond (eq_by_cmp run_key_cmp key made) (Some (new_summary midnight s made)) (kept_summary midnight s key)
     found_after s moment made can =
@@ -365,7 +365,7 @@ module _ (midnight : Midnights) (shown : List ℕ) (key : RunKey) where
         ∙ find-put run_key_cmp run_key_total key made (new_summary midnight s made) (tables_of midnight s).runs
         ∙ ap (cond (eq_by_cmp run_key_cmp key made) (Some (new_summary midnight s made))) (holds midnight s key))
 
-    -- a run that is there is not the one that is made
+    -- a run that exists is not the one that is made
     other_run : (summary : Summary) (s : State) (moment : ℤ) (made : RunKey) → CanRun midnight s moment made → kept_summary midnight s key ≡ Some summary
         → eq_by_cmp run_key_cmp key made ≡ false
     other_run summary s moment made can kept =
@@ -374,7 +374,7 @@ module _ (midnight : Midnights) (shown : List ℕ) (key : RunKey) where
           | true ↦ λ same. absurd (none-some summary (sym can.0 ∙ ap (kept_summary midnight s) (sym (exact_run_keys key made ((Equal-is (run_key_cmp key made)).0 same))) ∙ kept))
         ] refl
 
-    -- a run that is there stays with a run that is made
+    -- a new run leaves a run that exists
     stays_with_run : (summary : Summary) (s : State) (moment : ℤ) (made : RunKey) → CanRun midnight s moment made → IsMade summary s → IsMade summary (after_run s made)
     stays_with_run summary s moment made can (reached, kept) = (
       by_run s moment made reached can,
@@ -383,13 +383,13 @@ module _ (midnight : Midnights) (shown : List ℕ) (key : RunKey) where
           ∙ kept,
     )
 
-    -- a run that is there stays
+    -- a run that exists stays
     stays_made : (summary : Summary) (s : State) (moment : ℤ) (request : Request) → IsMadeIfNamed summary s → IsMadeIfNamed summary (next midnight s moment request)
     stays_made summary s moment request made =
         next_by midnight s (λ _. Unit {0}) (IsMadeIfNamed summary) made (λ load _ may. stays_if_named summary s load may made)
         (λ at other can names. stays_with_run summary s at other can (made names)) moment request (any_passes request.action)
 
-    -- a run that is made is there
+    -- a run that is made exists afterwards
     made_new : (s : State) (moment : ℤ) → IsReached midnight s → kept_summary midnight s key ≡ None → WasMadeHere s (made_or_refused midnight s moment key)
     made_new s moment reached new =
         elim (run_fault midnight s moment key) as (λ o. run_fault midnight s moment key ≡ o → WasMadeHere s (elim o as (λ _. Transition) [
@@ -420,7 +420,7 @@ module _ (midnight : Midnights) (shown : List ℕ) (key : RunKey) where
           | true ↦ λ operator fine. (operator, made_beside s moment (kept_summary midnight s key) reached refl fine)
         ] refl
 
-    -- an office that steps as the machine answers a repeated run as before
+    -- if an office steps as the machine, it answers a repeated run as before
     repeats_run : (old new : OfficeView) (moment : ℤ) (given : Reply) → midnight ≡ midnight_of old
         → ((s : State) → Stands old s → MakesTransition old new given (step midnight s moment ordered))
         → (s : State) (earlier : ℤ) (between : List Timed) → IsReached midnight s → IsFalse (is_refused (answer midnight s earlier ordered))
@@ -440,7 +440,7 @@ module _ (midnight : Midnights) (shown : List ℕ) (key : RunKey) where
         subst (λ r. MatchBool (is_given_up given) (Unit {0}) (given ≡ r) × (new ≡ old)) same
         (unchanged_by (is_given_up given) old new t (given ≡ reply.Ran key summary) stands.1 comes)
 
--- the same of any request
+-- the same for any request
 pub repeats : (holds : HoldsSummaries) (loads : LoadEffect) (runs : RunEffect) (files : ReachedFiles) (old new : OfficeView) (moment : ℤ) (request : Request) (given : Reply)
     → HandleStep old new moment request given → RepeatsOnce old new request given
 repeats holds loads runs files old new moment request given steps =

@@ -1,4 +1,4 @@
--- How often a store has refused through the parts of a request, and which of them refuse for another cause.
+-- How often a store has refused over the parts of a request, and which parts refuse for another reason.
 use Rattle.std.proofs.Common.{◌≡◌, ℕ, ◌+◌, ◌≤◌, ◌<◌, List, [], ◌∷◌, ◌++◌, length, refl, sym, ap, subst, Bool, true, false, cond, arith, Option, Some, None, Result, Ok, Err}
 use Rattle.std.specs.Prelude.{All, IfErr, IsErr, IsErrAnd, IsTrue, MatchBool, is_some, ◌==◌, nat_lt, unwrap_or}
 use Rattle.std.specs.List.{AllByRecursion}
@@ -46,33 +46,33 @@ use Rattle.hh_devices.specs.Devices.{most_failures}
 
 -- ---- faults that are passed on
 
--- the reply of a refusal that is passed on
+-- the reply to a refusal that is passed on
 pub refused_alike : (result : Result Reply Fault) (fault : Fault) (old new : ℕ) → IsErr result × IsErrAnd result (λ f. f ≡ fault)
     → CountsStoreFault fault old new → CountsReply (reply_of result) old new
 refused_alike (Ok x) fault old new passed counts = absurd (false_is_not_true passed.0)
 refused_alike (Err f) fault old new passed counts = subst (λ f. CountsStoreFault f old new) (sym passed.1) counts
 
--- the same of a part of a request
+-- the same for a part of a request
 pub refuses_alike : {X : Type 0} (result : Result X Fault) (fault : Fault) (old new : ℕ) → IsErr result × IsErrAnd result (λ f. f ≡ fault)
     → CountsStoreFault fault old new → CountsAnswer result old new
 refuses_alike (Ok x) fault old new passed counts = absurd (false_is_not_true passed.0)
 refuses_alike (Err f) fault old new passed counts = subst (λ f. CountsStoreFault f old new) (sym passed.1) counts
 
--- what a store tells, as a refusal
+-- a fault of the store, as a refusal
 pub store_counts : (Y : Type 0) (e : StoreFault) (old new : ℕ) → CountsRefusal {A = Y} (Err e) old new → CountsStoreFault (store_fault e) old new
 store_counts Y Memory old new counts = counts
 store_counts Y Store old new counts = counts
 
--- an office that stands for a state has the tables of one
+-- an office that represents a state has the tables of a state that the machine reaches
 pub reached_by : (office : OfficeView) → StandsForSome office → AreReached office.content
 reached_by office (s, stands) = (midnight_of office, s, stands)
 
--- ---- refusals of another cause
+-- ---- refusals for another reason
 
 some_same : {X : Type 0} (x y : X) → Some x ≡ Some y → x ≡ y
 some_same x y is = ap (λ o. unwrap_or o x) is
 
--- of a refusal of another cause the store counts none
+-- the store counts no refusal that is for another reason
 pub elsewhere_counts : (fault : Fault) (n : ℕ) → IsElsewhere fault → CountsStoreFault fault n n
 elsewhere_counts fault n is = subst (λ b. MatchBool b (CountsOneMore n n) (n ≡ n)) (sym is) refl
 
@@ -114,11 +114,11 @@ module _ {X : Type 0} where
         | false ↦ under_elsewhere forms (records_of bytes)
       ]
 
--- no file is off its form for a store
+-- a file that is off its form is not refused for the store
 pub file_elsewhere : (kind : FileKind) (bytes : List ℕ) → IfErr (file_rows kind bytes) IsElsewhere
 file_elsewhere kind bytes = of_elsewhere (kind_forms kind) bytes
 
--- the first that is met of refusals of another cause
+-- if all refusals are for other reasons, so is the first that applies
 met_elsewhere : (rs : List (Refusal × Bool)) (why : Refusal) → AllByRecursion (λ r. is_of_store r.0 ≡ false) rs → first_met rs ≡ Some why
     → is_of_store why ≡ false
 met_elsewhere [] why all is = absurd (false_is_not_true (ap is_some is))
@@ -128,7 +128,7 @@ met_elsewhere (r ∷ rs) why all is = met_by r.1 (met_elsewhere rs why all.1) is
     met_by true later is = subst (λ w. is_of_store w ≡ false) (some_same r.0 why is) all.0
     met_by false later is = later is
 
--- a row of a file is refused by the rules of the market alone
+-- a row of a file is refused only by the rules of the market
 row_elsewhere : (standing : Standing) (timing : Timing) (r : Row) → AllByRecursion (λ r. is_of_store r.0 ≡ false) (refusals_of standing timing r)
 row_elsewhere standing timing (row.Party r) = (refl, (refl, tt))
 row_elsewhere standing timing (row.Unit r) = (refl, (refl, (refl, (refl, (refl, tt)))))
@@ -137,7 +137,7 @@ row_elsewhere standing timing (row.Price r) = (refl, tt)
 row_elsewhere standing timing (row.Contract r) = (refl, (refl, (refl, (refl, (refl, tt)))))
 row_elsewhere standing timing (row.Reallocation r) = (refl, (refl, (refl, (refl, (refl, (refl, tt))))))
 
--- so is a file
+-- the same for a file
 pub first_elsewhere : (timetable : Timetable) (history : History) (n : ℕ) (rows : List Accepted) (fault : Fault)
     → first_fault timetable history n rows ≡ Some fault → IsElsewhere fault
 first_elsewhere timetable history n [] fault is = absurd (false_is_not_true (ap is_some is))
@@ -158,12 +158,12 @@ elsewhere_by : (r : Refusal) (P Q : Type 0) → (Q → is_of_store r ≡ false) 
 elsewhere_by refusal.Memory P Q other memory = refl
 elsewhere_by r P Q other is = other is
 
--- a fault that is answered is of another cause, if that of the outcome is
+-- if the fault of the outcome is for another reason, so is the fault of the answer
 pub given_elsewhere : {Y : Type 0} (fault : Fault) (outcome : Result Y Fault) → IfErr outcome IsElsewhere → Refuses faults fault outcome → IsElsewhere fault
 given_elsewhere fault outcome others refused =
     elsewhere_by fault.refusal _ _ (λ is. subst (λ o. IfErr o IsElsewhere) is others) refused
 
--- what each Settlement Period is settled from is ready in the tables of a reached state
+-- in the tables of a reached state, each Settlement Period can be settled from its terms
 pub reached_ready : TermsReady → (content : Content) → AreReached content → (periods : List SettlementPeriod) (states : List PeriodState)
     → ArePeriodsOf content.registered periods states → All MayBeSettled states
 reached_ready law content (midnight, s, stands) periods states are =
@@ -173,11 +173,11 @@ reached_ready law content (midnight, s, stands) periods states are =
 pub reached_in_step : (content : Content) → AreReached content → IsTrue content.is_in_step
 reached_in_step content (midnight, s, stands) = ap (λ (c : Content). c.is_in_step) stands.1
 
--- a call that fails for memory alone tells a refusal of another cause
+-- a call that fails only for memory gives a refusal for another reason
 pub memory_elsewhere : (e : StoreFault) → e ≡ Memory → IsElsewhere (store_fault e)
 memory_elsewhere e is = ap (λ (e : StoreFault). is_of_store (store_fault e).refusal) is
 
--- a call that fails for memory alone counts none
+-- the store counts no refusal of a call that fails only for memory
 pub memory_counted : {X : Type 0} (result : Result X Fault) (e : StoreFault) (old new : ℕ) → IsErr result × IsErrAnd result (λ f. f ≡ store_fault e)
     → e ≡ Memory → new ≡ old → CountsAnswer result old new
 memory_counted result e old new passed alone same =
@@ -189,22 +189,22 @@ pub store_unless : (e : StoreFault) (holds : Type 0) → UnlessFailed (store_fau
 store_unless Memory holds = tt
 store_unless Store holds = tt
 
--- a refusal of another cause counts none, wherever the count was last told
+-- a refusal for another reason counts none, wherever the count was last known
 pub elsewhere_counted : (fault : Fault) (old new : ℕ) → IsElsewhere fault → new ≡ old → CountsStoreFault fault old new
 elsewhere_counted fault old new elsewhere same = subst (λ n. CountsStoreFault fault old n) (sym same) (elsewhere_counts fault old elsewhere)
 
--- an answer that refuses for another cause alone counts none
+-- an answer that refuses only for another reason counts none
 pub answer_counted : {X : Type 0} (result : Result X Fault) (old new : ℕ) → IfErr result IsElsewhere → new ≡ old → CountsAnswer result old new
 answer_counted (Ok x) old new elsewhere same = same
 answer_counted (Err fault) old new elsewhere same = elsewhere_counted fault old new elsewhere same
 
--- what is answered is of another cause, if what may be answered is
+-- if an outcome is refused only for another reason, so is the answer
 pub gives_elsewhere : {X Y : Type 0} (view : X → Y) (result : Result X Fault) (outcome : Result Y Fault) → IfErr outcome IsElsewhere
     → Gives faults view result outcome → IfErr result IsElsewhere
 gives_elsewhere view (Ok x) outcome others gives = tt
 gives_elsewhere view (Err fault) outcome others gives = given_elsewhere fault outcome others gives
 
--- the rows of a file are refused for another cause
+-- the rows of a file are refused only for another reason
 pub judged_elsewhere : (timetable : Timetable) (history : History) (rows : List Accepted) → IfErr (judged_file timetable history rows) IsElsewhere
 judged_elsewhere timetable history rows = judged_by (first_fault timetable history 1 rows) (first_elsewhere timetable history 1 rows)
   where
@@ -213,7 +213,7 @@ judged_elsewhere timetable history rows = judged_by (first_fault timetable histo
     judged_by None others = tt
     judged_by (Some fault) others = others fault refl
 
--- so is a run, for the order of runs
+-- so is a run, by the order of runs
 pub next_elsewhere : (done : List RunKind) (wanted : RunKind) → IfErr (next_run done wanted) IsElsewhere
 next_elsewhere done wanted =
     elim (is_done done wanted) as (λ b. IfErr (cond b (Ok Kept) (new_unless (first_met (order_refusals done wanted)))) IsElsewhere) [
@@ -225,7 +225,7 @@ next_elsewhere done wanted =
     ordered_by None others = tt
     ordered_by (Some why) others = others why refl
 
--- a file that is kept is told or refused, and the store counts none
+-- a file that is kept is told or refused, and the store counts no refusal
 pub repeat_counts : (file : AcceptedFile) (body : List ℕ) (n : ℕ) → CountsReply (repeat_reply file body) n n
 repeat_counts file body n =
     elim (bytes_eq file.body body) as (λ b. CountsReply (cond b (loaded_reply file) (reply.Refused (plain_fault FileChanged))) n n) [ true ↦ refl | false ↦ refl ]
@@ -236,7 +236,7 @@ all_more : {X : Type 0} (P : X → Type 0) (xs : List X) (x : X) → AllByRecurs
 all_more P [] x all is = (is, tt)
 all_more P (y ∷ xs) x all is = (all.0, all_more P xs x all.1 is)
 
--- what a reply counts is no less, and where nothing is counted it is not the refusal of a store
+-- a reply does not lower the count; and if the count did not rise, the reply is not the refusal of a store
 counts_up : (b : Bool) (old new : ℕ) → MatchBool b (CountsOneMore old new) (new ≡ old)
     → (old ≤ new) × (new ≡ old → old < most_failures → b ≡ false)
 counts_up true old new counts = (counts.0, λ same below. absurd (omega (arith, counts.1 below)))

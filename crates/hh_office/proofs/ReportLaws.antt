@@ -1,4 +1,4 @@
--- The reports that the tables of a state give are the state's.
+-- The reports that the tables of a state give are those of the state.
 use Rattle.std.proofs.Common.{◌≡◌, ℕ, List, [], ◌∷◌, ◌++◌, map, refl, ap, ◌∙◌, true, false, cond, Option, Some}
 use Rattle.std.specs.Prelude.{option_map}
 use Rattle.std.specs.Prelude as words
@@ -24,15 +24,15 @@ use Rattle.hh_store.specs.Outputs.{reported_as}
 use Rattle.hh_office.specs.ReportTexts.{HoldsReports, reported}
 
 module _ (midnight : Midnights) (s : State) (key : RunKey) (text : ReportedRun → List (ℕ × AccountRow) → List ℕ) where
-  -- the rows under the key in the tables
+  -- the rows in the tables under the key
   abbrev held : List (ℕ × AccountRow)
   held = results_in (tables_of midnight s) key
 
-  -- a run, with its former, under its key with its summary
+  -- a run and its former run, as an entry: its key and its summary
   abbrev entry : Option Run × Run → RunKey × Summary
   entry r = (r.1.key, summary_after (timetable_at midnight s) s.history r.0 r.1)
 
-  -- what is told of the first entry under the key is told of the first run of the key
+  -- what is told about the first entry with the key is told about the first run with the key
   told_of : (earlier runs : List Run) → AllByRecursion (λ r. results_in (tables_of midnight s) r.key ≡ rows_in_run midnight s r) runs
       → option_map (λ run. text run held) (option_map (reported_as key) (find run_key_cmp key (map entry (with_former earlier runs))))
       ≡ option_map (λ run. text (reported midnight run) (rows_in_run midnight s run)) (words.find (λ r. eq_by_cmp run_key_cmp key r.key) runs)
@@ -50,7 +50,7 @@ module _ (midnight : Midnights) (s : State) (key : RunKey) (text : ReportedRun �
         | false ↦ λ is. told_of (earlier ++ r ∷ []) runs all.1
       ] refl
 
-  -- so it is of the run that is kept under the key
+  -- the same for the run that is kept under the key
   told_by_tables : HoldsSummaries → HoldsResults → IsReached midnight s
       → option_map (λ run. text run held) (option_map (reported_as key) (find run_key_cmp key (tables_of midnight s).runs))
       ≡ option_map (λ run. text (reported midnight run) (rows_in_run midnight s run)) (words.find (λ r. eq_by_cmp run_key_cmp key r.key) s.runs)
@@ -58,7 +58,7 @@ module _ (midnight : Midnights) (s : State) (key : RunKey) (text : ReportedRun �
       ap (λ o. option_map (λ run. text run held) (option_map (reported_as key) o)) (summaries midnight s key)
       ∙ told_of [] s.runs (results midnight s reached)
 
--- the reports that the tables of a reached state give are the state's, as its summaries, rows and postings are
+-- given the summaries, rows and postings of a reached state, the reports that its tables give are the state's
 pub holds_reports : HoldsSummaries → HoldsResults → HoldsPostings → HoldsReports
 holds_reports summaries results postings midnight s reached = (
   λ key. told_by_tables midnight s key day_report_text summaries results reached,

@@ -33,7 +33,7 @@ module _ (device : DeviceChange) where
   given_up same None Memory = (tt, same)
   given_up same None Store = (tt, same)
 
-  -- a store that fails before anything is written gives the report up
+  -- if a store fails before anything is written, the report is given up
   pub report_given_up : IsUntouched device → (report : Option (List ℕ)) (e : StoreFault) (result : Result (Unit {0}) ReportStop)
       → IsErr result × IsErrAnd result (λ stop. stop ≡ Refused (store_fault e)) → ReportsAs device (or_no_run report) result
   report_given_up same report e (Ok x) passed = absurd (false_is_not_true passed.0)
@@ -46,7 +46,7 @@ module _ (device : DeviceChange) where
   stopped text output.Store went = (went.0, (refl, went.1))
   stopped text output.Write went = went
 
-  -- a report that stops while it is written
+  -- a report that stops while it is being written
   pub report_stopped : (found : Option Summary) (key : RunKey) (text : ReportedRun → List ℕ) → is_none found ≡ false
       → (e : OutputFault) (result : Result (Unit {0}) ReportStop) → IsErr result × IsErrAnd result (λ stop. stop ≡ stop_for e)
       → IfSome (option_map text (option_map (reported_as key) found)) (λ bytes. Outputs device {A = Unit {0}} bytes (Err e))

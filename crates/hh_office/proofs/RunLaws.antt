@@ -1,4 +1,4 @@
--- Runs that are ordered: what the steps of the office come to.
+-- What comes of the steps of the office when a run is ordered.
 use Rattle.std.proofs.Common.{◌≡◌, ℕ, List, [], ◌∷◌, get_or, map, refl, sym, ap, subst, ◌∙◌, Bool, true, false, cond, Option, Some, None, Result, Ok, Err, Ordering, Less, Equal, Greater}
 use Rattle.std.specs.Prelude.{ℤ, IsTrue, MatchBool, OnOk, option_map, IfErr, is_some, ◌||◌, ◌==◌, filter_map}
 use Rattle.std.specs.Option.{option_or}
@@ -58,7 +58,7 @@ use Rattle.hh_office.specs.Transitions.{Transition, refused}
 use Rattle.hh_office.proofs.EnquiryLaws.{latest_is}
 use Rattle.std.specs.List.{cons_option}
 
--- what the store wrote for a run is what the machine writes for each run that it is of
+-- what the store wrote for a run is what the machine writes for each run to which this belongs
 pub commit_writes_run : {T E : Type 0} (result : Result T E) (old new : OfficeView) (writes : RunWrites) → RunEffect → new.zone ≡ old.zone
     → ((midnight : Midnights) → IsRunFrom midnight old.content writes → OnOk result (new.content ≡ effect_of_run writes old.content)) → OnOk result (WritesRun old new writes)
 commit_writes_run (Err e) old new writes effect zone written = tt
@@ -68,12 +68,12 @@ commit_writes_run (Ok x) old new writes effect zone written = λ s moment key st
     written midnight (s, moment, key, stands, can, is) ∙ (λ i. effect_of_run (is i) (stands.1 i)) ∙ sym (effect midnight s moment key can) in
     λ i. record { zone = zone i; content = content i }
 
--- the first of more, where one of the first two is there
+-- the first of several, if one of the first two exists
 or_some : {X : Type 0} (a b rest : Option X) (x : X) → option_or a b ≡ Some x → option_or a (option_or b rest) ≡ Some x
 or_some None b rest x is = ap (λ o. option_or o rest) is
 or_some (Some y) b rest x is = is
 
--- the first of more, where neither of the first two is there
+-- the first of several, if neither of the first two exists
 or_none : {X : Type 0} (a b rest : Option X) → option_or a b ≡ None → option_or a (option_or b rest) ≡ rest
 or_none None b rest is = ap (λ o. option_or o rest) is
 or_none (Some y) b rest is = absurd (none-some y (sym is))
@@ -83,7 +83,7 @@ unless_by : (b : Bool) (P Q : Type 0) → (P → Q) → MatchBool b (Unit {0}) P
 unless_by true P Q f is = tt
 unless_by false P Q f is = f is
 
--- an order that is not equal decides
+-- if the first comparison is not equal, it decides
 not_equal_then : (o p : Ordering) → is_eq o ≡ false → is_eq (ordering_then o p) ≡ false
 not_equal_then Less p is = refl
 not_equal_then Equal p is = absurd (false_is_not_true (sym is))
@@ -91,7 +91,7 @@ not_equal_then Greater p is = refl
 
 module _ (office : OfficeView) (s : State) (stands : Stands office s) (moment : ℤ) (date count : ℕ)
     (counted : period_count (midnight_of office) date ≡ count) (over : is_over (midnight_of office) date moment ≡ true) where
-  -- the office's tables hold what is registered and in force in the state
+  -- the office's tables contain what is registered and in force in the state
   same_tables : office.content.registered ≡ registered_at (midnight_of office) s
   same_tables = ap (λ (c : Content). c.registered) stands.1
 
@@ -110,7 +110,7 @@ module _ (office : OfficeView) (s : State) (stands : Stands office s) (moment : 
   abbrev exceeds : Option Fault
   exceeds = option_or (option_map (period_fault TooLarge) (too_large office.content.registered (periods_on date count))) None
 
-  -- where the day is over, its periods alone may lack something
+  -- if the day is over, only its periods can lack something
   by_periods : settle_fault (midnight_of office) s moment date ≡ of_tables office.content.registered
   by_periods =
       ap (λ b. first_there (cond b None (Some (plain_fault DayNotOver))
@@ -127,14 +127,14 @@ module _ (office : OfficeView) (s : State) (stands : Stands office s) (moment : 
       → UnlessFailed fault (settle_fault (midnight_of office) s moment date ≡ Some fault)
   settle_lacks fault = unless_by (gives_up fault) _ _ (λ is. by_periods ∙ or_some lacks_price lacks_reading exceeds fault is)
 
-  -- a period passes a limit
+  -- a period exceeds a limit
   settle_exceeds : (at : SettlementPeriod) → lack_fault office.content.registered (periods_on date count) ≡ None
       → too_large office.content.registered (periods_on date count) ≡ Some at
       → settle_fault (midnight_of office) s moment date ≡ Some (period_fault TooLarge at)
   settle_exceeds at full large =
       by_periods ∙ or_none lacks_price lacks_reading exceeds full ∙ ap (λ o. option_or (option_map (period_fault TooLarge) o) None) large
 
-  -- nothing is against it
+  -- nothing speaks against settling
   settle_fits : (day : List (SettlementPeriod × Settled)) → lack_fault office.content.registered (periods_on date count) ≡ None
       → (too_large office.content.registered (periods_on date count) ≡ None) × (day ≡ settled_day office.content.registered (periods_on date count))
       → (settle_fault (midnight_of office) s moment date ≡ None) × (day ≡ day_in (midnight_of office) s date)
@@ -143,7 +143,7 @@ module _ (office : OfficeView) (s : State) (stands : Stands office s) (moment : 
     is ∙ (λ i. settled_day (same_tables i) (periods_on date (sym counted i))),
   )
 
-  -- what each period is settled from fits together
+  -- the terms of each period fit together
   terms_fit : PeriodsReady → ArePeriodsConsistent office.content.registered (periods_on date count)
   terms_fit ready k at inside =
       subst (λ tables. AreTermsConsistent (terms_at tables (get_or (periods_on date count) k at))) (sym same_tables)
@@ -154,17 +154,17 @@ pub passed_err : {X : Type 0} (result : Result X Fault) (fault : Fault) (P : Fau
 passed_err (Ok x) fault P passed holds = absurd (false_is_not_true passed.0)
 passed_err (Err f) fault P passed holds = subst P (sym passed.1) holds
 
--- what becomes of the Settlement Periods of a date, by what they come to
+-- what becomes of the Settlement Periods of a date, given the outcome of settling them
 abbrev pub SettledAs : OfficeView → State → ℤ → ℕ → SettledDay → Type 0
 SettledAs office s moment date (outcome.TooLarge at) = settle_fault (midnight_of office) s moment date ≡ Some (period_fault TooLarge at)
 SettledAs office s moment date (outcome.Settled day) =
     (settle_fault (midnight_of office) s moment date ≡ None) × (day.items ≡ day_in (midnight_of office) s date)
 
--- what is kept beside the tables that stand for a state agrees with them
+-- what is kept beside tables that represent a state agrees with them
 pub in_step : (office : OfficeView) (s : State) → Stands office s → IsTrue office.content.is_in_step
 in_step office s stands = ap (λ (c : Content). c.is_in_step) stands.1
 
--- The day of a date is over, and its periods are settled by these.
+-- The day of a date is over, and its periods are settled from `states`.
 module _ (office : OfficeView) (s : State) (stands : Stands office s) (moment : ℤ) (date : ℕ) (day : Day)
     (over : IsOverDay (midnight_of office) moment date day) where
   abbrev settled_as : SettledDay → Type 0
@@ -190,14 +190,14 @@ module _ (office : OfficeView) (s : State) (stands : Stands office s) (moment : 
       settle_lacks office s stands moment date day.count over.1 over.2 fault
       (subst (λ d. Lacks office.content.registered (periods_on d day.count) fault) over.0 is)
 
--- a period passes a limit, so that the day is refused
+-- a period exceeds a limit, so the day is refused
 pub exceeds_refused : (office : OfficeView) (s : State) (moment : ℤ) (date : ℕ) (at : SettlementPeriod) (fault : Fault) → fault ≡ period_fault TooLarge at
     → SettledAs office s moment date (outcome.TooLarge at) → UnlessFailed fault (settle_fault (midnight_of office) s moment date ≡ Some fault)
 exceeds_refused office s moment date at fault is exceeds = by_either (gives_up fault) (Unit {0}) _ tt (exceeds ∙ ap Some (sym is))
 
--- ---- whether the run is there
+-- ---- whether the run exists
 
--- the first that passes a test of its key is what is found under the key
+-- the first entry whose key passes the test is the one found under the key
 pub first_found : {K V : Type 0} (R : K → K → Ordering) (q : K) (es : List (K × V))
     → option_map (λ (e : K × V). e.1) (words.find (λ (e : K × V). eq_by_cmp R q e.0) es) ≡ find R q es
 first_found R q [] = refl
@@ -205,7 +205,7 @@ first_found R q (e ∷ es) =
     elim (eq_by_cmp R q e.0) as (λ b. option_map (λ (x : _ × _). x.1) (cond b (Some e) (words.find (λ x. eq_by_cmp R q x.0) es)) ≡ cond b (Some e.1) (find R q es))
     [ true ↦ refl | false ↦ first_found R q es ]
 
--- tests of which each follows from the other are one
+-- two tests that imply each other are the same
 by_both : (a b : Bool) → (a ≡ true → b ≡ true) → (b ≡ true → a ≡ true) → a ≡ b
 by_both true b f g = sym (f refl)
 by_both false true f g = absurd (false_is_not_true (g refl))
@@ -219,7 +219,7 @@ ties m n is = subst (λ k. (k == m) ≡ true) (eqb-true m n is) (unsigned_ties m
 same_number : (m n : ℕ) → (m == n) ≡ eq_by_cmp nat_cmp n m
 same_number m n = by_both (m == n) (n == m) (ties m n) (ties n m) ∙ unsigned_ties n m
 
--- a kind is among those of runs exactly if a run is found under it
+-- a kind is among the kinds of runs exactly if a run is found under it
 done_is_found : {V : Type 0} (kind : RunKind) (runs : List (RunKind × V)) → is_done (map (λ (r : RunKind × V). r.0) runs) kind ≡ is_some (find run_kind_cmp kind runs)
 done_is_found kind [] = refl
 done_is_found kind (r ∷ runs) =
@@ -227,12 +227,12 @@ done_is_found kind (r ∷ runs) =
     ∙ elim (eq_by_cmp run_kind_cmp kind r.0) as (λ b. (b || is_done (map (λ (x : RunKind × _). x.0) runs) kind) ≡ is_some (cond b (Some r.1) (find run_kind_cmp kind runs)))
     [ true ↦ refl | false ↦ done_is_found kind runs ]
 
--- A run of a kind is asked for on a date that has these runs.
+-- A run of a kind is asked for, on a date that has `runs`.
 module _ (runs : List (RunKind × Summary)) (kind : RunKind) where
   abbrev kinds : List RunKind
   kinds = map (λ r. r.0) runs
 
-  -- what the order of runs says goes by whether the run is there
+  -- what the order of runs says depends on whether the run exists
   abbrev pub tells_next : Result NextRun Fault → Type 0
   tells_next (Ok Kept) = is_some (find run_kind_cmp kind runs) ≡ true
   tells_next (Ok New) = (find run_kind_cmp kind runs ≡ None) × (order_fault runs kind ≡ None)
@@ -253,15 +253,15 @@ module _ (runs : List (RunKind × Summary)) (kind : RunKind) where
         | false ↦ λ is. by_order (first_met (order_refusals kinds kind)) refl (sym (done_is_found kind runs) ∙ is)
       ] refl
 
-  -- the run is there
+  -- the run exists
   pub order_kept : (found : Option Summary) → found ≡ find run_kind_cmp kind runs → is_some (find run_kind_cmp kind runs) ≡ true → TellsOrder runs kind (Ok found)
   order_kept found is there = (is, λ none. absurd (false_is_not_true (ap is_some (sym none ∙ is) ∙ there)))
 
-  -- it is not there, and may be made
+  -- it does not exist, and may be made
   pub order_new : (find run_kind_cmp kind runs ≡ None) × (order_fault runs kind ≡ None) → TellsOrder runs kind (Ok None)
   order_new (none, free) = (sym none, λ _. free)
 
-  -- it is not there, and is refused
+  -- it does not exist, and is refused
   pub order_refused : (fault : Fault) → (find run_kind_cmp kind runs ≡ None) × (order_fault runs kind ≡ Some fault) → TellsOrder runs kind (Err fault)
   order_refused fault is = by_either (gives_up fault) (Unit {0}) _ tt is
 
@@ -282,39 +282,39 @@ on_its_date key (e ∷ entries) =
           ∙ on_its_date key entries
     ] refl
 
--- so is what is kept of it
+-- the same for what is kept of it
 pub kept_of : (key : RunKey) (entries : Table RunKey Summary)
     → option_map (λ (r : RunKind × Summary). r.1) (words.find (λ (r : RunKind × Summary). eq_by_cmp run_kind_cmp key.kind r.0) (filter_map (summary_on key.date) entries)) ≡ find run_key_cmp key entries
 kept_of key entries = first_found run_kind_cmp key.kind (filter_map (summary_on key.date) entries) ∙ sym (on_its_date key entries)
 
 module _ (office : OfficeView) (s : State) (stands : Stands office s) (summaries : HoldsSummaries) (runs : HoldsRuns) (key : RunKey) where
-  -- what is kept of a run is what stands under its kind among the runs of its date
+  -- what is kept of a run is what is under its kind among the runs of its date
   kept_by_kind : find run_kind_cmp key.kind (runs_in office.content key.date) ≡ kept_summary (midnight_of office) s key
   kept_by_kind =
       sym (on_its_date key office.content.runs) ∙ ap (λ (c : Content). find run_key_cmp key c.runs) stands.1 ∙ summaries (midnight_of office) s key
 
-  -- the order of runs is that of the kinds of the date's runs
+  -- the order of runs is given by the kinds of the date's runs
   order_as_kinds : order_fault (runs_in office.content key.date) key.kind ≡ option_map plain_fault (first_met (order_refusals (kinds_on s key.date) key.kind))
   order_as_kinds =
       ap (λ ks. option_map plain_fault (first_met (order_refusals ks key.kind)))
       (ap (λ (c : Content). map (λ (r : RunKind × Summary). r.0) (runs_in c key.date)) stands.1 ∙ runs (midnight_of office) s key.date stands.0)
 
-  -- a run that is there
+  -- a run that exists
   pub run_kept : (moment : ℤ) (summary : Summary) → Some summary ≡ find run_kind_cmp key.kind (runs_in office.content key.date)
       → MakesTransition office office (reply.Ran key summary) (run (midnight_of office) s moment key)
   run_kept moment summary found =
       subst (λ o. MakesTransition office office (reply.Ran key summary) (run_beside (midnight_of office) s o moment key)) (found ∙ kept_by_kind)
       (comes_unchanged office s (reply.Ran key summary) stands)
 
-  -- a run that is not there
+  -- a run that does not exist
   by_new : (moment : ℤ) → find run_kind_cmp key.kind (runs_in office.content key.date) ≡ None → run (midnight_of office) s moment key ≡ made_or_refused (midnight_of office) s moment key
   by_new moment none = ap (λ o. run_beside (midnight_of office) s o moment key) (sym kept_by_kind ∙ none)
 
-  -- what becomes of a new run, by why it is refused
+  -- what becomes of a new run, given why it is refused, if it is
   abbrev made_or : Option Fault → Transition
   made_or o = elim o [ Some fault ↦ refused s fault | None ↦ record { reply = reply.Ran key (new_summary (midnight_of office) s key); state = after_run s key } ]
 
-  -- a run that is refused for the order of runs
+  -- a run that is refused by the order of runs
   pub run_out_of_order : (moment : ℤ) (fault : Fault)
       → UnlessFailed fault ((find run_kind_cmp key.kind (runs_in office.content key.date) ≡ None) × (order_fault (runs_in office.content key.date) key.kind ≡ Some fault))
       → MakesTransition office office (reply.Refused fault) (run (midnight_of office) s moment key)
@@ -323,14 +323,14 @@ module _ (office : OfficeView) (s : State) (stands : Stands office s) (summaries
       (unless_by (gives_up fault) _ _ (λ is. by_new moment is.0
       ∙ ap made_or (ap (λ o. option_or o (settle_fault (midnight_of office) s moment key.date)) (sym order_as_kinds ∙ is.1))) told)
 
-  -- the rows before, by the run before
+  -- the rows of the former run, given that run
   rows_before_are : (o : Option Run) → rows_before office.content (option_map (λ r. r.key) o)
       ≡ elim o [ None ↦ [] | Some r ↦ results_in (tables_of (midnight_of office) s) r.key ]
   rows_before_are None = refl
   rows_before_are (Some r) = ap (λ (c : Content). results_in c r.key) stands.1
 
   module _ (moment : ℤ) (next : IsNext office.content key) where
-    -- only its periods may be against it
+    -- only its periods may speak against it
     by_settling : run_fault (midnight_of office) s moment key ≡ settle_fault (midnight_of office) s moment key.date
     by_settling = ap (λ o. option_or o (settle_fault (midnight_of office) s moment key.date)) (sym order_as_kinds ∙ next.1)
 
@@ -375,7 +375,7 @@ store_gives_up : (e : StoreFault) → gives_up (store_fault e) ≡ true
 store_gives_up store.Memory = refl
 store_gives_up store.Store = refl
 
--- where the store failed, the request is given up and nothing has changed
+-- if the store failed, the request is given up and nothing changed
 pub comes_given_up : (office new : OfficeView) (result : Result Reply Fault) (e : StoreFault) (transition : Transition)
     → IsErr result × IsErrAnd result (λ f. f ≡ store_fault e) → new ≡ office → MakesTransition office new (reply_of result) transition
 comes_given_up office new (Ok given) e transition passed same = absurd (false_is_not_true passed.0)

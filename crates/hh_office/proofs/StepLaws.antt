@@ -1,4 +1,4 @@
--- What the steps of the office come to, by what is read from its tables and judged.
+-- What comes of the steps of the office, given what is read from its tables and judged.
 use Rattle.std.proofs.Common.{◌≡◌, List, refl, sym, ap, subst, ◌∙◌, Bool, true, false, cond, Option, Some, None, Result, Ok, Err}
 use Rattle.std.specs.Prelude.{ℤ, MatchBool, OnOk, length, nat_lt, IsTrue}
 use Rattle.std.specs.Result.{IsErr, IsErrAnd}
@@ -41,7 +41,7 @@ by_failure : (b : Bool) (Q R A : Type 0) → A → (Q → R) → MatchBool b (Un
 by_failure true Q R A a f h = a
 by_failure false Q R A a f h = f h
 
--- an office that stands for a state and refuses, unless it failed, as the machine does, comes to the machine's transition
+-- if an office that represents a state refuses as the machine does, it makes the machine's transition; it may have failed instead
 pub comes_refused : (office : OfficeView) (s : State) (fault : Fault) (transition : Transition) → Stands office s
     → UnlessFailed fault (transition ≡ refused s fault) → MakesTransition office office (reply.Refused fault) transition
 comes_refused office s fault transition stands =
@@ -51,12 +51,12 @@ comes_refused office s fault transition stands =
       ap (λ c. record office { content = c }) (stands.1 ∙ ap (λ (o : Transition). tables_of (midnight_of office) o.state) (sym same)),
     ))
 
--- what a refusal says, unless memory ran out, it says, unless it gives up
+-- what a refusal says unless memory ran out, it says unless it gives up
 unless_failed : (fault : Fault) (r : Refusal) (Q : Type 0) → ByRefusal r (fault ≡ memory_fault) Q → UnlessFailed fault Q
 unless_failed fault refusal.Memory Q is = subst (λ f. UnlessFailed f Q) (sym is) tt
 unless_failed fault r Q is = by_either (gives_up fault) (Unit {0}) Q tt is
 
--- an answer that is given, unless memory ran out, is given, unless something failed
+-- an answer that is given unless memory ran out, is given unless something failed
 pub answers : (result expected : Result FileRowsView Fault) → Gives faults (λ judged. judged) result expected → Answers result expected
 answers (Ok judged) expected gives = gives
 answers (Err fault) expected gives = unless_failed fault fault.refusal (expected ≡ Err fault) gives
@@ -73,7 +73,7 @@ is_fine (Err fault) = false
 err_is_not_ok : {X : Type 0} {e : Fault} {x : X} → Err e ≡ Ok x → ⊥
 err_is_not_ok is = false_is_not_true (ap is_fine is)
 
--- the first fault of an answer, by the answer
+-- the first fault, if there is one, and otherwise the rows
 abbrev judged_by : Option Fault → FileRowsView → Result FileRowsView Fault
 judged_by o view = elim o [ Some fault ↦ Err fault | None ↦ Ok view ]
 
@@ -93,7 +93,7 @@ view_by : (o : Option Fault) (view : FileRowsView) → IsView view (judged_by o 
 view_by None view = refl
 view_by (Some fault) view = tt
 
--- A register serves for the rows of a file that comes to an office which stands for a state.
+-- A register suffices for the rows of a file that comes to an office. The office represents a state.
 module _ (office : OfficeView) (s : State) (moment : ℤ) (rows : List Row) (register : RegisterView) (stands : Stands office s)
     (serves : ServesFor rows (whole_register office.content) register) where
   -- the register judges by the timetable of the state
@@ -104,7 +104,7 @@ module _ (office : OfficeView) (s : State) (moment : ℤ) (rows : List Row) (reg
   same_register : whole_register office.content ≡ register_of (timetable_of office.zone register) s.history
   same_register = ap whole_register stands.1 ∙ ap (λ t. register_of t s.history) (sym same_timetable)
 
-  -- it judges them as in the state
+  -- the register judges the rows as the state does
   pub judges_at : (answer : Result FileRowsView Fault) → JudgesFile office.zone register moment rows answer
       → Gives faults (λ judged. judged) answer (judged_file (timetable_at (midnight_of office) s) s.history (coming_at moment rows))
   judges_at answer judges =
@@ -118,9 +118,9 @@ module _ (office : OfficeView) (s : State) (moment : ℤ) (rows : List Row) (reg
       subst (λ (found : Result (List Row) Fault). Answers answer (elim found [ Err fault ↦ Err fault | Ok rs ↦ judged_file (timetable_at (midnight_of office) s) s.history (coming_at moment rs) ]))
       (sym reads) (answers answer _ (judges_at answer judges))
 
--- A new file comes to an office that stands for a state.
+-- A new file comes to an office that represents a state.
 module _ (office : OfficeView) (s : State) (moment : ℤ) (upload : Upload) (stands : Stands office s) where
-  -- the first fault of rows in the state, what they come to, and the transition of the machine
+  -- in the state: the first fault of rows, the result of judging them, and the transition of the machine
   abbrev fault_in : List Row → Option Fault
   fault_in rows = first_fault (timetable_at (midnight_of office) s) s.history 1 (coming_at moment rows)
 
@@ -172,16 +172,16 @@ module _ (office : OfficeView) (s : State) (moment : ℤ) (upload : Upload) (sta
     pub load_accepted : judged_upload (midnight_of office) s moment upload ≡ Ok judged → MakesTransition office new given (load_new (midnight_of office) s moment upload)
     load_accepted = accepted_by (file_rows upload.kind upload.body) refl
 
--- an error that is passed on is the reply that refuses for it
+-- an error that is passed on is the reply that refuses for that reason
 pub passed_reply : (result : Result Reply Fault) (fault : Fault) → IsErr result × IsErrAnd result (λ f. f ≡ fault) → reply.Refused fault ≡ reply_of result
 passed_reply (Ok given) fault passed = absurd (false_is_not_true passed.0)
 passed_reply (Err f) fault passed = ap reply.Refused (sym passed.1)
 
--- an office that is as before comes to what it came to
+-- an office that is as before makes the transition that it made
 pub comes_same : (office new : OfficeView) (given : Reply) (transition : Transition) → new ≡ office → MakesTransition office office given transition → MakesTransition office new given transition
 comes_same office new given transition same = subst (λ o. MakesTransition office o given transition) (sym same)
 
--- what the store wrote for a change is what the machine writes for each load that it is of
+-- what the store wrote for a change is what the machine writes for each load to which this belongs
 pub commit_writes : {T E : Type 0} (result : Result T E) (old new : OfficeView) (writes : LoadWrites) → LoadEffect → new.zone ≡ old.zone
     → ((midnight : Midnights) → IsLoadFrom midnight old.content writes → OnOk result (new.content ≡ effect_of_load writes old.content)) → OnOk result (WritesLoad old new writes)
 commit_writes (Err e) old new writes effect zone written = tt
@@ -191,12 +191,12 @@ commit_writes (Ok x) old new writes effect zone written = λ s load stands can i
     written midnight (s, load, stands, can, is) ∙ (λ i. effect_of_load (is i) (stands.1 i)) ∙ sym (effect midnight s load stands.0 can) in
     λ i. record { zone = zone i; content = content i }
 
--- what was written and its reply come to the machine's transition
+-- what was written and its reply make the machine's transition
 pub accepts : (old new : OfficeView) (writes : LoadWrites) (given : Reply) → given ≡ loaded_reply writes.file → WritesLoad old new writes → Accepts old new writes given
 accepts old new writes given reply written s load stands can is =
     subst (λ r. MakesTransition old new r (accepted old s load writes)) (sym reply) (refl, written s load stands can is)
 
--- an office that stands for a state comes to a reply that leaves it
+-- a reply that leaves an office which represents a state as it is
 pub comes_unchanged : (office : OfficeView) (s : State) (given : Reply) → Stands office s → MakesTransition office office given (unchanged s given)
 comes_unchanged office s given stands = by_either (is_given_up given) _ _ refl (refl, ap (λ c. record office { content = c }) stands.1)
 
@@ -206,15 +206,15 @@ replied_by : (b : Bool) (office : OfficeView) (s : State) (given expected : Repl
 replied_by true office s given expected stands is = refl
 replied_by false office s given expected stands is = (is, ap (λ c. record office { content = c }) stands.1)
 
--- an office that stands for a state comes to the reply that is expected, unless the request was given up
+-- an office that represents a state gives the expected reply, unless the request was given up
 pub comes_replied : (office : OfficeView) (s : State) (result : Result Reply Fault) (expected : Reply) → Stands office s → RepliesAs result expected
     → MakesTransition office office (reply_of result) (unchanged s expected)
 comes_replied office s result expected stands = replied_by (is_given_up (reply_of result)) office s (reply_of result) expected stands
 
--- A file that is not too large comes to an office that stands for a state.
+-- A file that is not too large comes to an office that represents a state.
 module _ (office : OfficeView) (s : State) (moment : ℤ) (upload : Upload) (stands : Stands office s) (holds : HoldsFiles)
     (found : Option AcceptedFile) (is : found ≡ file_in office.content upload.kind upload.name) (small : nat_lt most_bytes (length upload.body) ≡ false) where
-  -- it goes by what is kept under its kind and name
+  -- it depends on what is kept under its kind and name
   by_kept : load (midnight_of office) s moment upload ≡ load_beside (midnight_of office) s found moment upload
   by_kept =
       ap (λ b. cond b (refused_for s FileTooLarge) (load_beside (midnight_of office) s (find file_key_cmp (key_of upload) s.files) moment upload)) small

@@ -37,25 +37,25 @@ use Rattle.hh_office.specs.Transitions.{refused_for}
 use Rattle.hh_office.specs.Views.{OfficeView, midnight_of}
 use Rattle.hh_office.proofs.EnquiryLaws.{all_plain, key_by, last-map, latest_holds, option_map-twice}
 
--- what a party asks with its key is answered by what it sees: alike in any two states that look alike to it
+-- what a party asks with its key is answered from what it sees: alike in any two states that look alike to it
 abbrev AnswersByView : Midnights → Type 0
 AnswersByView midnight =
     (s t : State) (earlier later : ℤ) (party : List ℕ) (request : Request) → IsReached midnight s → IsReached midnight t
     → LooksAlike midnight party s t → key_in midnight s party ≡ Some request.key → IsTrue (is_own party request.action)
     → answer midnight s earlier request ≡ answer midnight t later request
 
--- what holds of the second of two holds of either
+-- if the second of two holds, one of them holds
 or_second : (a b : Bool) → b ≡ true → (a || b) ≡ true
 or_second true b is = refl
 or_second false b is = is
 
--- where the first of two does not hold, and the second does not, neither does
+-- if neither of two holds, their disjunction doesn't
 or_neither : (a b : Bool) → a ≡ false → not b ≡ true → (a || b) ≡ false
 or_neither true b is denied = is
 or_neither false true is denied = absurd (false_is_not_true denied)
 or_neither false false is denied = refl
 
--- a registration with this key is of a party that has it
+-- a registration with this key is that of a party which has the key
 has_key : (key : List ℕ) (found : Option PartyRegistration) → option_map (λ r. r.key) found ≡ Some key → is_key_of key found ≡ true
 has_key key None is = absurd (none-some key is)
 has_key key (Some r) is =
@@ -84,7 +84,7 @@ module _ (midnight : Midnights) where
   may_own s party key a is own =
       or_second (is_operator midnight s key) (is_holder midnight s a key) (holds_own s party key a is ((bytes_eq-Decides a.party party).0 own))
 
-  -- a party may make its own enquiries
+  -- a party may make enquiries of its own
   may_ask : (s : State) (party key : List ℕ) (action : Action) → key_in midnight s party ≡ Some key → is_own party action ≡ true → may midnight s key action ≡ true
   may_ask s party key (ask.Load upload) is own = absurd (false_is_not_true own)
   may_ask s party key (ask.Run run) is own = absurd (false_is_not_true own)
@@ -94,7 +94,7 @@ module _ (midnight : Midnights) where
   may_ask s party key (ask.Runs date) is own =
       or_second (is_operator midnight s key) (is_party_key midnight s key) (is_known party key (registered_at midnight s).parties is)
 
-  -- the key of the latest run of a date, by the kinds of the date's runs
+  -- the key of the latest run of a date, given the kinds of the date's runs
   abbrev latest_of_kinds : ℕ → List RunKind → Option RunKey
   latest_of_kinds date kinds = option_map (λ k. record { date = date; kind = k }) (last_of kinds)
 
@@ -107,19 +107,19 @@ module _ (midnight : Midnights) where
       ∙ sym (option_map-twice keyed kind_of (latest_run date s.runs))
       ∙ ap (option_map keyed) (sym (last-map kind_of (runs_of_date date s.runs)))
 
-  -- the reply on an account by the rows that the tables hold under a key
+  -- the reply about an account, given the rows that the tables contain under a key
   abbrev reply_by_key : State → Account → Option RunKey → Reply
   reply_by_key s a None = reply.Refused (plain_fault NoRun)
   reply_by_key s a (Some key) = reply_by_rows a key (rows_of_account a (results_in (tables_of midnight s) key))
 
-  -- the reply by a run whose rows the tables hold
+  -- the reply by a run whose rows the tables contain
   reply_held : (s : State) (a : Account) (date : ℕ) (latest : Option Run)
       → IfSome latest (λ r. (results_in (tables_of midnight s) r.key ≡ rows_in_run midnight s r) × ((r.key.date == date) ≡ true))
       → reply_by_run midnight s a latest ≡ reply_by_key s a (option_map (λ r. r.key) latest)
   reply_held s a date None held = refl
   reply_held s a date (Some r) held = ap (λ rows. reply_by_rows a r.key (rows_of_account a rows)) (sym held.0)
 
-  -- the reply on an account by the kinds of the date's runs
+  -- the reply about an account, given the kinds of the date's runs
   account_by_kinds : HoldsResults → (s : State) (a : Account) (date : ℕ) → IsReached midnight s
       → account_reply midnight s a date ≡ reply_by_key s a (latest_of_kinds date (kinds_on s date))
   account_by_kinds results s a date reached =
@@ -129,12 +129,12 @@ module _ (midnight : Midnights) where
   -- Two reached states look alike to a party.
   module _ (results : HoldsResults) (postings : HoldsPostings) (s t : State) (party : List ℕ) (reached : IsReached midnight s) (other : IsReached midnight t)
       (alike : LooksAlike midnight party s t) where
-    -- under each key they hold the same of an account of the party
+    -- the tables of both contain the same under each key, for an account of the party
     same_by_key : (a : Account) (latest : Option RunKey) → a.party ≡ party → reply_by_key s a latest ≡ reply_by_key t a latest
     same_by_key a None own = refl
     same_by_key a (Some key) own = ap (reply_by_rows a key) (alike.rows a key own)
 
-    -- so the reply on the account is the same
+    -- so the reply about the account is the same
     same_account : (a : Account) (date : ℕ) → a.party ≡ party → account_reply midnight s a date ≡ account_reply midnight t a date
     same_account a date own =
         account_by_kinds results s a date reached
@@ -142,12 +142,12 @@ module _ (midnight : Midnights) where
         ∙ ap (λ kinds. reply_by_key t a (latest_of_kinds date kinds)) (alike.runs date)
         ∙ sym (account_by_kinds results t a date other)
 
-    -- and so is the reply on its balance
+    -- and so is the reply about its balance
     same_balance : (a : Account) → a.party ≡ party → balance_reply midnight s a ≡ balance_reply midnight t a
     same_balance a own =
         ap (reply.Balance a) (sym (postings midnight s a reached) ∙ ap (total (λ e. e.1)) (alike.postings a own) ∙ postings midnight t a other)
 
-    -- what the party asks for of its own gets the same reply
+    -- if the party asks about its own, it gets the same reply in both
     same_reply : (earlier later : ℤ) (action : Action) → is_own party action ≡ true → (act midnight s earlier action).reply ≡ (act midnight t later action).reply
     same_reply earlier later (ask.Load upload) own = absurd (false_is_not_true own)
     same_reply earlier later (ask.Run run) own = absurd (false_is_not_true own)
@@ -158,7 +158,7 @@ module _ (midnight : Midnights) where
         (alike.contracts a date ((bytes_eq-Decides a.party party).0 own))
     same_reply earlier later (ask.Runs date) own = ap (λ kinds. reply.Runs (record { date = date; kinds = kinds })) (alike.runs date)
 
-  -- a request that is allowed is answered by what is asked
+  -- a request that is allowed is answered with what it asks
   allowed : (s : State) (moment : ℤ) (request : Request) → may midnight s request.key request.action ≡ true
       → answer midnight s moment request ≡ (act midnight s moment request.action).reply
   allowed s moment request is = ap (λ b. (cond b (act midnight s moment request.action) (refused_for s Forbidden)).reply) is
@@ -168,7 +168,7 @@ module _ (midnight : Midnights) where
       → answer midnight s moment request ≡ reply.Refused (plain_fault Forbidden)
   not_allowed s moment request is = ap (λ b. (cond b (act midnight s moment request.action) (refused_for s Forbidden)).reply) is
 
-  -- with another key than the operator's, what is foreign is not allowed
+  -- with a key that is not the operator's, a foreign enquiry is not allowed
   foreign_not : (s : State) (key : List ℕ) (action : Action) → is_operator midnight s key ≡ false → is_foreign midnight s key action ≡ true
       → may midnight s key action ≡ false
   foreign_not s key (ask.Load upload) other foreign = other
@@ -178,32 +178,32 @@ module _ (midnight : Midnights) where
   foreign_not s key (ask.Contracts a date) other foreign = or_neither (is_operator midnight s key) (is_holder midnight s a key) other foreign
   foreign_not s key (ask.Runs date) other foreign = absurd (false_is_not_true foreign)
 
--- what a party asks with its key is answered by what it sees
+-- what a party asks with its key is answered from what it sees
 pub answers_by_view : HoldsResults → HoldsPostings → (midnight : Midnights) → AnswersByView midnight
 answers_by_view results postings midnight s t earlier later party request reached other alike is own =
     allowed midnight s earlier request (may_ask midnight s party request.key request.action is own)
     ∙ same_reply midnight results postings s t party reached other alike earlier later request.action own
     ∙ sym (allowed midnight t later request (may_ask midnight t party request.key request.action (sym alike.key ∙ is) own))
 
--- what is given, unless the request was given up, by what the machine's reply comes to
+-- what is given unless the request was given up, if the machine's reply is as expected
 given_by : (b : Bool) (A Q : Type 0) (given reply expected : Reply) → reply ≡ expected → MatchBool b A ((given ≡ reply) × Q)
     → MatchBool b (Unit {0}) (given ≡ expected)
 given_by true A Q given reply expected is comes = tt
 given_by false A Q given reply expected is comes = comes.0 ∙ is
 
--- an office that steps as the machine shows a party no more than what it sees
+-- if an office steps as the machine, it shows a party no more than what the party sees
 pub shows_by_view : HoldsResults → HoldsPostings → (old new : OfficeView) (moment : ℤ) (request : Request) (given : Reply)
     → HandleStep old new moment request given → ShowsByView old request given
 shows_by_view results postings old new moment request given steps s t later party stands other alike is own =
     given_by (is_given_up given) _ _ given (answer (midnight_of old) s moment request) (answer (midnight_of old) t later request)
     (answers_by_view results postings (midnight_of old) s t moment later party request stands.0 other alike is own) (steps s stands)
 
--- one of two, where the first doesn't hold
+-- one of two holds and the first does not, so the second does
 or_second_of : (a b : Bool) → (not a || b) ≡ true → a ≡ true → b ≡ true
 or_second_of true b either is = either
 or_second_of false b either is = absurd (false_is_not_true is)
 
--- a key that a party of a list has
+-- a key that some party of a list has
 known_has : (operator key : List ℕ) (parties : List (List ℕ × PartyRegistration)) → AllByRecursion (λ p. p.1.key ≢ operator) parties
     → list_any (λ e. bytes_eq e.1.key key) parties ≡ true → operator ≢ key
 known_has operator key [] apart known = absurd (false_is_not_true known)
@@ -222,7 +222,7 @@ others_not apart midnight s key reached others =
           (or_second_of (is_operator midnight s key) (is_party_key midnight s key) others is) ((bytes_eq-Decides s.settings.operator_key key).0 is))
     ] refl
 
--- an office that steps as the machine forbids others what is not theirs
+-- if an office steps as the machine, it forbids others what is not theirs
 pub forbids_others : KeysNeverMeet → (old new : OfficeView) (moment : ℤ) (request : Request) (given : Reply)
     → HandleStep old new moment request given → ForbidsOthers old request given
 forbids_others apart old new moment request given steps s stands others foreign =

@@ -7,7 +7,7 @@ use Rattle.hh_num.specs.Quantities.{amounts_of_cash}
 use Rattle.hh_num.specs.Ranges.{IsBetween}
 use Rattle.hh_day.proofs.SumLaws.{word}
 
--- an amount of cash is as a longer word holds it
+-- an amount of cash is the same in a longer word
 held_long : (amount long : ℤ) → IsBetween amounts_of_cash.least amounts_of_cash.most amount → long ≡ amount → word long ≡ amount
 held_long amount long (low, high) same =
     let fits : FitsSigned w128 amount = omega (arith, ints) in
@@ -16,7 +16,7 @@ held_long amount long (low, high) same =
 -- a charge and a share
 module _ (charge share : ℤ) (charges : IsBetween amounts_of_cash.least amounts_of_cash.most charge) (shares : IsBetween amounts_of_cash.least amounts_of_cash.most share)
     (long_charge long_share : ℤ) (same_charge : long_charge ≡ charge) (same_share : long_share ≡ share) where
-  -- are as they are held, together
+  -- are the same together as they are held
   paid : word long_charge +ℤ word long_share ≡ charge +ℤ share
   paid = λ i. held_long charge long_charge charges same_charge i +ℤ held_long share long_share shares same_share i
 
@@ -35,7 +35,7 @@ module _ (charge share : ℤ) (charges : IsBetween amounts_of_cash.least amounts
   paid_held : word (word long_charge +ℤ word long_share) ≡ charge +ℤ share
   paid_held = to_z-of_z w128 (word long_charge +ℤ word long_share) paid_fits ∙ paid
 
-  -- and what is held of so many such sums and one more
+  -- and the sum of `i` such sums, with one more
   module _ (held : ℤ) (i : ℕ) (so_far : unsigned_abs held ≤ i * 2 ^ 64) (few : i + 1 < 2 ^ 63) where
     -- is small
     net_small : unsigned_abs (held +ℤ (charge +ℤ share)) ≤ (i + 1) * 2 ^ 64

@@ -1,4 +1,4 @@
--- What a crash leaves of an office's tables, behind what was asked of it.
+-- What a crash leaves of an office's tables, after what was asked of the office.
 use Rattle.std.specs.Prelude.{◌≡◌, ◌⊎◌, ℤ, List, Bool, false, MatchBool, IsTrue, Result, Ok, Err}
 use Rattle.std.specs.List.{AllByRecursion}
 use Rattle.hh_time.specs.Days.{Midnights}
@@ -13,11 +13,11 @@ use Rattle.hh_office.specs.Views.{Kept, OfficeView, midnight_of}
 use Rattle.hh_office.specs.declared.report.ReportStop.{ReportStop}
 use Rattle.hh_office.specs.declared.report.ReportStop.TheVariants as stop
 
--- this holds behind a reply, unless the request was given up
+-- `holds` is true after a reply, unless the request was given up
 abbrev pub IfReplied : Reply → Type 0 → Type 0
 IfReplied given holds = MatchBool (is_given_up given) (Unit {0}) holds
 
--- the same of a report; nothing is said where its output failed
+-- the same after a report; nothing is said if its output failed
 abbrev pub IfReported : {A : Type 0} → Result A ReportStop → Type 0 → Type 0
 IfReported (Ok x) holds = holds
 IfReported (Err (stop.Refused fault)) holds = UnlessFailed fault holds
@@ -27,32 +27,32 @@ IfReported (Err stop.Write) holds = Unit {0}
 abbrev pub with_content : OfficeView → Content → OfficeView
 with_content office content = record office { content = content }
 
--- The office would have this content behind some reply, and would then have made the machine's transition in each state that it
--- stands for.
+-- With this content, the office would have made the machine's transition, with some reply, in each state that it represents.
 pub record MadeInEachState (office : OfficeView) (transition : Midnights → State → Transition) (content : Content) : Type 0 where
   pub given : Reply
   pub answered : is_given_up given ≡ false
   pub makes : (s : State) → Stands office s → MakesTransition office (with_content office content) given (transition (midnight_of office) s)
 
--- Of an office whose tables stood, by a disk that has returned what was written.
+-- For an office whose tables were open, if the disk has returned what was written.
 module _ {T L : Type 0} (is_honest : T → Type 0) (is_open : T → Bool) (may_leave : T → L → Type 0) (holds : L → Content → Type 0) (old new : Kept T) where
-  -- in each state that it stood for, this is true of whatever a crash leaves of its tables
+  -- in each state that it represented, `Of` is true for whatever a crash leaves of its tables
   abbrev pub OfEachLeft : (State → L → Type 0) → Type 0
   OfEachLeft Of =
       is_honest new.tables → IsTrue (is_open old.tables) → (s : State) → Stands old.seen s
       → (left : L) → may_leave new.tables left → Of s left
 
-  -- what is left holds the tables of this state
+  -- what is left contains the tables of this state
   abbrev pub HoldsTablesOf : L → State → Type 0
   HoldsTablesOf left s = holds left (tables_of (midnight_of old.seen) s)
 
-  -- behind a request a crash leaves the tables before it or the machine's tables after it, and these where it was not given up
+  -- after a request, a crash leaves the tables before it or the machine's tables after it; if the request was not given up, it leaves the
+  -- latter
   abbrev pub CrashStep : ℤ → Request → Reply → Type 0
   CrashStep moment request given = OfEachLeft (λ s left.
       MatchBool (is_given_up given) (holds left old.seen.content ⊎ HoldsTablesOf left (next (midnight_of old.seen) s moment request))
       (HoldsTablesOf left (next (midnight_of old.seen) s moment request)))
 
-  -- behind a list of requests, none of which was given up, a crash leaves the machine's tables after the last of them
+  -- after a list of requests, none of which was given up, a crash leaves the machine's tables after the last of them
   abbrev pub CrashAfterAll : List Timed → List Reply → Type 0
   CrashAfterAll requests given = AllByRecursion (λ reply. is_given_up reply ≡ false) given
       → OfEachLeft (λ s left. HoldsTablesOf left (state_after (midnight_of old.seen) s requests))

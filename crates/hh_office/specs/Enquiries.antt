@@ -1,4 +1,4 @@
--- What is asked of accounts and runs, and what the machine replies.
+-- Enquiries about accounts and runs, and what the machine replies.
 use Rattle.std.specs.Prelude.{ℕ, ℤ, List, [], ◌∷◌, filter, Option, Some, None}
 use Rattle.hh_num.specs.Totals.{total}
 use Rattle.hh_time.specs.Days.{Midnights}
@@ -18,7 +18,7 @@ use Rattle.hh_states.specs.States.{State}
 use Rattle.hh_states.specs.Steps.{kinds_on, registered_at, timetable_at}
 use Rattle.hh_states.specs.Sums.{moved_by_runs}
 
--- what rows of an account come to
+-- the sum of what the rows of an account pay
 abbrev pub net_of_rows : List (ℕ × AccountRow) → ℤ
 net_of_rows rows = total (λ e. paid_by e.1) rows
 
@@ -26,14 +26,14 @@ net_of_rows rows = total (λ e. paid_by e.1) rows
 abbrev pub rows_of_account : Account → List (ℕ × AccountRow) → List (ℕ × AccountRow)
 rows_of_account a rows = filter (λ e. is_same_account e.1.account a) rows
 
--- the reply by the rows that an account has in a run: it is refused if there are none
+-- the reply given the rows of an account in a run: it is refused if there are none
 abbrev pub reply_by_rows : Account → RunKey → List (ℕ × AccountRow) → Reply
 reply_by_rows a run [] = reply.Refused (plain_fault NoRun)
 reply_by_rows a run (row ∷ rows) =
     reply.Account (record { account = a; run = run; net = net_of_rows (row ∷ rows); rows = row ∷ rows })
 
 module _ (midnight : Midnights) (s : State) where
-  -- the reply on an account by the latest run of a date: it is refused if there is none, or none of the account's rows in it
+  -- the reply about an account given the latest run of a date: it is refused if there is no run, or if the account has no rows in it
   abbrev pub reply_by_run : Account → Option Run → Reply
   reply_by_run a None = reply.Refused (plain_fault NoRun)
   reply_by_run a (Some run) = reply_by_rows a run.key (rows_of_account a (rows_in_run midnight s run))
@@ -42,7 +42,7 @@ module _ (midnight : Midnights) (s : State) where
   abbrev pub account_reply : Account → ℕ → Reply
   account_reply a date = reply_by_run a (latest_run date s.runs)
 
-  -- what the runs of all dates have moved to an account: its day nets in the latest run of every date
+  -- what the runs of all dates have posted to an account: its day nets in the latest run of every date
   abbrev pub balance_reply : Account → Reply
   balance_reply a = reply.Balance a (moved_by_runs (timetable_at midnight s) s a)
 

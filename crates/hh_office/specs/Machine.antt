@@ -34,7 +34,7 @@ Timed = ℤ × Request
 abbrev pub loaded_reply : AcceptedFile → Reply
 loaded_reply file = reply.Loaded (record { applied = file.applied; late = file.late })
 
--- the reply to a file under whose kind and name this one is kept: the same bytes get the reply that is kept
+-- the reply to a file, if `file` of the same kind and name is kept: the same bytes get the reply that is kept
 abbrev pub repeat_reply : AcceptedFile → List ℕ → Reply
 repeat_reply file body = if bytes_eq file.body body then loaded_reply file else reply.Refused (plain_fault FileChanged)
 
@@ -46,7 +46,7 @@ key_of upload = record { kind = upload.kind; name = upload.name }
 abbrev pub load_read_as : ℤ → Upload → List Row → Load
 load_read_as moment upload rows = record { moment = moment; key = key_of upload; body = upload.body; rows = rows }
 
--- the key is that of a party, if the party is registered
+-- the registration is that of a party with this key, if there is a registration
 abbrev pub is_key_of : List ℕ → Option PartyRegistration → Bool
 is_key_of key None = false
 is_key_of key (Some party) = bytes_eq party.key key
@@ -64,11 +64,11 @@ module _ (midnight : Midnights) (s : State) where
   abbrev pub is_party_key : List ℕ → Bool
   is_party_key key = is_key_known_in (registered_at midnight s) key
 
-  -- whether a key is another than the operator's, or that of a registered party
+  -- whether a key is not the operator's, or is that of a registered party
   abbrev pub is_others : List ℕ → Bool
   is_others key = not (is_operator key) || is_party_key key
 
-  -- who may ask for what: the operator for everything, a party for what its own accounts have, and for the runs of dates
+  -- who may ask for what: the operator for everything, and a party for what its own accounts have and for the runs of dates
   abbrev pub may : List ℕ → Action → Bool
   may key (ask.Load upload) = is_operator key
   may key (ask.Run run) = is_operator key
@@ -77,31 +77,31 @@ module _ (midnight : Midnights) (s : State) where
   may key (ask.Contracts account date) = is_operator key || is_holder account key
   may key (ask.Runs date) = is_operator key || is_party_key key
 
-  -- what becomes of a new file that reads as these rows: it is refused with its first row that is refused
+  -- what becomes of a new file that reads as these rows: the first row that is refused makes the file refused
   abbrev pub loaded : Load → Transition
   loaded load = elim (first_fault (timetable_at midnight s) s.history 1 (coming_at load.moment load.rows)) [
     | Some fault ↦ refused s fault
     | None ↦ record { reply = loaded_reply (kept_file (timetable_at midnight s) load); state = after_load midnight s load }
   ]
 
-  -- what becomes of a new file: it is read whole before its rows are judged
+  -- what becomes of a new file: all of it is read before its rows are judged
   abbrev pub load_new : ℤ → Upload → Transition
   load_new moment upload = elim (file_rows upload.kind upload.body) [
     | Err fault ↦ refused s fault
     | Ok rows ↦ loaded (load_read_as moment upload rows)
   ]
 
-  -- what becomes of a file, by what is kept under its kind and name
+  -- what becomes of a file, given what is kept under its kind and name
   abbrev pub load_beside : Option AcceptedFile → ℤ → Upload → Transition
   load_beside (Some file) moment upload = unchanged s (repeat_reply file upload.body)
   load_beside None moment upload = load_new moment upload
 
-  -- what becomes of a file: first its length is asked, then whether it is known
+  -- what becomes of a file: first its length is checked, then whether it is kept already
   abbrev pub load : ℤ → Upload → Transition
   load moment upload = if nat_lt most_bytes (length upload.body) then refused_for s FileTooLarge
       else load_beside (find file_key_cmp (key_of upload) s.files) moment upload
 
-  -- what becomes of what is asked, if the key allows it
+  -- what becomes of an action that the key allows
   abbrev pub act : ℤ → Action → Transition
   act moment (ask.Load upload) = load moment upload
   act moment (ask.Run key) = run midnight s moment key

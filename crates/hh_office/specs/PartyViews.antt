@@ -26,8 +26,8 @@ use Rattle.hh_office.specs.Views.{OfficeView, midnight_of}
 abbrev pub key_in : Midnights → State → List ℕ → Option (List ℕ)
 key_in midnight s party = option_map (λ r. r.key) (find bytes_cmp party (registered_at midnight s).parties)
 
--- Two states look alike to a party: it is registered with the same key, the same runs exist, and its accounts have the same rows in
--- every run, the same postings, and the same contracts in force.
+-- Two states look alike to a party: it is registered with the same key, the same runs exist, and its accounts have the same rows in every
+-- run, the same postings, and the same contracts in force.
 pub record LooksAlike (midnight : Midnights) (party : List ℕ) (s t : State) : Type 0 where
   pub key : key_in midnight s party ≡ key_in midnight t party
   pub runs : (date : ℕ) → kinds_on s date ≡ kinds_on t date
@@ -38,7 +38,7 @@ pub record LooksAlike (midnight : Midnights) (party : List ℕ) (s t : State) : 
   pub contracts : (a : Account) (date : ℕ) → a.party ≡ party
       → contracts_of a date (registered_at midnight s) ≡ contracts_of a date (registered_at midnight t)
 
--- whether it is a party's own enquiry: for the runs of a date, or on an account of the party
+-- whether an enquiry is a party's own: it asks for the runs of a date, or about an account of the party
 abbrev pub is_own : List ℕ → Action → Bool
 is_own party (ask.Account a date) = bytes_eq a.party party
 is_own party (ask.Balance a) = bytes_eq a.party party
@@ -46,7 +46,7 @@ is_own party (ask.Contracts a date) = bytes_eq a.party party
 is_own party (ask.Runs date) = true
 is_own party _ = false
 
--- the office answers a party's own enquiry as the machine does in each state that looks to the party like one it stands for
+-- the office answers a party's own enquiry as the machine does in each state that looks to the party like one that the office represents
 abbrev pub ShowsByView : OfficeView → Request → Reply → Type 0
 ShowsByView office request given =
     (s t : State) (moment : ℤ) (party : List ℕ) → Stands office s → IsReached (midnight_of office) t
@@ -54,7 +54,7 @@ ShowsByView office request given =
     → IsTrue (is_own party request.action)
     → MatchBool (is_given_up given) (Unit {0}) (given ≡ answer (midnight_of office) t moment request)
 
--- whether what is asked is for the operator alone, or on an account whose party is registered with another key or not at all
+-- whether an action is only for the operator, or is about an account whose party is registered with another key or not at all
 abbrev pub is_foreign : Midnights → State → List ℕ → Action → Bool
 is_foreign midnight s key (ask.Load upload) = true
 is_foreign midnight s key (ask.Run run) = true
@@ -63,7 +63,8 @@ is_foreign midnight s key (ask.Balance a) = not (is_holder midnight s a key)
 is_foreign midnight s key (ask.Contracts a date) = not (is_holder midnight s a key)
 is_foreign midnight s key (ask.Runs date) = false
 
--- with the key of a registered party, and with any other than the operator's, a file, a run and each foreign enquiry are forbidden
+-- with the key of a registered party, or any key that is not the operator's, sending a file, ordering a run and each foreign enquiry are
+-- forbidden
 abbrev pub ForbidsOthers : OfficeView → Request → Reply → Type 0
 ForbidsOthers office request given =
     (s : State) → Stands office s → IsTrue (is_others (midnight_of office) s request.key)

@@ -1,4 +1,4 @@
--- What the office promises of a request and of lists of requests.
+-- What the office promises about a request and about lists of requests.
 use Rattle.std.specs.Prelude.{◌≡◌, ℤ, List, map, filter, zip, length, Bool, true, false, not, ◌&&◌, is_none, IsTrue, IsFalse, MatchBool, if◌then◌else◌}
 use Rattle.hh_names.specs.declared.fault.Fault.{Fault}
 use Rattle.hh_names.specs.declared.fault.Refusal.{Refusal}
@@ -23,15 +23,15 @@ is_failure Memory = true
 is_failure Store = true
 is_failure _ = false
 
--- a refusal of the whole, which names no place
+-- a refusal of the whole request, which names no place
 abbrev pub is_plain : Fault → Bool
 is_plain fault = is_none fault.row && is_none fault.column && is_none fault.unit && is_none fault.period
 
--- the refusal of a request that was given up, since memory ran out or the store refused
+-- the refusal of a request that was given up, because memory ran out or the store refused
 abbrev pub gives_up : Fault → Bool
 gives_up fault = is_failure fault.refusal && is_plain fault
 
--- this holds of a refusal, unless it gives up
+-- `holds` is true for a refusal, unless it gives up
 abbrev pub UnlessFailed : Fault → Type 0 → Type 0
 UnlessFailed fault holds = MatchBool (gives_up fault) (Unit {0}) holds
 
@@ -42,21 +42,21 @@ is_given_up _ = false
 
 -- ---- one request
 
--- The reply and the tables after it are those of a transition; where the request was given up, nothing has changed.
+-- The reply, and the tables after it, are those of a transition. If the request was given up, nothing changed.
 abbrev pub MakesTransition : OfficeView → OfficeView → Reply → Transition → Type 0
 MakesTransition old new given transition = MatchBool (is_given_up given) (new ≡ old)
     ((given ≡ transition.reply) × (new ≡ record old { content = tables_of (midnight_of old) transition.state }))
 
--- an office stands for a state if its tables do
+-- an office represents a state if its tables do
 abbrev pub Stands : OfficeView → State → Type 0
 Stands office s = StandsFor (midnight_of office) office.content s
 
--- the office does with a request what the machine does with it in each state that the office stands for
+-- the office does with a request what the machine does with it, in each state that the office represents
 abbrev pub HandleStep : OfficeView → OfficeView → ℤ → Request → Reply → Type 0
 HandleStep old new moment request given =
     (s : State) → Stands old s → MakesTransition old new given (step (midnight_of old) s moment request)
 
--- the office stands after a request for the machine's state after it, or for the same state where the request was given up
+-- after a request the office represents the machine's state after it, or the same state as before if the request was given up
 abbrev pub StandsAfter : OfficeView → OfficeView → ℤ → Request → Reply → Type 0
 StandsAfter old new moment request given =
     (s : State) → Stands old s → Stands new (if is_given_up given then s else next (midnight_of old) s moment request)
@@ -82,18 +82,18 @@ RefusalLeaves old new given = IsTrue (is_refused given) → new ≡ old
 abbrev pub served : List Timed → List Reply → List (Timed × Reply)
 served requests replies = filter (λ r. not (is_given_up r.1)) (zip requests replies)
 
--- Tables and replies are the machine's: there is a reply to each request, those that were not given up are answered as by the
--- machine, one after the other, and the tables at the end are the machine's after these.
+-- Tables and replies are the machine's. There is a reply to each request. Those that were not given up are answered as the machine does,
+-- one after the other, and the tables at the end are the machine's after these.
 pub record RunsAs (old new : OfficeView) (s : State) (requests : List Timed) (given : List Reply) : Type 0 where
   pub count : length given ≡ length requests
   pub replies : map (λ r. r.1) (served requests given) ≡ replies_to (midnight_of old) s (map (λ r. r.0) (served requests given))
   pub tables : new ≡ record old { content = tables_of (midnight_of old) (state_after (midnight_of old) s (map (λ r. r.0) (served requests given))) }
 
--- the office does with a list of requests what the machine does with them from each state that the office stands for
+-- the office does with a list of requests what the machine does with them, from each state that the office represents
 abbrev pub RunAllStep : OfficeView → OfficeView → List Timed → List Reply → Type 0
 RunAllStep old new requests replies = (s : State) → Stands old s → RunsAs old new s requests replies
 
--- after a list of requests the office stands for the machine's state after those that were not given up
+-- after a list of requests the office represents the machine's state after those that were not given up
 abbrev pub StandsAfterAll : OfficeView → OfficeView → List Timed → List Reply → Type 0
 StandsAfterAll old new requests given =
     (s : State) → Stands old s
@@ -113,8 +113,8 @@ is_change (ask.Load upload) = true
 is_change (ask.Run key) = true
 is_change _ = false
 
--- A file that was accepted in some state, or a run that was made, and comes again, after whatever requests, gets the same reply,
--- unless it is given up, and nothing changes.
+-- A file that was accepted in some state, or a run that was made, comes again after any requests. It gets the same reply, unless it is
+-- given up, and nothing changes.
 abbrev pub RepeatsOnce : OfficeView → OfficeView → Request → Reply → Type 0
 RepeatsOnce old new request given =
     (s : State) (earlier : ℤ) (between : List Timed) → IsReached (midnight_of old) s

@@ -1,4 +1,4 @@
--- How often a store has refused, as the office's answers tell it.
+-- How often a store has refused, as the office's answers show it.
 use Rattle.std.specs.Prelude.{◌≡◌, ◌≤◌, ◌<◌, ℕ, List, Bool, true, false, MatchBool, Result, Ok, Err}
 use Rattle.std.specs.List.{AllByRecursion}
 use Rattle.hh_devices.specs.Devices.{most_failures}
@@ -14,24 +14,24 @@ use Rattle.hh_office.specs.Views.{OfficeView}
 use Rattle.hh_office.specs.declared.report.ReportStop.{ReportStop}
 use Rattle.hh_office.specs.declared.report.ReportStop.TheVariants as stop
 
--- the refusal of what a store refused for another cause than memory
+-- the refusal of a request because the store refused, for another reason than memory
 abbrev pub is_of_store : Refusal → Bool
 is_of_store Store = true
 is_of_store _ = false
 
--- a refusal of another cause
+-- a refusal for another reason than that of a store
 abbrev pub IsElsewhere : Fault → Type 0
 IsElsewhere fault = is_of_store fault.refusal ≡ false
 
--- an office stands for some state that the machine reaches
+-- an office represents some state that the machine reaches
 abbrev pub StandsForSome : OfficeView → Type 0
 StandsForSome office = (s : State) × Stands office s
 
--- the store counts one refusal where a fault tells one, and none elsewhere
+-- the store counts one refusal if a fault is that of the store, and otherwise none
 abbrev pub CountsStoreFault : Fault → ℕ → ℕ → Type 0
 CountsStoreFault fault old new = MatchBool (is_of_store fault.refusal) (CountsOneMore old new) (new ≡ old)
 
--- the same of a reply
+-- the same for a reply
 abbrev pub CountsReply : Reply → ℕ → ℕ → Type 0
 CountsReply (reply.Refused fault) old new = CountsStoreFault fault old new
 CountsReply _ old new = new ≡ old
@@ -41,12 +41,13 @@ abbrev pub IsNotOfStore : Reply → Type 0
 IsNotOfStore (reply.Refused fault) = IsElsewhere fault
 IsNotOfStore _ = Unit {0}
 
--- over a list of replies the count did not fall; and where it stayed, below the greatest, none of them is the refusal of a store
+-- Over a list of replies the count did not fall. If it stayed the same, and was below its greatest value, none of them is a store's
+-- refusal.
 pub record CountsReplies (given : List Reply) (old new : ℕ) : Type 0 where
   pub up : old ≤ new
   pub stays : new ≡ old → old < most_failures → AllByRecursion IsNotOfStore given
 
--- the same of a report
+-- the same for a report
 abbrev pub CountsReportStop : {A : Type 0} → Result A ReportStop → ℕ → ℕ → Type 0
 CountsReportStop (Ok x) old new = new ≡ old
 CountsReportStop (Err (stop.Refused fault)) old new = CountsStoreFault fault old new

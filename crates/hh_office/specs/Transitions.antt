@@ -19,6 +19,6 @@ unchanged s r = record { reply = r; state = s }
 abbrev pub refused : State → Fault → Transition
 refused s fault = unchanged s (reply.Refused fault)
 
--- the same of the whole request
+-- the refusal of the whole request
 abbrev pub refused_for : State → Refusal → Transition
 refused_for s why = refused s (plain_fault why)

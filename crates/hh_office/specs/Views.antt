@@ -11,13 +11,13 @@ pub record OfficeView : Type 0 where
   pub zone : TimeZone
   pub content : Content
 
--- An office as contracts see it: what it promises of, and the tables themselves, of which a store tells more.
+-- An office as contracts see it: what its promises are about, and the tables themselves, about which a store tells more.
 pub record Kept (T : Type 0) : Type 0 where
   pub seen : OfficeView
   pub tables : T
 
--- The premise of all that an office promises: up to here its tables stand, by what a store says of that. Tables in memory always do;
--- those of a file do if the disk returned what was written, nobody else wrote it, and no fault has shut it.
+-- The premise of all that an office promises: its tables are open up to now, as the store says. Tables in memory always are. Those of a
+-- file are if the disk returned what was written, nobody else wrote to it, and no fault has closed it.
 abbrev pub IsSure : {T : Type 0} → (T → Bool) → Kept T → Type 0
 IsSure is_open office = IsTrue (is_open office.tables)
 

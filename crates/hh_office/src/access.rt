@@ -36,7 +36,7 @@ impl<'z, T: Tables> Office<'z, T> {
         }
     }
 
-    /// Whether a key is the operator's or that of an account's party.
+    /// Whether a key is the operator's, or that of the party of an account.
     fn may_see(&mut self, account: &Account, key: &[u8]) -> Result<bool, StoreFault>
         ensures told { IsSure T.is_open self.new
             → IfOk result (λ told. TellsTruly self.old.seen told
@@ -82,7 +82,7 @@ impl<'z, T: Tables> Office<'z, T> {
         Ok(settings.operator_key.as_bytes() == key)
     }
 
-    /// Whether a key is that of an account's party.
+    /// Whether a key is that of the party of an account.
     fn is_holder(&mut self, account: &Account, key: &[u8]) -> Result<bool, StoreFault>
         ensures told { IsSure T.is_open self.new
             → IfOk result (λ told. TellsTruly self.old.seen told

@@ -1,4 +1,4 @@
-//! What is asked of accounts, contracts and runs.
+//! Enquiries about accounts, contracts and runs.
 
 ghost use Rattle.std.specs.Prelude.{◌≡◌, ℕ, map, IfOk, Some, SomeIff, OnOk};
 ghost use Rattle.hh_num.specs.Quantities.{amounts_of_cash};
@@ -55,7 +55,7 @@ impl<'z, T: Tables> Office<'z, T> {
         }
     }
 
-    /// What an account has and pays in the latest run of a date, which is this.
+    /// What an account has and pays in `run`, the latest run of its date.
     fn account_in(
         &mut self,
         account: &Account,
@@ -75,8 +75,8 @@ impl<'z, T: Tables> Office<'z, T> {
             → CountsReply (reply_of result)
             (T.refusals self.old.tables) (T.refusals self.new.tables) }
     {
-        // Do nothing, but carry laws for the proof: the tables hold the machine's runs and their rows, and
-        // what an account pays by these is a day net.
+        // Do nothing, but carry laws for the proof: the tables contain the machine's runs with their rows,
+        // and what an account pays by these is a day net.
         kept_kinds_of_dates();
         kept_results();
         paid_within();
@@ -116,7 +116,7 @@ impl<'z, T: Tables> Office<'z, T> {
         self.tables.results(run)
     }
 
-    /// What the runs of all dates have moved to an account.
+    /// What the runs of all dates have posted to an account.
     pub(crate) fn balance(&mut self, account: &Account) -> Result<Reply, Fault>
         ensures makes { IsSure T.is_open self.new
             → TellsInEachState self.old.seen self.new.seen result (λ midnight s.
@@ -129,8 +129,8 @@ impl<'z, T: Tables> Office<'z, T> {
             → CountsReply (reply_of result)
             (T.refusals self.old.tables) (T.refusals self.new.tables) }
     {
-        // Do nothing, but carry laws for the proof: postings come to what the latest runs move, and that is
-        // an amount of cash.
+        // Do nothing, but carry laws for the proof: the postings come to what the latest runs post, and
+        // that is an amount of cash.
         kept_postings();
         balances_within();
         let postings = self.tables.postings(account)?;
@@ -185,7 +185,7 @@ impl<'z, T: Tables> Office<'z, T> {
     }
 }
 
-/// The latest of the runs of a date, which stand in the order of their kinds.
+/// The latest of the runs of a date. They are in the order of their kinds.
 pub(crate) fn latest_of(date: SettlementDate, runs: &[(RunKind, Summary)]) -> Option<RunKey>
     ensures { result ≡ latest_key date runs.now }
 {
@@ -206,7 +206,7 @@ pub(crate) fn kinds_of(
     runs.iter().map(|run| run.0).collect(alloc)
 }
 
-/// The reply on an account by the rows of a run.
+/// The reply about an account, given its rows in a run.
 fn reply_by_rows(
     alloc: Global,
     account: &Account,
@@ -246,7 +246,7 @@ fn rows_of(
     Ok(found)
 }
 
-/// What the rows of an account come to; none exactly where no day net is as great.
+/// The sum of what the rows of an account pay. It is `None` exactly if no day net is that large.
 fn net_of(rows: &[(PeriodNumber, AccountRow)]) -> Option<DayNet>
     ensures { let net = net_of_rows rows.now in
         SomeIff result (IsBetween day_cash.least day_cash.most net) net }
@@ -258,7 +258,7 @@ fn net_of(rows: &[(PeriodNumber, AccountRow)]) -> Option<DayNet>
     DayNet::new(i64::try_from(net).ok()?)
 }
 
-/// What postings come to; none exactly where no amount of cash is as great.
+/// The sum of postings. It is `None` exactly if no amount of cash is that large.
 fn sum_of(postings: &[(RunKey, Pence)]) -> Option<Pence>
     ensures { let sum = total (λ e. e.1) postings.now in
         SomeIff result (IsBetween amounts_of_cash.least amounts_of_cash.most sum) sum }

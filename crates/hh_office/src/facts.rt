@@ -1,4 +1,4 @@
-//! What is told of an office to people, beside the replies to its requests.
+//! What people are told about an office, beside the replies to requests.
 
 ghost use Rattle.std.specs.Prelude.{◌≡◌, IfOk, OnOk};
 ghost use Rattle.hh_store.specs.Crashes.{AddsNothing};
@@ -16,7 +16,7 @@ impl<'z, T: Tables> Office<'z, T> {
     ///
     /// # Errors
     ///
-    /// Memory was refused, or the store refuses for another cause.
+    /// Memory was refused, or the store refuses for another reason.
     pub fn settings(&mut self) -> Result<Settings, StoreFault>
         ensures value { IsSure T.is_open self.new
             → IfOk result (λ settings. settings ≡ self.old.seen.content.settings) }
@@ -30,12 +30,12 @@ impl<'z, T: Tables> Office<'z, T> {
         self.tables.settings()
     }
 
-    /// How many readings the units of a date lack in its Settlement Periods; 0 where the date has no
-    /// Settlement Periods. No contract speaks of the number. The office stays as it is.
+    /// How many readings the units of a date lack in its Settlement Periods. It is 0 if the date has no
+    /// Settlement Periods. No contract says anything about the number. The office stays as it is.
     ///
     /// # Errors
     ///
-    /// As of `settings`.
+    /// As for `settings`.
     pub fn missing_readings(&mut self, date: SettlementDate) -> Result<u64, StoreFault>
         ensures same { IsSure T.is_open self.new → self.new.seen ≡ self.old.seen }
         ensures crash { AddsNothing T.is_honest T.is_open T.may_leave

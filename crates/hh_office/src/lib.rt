@@ -1,4 +1,4 @@
-//! The settlement office: a machine over its tables, which answers one request after the other.
+//! The settlement office: a machine over its tables. It answers one request after the other.
 #![tactic(auto)]
 
 mod access;

@@ -68,7 +68,7 @@ impl<'z, T: Tables> Office<'z, T> {
         self.tables.file(upload.kind, &upload.name)
     }
 
-    /// What becomes of a file under whose kind and name none is kept.
+    /// What becomes of a file, if no file of its kind and name is kept.
     fn load_new(&mut self, moment: i64, upload: &Upload) -> Result<Reply, Fault>
         requires { IsSure T.is_open self.old
             → file_in self.old.seen.content upload.now.kind upload.now.name ≡ None }
@@ -87,7 +87,7 @@ impl<'z, T: Tables> Office<'z, T> {
     {
         // Does nothing, but carries a law for the proof: the tables hold the files that were accepted.
         kept_files();
-        // And this that the file's name is in its grammar.
+        // Carries another law: the file's name is in its grammar.
         upload.name.as_bytes();
         let judged = self.judge(moment, upload)?;
         self.accept(upload, judged)
@@ -109,7 +109,7 @@ impl<'z, T: Tables> Office<'z, T> {
         register.judge_file(self.alloc, &self.zone, moment, &rows)
     }
 
-    /// A register that serves for these rows.
+    /// A register that suffices to judge these rows.
     fn register_for(&mut self, rows: &[Row]) -> Result<Register, StoreFault>
         ensures serves { IsSure T.is_open self.new
             → IfOk result (ServesFor rows.now (whole_register self.old.seen.content)) }
@@ -123,7 +123,7 @@ impl<'z, T: Tables> Office<'z, T> {
         self.tables.register(rows)
     }
 
-    /// Writes what an accepted file's rows come to into the tables, once the reply is made.
+    /// Writes what the rows of an accepted file change into the tables. The reply is made before that.
     fn accept(&mut self, upload: &Upload, judged: FileRows) -> Result<Reply, Fault>
         requires { length judged.rows ≤ most_rows }
         ensures makes { IsSure T.is_open self.new
@@ -162,7 +162,7 @@ impl<'z, T: Tables> Office<'z, T> {
     }
 }
 
-/// That where a file is sent, its name is in its grammar: does nothing, but carries this for a proof.
+/// Does nothing, but carries a fact for a proof: if a file is sent, its name is in its grammar.
 pub(crate) fn is_named(request: &Request)
     ensures { NamesItsFile request.now.action }
 {
@@ -171,7 +171,7 @@ pub(crate) fn is_named(request: &Request)
     }
 }
 
-/// What is written for a file whose rows come to these.
+/// What is written for a file whose rows were judged.
 fn change_of(alloc: Global, upload: &Upload, judged: FileRows) -> Result<LoadChange, AllocError>
     requires { length judged.rows ≤ most_rows }
     ensures { IfOk result (λ change. change ≡ writes_of upload.now judged) }
@@ -182,7 +182,7 @@ fn change_of(alloc: Global, upload: &Upload, judged: FileRows) -> Result<LoadCha
     Ok(LoadChange::new(upload.kind, upload.name, file, rows, references))
 }
 
-/// The reply to a file under whose kind and name this one is kept.
+/// The reply to a file, if `file` of the same kind and name is kept.
 fn repeated(file: &KeptFile, upload: &Upload) -> Reply
     ensures { result ≡ repeat_reply file.now upload.now.body }
 {

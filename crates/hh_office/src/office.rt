@@ -24,9 +24,8 @@ use jiff::tz::TimeZone;
 use std::alloc::{AllocError, Global};
 use std::marker::Model;
 
-/// The settlement agent's office over its tables, in the zone whose local midnights begin its
-/// Settlement Days (profile). Contracts see the zone and what the tables contain, and beside that the
-/// tables.
+/// The settlement agent's office over its tables. Its Settlement Days begin at the local midnights of its
+/// zone (profile). Contracts see the zone, what the tables contain, and the tables themselves.
 #[derive(Drop)]
 pub struct Office<'z, T: Tables> {
     pub(crate) alloc: Global,
@@ -46,7 +45,7 @@ impl<'z, T: Tables> Model for Office<'z, T> {
 }
 
 impl<'z, T: Tables> Office<'z, T> {
-    /// An office over these tables, in this zone (profile).
+    /// An office over these tables, in this zone.
     pub fn new(alloc: Global, tables: T, zone: TimeZone<'z>) -> Office<'z, T>
         ensures seen { result.seen ≡ record { zone = zone.entry; content = T.content tables } }
         ensures tables { result.tables ≡ tables }
@@ -58,7 +57,7 @@ impl<'z, T: Tables> Office<'z, T> {
         }
     }
 
-    /// The tables, which an office no longer stands over.
+    /// The tables. The office ends.
     pub fn into_tables(self) -> T
         ensures same { result ≡ self.entry.tables }
         ensures content { T.content result ≡ self.entry.seen.content }
@@ -71,9 +70,10 @@ impl<'z, T: Tables> Office<'z, T> {
         tables
     }
 
-    /// Answers a request that comes at a moment, in seconds since 1970-01-01T00:00:00Z, which may be
-    /// earlier than the one before (profile). A refused request changes nothing. Refusals 90, where
-    /// memory is refused, and 91, where the store refuses, may stand in the place of any reply.
+    /// Answers a request that comes at a moment, in seconds since 1970-01-01T00:00:00Z (profile). The
+    /// moment may be earlier than that of the request before. A refused request changes nothing. In the
+    /// place of any reply there may be refusal 90, if memory is refused, or refusal 91, if the store
+    /// refuses.
     pub fn handle(&mut self, moment: i64, request: &Request) -> Reply
         ensures step { IsSure T.is_open self.new
             → HandleStep self.old.seen self.new.seen moment request.now result }
@@ -97,15 +97,15 @@ impl<'z, T: Tables> Office<'z, T> {
         ensures refusals_counted { IsSure T.is_open self.new → StandsForSome self.old.seen
             → CountsReply result (T.refusals self.old.tables) (T.refusals self.new.tables) }
     {
-        // Do nothing, but carry laws for the proof: the tables hold the machine's runs with their rows and
-        // postings, what is written makes the machine's tables, and these add up.
+        // Do nothing, but carry laws for the proof: the tables contain the machine's runs with their rows
+        // and postings, what is written makes the machine's tables, and these add up.
         kept_summaries();
         kept_results();
         kept_postings();
         load_effect();
         run_effect();
         reached_conserve();
-        // And of what states hold: files have names in their grammar, and no party has the operator's key.
+        // Carry facts about states: files have names in their grammar, and no party has the operator's key.
         is_named(request);
         accepted_files_in_range();
         keys_never_meet();
@@ -134,8 +134,8 @@ impl<'z, T: Tables> Office<'z, T> {
         }
     }
 
-    /// That what a crash leaves of tables that stand holds what contracts see: does nothing, but carries this
-    /// for a proof.
+    /// Does nothing, but carries a fact for a proof: if the tables are open, what a crash leaves of them
+    /// contains what contracts see.
     fn shows_left(&self)
         ensures { LeavesContent T.is_open T.may_leave T.holds
             self.now.tables self.now.seen.content }
@@ -143,12 +143,12 @@ impl<'z, T: Tables> Office<'z, T> {
         self.tables.shows_left();
     }
 
-    /// Answers requests, each with the moment at which it comes, in seconds since 1970-01-01T00:00:00Z,
-    /// one after the other (profile). The room for the replies is taken first.
+    /// Answers requests one after the other (profile). Each has the moment at which it comes, in seconds
+    /// since 1970-01-01T00:00:00Z. Memory for the list of replies is taken first.
     ///
     /// # Errors
     ///
-    /// Memory was refused for the replies, and nothing has run.
+    /// Memory for the list of replies was refused, and no request was handled.
     pub fn run_all(&mut self, requests: &[(i64, Request)]) -> Result<Vec<Reply>, AllocError>
         ensures run { IsSure T.is_open self.new → IfOk result (λ replies.
             RunAllStep self.old.seen self.new.seen requests.now replies.items) }
@@ -193,7 +193,7 @@ impl<'z, T: Tables> Office<'z, T> {
         self.handle(request.0, &request.1)
     }
 
-    /// What becomes of a request.
+    /// What becomes of a request that its key allows.
     fn act(&mut self, moment: i64, request: &Request) -> Result<Reply, Fault>
         ensures makes { IsSure T.is_open self.new
             → MakesInEachState self.old.seen self.new.seen result (λ midnight s.

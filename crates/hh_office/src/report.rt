@@ -10,10 +10,10 @@ use hh_store::{OutputFault, StoreFault};
 /// Why a report is not written whole.
 #[derive(Clone, Copy, Debug, PartialEq, Eq)]
 pub enum ReportStop {
-    /// The report is refused, and nothing is written; or it was given up, by 90 or 91, and a beginning of
-    /// it may have gone out.
+    /// The report is refused, and nothing is written. Or it was given up, with 90 or 91, and a beginning of
+    /// it may have been written.
     Refused(Fault),
-    /// The output failed or took nothing in the call. A beginning of the report may have gone out.
+    /// The output failed or took nothing in the call. A beginning of the report may have been written.
     Write,
 }
 

@@ -1,11 +1,11 @@
-//! That the reports by the tables are those of the state.
+//! The reports that the tables give are those of the state.
 
 ghost use Rattle.hh_office.specs.ReportTexts.{HoldsReports};
 
 use hh_state_laws::{kept_postings, kept_results, kept_summaries};
 
-/// That the day reports and the results of runs and the balances of parties, as the tables give them, are
-/// those of the state: in each state that the machine reaches (profile).
+/// In each state that the machine reaches, the day reports, the results of runs and the balances of parties
+/// that the tables give are those of the state.
 pub fn kept_reports()
     ensures { HoldsReports }
 {

@@ -1,4 +1,4 @@
-//! Reports, which the operator alone gets.
+//! Reports. Only the operator gets them.
 
 ghost use Rattle.std.specs.Prelude.{◌≡◌, IfOk, OnOk};
 ghost use Rattle.std.specs.FinMap.{find};
@@ -26,15 +26,15 @@ use hh_store::{StoreFault, Tables};
 use hh_time::SettlementDate;
 
 impl<'z, T: Tables> Office<'z, T> {
-    /// Writes a report to an output, for the operator's key (profile): the text of the machine's state, and
-    /// nothing else. The office stays as it is.
+    /// Writes a report to an output, if the key is the operator's (profile). It writes the text that the
+    /// machine's state gives, and nothing else. The office stays as it is.
     ///
     /// # Errors
     ///
-    /// Refusal 60 for another key than the operator's, and with the operator's 63 where the run of the report
-    /// is not there: then nothing is written. Refusals 90, where memory is refused, and 91, where the store
-    /// refuses, may stand in their place, or come when a beginning of the report has gone out. `Write` comes
-    /// only where the output failed or took nothing in this call, and a beginning has gone out.
+    /// Refusal 60 for a key that is not the operator's. Refusal 63 for the operator's key if the run of the
+    /// report does not exist. In both cases nothing is written. Refusals 90, if memory is refused, and 91,
+    /// if the store refuses, may take their place, or may come after a beginning of the report was written.
+    /// `Write` comes only if the output failed or took nothing in this call; a beginning was written then.
     pub fn report<S: Sink>(
         &mut self,
         key: &[u8],
@@ -52,7 +52,7 @@ impl<'z, T: Tables> Office<'z, T> {
             → CountsReportStop result (T.refusals self.old.tables) (T.refusals self.new.tables) }
         ensures sure { IsSure T.is_open self.new → IsSure T.is_open self.old }
     {
-        // Does nothing, but carries a law for the proof: the reports that the tables give are the machine's.
+        // Does nothing, but carries a law for the proof: the tables give the reports of the machine.
         kept_reports();
         if !self.is_operator(key)? {
             return Err(ReportStop::of(Refusal::Forbidden));
@@ -68,7 +68,7 @@ impl<'z, T: Tables> Office<'z, T> {
     ///
     /// # Errors
     ///
-    /// As of `report`.
+    /// As for `report`.
     pub fn report_day<S: Sink>(
         &mut self,
         key: &[u8],
@@ -94,7 +94,7 @@ impl<'z, T: Tables> Office<'z, T> {
     ///
     /// # Errors
     ///
-    /// As of `report`.
+    /// As for `report`.
     pub fn report_results<S: Sink>(
         &mut self,
         key: &[u8],
@@ -120,7 +120,7 @@ impl<'z, T: Tables> Office<'z, T> {
     ///
     /// # Errors
     ///
-    /// As of `report`, but never refusal 63.
+    /// As for `report`, but never refusal 63.
     pub fn report_balances<S: Sink>(&mut self, key: &[u8], out: &mut S) -> Result<(), ReportStop>
         ensures reports { IsSure T.is_open self.new
             → Reports (change S.taken S.failures out.old out.new)
@@ -136,7 +136,7 @@ impl<'z, T: Tables> Office<'z, T> {
         self.report(key, &Report::Balances, out)
     }
 
-    /// Writes the day report of a run that is there.
+    /// Writes the day report of a run that exists.
     fn write_day_report<S: Sink>(&mut self, run: &RunKey, out: &mut S) -> Result<(), ReportStop>
         ensures reports { IsSure T.is_open self.new
             → ReportsAs (change S.taken S.failures out.old out.new)
@@ -155,7 +155,7 @@ impl<'z, T: Tables> Office<'z, T> {
         Ok(self.tables.day_report(run, out)?)
     }
 
-    /// Writes the results of a run that is there.
+    /// Writes the results of a run that exists.
     fn write_results<S: Sink>(&mut self, run: &RunKey, out: &mut S) -> Result<(), ReportStop>
         ensures reports { IsSure T.is_open self.new
             → ReportsAs (change S.taken S.failures out.old out.new)
@@ -190,7 +190,7 @@ impl<'z, T: Tables> Office<'z, T> {
         Ok(self.tables.balances(out)?)
     }
 
-    /// What is kept of a run, if it is there.
+    /// What is kept of a run, if it exists.
     fn kept_run(&mut self, run: &RunKey) -> Result<Option<Summary>, StoreFault>
         ensures value { IsSure T.is_open self.new → IfOk result (λ found.
             found ≡ find run_key_cmp run.now self.old.seen.content.runs) }

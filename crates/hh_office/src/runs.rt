@@ -57,7 +57,7 @@ impl<'z, T: Tables> Office<'z, T> {
             → CountsReply (reply_of result)
             (T.refusals self.old.tables) (T.refusals self.new.tables) }
     {
-        // Do nothing, but carry laws for the proof: the tables hold the machine's runs.
+        // Do nothing, but carry laws for the proof: the tables contain the machine's runs.
         kept_summaries();
         kept_kinds_of_dates();
         let runs = self.runs_of(key.date)?;
@@ -84,8 +84,8 @@ impl<'z, T: Tables> Office<'z, T> {
         self.tables.runs(date)
     }
 
-    /// What becomes of a run that is not there and may come next on its date, where this is the date's
-    /// latest run.
+    /// What becomes of a run that does not exist and may come next on its date. `former` is the latest run
+    /// of that date.
     fn new_run(&mut self, moment: i64, key: RunKey, former: Option<RunKey>) -> Result<Reply, Fault>
         requires next { IsSure T.is_open self.old → IsNext self.old.seen.content key }
         requires former { IsSure T.is_open self.old
@@ -103,8 +103,8 @@ impl<'z, T: Tables> Office<'z, T> {
             → CountsReply (reply_of result)
             (T.refusals self.old.tables) (T.refusals self.new.tables) }
     {
-        // Do nothing, but carry laws for the proof: the tables hold the machine's runs, and what is written
-        // for a run is what the machine writes, and fits the tables.
+        // Do nothing, but carry laws for the proof: the tables contain the machine's runs, and what is
+        // written for a run is what the machine writes, and fits the tables.
         kept_summaries();
         kept_kinds_of_dates();
         writes_the_run();
@@ -113,8 +113,8 @@ impl<'z, T: Tables> Office<'z, T> {
         Ok(self.make_run(key, &settled, former)?)
     }
 
-    /// Makes a run of these settled Settlement Periods, where this is the latest run of its date: the reply
-    /// is made before the run is written.
+    /// Makes a run from settled Settlement Periods. `former` is the latest run of its date. The reply is
+    /// made before the run is written.
     fn make_run(
         &mut self,
         key: RunKey,
@@ -139,8 +139,8 @@ impl<'z, T: Tables> Office<'z, T> {
         Ok(reply)
     }
 
-    /// The Settlement Periods of a date, settled from what is in force, where the date is over and
-    /// nothing is missing.
+    /// The Settlement Periods of a date, settled from what is in force. The date must be over, and nothing
+    /// may be missing.
     fn settle(&mut self, moment: i64, date: SettlementDate) -> Result<Vec<SettledPeriod>, Fault>
         ensures settled { IsSure T.is_open self.new
             → IfOk result (λ day. SettlesIn self.old.seen moment date day.items) }
@@ -153,8 +153,8 @@ impl<'z, T: Tables> Office<'z, T> {
         ensures refusals_counted { IsSure T.is_open self.new → AreReached self.old.seen.content
             → CountsAnswer result (T.refusals self.old.tables) (T.refusals self.new.tables) }
     {
-        // Do nothing, but carry laws for the proof: what each period is settled from fits together, and may
-        // be settled.
+        // Do nothing, but carry laws for the proof: the terms of each period fit together, and the period
+        // may be settled from them.
         periods_ready();
         terms_ready();
         let day = day_over(&self.zone, moment, date)?;
@@ -165,7 +165,8 @@ impl<'z, T: Tables> Office<'z, T> {
         }
     }
 
-    /// What each Settlement Period of a day is settled from, or to.
+    /// The terms from which each Settlement Period of a day is settled, or its result if it is settled
+    /// already.
     fn periods_of(&mut self, day: &Day) -> Result<Vec<PeriodState>, Fault>
         ensures states { IsSure T.is_open self.new → IsTrue self.old.seen.content.is_in_step
             → IfOk result (λ states. LacksNothing self.old.seen.content.registered
@@ -188,7 +189,7 @@ impl<'z, T: Tables> Office<'z, T> {
         }
     }
 
-    /// The rows of the accounts in a run; none where there is no run.
+    /// The rows of the accounts in a run, or none if there is no run.
     fn rows_before(
         &mut self,
         run: Option<RunKey>,
@@ -226,7 +227,7 @@ impl<'z, T: Tables> Office<'z, T> {
     }
 }
 
-/// What is kept of a run among those of its date; nothing where it is not there and may be made.
+/// What is kept of a run among those of its date. It is `None` if the run does not exist and may be made.
 fn order_of(
     alloc: Global,
     runs: &[(RunKind, Summary)],
@@ -243,7 +244,7 @@ fn order_of(
     }
 }
 
-/// The summary of the run of a kind among those of a date, if it is there.
+/// The summary of the run of a kind among those of a date, if it exists.
 pub(crate) fn summary_of(runs: &[(RunKind, Summary)], kind: RunKind) -> Option<Summary>
     ensures { result ≡ option_map (λ r. r.1)
         (find (λ r. eq_by_cmp run_kind_cmp kind r.0) runs.now) }
@@ -269,7 +270,7 @@ fn ran(change: &RunChange) -> Reply
     }
 }
 
-/// The day of a date that is over at a moment.
+/// The day of a date, which must be over at the moment.
 fn day_over(zone: &TimeZone<'_>, moment: i64, date: SettlementDate) -> Result<Day, Fault>
     ensures over { IfOk result (λ day.
         IsOverDay (midnight_in (plain_zone zone.now)) moment date day) }
@@ -291,7 +292,7 @@ fn period_fault(why: Refusal, at: &SettlementPeriod) -> Fault
     }
 }
 
-/// A unit has no reading in a Settlement Period.
+/// The refusal if a unit has no reading in a Settlement Period.
 fn missing_meter_fault(key: &UnitPeriod) -> Fault
     ensures { result ≡ missing_meter_fault key.now }
 {

@@ -16,7 +16,7 @@ use std::alloc::Global;
 use std::io::Eprint;
 use std::rt::Clock;
 
-/// Opens the files, which the watch measures, runs the lines over the office there, and closes them.
+/// Opens the files, which `watch` measures, runs the lines over the office in them, and closes them.
 pub(crate) fn run_in_files<R: Clock + Eprint + AllocGlobal, D: Disk + Drop, H: Host, O: Sink>(
     rt: &R,
     watch: Watch,
@@ -53,7 +53,7 @@ fn open<D: Disk + Drop>(
     }
 }
 
-/// Runs the lines over the office in a database, which is made where settings are given.
+/// Runs the lines over the office in a database. The office is made if settings are given.
 fn run_over<S: Rising, H: Host, O: Sink>(
     alloc: Global,
     connection: Connection<S>,

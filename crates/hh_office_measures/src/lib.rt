@@ -1,11 +1,11 @@
-//! What is measured of an office whose tables stand in the files of a database, in a command of its own
-//! beside those of `hh_measures`.
+//! Measures an office whose tables are kept in the files of a database, by a command of its own beside
+//! those of `hh_measures`.
 //!
-//! - `office DB SCRIPT` runs the lines of a script over the office in a database file, and with
-//!   `OPERATOR-KEY LEAD-MINUTES` behind that makes the office first.
+//! - `office DB SCRIPT` runs the lines of a script over the office in a database file. With
+//!   `OPERATOR-KEY LEAD-MINUTES` after that it makes the office first.
 //!
-//! What the lines write goes to standard output. The nanoseconds that it took to open the files go to
-//! standard error, and then those of all the rest.
+//! What the lines write goes to standard output. Two numbers are written to standard error: the nanoseconds
+//! that it took to open the files, and then those of all the rest.
 #![tactic(auto)]
 
 mod files;
@@ -16,7 +16,8 @@ use hh_measures::{MeasureStop, measure};
 use office::run_office;
 use words::{is_office, paths_in, settings_in};
 
-/// Does what the program's words ask for, its own name in front: of this command, or of those of `hh_measures`.
+/// Does what the program's words ask for, by this command or by those of `hh_measures`. The words begin
+/// with its own name.
 pub fn measure_office(rt: &HostRuntime, words: &[String]) -> Result<(), MeasureStop> {
     if !is_office(words) {
         return measure(rt, words);

@@ -15,7 +15,7 @@ use sqlite_disk::Files;
 use sqlite_std_file::{File, OpenError, Unknown};
 use std::hash::{BuildHasher, RandomState};
 
-/// How many pages of 4,096 bytes are kept in memory: those of a market day are some 12,000.
+/// How many pages of 4,096 bytes are kept in memory. A market day takes some 12,000.
 const PAGES: usize = 16_384;
 
 /// Runs the script over the office in the files at a path, and prints on standard error the nanoseconds
@@ -39,7 +39,7 @@ pub(crate) fn run_office(
     run_in_files(rt, watch, files, options, settings, &host, &lines, &mut out)
 }
 
-/// The bytes of a script, of which too many are none.
+/// The bytes of a script. A script with too many bytes is refused.
 fn script_of<H: Host>(rt: &HostRuntime, host: &H, path: &str) -> Result<Vec<u8>, MeasureStop> {
     match host.read(rt.alloc(), path, MOST_SCRIPT_BYTES) {
         Ok(bytes) => Ok(bytes),
@@ -58,7 +58,7 @@ fn options(rt: &HostRuntime) -> Result<Options, MeasureStop> {
     })
 }
 
-/// The files at a path, which are made where they are not there.
+/// The files at a path. They are made if they are not there.
 fn files_at(rt: &HostRuntime, path: &str) -> Result<Files<File>, MeasureStop> {
     match sqlite_std_file::open(rt, path, Unknown) {
         Ok(files) => Ok(files),

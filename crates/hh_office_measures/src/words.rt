@@ -4,14 +4,14 @@ use hh_measures::MeasureStop;
 use hh_names::OperatorKey;
 use hh_rows::{LeadMinutes, Settings};
 
-/// The files that a line of words names: that of the database, and that of the script.
+/// The files that a line of words names: the database, and the script.
 #[derive(Clone, Copy)]
 pub(crate) struct Paths<'a> {
     pub(crate) database: &'a str,
     pub(crate) script: &'a str,
 }
 
-/// Whether a line of words, the program's own name in front, is one of this command.
+/// Whether a line of words, which begins with the program's own name, is one of this command.
 pub(crate) fn is_office(words: &[String]) -> bool {
     match words {
         [_, command, ..] => command.as_str() == "office",
@@ -30,7 +30,7 @@ pub(crate) fn paths_in(words: &[String]) -> Result<Paths<'_>, MeasureStop> {
     }
 }
 
-/// What the office is made with, if it is made.
+/// The settings with which the office is made, if it is made.
 pub(crate) fn settings_in(words: &[String]) -> Result<Option<Settings>, MeasureStop> {
     match words {
         [_, _, _, _] => Ok(None),

@@ -33,7 +33,7 @@ unfoldable or_else : {A : Type 0} → Option A → Option A → Option A
 or_else None other = other
 or_else (Some x) other = Some x
 
--- the first entry of a key in a list is that of its front, if the front has one
+-- what is found under a key in two lists is what is found in the first, or otherwise in the second
 find-append : {K V : Type 0} (R : K → K → Ordering) (q : K) (es more : List (K × V)) → find R q (es ++ more) ≡ or_else (find R q es) (find R q more)
 unfolding or_else
 find-append R q [] more = refl
@@ -44,7 +44,7 @@ find-append R q (x ∷ es) more = go (find-append R q es more) (eq_by_cmp R q x.
     go same true = refl
     go same false = same
 
--- why counterparties are refused beside those that are known
+-- why counterparties are refused, given those that are known
 abbrev pub beside : Option Counterparties → Counterparties → Option Refusal
 beside known own = first_met (counterparty_refusals known own)
 
@@ -52,7 +52,7 @@ beside known own = first_met (counterparty_refusals known own)
 abbrev pub KeepsCounterparties : List PeriodContractRow → List (List ℕ × Contract) → Type 0
 KeepsCounterparties before entries = (q : List ℕ) → find bytes_cmp q (map counterparties_entry before) ≡ option_map (λ c. c.counterparties) (find bytes_cmp q entries)
 
--- what the table knows of a row's reference is what the rows before it say
+-- what the table has for a row's reference is what the rows before the row say
 pub known_counterparties : (before : List PeriodContractRow) (entries : List (List ℕ × Contract)) → KeepsCounterparties before entries
     → (row : PeriodContractRow) (replaced : Option Contract) → replaced ≡ lookup (is_at (bytes_cmp row.reference)) entries
     → (known : Option Counterparties) → known ≡ option_map (λ c. c.counterparties) replaced
@@ -64,7 +64,7 @@ known_counterparties before entries kept row replaced found known is answer e =
 same_account : (a : Account) → is_same_account a a ≡ true
 same_account a = ap is_eq (tied_itself account_total a)
 
--- counterparties are not refused beside themselves
+-- counterparties are not refused because of themselves
 own_counterparties : (o : Option Counterparties) (own : Counterparties) → beside (or_else o (Some own)) own ≡ beside o own
 unfolding or_else
 own_counterparties (Some first) own = refl
@@ -73,7 +73,7 @@ own_counterparties None own = ap (λ b. cond (is_same_account own.seller own.buy
     same : are_same_counterparties own own ≡ true
     same = rw (same_account own.seller, same_account own.buyer) refl
 
--- so a row is judged alike among all rows and beside those before it
+-- so a row is judged the same among all rows as among those before it
 judged_before : (before later : List PeriodContractRow) (row : PeriodContractRow)
     → refusal_among (before ++ row ∷ later) row ≡ refusal_among before row
 judged_before before later row =
@@ -88,14 +88,14 @@ judged_before before later row =
 rest_is : (rows : List PeriodContractRow) (i : ℕ) (row : PeriodContractRow) → i < length rows → row ≡ get_or rows i row → drop i rows ≡ row ∷ drop (i + 1) rows
 rest_is rows i row inside is = drop_more rows i row inside ∙ ap (λ r. r ∷ drop (i + 1) rows) (sym is)
 
--- what is said of a row beside those before it is what is said of it among all
+-- how a row is judged among those before it is how it is judged among all
 pub judged : (rows : List PeriodContractRow) (i : ℕ) (row : PeriodContractRow) → i < length rows → row ≡ get_or rows i row
     → (answer : Option Refusal) → answer ≡ refusal_among (take i rows) row → answer ≡ refusal_among rows row
 judged rows i row inside is answer e =
     e ∙ sym (judged_before (take i rows) (drop (i + 1) rows) row)
     ∙ ap (λ all. refusal_among all row) (ap (λ rest. take i rows ++ rest) (sym (rest_is rows i row inside is)) ∙ take-append-drop i rows)
 
--- the refusals that counterparties may have are not the refusal of memory
+-- counterparties are not refused for memory
 pub not_memory : (known : Option Counterparties) (own : Counterparties) (refusal : Refusal) (P Q : Type 0) → beside known own ≡ Some refusal → Q → ByRefusal refusal P Q
 not_memory known own refusal P Q e q = go (is_same_account own.seller own.buyer) (is_moved known own) e
   where
@@ -108,13 +108,13 @@ module _ (refusal_of : PeriodContractRow → Option Refusal) (rows : List Period
   next_row : first_refused refusal_of (i + 1) (drop i rows) ≡ refused_or (i + 1) (refusal_of row) (first_refused refusal_of (i + 1 + 1) (drop (i + 1) rows))
   next_row = ap (first_refused refusal_of (i + 1)) (rest_is rows i row inside is)
 
-  -- a refused row decides
+  -- if a row is refused, that decides
   pub refused_here : (all : Option Fault) → first_refused refusal_of (i + 1) (drop i rows) ≡ all
       → (refusal : Refusal) → refusal_of row ≡ Some refusal → all ≡ Some (row_fault refusal (i + 1))
   refused_here all so_far refusal some =
       sym so_far ∙ next_row ∙ ap (λ o. refused_or (i + 1) o (first_refused refusal_of (i + 1 + 1) (drop (i + 1) rows))) some
 
-  -- an accepted one leaves it to the rest
+  -- if a row is accepted, the rest decides
   pub accepted_more : (all : Option Fault) → first_refused refusal_of (i + 1) (drop i rows) ≡ all
       → refusal_of row ≡ None → first_refused refusal_of (i + 1 + 1) (drop (i + 1) rows) ≡ all
   accepted_more all so_far none =

@@ -30,7 +30,7 @@ module _ {K V : Type 0} (R : K → K → Ordering) (k : K) (v : V) where
         | Greater ↦ ap (λ more. e.0 ∷ more) (keys-put es)
       ]
 
--- the rows so far with one more, in the table of the last row of each key
+-- the table of the last row of each key, after one more row
 pub entries_more : {X K V : Type 0} {R : K → K → Ordering} (o : IsTotalOrder R) (exact : (x y : K) → R x y ≡ Equal → x ≡ y) (entry : X → K × V)
     → (rows : List X) (i : ℕ) (row : X) → i < length rows → row ≡ get_or rows i row
     → (entries : List (K × V)) → entries ≡ table_of_last R (map entry (take i rows))
@@ -42,7 +42,7 @@ entries_more {R = R} o exact entry rows i row inside is entries so_far new e =
     ∙ sym (table_of_last-append o exact (map entry (take i rows)) (entry row))
     ∙ ap (table_of_last R) (ap (λ r. map entry (take i rows) ++ entry r ∷ []) is ∙ sym (ap (map entry) (take_more rows i row inside) ∙ map-append entry (take i rows) (get_or rows i row ∷ [])))
 
--- an account more
+-- one more account
 pub account_more : (names : List Account) (a : Account) (keys new : List Account) → keys ≡ in_account_order names → new ≡ insert_key account_cmp keys a
     → new ≡ in_account_order (names ++ a ∷ [])
 account_more names a keys new so_far e =
@@ -52,7 +52,7 @@ account_more names a keys new so_far e =
     ∙ ap (map (λ x. x.0)) (sym (table_of_last-append account_total exact_accounts entries (a, a)))
     ∙ ap (λ es. map (λ x. x.0) (table_of_last account_cmp es)) (sym (map-append (λ n. (n, n)) names (a ∷ [])))
 
--- the account of one row more
+-- the account of one more row
 pub named_more : {X : Type 0} (name : X → Account) (rows : List X) (i : ℕ) (row : X) → i < length rows → row ≡ get_or rows i row
     → (keys new : List Account) → keys ≡ in_account_order (map name (take i rows)) → new ≡ insert_key account_cmp keys (name row)
     → new ≡ in_account_order (map name (take (i + 1) rows))
@@ -60,7 +60,7 @@ named_more name rows i row inside is keys new so_far e =
     account_more (map name (take i rows)) (name row) keys new so_far e
     ∙ ap in_account_order (ap (λ r. map name (take i rows) ++ name r ∷ []) is ∙ sym (ap (map name) (take_more rows i row inside) ∙ map-append name (take i rows) (get_or rows i row ∷ [])))
 
--- both accounts of one row more
+-- both accounts of one more row
 pub counterparties_more : (rows : List PeriodContractRow) (i : ℕ) (row : PeriodContractRow) → i < length rows → row ≡ get_or rows i row
     → (names keys once twice : List Account) → keys ≡ in_account_order (names ++ flat_map seller_and_buyer (take i rows))
     → once ≡ insert_key account_cmp keys row.contract.counterparties.seller → twice ≡ insert_key account_cmp once row.contract.counterparties.buyer

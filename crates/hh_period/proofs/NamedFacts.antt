@@ -21,7 +21,7 @@ use Rattle.hh_period.specs.Rows.{bm_unit_entry, bm_unit_of, in_account_order, in
 use Rattle.hh_period.proofs.ContractFacts.{equal}
 
 module _ {K V : Type 0} (R : K → K → Ordering) (P : V → Type 0) where
-  -- what holds of all values holds of those of a table
+  -- what holds for all values holds for those of a table
   all-put : (k : K) (v : V) (es : List (K × V)) → P v → All P (map (λ e. e.1) es) → All P (map (λ e. e.1) (put R k v es))
   all-put k v [] p all = All-cons P v [] p (All-nil P)
   all-put k v (e ∷ es) p all = elim (R k e.0) as (λ o. All P (map (λ x. x.1) (by_order o ((k, v) ∷ e ∷ es) ((e.0, v) ∷ es) (e ∷ put R k v es)))) [
@@ -100,7 +100,7 @@ all-back : {X : Type 0} (name : X → Account) (P : Account → Type 0) (rows : 
 all-back name P [] all = All-nil (λ x. P (name x))
 all-back name P (x ∷ rows) all = All-cons (λ y. P (name y)) x rows (All-head P (name x) (map name rows) all) (all-back name P rows (All-tail P (name x) (map name rows) all))
 
--- each lead of a unit in force is among the accounts, and each of its subsidiaries, of which it has none
+-- each lead of a unit in force is among the accounts; so is each of its subsidiaries, as it has none
 pub leads_among : (meters : List PeriodMeterRow) (contracts : List PeriodContractRow)
     → let accounts : List Account = period_accounts meters contracts in
     All (λ u. Contains accounts u.lead × All (λ s. Contains accounts s.account) u.subsidiaries) (in_force (map bm_unit_entry meters))

@@ -4,11 +4,11 @@ use Rattle.std.specs.List.{flat_map}
 use Rattle.std.proofs.lemmas.List.{append-nil, append_assoc, take_more}
 use Rattle.std.proofs.lemmas.List.Concat.{flat_map-append}
 
--- a piece behind another
+-- one piece after another
 and_then : (start middle end first second : List ℕ) → middle ≡ start ++ first → end ≡ middle ++ second → end ≡ start ++ (first ++ second)
 and_then start middle end first second e f = f ∙ ap (λ t. t ++ second) e ∙ append_assoc start first second
 
--- the line of one row more
+-- the line of one more row
 pub lines_more : {X : Type 0} (line : X → List ℕ) (rows : List X) (i : ℕ) (row : X) → i < length rows → row ≡ get_or rows i row
     → (start text new : List ℕ) → text ≡ start ++ flat_map line (take i rows) → new ≡ text ++ line row
     → new ≡ start ++ flat_map line (take (i + 1) rows)

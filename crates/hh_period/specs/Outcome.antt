@@ -48,7 +48,7 @@ period_input meter contracts price = do
   value ← priced (price_value price)
   Ok (period_of meter_rows contract_rows value)
 
--- the text of a period, if no figure of it passes a limit of a run
+-- the text of a period, if none of its figures exceeds a limit of a run
 abbrev pub settled_text : PeriodTerms → Outcome (List ℕ)
 settled_text p = if is_within_limits p then Ok (period_text p) else Err (record { fault = plain_fault TooLarge; input = None })
 
@@ -56,7 +56,7 @@ settled_text p = if is_within_limits p then Ok (period_text p) else Err (record 
 abbrev pub period_outcome : List ℕ → List ℕ → List ℕ → Outcome (List ℕ)
 period_outcome meter contracts price = period_input meter contracts price >>= settled_text
 
--- the refusal of memory, which names no input
+-- the refusal for memory, which names no input
 abbrev pub memory_rejection : Rejection
 memory_rejection = record { fault = memory_fault; input = None }
 
@@ -64,10 +64,10 @@ memory_rejection = record { fault = memory_fault; input = None }
 abbrev pub rejections : Refusing Rejection
 rejections = record { refusal = λ e. e.fault.refusal; memory = memory_rejection }
 
--- the outcome is a text, and known bytes grow by it
+-- the outcome is a text, and it was written
 abbrev pub Writes : Outcome (List ℕ) → DeviceChange → Type 0
 Writes outcome device = (text : List ℕ) × (outcome ≡ Ok text) × Appends device.old device.new text
 
--- the outcome is a text, and known bytes grow by a beginning of it
+-- the outcome is a text, and a beginning of it was written
 abbrev pub WritesFront : Outcome (List ℕ) → DeviceChange → Type 0
 WritesFront outcome device = (text : List ℕ) × (outcome ≡ Ok text) × AppendsFront device.old device.new text

@@ -7,7 +7,7 @@ use Rattle.hh_calc.specs.declared.result.Figures.{Figures}
 use Rattle.hh_calc.specs.Formulas.{figures, residual}
 use Rattle.hh_calc.specs.Terms.{PeriodTerms}
 
--- a number behind its name
+-- a name and a number
 abbrev pub named : List ℕ → ℕ → ℤ → List ℕ
 named name decimals z = name ++ fixed_text decimals z
 

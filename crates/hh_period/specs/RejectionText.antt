@@ -5,7 +5,7 @@ use Rattle.hh_period.specs.declared.rejection.Input.{Input}
 use Rattle.hh_period.specs.declared.rejection.Input.TheVariants.{Meter, Contracts, Price}
 use Rattle.hh_period.specs.declared.rejection.Rejection.{Rejection}
 
--- the word of an input
+-- the word for an input
 abbrev pub input_word : Input → List ℕ
 input_word Meter = codes "meter"
 input_word Contracts = codes "contracts"

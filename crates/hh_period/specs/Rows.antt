@@ -15,7 +15,7 @@ use Rattle.hh_calc.specs.Terms.{BmUnit, PeriodTerms, Rows}
 use Rattle.hh_texts.specs.declared.period_contracts.PeriodContractRow.{PeriodContractRow}
 use Rattle.hh_texts.specs.declared.period_meters.PeriodMeterRow.{PeriodMeterRow}
 
--- the BM Unit of a row: no interconnector's, and without subsidiaries
+-- the BM Unit of a row; it is no interconnector, and has no subsidiaries
 abbrev pub bm_unit_of : PeriodMeterRow → BmUnit
 bm_unit_of r = record { unit = r.unit; lead = r.lead; interconnector = false; reading = r.reading; subsidiaries = [] }
 
@@ -27,7 +27,7 @@ bm_unit_entry r = (r.unit, bm_unit_of r)
 abbrev pub period_contract_entry : PeriodContractRow → List ℕ × Contract
 period_contract_entry r = (r.reference, r.contract)
 
--- the last row of each key counts, in the order of the keys
+-- the values in the order of their keys; the last row of each key counts
 abbrev pub in_force : {V : Type 0} → List (List ℕ × V) → List V
 in_force entries = map (λ e. e.1) (table_of_last bytes_cmp entries)
 
@@ -39,7 +39,7 @@ in_account_order names = map (λ e. e.0) (table_of_last account_cmp (map (λ a. 
 abbrev pub seller_and_buyer : PeriodContractRow → List Account
 seller_and_buyer r = r.contract.counterparties.seller ∷ r.contract.counterparties.buyer ∷ []
 
--- all accounts that rows name, also those of rows that a later one replaces
+-- all accounts that rows name; rows that a later one replaces also count
 abbrev pub named_accounts : List PeriodMeterRow → List PeriodContractRow → List Account
 named_accounts meters contracts = map (λ r. r.lead) meters ++ flat_map seller_and_buyer contracts
 
@@ -60,7 +60,7 @@ period_of meters contracts price = record {
 abbrev pub counterparties_entry : PeriodContractRow → List ℕ × Counterparties
 counterparties_entry r = (r.reference, r.contract.counterparties)
 
--- why a row is refused among these rows: the first of its reference gives the counterparties
+-- why a row is refused among these rows; the first row of its reference decides the counterparties
 abbrev pub refusal_among : List PeriodContractRow → PeriodContractRow → Option Refusal
 refusal_among rows r = first_met (counterparty_refusals (find bytes_cmp r.reference (map counterparties_entry rows)) r.contract.counterparties)
 

@@ -15,14 +15,14 @@ use hh_texts::{PeriodContractRow, PeriodMeterRow};
 use std::alloc::{AllocError, Global};
 use std::collections::{BTreeMap, BTreeSet};
 
-/// The unit of a row: no interconnector's, and without subsidiaries.
+/// The BM Unit of a row. It is no interconnector, and has no subsidiaries.
 fn bm_unit_of(alloc: Global, row: &PeriodMeterRow) -> UnitData
     ensures { result ≡ bm_unit_of row.now }
 {
     UnitData::new(row.unit, row.lead, false, row.reading, Vec::new(alloc))
 }
 
-/// The units of the rows: the last row of each unit counts, in the order of their ids.
+/// The units of the rows, in the order of their ids. The last row of each unit counts.
 pub(crate) fn units_in_force(
     alloc: Global,
     rows: &[PeriodMeterRow],
@@ -36,7 +36,7 @@ pub(crate) fn units_in_force(
     units.into_values().collect(alloc)
 }
 
-/// The accounts that the rows name, in account order, also those of replaced rows.
+/// The accounts that the rows name, in account order. Rows that a later one replaces also count.
 pub(crate) fn accounts_named(
     alloc: Global,
     meters: &[PeriodMeterRow],
@@ -68,9 +68,9 @@ fn add_counterparties(
     Ok(())
 }
 
-/// The contracts of the rows: the last row of each reference counts, in the order of the
-/// references. Refused are 35, the same account twice, and 36, another seller or buyer than in the
-/// first row of the reference (Section P in shape).
+/// The contracts of the rows, in the order of their references. The last row of each reference counts.
+/// Refusal 35: the same account twice. Refusal 36: another seller or buyer than in the first row of the
+/// reference (Section P in shape).
 pub(crate) fn contracts_in_force(
     alloc: Global,
     rows: &[PeriodContractRow],

@@ -1,4 +1,4 @@
-//! One Settlement Period from the texts of its inputs.
+//! One Settlement Period, from the texts of its inputs.
 
 ghost use Rattle.std.specs.Prelude.{◌≡◌, ◌≤◌, length, map, Err, IfOk, OnOk, IsErrOf};
 ghost use Rattle.hh_devices.specs.DeviceChanges.{change};
@@ -22,12 +22,12 @@ use hh_num::Price;
 use hh_texts::{PeriodContractRow, PeriodMeterRow, read_period_contracts, read_period_meters};
 use std::alloc::Global;
 
-/// Why a period is not settled, or not told.
+/// Why a period is not settled, or its text not written.
 #[derive(Clone, Copy, Debug, PartialEq, Eq)]
 pub enum PeriodFault {
-    /// The inputs are refused, and nothing was written. 55 and 90 name no input.
+    /// The inputs are refused, and nothing was written. Refusals 55 and 90 name no input.
     Refused(Rejection),
-    /// The output failed or took nothing, and a beginning of the text went out.
+    /// The output failed or took nothing, and a beginning of the text was written.
     Write,
 }
 
@@ -42,15 +42,15 @@ impl From<Rejection> for PeriodFault {
     }
 }
 
-/// Settles one period from two files and a price (Section T), and writes a line for each account
-/// that the files name, in account order, and the residual.
+/// Settles one period from two files and a price (Section T), and writes a line for each account that the
+/// files name, in account order, and then the residual.
 ///
 /// # Errors
 ///
-/// `Refused` with the first refusal in the order METER (10 to 14), CONTRACTS (10 to 14, then 35 and
-/// 36), PRICE (14), the limits of a run (55), or with 90 if memory runs out, in the place of any
-/// answer; nothing was written then. `Write` where the output failed or took nothing in this call;
-/// a beginning of the text went out then.
+/// `Refused` with the first refusal, in the order METER (10 to 14), CONTRACTS (10 to 14, then 35 and 36),
+/// PRICE (14), the limits of a run (55). If memory runs out, refusal 90 may take the place of any answer.
+/// Nothing was written then. `Write`: the output failed or took nothing in this call, and a beginning of
+/// the text was written.
 pub fn period<S: Sink>(
     alloc: Global,
     meter: &[u8],
@@ -58,17 +58,17 @@ pub fn period<S: Sink>(
     price: &[u8],
     out: &mut S,
 ) -> Result<(), PeriodFault>
-    // The text of the settled period went out, and nothing else.
+    // The text of the settled period was written, and nothing else.
     ensures written { OnOk result (Writes (period_outcome meter.now contracts.now price.now)
         (change S.taken S.failures out.old out.new)) }
     ensures well { OnOk result (S.failures out.new ≡ S.failures out.old) }
 
-    // The first refusal, or that of memory, and then nothing was written.
+    // The first refusal, or the refusal for memory. Nothing was written.
     ensures refused { (e : Rejection) → result ≡ Err (PeriodFault.Refused e)
         → Refuses rejections e (period_outcome meter.now contracts.now price.now) }
     ensures untouched { (e : Rejection) → result ≡ Err (PeriodFault.Refused e) → out.new ≡ out.old }
 
-    // The device failed in this call, and a beginning of the text went out.
+    // The device failed in this call, and a beginning of the text was written.
     ensures cut { IsErrOf result PeriodFault.Write
         → WritesFront (period_outcome meter.now contracts.now price.now)
         (change S.taken S.failures out.old out.new) }
@@ -105,7 +105,7 @@ fn contract_rows(alloc: Global, contracts: &[u8]) -> Result<Vec<PeriodContractRo
     }
 }
 
-/// The contracts in force of rows of which none is refused.
+/// The contracts in force, if none of the rows is refused.
 fn accepted_contracts(alloc: Global, rows: &[PeriodContractRow]) -> Result<Vec<Contract>, Rejection>
     requires { length rows.now ≤ most_rows }
     ensures accepted { Gives rejections (λ _. rows.now) result
@@ -129,7 +129,7 @@ fn read_price(price: &[u8]) -> Result<Price, Rejection>
     }
 }
 
-/// The period of the inputs.
+/// The terms of the period from its inputs.
 fn gather_period(
     alloc: Global,
     meter: &[u8],
@@ -151,7 +151,7 @@ fn gather_period(
     Ok(PeriodData::new(accounts, units, Contracts::Rows(contracts), price))
 }
 
-/// The text of the settled period of the inputs.
+/// The text of the period that is settled from the inputs.
 fn settle_inputs(
     alloc: Global,
     meter: &[u8],

@@ -21,7 +21,7 @@ fn push_account(text: &mut Vec<u8>, account: &Account) -> Result<(), AllocError>
     Ok(())
 }
 
-/// Appends a number behind its name.
+/// Appends a name and a number.
 fn push_named<Q: Quantity>(
     text: &mut Vec<u8>,
     name: &str,
@@ -60,7 +60,7 @@ fn push_residual_line(text: &mut Vec<u8>, residual: Pence) -> Result<(), AllocEr
     text.extend_from_slice(b"\n")
 }
 
-/// Appends the text of a settled period: a line for each account in order, then the residual.
+/// Appends the text of a settled period: a line for each account in order, and then the residual.
 pub(crate) fn push_period(text: &mut Vec<u8>, settled: &PeriodResult) -> Result<(), AllocError>
     ensures { OnOk result (text.new.items ≡ text.old.items ++ settled_lines settled.now) }
 {

@@ -14,7 +14,7 @@ pub enum Input {
     Price,
 }
 
-/// A refusal, with the input that it names. Refused memory and figures past a limit name none.
+/// A refusal, with the input that it names. Refusals for memory or for figures over a limit name none.
 #[derive(Clone, Copy, Debug, PartialEq, Eq)]
 pub struct Rejection {
     pub fault: Fault,
@@ -26,7 +26,7 @@ impl Rejection {
     ghost use Rattle.hh_names.specs.Faults.{plain_fault, ByRefusal};
     ghost use Rattle.hh_period.specs.Outcome.{memory_rejection, rejection_in};
 
-    /// A refusal of the whole.
+    /// A refusal that names no input.
     pub fn of(refusal: Refusal) -> Rejection
         ensures { result ≡ record { fault = plain_fault refusal; input = None } }
     {

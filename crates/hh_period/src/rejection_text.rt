@@ -8,7 +8,7 @@ use crate::rejection::{Input, Rejection};
 use std::error::Error;
 use std::fmt;
 
-/// The text is the refusal's, and ` in <input>` where it names one.
+/// The text of the refusal, and ` in <input>` if it names an input.
 impl fmt::Display for Rejection {
     ghost output = { λ e. Some (rejection_text e) };
 
@@ -20,7 +20,7 @@ impl fmt::Display for Rejection {
 
 impl Error for Rejection {}
 
-/// The word by which a refusal's line names an input.
+/// The word for an input in a refusal's line.
 fn word_of(input: Input) -> &'static str
     ensures { result.now ≡ input_word input }
 {

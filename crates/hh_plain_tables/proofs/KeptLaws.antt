@@ -1,4 +1,4 @@
--- What a load puts into the tables of what is registered and in force, table by table.
+-- What a load puts into each of the tables of what is registered and in force.
 use Rattle.std.proofs.Common.{◌≡◌, List, [], ◌∷◌, refl, sym, ap, ◌∙◌}
 use Rattle.std.specs.Prelude.{filter_map, unwrap_or}
 use Rattle.hh_tables.specs.Tables.{put_all}
@@ -12,7 +12,7 @@ use Rattle.hh_states.specs.Changes.{LoadWrites, put_row, put_rows, registered_wi
 use Rattle.hh_plain_tables.specs.declared.changed_tables.ChangedTables.{ChangedTables}
 use Rattle.hh_plain_tables.specs.steps.KeptTables.{with_changed}
 
--- the tables with the entries of rows put into each
+-- the tables, with the entries of the rows put into each
 abbrev by_table : List Row → Registered → Registered
 by_table rows tables = record {
   parties = put_all bytes_cmp (filter_map party_entry rows) tables.parties;
@@ -24,7 +24,7 @@ by_table rows tables = record {
   reallocations = put_all reallocation_key_cmp (filter_map reallocation_entry rows) tables.reallocations;
 }
 
--- rows that are put in one after the other put their entries into each table
+-- putting in one row after another puts their entries into each table
 put_rows_by_table : (rows : List Row) (tables : Registered) → put_rows rows tables ≡ by_table rows tables
 put_rows_by_table [] tables = refl
 put_rows_by_table (row.Party r ∷ rows) tables = put_rows_by_table rows (put_row (row.Party r) tables)
@@ -34,7 +34,7 @@ put_rows_by_table (row.Price r ∷ rows) tables = put_rows_by_table rows (put_ro
 put_rows_by_table (row.Contract r ∷ rows) tables = put_rows_by_table rows (put_row (row.Contract r) tables)
 put_rows_by_table (row.Reallocation r ∷ rows) tables = put_rows_by_table rows (put_row (row.Reallocation r) tables)
 
--- tables that were made anew with the entries of a load are, taken over, those after the load
+-- taking over the tables that were made anew gives the tables after the load
 pub changed_with : (w : LoadWrites) (tables : Registered) (changed : ChangedTables)
     → unwrap_or changed.parties tables.parties ≡ put_all bytes_cmp (filter_map party_entry w.rows) tables.parties
     → unwrap_or changed.units tables.units ≡ put_all bytes_cmp (filter_map unit_entry w.rows) tables.units

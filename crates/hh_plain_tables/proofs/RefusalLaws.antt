@@ -1,4 +1,4 @@
--- What tables in memory refuse for: memory alone. So they count no refusal.
+-- Tables in memory refuse only if memory is refused. So they count no refusals.
 use Rattle.std.proofs.Common.{◌≡◌, ℕ, List, Result, Ok, Err, refl, sym, subst}
 use Rattle.std.specs.Prelude.{IfErr}
 use Rattle.hh_devices.specs.DeviceChanges.{DeviceChange}
@@ -11,7 +11,7 @@ use Rattle.hh_store.specs.declared.output_fault.OutputFault.{OutputFault}
 use Rattle.hh_store.specs.declared.store_fault.StoreFault.{StoreFault}
 use Rattle.hh_store.specs.declared.store_fault.StoreFault.TheVariants.{Memory}
 
--- a call that fails for memory alone counts no refusal
+-- a call that fails only if memory is refused counts no refusal
 pub memory_alone_counts : {A : Type 0} (n : ℕ) (result : Result A StoreFault) → IfErr result (λ fault. fault ≡ Memory) → CountsRefusal result n n
 memory_alone_counts n (Ok x) alone = refl
 memory_alone_counts {A} n (Err fault) alone = subst (λ (f : StoreFault). CountsRefusal {A = A} (Err f) n n) (sym alone) refl
@@ -21,7 +21,7 @@ pub reached_sound : SoundStates → (content : Content) → AreReached content �
 reached_sound law content (midnight, s, stands) =
     subst (λ (c : Content). AreSound c.registered) (sym stands.1) (law midnight s stands.0)
 
--- what a sink counts where a report is written from rows
+-- what a sink counts when a report is written from rows
 pub outputs_count : {A : Type 0} (device : DeviceChange) (text : List ℕ) (result : Result A OutputFault)
     → Outputs device text result → CountsOutcome device result
 outputs_count device text (Ok x) went = went.1

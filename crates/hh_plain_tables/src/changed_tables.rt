@@ -16,7 +16,7 @@ use hh_store::LoadChange;
 use hh_tables::ListTable;
 use std::alloc::{AllocError, Global};
 
-/// The tables that a load changes, made anew; a table that it doesn't change is missing.
+/// The tables that a load changes, made anew. A table that it doesn't change is missing.
 #[derive(Drop)]
 pub(crate) struct ChangedTables {
     pub(crate) parties: Option<ListTable<PartyId, PartyRegistration>>,
@@ -28,7 +28,7 @@ pub(crate) struct ChangedTables {
     pub(crate) reallocations: Option<ListTable<ReallocationKey, Reallocation>>,
 }
 
-/// The tables that a load changes, made anew. `Err` only where memory is refused.
+/// The tables that a load changes, made anew. `Err` only if memory is refused.
 pub(crate) fn changed_by(
     alloc: Global,
     register: &KeptRegister,

@@ -1,4 +1,4 @@
-//! The entries of rows: what the rows of a file put under which keys, for each table but that of the
+//! The entries of rows: what the rows of a file put under which keys, for each table except that of the
 //! references.
 
 ghost use Rattle.std.specs.Prelude.{◌≡◌, filter_map, IfOk};

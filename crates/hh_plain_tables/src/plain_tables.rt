@@ -34,9 +34,9 @@ use hh_time::{Day, SettlementDate};
 use std::alloc::Global;
 use std::marker::Model;
 
-/// The tables of an office, kept as lists in memory. To read the settings, a party, a unit, a reference
-/// or a key never fails. The other calls answer no fault but `Memory`, and the reports `Write` besides,
-/// where their output fails; `register` answers none but `Memory` if what is registered and in force is
+/// The tables of an office, kept as lists in memory. Reading the settings, a party, a unit, a reference
+/// or a key never fails. The other calls answer no fault but `Memory`. The reports also answer `Write`, if
+/// their output fails. `register` answers no fault but `Memory` if what is registered and in force is
 /// sound.
 #[derive(Drop)]
 pub struct PlainTables {
@@ -156,7 +156,7 @@ impl Tables for PlainTables {
         ensures refusals_counted { AreReached self.old → CountsRefusal result 0 0 }
         ensures same { self.new ≡ self.old }
     {
-        // Does nothing, but carries a law for the proof: what is registered in a reached state is sound.
+        // A law for the proof: what is registered in a reached state is sound. The call does nothing.
         sound_states();
         self.register
             .register_for(self.alloc, self.settings.lead_minutes, rows)

@@ -3,11 +3,11 @@
 /// One answer.
 #[derive(Debug, Drop, PartialEq, Eq)]
 pub(crate) enum Answer {
-    /// The bytes of a reply, or of a report that is whole.
+    /// The bytes of a reply, or of a whole report.
     Given(Vec<u8>),
-    /// Memory was told as refused. These bytes of a report were out.
+    /// It was told that memory was refused. Before that, these bytes of a report were written.
     Refused(Vec<u8>),
-    /// The call gave up for want of memory, and its reply is not known.
+    /// The call gave up because memory was refused, and its reply is not known.
     GivenUp,
     /// Something that no call may answer.
     Wrong,
@@ -16,9 +16,9 @@ pub(crate) enum Answer {
 /// What came of a call.
 #[derive(Drop)]
 pub(crate) struct Attempt {
-    /// An answer for each thing that was asked.
+    /// An answer to each thing that was asked.
     pub(crate) answers: Vec<Answer>,
-    /// Whether a growth was refused in it.
+    /// Whether a growth of memory was refused during the call.
     pub(crate) refused: bool,
 }
 
@@ -31,7 +31,8 @@ impl Answer {
         }
     }
 
-    /// Whether this tells that memory was refused, where this is the right answer: of a report only its beginning may be out.
+    /// Whether this tells that memory was refused, given the right answer. Only a beginning of a report may
+    /// have been written.
     pub(crate) fn is_refused(&self, right: &Answer) -> bool {
         match (self, right) {
             (Answer::Refused(bytes), Answer::Given(wanted)) => wanted.starts_with(bytes),
@@ -58,7 +59,7 @@ impl Attempt {
                 || pair.0.is_refused(pair.1))
     }
 
-    /// Whether an answer is the right one.
+    /// Whether at least one answer is the right one.
     pub(crate) fn is_partly_right(&self, right: &[Answer]) -> bool {
         self.answers
             .iter()

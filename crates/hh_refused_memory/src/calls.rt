@@ -12,7 +12,7 @@ use hh_wire::{Incoming, Routes, WireFault, read_request};
 use std::alloc::Global;
 use std::fs;
 
-/// The call of the file at a path, at a moment.
+/// The call that a file asks for, at a moment.
 pub(crate) fn call_of(rt: &HostRuntime, moment: i64, path: &str) -> Result<Call, MeasureStop> {
     let bytes = fs::read(rt, path)?;
     let asked = asked_by(rt.alloc(), moment, &bytes)?;
@@ -47,7 +47,7 @@ fn report_in(alloc: Global, bytes: &[u8]) -> Result<Option<Asked>, MeasureStop> 
     }
 }
 
-/// The request that the bytes are, twice, if they are one.
+/// The request of these bytes, twice, if they are one.
 fn request_in(alloc: Global, moment: i64, bytes: &[u8]) -> Result<Asked, MeasureStop> {
     match (request_of(alloc, bytes)?, request_of(alloc, bytes)?) {
         (Some(first), Some(second)) => Ok(Asked::Twice([(moment, first), (moment, second)])),
@@ -55,7 +55,7 @@ fn request_in(alloc: Global, moment: i64, bytes: &[u8]) -> Result<Asked, Measure
     }
 }
 
-/// The request that the bytes are, if they are one.
+/// The request of these bytes, if they are one.
 fn request_of(alloc: Global, bytes: &[u8]) -> Result<Option<Request>, MeasureStop> {
     let mut routes = Routes::new();
     match read_request(alloc, &mut routes, &mut MemorySource::new(bytes)) {
@@ -67,7 +67,7 @@ fn request_of(alloc: Global, bytes: &[u8]) -> Result<Option<Request>, MeasureSto
     }
 }
 
-/// The rows of the file that is sent, none where none is, or where it is refused.
+/// The rows of the file that is sent. There are none if no file is sent, or if it is refused.
 fn rows_of(alloc: Global, asked: &Asked) -> Result<Vec<Row>, MeasureStop> {
     match asked {
         Asked::Twice([(_, request), _]) => rows_in(alloc, request),

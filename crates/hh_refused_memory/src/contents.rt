@@ -1,4 +1,5 @@
-//! What the tables of an office tell of all that calls name: the text of it tells tables with different content apart.
+//! What the tables of an office tell about everything that calls name, as a text. Tables with different
+//! content have different texts.
 
 use crate::plan::Call;
 use crate::stop::TrialStop;
@@ -15,7 +16,7 @@ use std::fmt::Debug;
 /// More bytes than the balances and the results of a run have.
 const ROOM: usize = 65_536;
 
-/// A text in the making.
+/// A text that is being written.
 #[derive(Drop)]
 struct Text {
     alloc: Global,
@@ -23,7 +24,7 @@ struct Text {
 }
 
 impl Text {
-    /// Appends what is told of a value.
+    /// Appends a value as text.
     fn tell<V: Debug>(&mut self, value: &V) -> Result<(), AllocError> {
         let text = format!(in self.alloc; "{value:?}\n")?;
         self.put(text.as_bytes())
@@ -35,7 +36,7 @@ impl Text {
     }
 }
 
-/// What tables tell of what these calls name.
+/// What tables tell about what these calls name.
 pub(crate) fn contents_of<T: Tables>(
     alloc: Global,
     tables: &mut T,
@@ -55,7 +56,7 @@ pub(crate) fn contents_of<T: Tables>(
     Ok(text.bytes)
 }
 
-/// What they tell of what one call names.
+/// Appends what they tell about what one call names.
 fn tell_call<T: Tables>(tables: &mut T, call: &Call, text: &mut Text) -> Result<(), TrialStop> {
     match call.action() {
         Some(Action::Load(upload)) => tell_file(tables, upload, &call.rows, text),
@@ -68,7 +69,7 @@ fn tell_call<T: Tables>(tables: &mut T, call: &Call, text: &mut Text) -> Result<
     }
 }
 
-/// What they tell of a run: the runs of its date, and its rows where it is there.
+/// Appends what they tell about a run: the runs of its date, and its rows if it exists.
 fn tell_run<T: Tables>(tables: &mut T, run: &RunKey, text: &mut Text) -> Result<(), TrialStop> {
     let runs = tables.runs(run.date)?;
     text.tell(&runs)?;
@@ -80,7 +81,7 @@ fn tell_run<T: Tables>(tables: &mut T, run: &RunKey, text: &mut Text) -> Result<
     Ok(())
 }
 
-/// What they tell of a file and of what its rows name.
+/// Appends what they tell about a file and about what its rows name.
 fn tell_file<T: Tables>(
     tables: &mut T,
     upload: &Upload,
@@ -102,7 +103,7 @@ fn tell_file<T: Tables>(
     Ok(())
 }
 
-/// What a register tells of what a row names.
+/// Appends what a register tells about what a row names.
 fn tell_row(register: &Register, row: &Row, text: &mut Text) -> Result<(), AllocError> {
     match row {
         Row::Party(row) => text.tell(&register.party(&row.party)),
@@ -117,7 +118,7 @@ fn tell_row(register: &Register, row: &Row, text: &mut Text) -> Result<(), Alloc
     }
 }
 
-/// What they tell of a party: whether its key is known, and what was posted to its accounts.
+/// Appends what they tell about a party: whether its key is known, and what was posted to its accounts.
 fn tell_party<T: Tables>(tables: &mut T, row: &PartyRow, text: &mut Text) -> Result<(), TrialStop> {
     text.tell(&tables.key_known(row.registration.key.as_bytes())?)?;
     for side in [Side::Production, Side::Consumption] {

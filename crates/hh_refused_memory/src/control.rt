@@ -1,5 +1,6 @@
-//! How the library that refuses memory is told what to refuse, and asked whether it has: by paths that are opened. To open a
-//! path takes no memory, and none of these is ever opened. Without the library they are not there.
+//! How the library that refuses memory is told what to refuse, and asked whether it has refused: by opening
+//! certain paths. Opening a path takes no memory, and these paths are never really opened. Without the
+//! library, nothing is at these paths.
 
 use hh_measures::MeasureStop;
 use std::alloc::Global;
@@ -7,7 +8,7 @@ use std::fs;
 use std::io::ErrorKind;
 use std::rt::Files;
 
-/// The path at which the library tells whether it has refused a growth. It refuses none from then on.
+/// The path at which the library tells whether it has refused a growth. After that it refuses none.
 const ASKED: &str = "/refused-memory/asked";
 
 /// How much memory is refused.
@@ -15,7 +16,7 @@ const ASKED: &str = "/refused-memory/asked";
 pub(crate) enum How {
     /// One growth.
     Once,
-    /// A growth, and each one behind it.
+    /// A growth, and each later one.
     On,
 }
 
@@ -26,7 +27,7 @@ pub(crate) struct Refusing {
 }
 
 impl Refusing {
-    /// The growth with this number, counted from 1 where the call begins; 0 is none.
+    /// The growth with this number, counted from 1 at the beginning of the call. For 0, none is refused.
     pub(crate) fn growth(alloc: Global, how: How, number: u32) -> Result<Refusing, MeasureStop> {
         let path = match how {
             How::Once => format!(in alloc; "/refused-memory/once/{number}")?,
@@ -35,13 +36,13 @@ impl Refusing {
         Ok(Refusing { path })
     }
 
-    /// A call begins now.
+    /// Tells the library that a call begins now.
     pub(crate) fn begin<R: Files>(&self, rt: &R) {
         let _ = fs::open(rt, self.path.as_str());
     }
 }
 
-/// A call has ended now. Answers whether a growth was refused in it.
+/// Tells the library that a call has ended now. Answers whether a growth was refused during it.
 pub(crate) fn was_refused<R: Files>(rt: &R) -> bool {
     match fs::open(rt, ASKED) {
         Ok(_) => false,

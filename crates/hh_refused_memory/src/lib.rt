@@ -1,13 +1,14 @@
-//! What an office answers where memory is refused: each growth of memory that a call makes is refused in turn, and what comes
-//! of the call is looked at, in a command of the program beside those of `hh_measures`.
+//! What an office answers if memory is refused. Each growth of memory that a call makes is refused in turn,
+//! and what comes of the call is checked. This is a command of the program beside those of `hh_measures`.
 //!
-//! - `refuse WAY HOW STORE MOMENT FILE ..` makes an office and gives it the calls of the files, one after the other, each at its
-//!   moment. A file holds a request as HTTP has it, or a line of a script that asks for a report. WAY is `handle`, `serve` or
-//!   `together`; HOW is `once`, where one growth is refused, or `on`, where each one behind it is refused too; STORE is `memory`
-//!   or the path of a database file that is to be made.
+//! - `refuse WAY HOW STORE MOMENT FILE ..` makes an office and gives it the calls of the files, one after
+//!   the other, each at its moment. A file contains an HTTP request, or a line of a script that asks for a
+//!   report. WAY is `handle`, `serve` or `together`. HOW is `once` if one growth is refused, or `on` if
+//!   each later one is refused too. STORE is `memory`, or the path of a database file that is to be made.
 //!
-//! Who refuses is a library that is loaded before the program, `tests/failing_malloc.c`. Without it no growth is refused. What
-//! was tried goes to standard output, and what did not come as it has to goes to standard error.
+//! Memory is refused by a library that is loaded before the program, `tests/failing_malloc.c`. Without it
+//! no growth is refused. What was tried is written to standard output, and what was not as it should be to
+//! standard error.
 #![tactic(auto)]
 
 mod attempt;
@@ -27,7 +28,7 @@ use stores::{InFile, InMemory};
 use sweep::sweep_all;
 use words::{Place, Wanted, wanted_of};
 
-/// Whether a line of words, the program's own name in front, is one of this command.
+/// Whether a line of words, which begins with the program's own name, is one of this command.
 pub fn is_refuse(words: &[String]) -> bool {
     match words {
         [_, command, ..] => command.as_str() == "refuse",
@@ -35,7 +36,7 @@ pub fn is_refuse(words: &[String]) -> bool {
     }
 }
 
-/// Does what the words of this command ask for. `Broken` where something did not come as it has to, which is told then.
+/// Does what the words of this command ask for. `Broken` if something was not as it should be, and told.
 pub fn refuse(rt: &HostRuntime, words: &[String]) -> Result<(), MeasureStop> {
     let wanted = wanted_of(rt, words)?;
     match swept(rt, &wanted) {

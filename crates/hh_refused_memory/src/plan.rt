@@ -4,14 +4,14 @@ use crate::control::How;
 use hh_requests::{Action, Report, Request};
 use hh_rows::Row;
 
-/// By which call of the office requests are tried.
+/// The call of the office by which requests are tried.
 #[derive(Clone, Copy, Debug, PartialEq, Eq)]
 pub(crate) enum Way {
     /// By `handle`, and by the calls for reports.
     Handle,
     /// By `serve_one`.
     Serve,
-    /// By `run_all`, of the same request twice.
+    /// By `run_all`, with the same request twice.
     Together,
 }
 
@@ -32,12 +32,12 @@ pub(crate) struct Call {
     pub(crate) moment: i64,
     pub(crate) bytes: Vec<u8>,
     pub(crate) asked: Asked,
-    /// The rows of the file that is sent with it, if one is.
+    /// The rows of the file that is sent by it, if a file is sent.
     pub(crate) rows: Vec<Row>,
 }
 
 impl Call {
-    /// What is asked by the request, if it is one.
+    /// The action of the request, if it is a request.
     pub(crate) fn action(&self) -> Option<&Action> {
         match &self.asked {
             Asked::Twice([(_, request), _]) => Some(&request.action),

@@ -10,28 +10,29 @@ use std::alloc::{AllocError, AllocFailed};
 pub(crate) enum TrialStop {
     /// The trial itself could not be made.
     Measure(MeasureStop),
-    /// Something did not come as it has to.
+    /// Something was not as it should be.
     Wrong(Wrong),
 }
 
-/// What did not come as it has to.
+/// What was not as it should be.
 #[derive(Clone, Copy, Debug)]
 pub(crate) enum What {
-    /// An answer that is neither the right one nor that memory was refused.
+    /// An answer is neither the right one nor tells that memory was refused.
     Answer,
-    /// Memory was told as refused, though no growth was.
+    /// It was told that memory was refused, but no growth was.
     RefusedForNothing,
-    /// The tables are not those before the call, though memory was told as refused.
+    /// It was told that memory was refused, but the tables are not those before the call.
     TablesAfterRefusal,
-    /// The tables are not those behind the call, though it was answered.
+    /// The call was answered, but the tables are not those after it.
     TablesAfterAnswer,
-    /// The same call got another answer, or left other tables, with ample memory.
+    /// With ample memory, the same call got another answer, or left other tables.
     Again,
-    /// A call was refused memory in each of so many tries.
+    /// In all of a great number of tries, the call was refused memory.
     Endless,
 }
 
-/// What did not come as it has to: in which call, counted from 1, and with which growth refused, counted from 1.
+/// What was not as it should be, in which call, counted from 1, and which growth was refused, counted from
+/// 1.
 #[derive(Clone, Copy, Debug)]
 pub(crate) struct Wrong {
     pub(crate) what: What,
@@ -40,7 +41,7 @@ pub(crate) struct Wrong {
 }
 
 impl Wrong {
-    /// Tells it on standard error.
+    /// Tells this on standard error.
     pub(crate) fn tell(&self, rt: &HostRuntime) -> Result<(), MeasureStop> {
         let Wrong { what, call, growth } = self;
         eprintln!(rt; "wrong {what:?} call {call} growth {growth}").map_err(|_| MeasureStop::Output)

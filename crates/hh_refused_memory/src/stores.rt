@@ -1,4 +1,4 @@
-//! New offices' tables, in memory and in a database file.
+//! The tables of new offices, in memory and in a database file.
 
 use crate::stop::TrialStop;
 use hh_measures::MeasureStop;
@@ -16,13 +16,13 @@ use std::fs;
 pub(crate) trait Store: Drop {
     type Tables: Tables;
 
-    /// The tables of a new office, in the place of those that were kept here before.
+    /// The tables of a new office. They replace those that were kept here before.
     fn begin(&self, rt: &HostRuntime) -> Result<Self::Tables, TrialStop>;
 
-    /// Bytes that stay as long as the tables do, if there are any.
+    /// Bytes that do not change as long as the tables don't, if there are any.
     fn stamp(&self, rt: &HostRuntime) -> Result<Option<Vec<u8>>, TrialStop>;
 
-    /// Lets the tables go.
+    /// Drops or closes the tables.
     fn end(&self, tables: Self::Tables) -> Result<(), TrialStop>;
 }
 
@@ -44,7 +44,7 @@ fn settings() -> Result<Settings, MeasureStop> {
     })
 }
 
-/// Tables in memory, of a new office.
+/// The tables of a new office, in memory.
 pub(crate) fn plain_tables(alloc: Global) -> Result<PlainTables, MeasureStop> {
     Ok(PlainTables::new(alloc, settings()?))
 }
@@ -56,7 +56,7 @@ impl Store for InMemory {
         Ok(plain_tables(rt.alloc())?)
     }
 
-    /// Tables in memory have none.
+    /// Tables in memory have no such bytes.
     fn stamp(&self, _rt: &HostRuntime) -> Result<Option<Vec<u8>>, TrialStop> {
         Ok(None)
     }

@@ -1,4 +1,4 @@
-//! Each call with each growth of memory refused in turn, until none is.
+//! Each call, with each growth of memory refused in turn, until none is refused.
 
 use crate::attempt::{Answer, Attempt};
 use crate::contents::contents_of;
@@ -14,7 +14,7 @@ use hh_plain_tables::PlainTables;
 use hh_store::Tables;
 use hh_time::london;
 
-/// Up to this growth each is refused, and beyond it each `STEP`th.
+/// Up to this number each growth is refused, and after it each `STEP`th.
 const EACH: u32 = 300;
 
 const STEP: u32 = 61;
@@ -22,36 +22,36 @@ const STEP: u32 = 61;
 /// More tries than any call needs.
 const MOST_TRIES: usize = 100_000;
 
-/// What has to come of a call.
+/// What should come of a call.
 #[derive(Drop)]
 struct Right {
     answers: Vec<Answer>,
-    /// What the tables tell before it, and behind it.
+    /// What the tables tell before and after it.
     before: Vec<u8>,
     after: Vec<u8>,
 }
 
-/// What came of a call with a growth refused.
+/// What came of a call during which a growth was refused.
 #[derive(Clone, Copy, Debug, PartialEq, Eq)]
 enum Outcome {
     /// The right answer, and no growth was refused.
     Answered,
-    /// Memory was told as refused, and the tables are those before the call.
+    /// It was told that memory was refused, and the tables are those before the call.
     Refused,
-    /// The right answer, of a call that changes nothing.
+    /// The right answer to a call that changes nothing, although a growth was refused.
     DoneWithout,
-    /// The tables are those behind the call, though a growth was refused.
+    /// The tables are those after the call, although a growth was refused.
     Moved,
 }
 
-/// What tables told when they were read last, and their stamp then.
+/// What the tables told when they were read last, and their stamp at that time.
 #[derive(Drop)]
 struct Seen {
     contents: Vec<u8>,
     stamp: Option<Vec<u8>>,
 }
 
-/// How many tries of a call came to what.
+/// How many tries of a call had which outcome.
 #[derive(Clone, Copy, Debug)]
 struct Counts {
     refused: u32,
@@ -110,7 +110,7 @@ pub(crate) fn sweep_all<S: Store>(
 }
 
 impl<S: Store> Trial<'_, S> {
-    /// Lets the tables go, since this has come.
+    /// Drops or closes the tables because the trial ends, and returns why.
     fn ended(&self, tables: S::Tables, stop: TrialStop) -> TrialStop {
         let _ = self.store.end(tables);
         stop
@@ -124,7 +124,8 @@ impl<S: Store> Trial<'_, S> {
         }
     }
 
-    /// What has to come of the call at a place, by tables in memory, which are those behind it then.
+    /// What should come of the call at a place, by tables in memory. They are the tables after it
+    /// afterwards.
     fn right_of(
         &self,
         place: usize,
@@ -151,7 +152,7 @@ impl<S: Store> Trial<'_, S> {
         Ok((right, tables))
     }
 
-    /// What comes of the call at a place, with this growth refused, over tables that are handed back.
+    /// What comes of the call at a place over tables, with this growth refused. The tables are returned.
     fn made<T: Tables>(
         &self,
         place: usize,
@@ -173,7 +174,7 @@ impl<S: Store> Trial<'_, S> {
         attempt(self.rt, office, self.plan.way, self.call(place)?, &refusing)
     }
 
-    /// What the call at a place comes to with this growth refused.
+    /// The outcome of the call at a place, with this growth refused.
     fn outcome(
         &self,
         place: usize,
@@ -216,8 +217,8 @@ impl<S: Store> Trial<'_, S> {
         Ok(())
     }
 
-    /// Makes the call at a place with each growth refused in turn, until none is, and tells what came of it. Hands back the tables
-    /// behind it.
+    /// Makes the call at a place with each growth refused in turn, until none is refused, and tells what
+    /// came of it. Returns the tables after it.
     fn sweep(
         &self,
         place: usize,
@@ -241,8 +242,8 @@ impl<S: Store> Trial<'_, S> {
         Err(self.ended(tables, wrong(What::Endless, place, growth)))
     }
 
-    /// Makes the call at a place again with ample memory. It gets the same answer, and changes nothing more. What the tables tell
-    /// is read in any case.
+    /// Makes the call at a place again, with ample memory. It must get the same answer and change nothing
+    /// more. What the tables tell is read in any case.
     fn again(
         &self,
         place: usize,
@@ -299,8 +300,8 @@ impl<S: Store> Trial<'_, S> {
         Ok(())
     }
 
-    /// The tables before the call at a place, made anew, since these have moved behind it. The same call gets the right answer
-    /// before.
+    /// Makes the tables before the call at a place again, because the call has changed these. First the
+    /// call is made again, and must get the right answer.
     fn rebuilt(
         &self,
         place: usize,
@@ -322,7 +323,7 @@ impl<S: Store> Trial<'_, S> {
     }
 }
 
-/// Something did not come as it has to.
+/// Something was not as it should be.
 fn wrong(what: What, place: usize, growth: u32) -> TrialStop {
     TrialStop::Wrong(Wrong {
         what,
@@ -340,7 +341,7 @@ fn next_growth(growth: u32) -> u32 {
     }
 }
 
-/// What a call came to that left these contents, or what is wrong with it.
+/// The outcome of a call that left these contents, or what is wrong with it.
 fn outcome_of(way: Way, came: &Attempt, right: &Right, contents: &[u8]) -> Result<Outcome, What> {
     let is_before = contents == right.before.as_slice();
     let is_after = contents == right.after.as_slice();
@@ -367,8 +368,8 @@ fn outcome_of(way: Way, came: &Attempt, right: &Right, contents: &[u8]) -> Resul
     Err(What::TablesAfterRefusal)
 }
 
-/// Whether a call that was refused memory may have changed the tables: one of two requests was answered, or a client was that
-/// got no reply.
+/// Whether a call that was refused memory may have changed the tables: one of two requests was answered, or
+/// a client got no reply.
 fn may_have_moved(way: Way, came: &Attempt, right: &Right) -> bool {
     match way {
         Way::Serve => came.is_given_up(),

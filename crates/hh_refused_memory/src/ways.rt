@@ -22,7 +22,7 @@ const NO_MEMORY: &[u8] =
     b"HTTP/1.1 503 Service Unavailable\r\nContent-Type: application/json\r\nContent-Length: 30\r\n\
     Connection: close\r\n\r\n{\"name\":\"Memory\",\"refused\":90}";
 
-/// What comes of a call where a growth of memory is refused.
+/// What comes of a call during which a growth of memory is refused.
 pub(crate) fn attempt<T: Tables>(
     rt: &HostRuntime,
     office: &mut Office<'_, T>,
@@ -64,7 +64,7 @@ fn reported<T: Tables>(
     one(rt.alloc(), answer, refused)
 }
 
-/// Has an office write a report.
+/// Asks an office to write a report.
 fn written<T: Tables>(
     office: &mut Office<'_, T>,
     key: &[u8],
@@ -78,7 +78,7 @@ fn written<T: Tables>(
     }
 }
 
-/// What comes of a request that is handled.
+/// What comes of a request that the office handles.
 fn handled<T: Tables>(
     rt: &HostRuntime,
     office: &mut Office<'_, T>,
@@ -140,7 +140,7 @@ fn served<T: Tables>(
     )
 }
 
-/// What came of a client to whom these bytes went.
+/// What came of a client that got these bytes.
 fn served_as(
     alloc: Global,
     served: Result<Served, ServeFault>,
@@ -153,7 +153,7 @@ fn served_as(
     })
 }
 
-/// What a reply comes to as bytes.
+/// The bytes of a reply, as an answer.
 fn told_by(alloc: Global, reply: &Reply) -> Result<Answer, TrialStop> {
     let mut sink = MemorySink::with_room(alloc, ROOM)?;
     match write_reply(alloc, reply, false, &mut sink) {

@@ -20,7 +20,8 @@ pub(crate) struct Wanted<'a> {
     pub(crate) plan: Plan,
 }
 
-/// What a line of words asks for, the program's own name and the command's in front. Its files are read.
+/// What a line of words asks for. It begins with the program's own name and the command's. The files are
+/// read.
 pub(crate) fn wanted_of<'a>(
     rt: &HostRuntime,
     words: &'a [String],

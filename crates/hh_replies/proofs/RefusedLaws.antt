@@ -1,4 +1,4 @@
--- What a call comes to that writes a reply to a refused request.
+-- What a call that writes the reply to a refused request leaves.
 use Rattle.std.proofs.Common.{ℕ, List, Result, Ok, Err, OnErr, OnOk}
 use Rattle.std.specs.Io.KnownBytes.{Appends}
 use Rattle.hh_devices.specs.DeviceChanges.{DeviceChange, HasFailed, IsWell}
@@ -8,7 +8,7 @@ use Rattle.hh_replies.specs.ReplyText.{RepliesRefused}
 use Rattle.hh_replies.specs.Writes.{WritesRefusal}
 use Rattle.hh_replies.specs.declared.refusal.Refused.{Refused}
 
--- one that writes such a reply whole
+-- a call that writes such a reply whole
 pub writes_refusal : (device : DeviceChange) (refused : Refused) (text : List ℕ) → RepliesRefused refused text → (result : Result (Unit {0}) DeviceFailed)
     → OnOk result (Appends device.old device.new text) → OnErr result (AppendsFront device.old device.new text)
     → OnErr result (HasFailed device) → OnOk result (IsWell device) → WritesRefusal device refused result

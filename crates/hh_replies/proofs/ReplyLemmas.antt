@@ -1,4 +1,4 @@
--- Bodies of replies: lists, and that no body has a float.
+-- The bodies of replies: lists, and no body has a float.
 use Rattle.std.proofs.Common.{◌≡◌, ◌∙◌, ◌≤◌, ◌<◌, ◌+◌, ℕ, ℤ, pos, negsuc, List, [], ◌∷◌, ◌++◌, length, get_or, map, take, Bool, true, false, Option, Some, None, Vec, Global, refl, sym, ap, arith}
 use Rattle.std.specs.Prelude.{◌||◌}
 use Rattle.std.proofs.Math.Seq.{take-length}
@@ -17,7 +17,7 @@ use Rattle.hh_replies.specs.Bodies.{contract_body, kind_data, list_data, period_
 
 -- ---- lists
 
--- values that are those of the first of a list, once these are all, are those of the list
+-- if values are those of the first `n` items of a list, and these are all items, they are those of the list
 pub listed : {A : Type 0} (of_one : A → Data) (xs : List A) (n : ℕ) (values : Vec Value Global) → length xs ≤ n → n ≤ length xs
     → map view values.items ≡ map of_one (take n xs) → view (Array values) ≡ list_data of_one xs
 listed of_one xs n values low high same =
@@ -25,7 +25,7 @@ listed of_one xs n values low high same =
     let all : take n xs ≡ xs = ap (λ (m : ℕ). take m xs) whole ∙ take-length xs in
     view-Array values ∙ ap (λ (ds : List Data). Data.array (items_of ds)) (same ∙ ap (map of_one) all)
 
--- values that are those of the first of a list, with the value of the next one
+-- the values of the first items of a list, with the value of the next one
 pub listed_more : {A : Type 0} (of_one : A → Data) (xs : List A) (n : ℕ) (d : A) (values more : List Value) (value : Value) → n < length xs
     → more ≡ values ++ value ∷ [] → map view values ≡ map of_one (take n xs) → view value ≡ of_one (get_or xs n d)
     → map view more ≡ map of_one (take (n + 1) xs)

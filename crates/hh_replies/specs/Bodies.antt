@@ -45,7 +45,7 @@ energy_data ticks = string (fixed_text energies.decimals ticks)
 abbrev pub volume_data : ℤ → Data
 volume_data kwh = string (fixed_text volumes.decimals kwh)
 
--- one for each of a list
+-- one value for each item of a list
 abbrev pub list_data : {A : Type 0} → (A → Data) → List A → Data
 list_data of_one xs = array (items_of (map of_one xs))
 
@@ -54,7 +54,7 @@ abbrev pub members : List (List ℕ × Data) → Members
 members [] = no_members
 members (m ∷ ms) = member m.0 m.1 (members ms)
 
--- a member, where there is something to stand there
+-- a member, if there is a value for it
 abbrev pub placed : List ℕ → Option Data → Members → Members
 placed key None rest = rest
 placed key (Some place) rest = member key place rest
@@ -84,7 +84,7 @@ account_body r = object (members (
     (codes "account", account_data r.account) ∷ (codes "date", date_data r.run.date) ∷ (codes "kind", kind_data r.run.kind)
     ∷ (codes "net_pence", whole_data r.net) ∷ (codes "periods", list_data period_body r.rows) ∷ []))
 
--- what runs have moved to an account
+-- what runs have posted to an account
 abbrev pub balance_body : Account → ℤ → Data
 balance_body account moved = object (members ((codes "account", account_data account) ∷ (codes "moved_pence", whole_data moved) ∷ []))
 
@@ -113,7 +113,7 @@ contracts_body r = object (members (
 abbrev pub runs_body : RunsView → Data
 runs_body r = object (members ((codes "date", date_data r.date) ∷ (codes "runs", list_data kind_data r.kinds) ∷ []))
 
--- a refusal, with the places that it has
+-- a refusal, with the places that it names
 abbrev pub fault_body : Fault → Data
 fault_body fault = object (
     placed (codes "column") (option_map count_data fault.column) (

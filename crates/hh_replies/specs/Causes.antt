@@ -1,10 +1,10 @@
--- Which refusal each cause is.
+-- Which refusal tells each cause.
 use Rattle.hh_names.specs.declared.fault.Refusal.{Refusal}
 use Rattle.hh_names.specs.declared.fault.Refusal.TheVariants as named
 use Rattle.hh_replies.specs.declared.refusal.RequestRefusal.{RequestRefusal}
 use Rattle.hh_replies.specs.declared.refusal.RequestRefusal.TheVariants as refusal
 
--- the refusal by which a cause is known
+-- the refusal that tells a cause
 abbrev pub refusal_of : RequestRefusal → Refusal
 refusal_of refusal.NoRoute = named.NoRoute
 refusal_of (refusal.BadMethod allow) = named.BadMethod

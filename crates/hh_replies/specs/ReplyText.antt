@@ -11,13 +11,13 @@ use Rattle.hh_replies.specs.Bodies.{reply_body}
 use Rattle.hh_replies.specs.Causes.{refusal_of}
 use Rattle.hh_replies.specs.Statuses.{phrase_of, reply_status}
 
--- the head of a reply with this status and phrase and a body of so many bytes, and a further line
+-- the head of a reply with a status, a phrase, the length of the body in bytes, and one more line
 abbrev pub reply_head : ℕ → List ℕ → ℕ → List ℕ → List ℕ
 reply_head status phrase size line =
     codes "HTTP/1.1 " ++ (decimal status ++ (codes " " ++ (phrase ++ (codes "\r\nContent-Type: application/json\r\nContent-Length: "
     ++ (decimal size ++ (codes "\r\nConnection: close\r\n" ++ (line ++ codes "\r\n")))))))
 
--- a reply with a further line in its head: its head with its body, or its head where that alone is asked for
+-- a reply with one more line in its head: its head with its body, or only its head if that is asked for
 abbrev pub reply_with : List ℕ → Reply → Bool → List ℕ
 reply_with line given head_only =
     let body : List ℕ = compact_text (reply_body given) in
@@ -29,7 +29,7 @@ reply_with line given head_only =
 abbrev pub reply_text : Reply → Bool → List ℕ
 reply_text = reply_with []
 
--- the line that tells the method that a path has
+-- the line that tells the method of a path
 abbrev pub allow_line : RequestRefusal → List ℕ
 allow_line (refusal.BadMethod allow) = codes "Allow: " ++ (allow ++ codes "\r\n")
 allow_line cause = []
@@ -38,10 +38,10 @@ allow_line cause = []
 abbrev pub refused_text : Refused → List ℕ
 refused_text r = reply_with (allow_line r.cause) (reply.Refused (plain_fault (refusal_of r.cause))) r.head_only
 
--- the reply where memory was refused, or its head where that alone is asked for
+-- the reply that tells that memory was refused, or its head if only that is asked for
 abbrev pub memory_text : Bool → List ℕ
 memory_text head_only = refused_text (record { cause = refusal.Memory; head_only = head_only })
 
--- bytes reply to a refused request: they tell its refusal, or that memory was refused to build the reply that does
+-- bytes reply to a refused request: they tell its refusal, or that memory for building that reply was refused
 abbrev pub RepliesRefused : Refused → List ℕ → Type 0
 RepliesRefused r text = (text ≡ refused_text r) ⊎ (text ≡ memory_text r.head_only)

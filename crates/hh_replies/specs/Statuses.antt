@@ -1,4 +1,4 @@
--- The statuses of replies: a number, and the phrase that stands with it.
+-- The statuses of replies: a number and its phrase.
 use Rattle.std.specs.Prelude.{ℕ, ◌==◌, List, codes, if◌then◌else◌}
 use Rattle.hh_names.specs.declared.fault.Refusal.{Refusal}
 use Rattle.hh_names.specs.declared.fault.Refusal.TheVariants as refusal
@@ -35,7 +35,7 @@ abbrev pub reply_status : Reply → ℕ
 reply_status (reply.Refused fault) = status_of fault.refusal
 reply_status given = 200
 
--- the phrase that stands with a status
+-- the phrase of a status
 abbrev pub phrase_of : ℕ → List ℕ
 phrase_of status =
     if status == 200 then codes "OK"

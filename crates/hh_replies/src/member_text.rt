@@ -1,4 +1,4 @@
-//! The texts that stand in the bodies of replies.
+//! The texts in the bodies of replies.
 
 ghost use Rattle.std.specs.Prelude.{◌≡◌, IfOk, IsAscii, string_bytes};
 ghost use Rattle.hh_num.specs.Fixed.{fixed_text};
@@ -12,13 +12,13 @@ use std::alloc::{AllocError, Global};
 pub(crate) fn date_text(alloc: Global, date: SettlementDate) -> Result<String, AllocError>
     ensures { IfOk result (λ text. string_bytes text ≡ date_text date) }
 {
-    // The range of its number bounds the digits of its text.
+    // The range of its number limits the digits of its text.
     let _days = date.number();
     let bytes = Vec::from_slice(alloc, &date.text())?;
     Ok(ascii_text(bytes))
 }
 
-/// The one spelling of a scaled number, with all its decimals.
+/// The text of a scaled number, with all its decimals.
 pub(crate) fn number_text<Q: Quantity>(
     alloc: Global,
     number: Scaled<Q>,

@@ -6,16 +6,16 @@ use hh_names::Refusal;
 use http::Method;
 use std::alloc::AllocError;
 
-/// Why a request is refused before the office is asked (profile).
+/// Why a request is refused before the office is asked.
 #[derive(Debug, Drop)]
 pub enum RequestRefusal {
-    /// There is no such path, or a part of it does not read.
+    /// There is no such path, or a part of it can't be read.
     NoRoute,
-    /// The path is known and has another method, this one.
+    /// The path is known but has another method, `allow`.
     BadMethod { allow: Method },
     /// A file was sent without its length.
     LengthRequired,
-    /// The head is bad or oversized, or the head or the body is cut.
+    /// The head is bad or too large, or the head or the body is not complete.
     BadRequest,
     /// The body is longer than the limit.
     BodyTooLarge,
@@ -26,7 +26,7 @@ pub enum RequestRefusal {
 impl RequestRefusal {
     ghost use Rattle.hh_replies.specs.Causes.{refusal_of};
 
-    /// The refusal by which the cause is known.
+    /// The refusal that tells the cause.
     pub fn refusal(&self) -> Refusal
         ensures { result ≡ refusal_of self.now }
     {
@@ -55,6 +55,6 @@ impl From<AllocError> for RequestRefusal {
 #[derive(Debug, Drop)]
 pub struct Refused {
     pub cause: RequestRefusal,
-    /// Whether a whole head with the method HEAD was read, so that the reply is a head alone.
+    /// Whether a whole head with the method HEAD was read, so that the reply is only a head.
     pub head_only: bool,
 }

@@ -16,9 +16,9 @@ use std::alloc::{AllocError, Global};
 /// Why a reply was not written.
 #[derive(Clone, Copy, Debug, PartialEq, Eq)]
 pub enum WriteFault {
-    /// A call of the sink failed or took nothing, and a beginning of the reply went out.
+    /// A call of the sink failed or took nothing, and a beginning of the reply was written.
     Write,
-    /// Memory was refused, and nothing went out.
+    /// Memory was refused, and nothing was written.
     Memory,
 }
 
@@ -32,13 +32,13 @@ impl From<AllocError> for WriteFault {
     }
 }
 
-/// Writes a reply of the office (profile): its head alone where that is asked for. The reply that
-/// tells of refused memory takes none.
+/// Writes a reply of the office (profile), or only its head if that is asked for. The reply that tells that
+/// memory was refused takes no memory.
 ///
 /// # Errors
 ///
-/// `Write` where the sink failed or took nothing in this call, and then a beginning of the reply went
-/// out. `Memory` where the reply cannot be built, and then nothing went out.
+/// `Write`: the sink failed or took nothing in this call, and a beginning of the reply was written.
+/// `Memory`: the reply cannot be built, and nothing was written.
 pub fn write_reply<S: Sink>(
     alloc: Global,
     reply: &Reply,
@@ -56,7 +56,7 @@ pub fn write_reply<S: Sink>(
     send(sink, text.as_bytes())
 }
 
-/// Whether a reply tells of refused memory.
+/// Whether a reply tells that memory was refused.
 fn tells_no_memory(reply: &Reply) -> bool
     ensures yes { IsTrue result → reply.now ≡ Reply.Refused memory_fault }
     ensures no { reply.now ≡ Reply.Refused memory_fault → IsTrue result }
@@ -73,13 +73,13 @@ fn tells_no_memory(reply: &Reply) -> bool
     )
 }
 
-/// Writes the reply to a request that is refused before the office is asked (profile): its head alone
-/// where the head of a reply was asked for. Where memory is refused for that reply, the one that tells so
-/// goes out in its place, which takes none.
+/// Writes the reply to a request that is refused before the office is asked (profile), or only its head if
+/// the head of a reply was asked for. If memory is refused for that reply, the reply that tells so is
+/// written instead, which takes no memory.
 ///
 /// # Errors
 ///
-/// The sink failed or took nothing in this call, and then a beginning of the reply went out.
+/// The sink failed or took nothing in this call, and a beginning of the reply was written.
 pub fn write_refused<S: Sink>(
     alloc: Global,
     refused: &Refused,
@@ -96,7 +96,7 @@ pub fn write_refused<S: Sink>(
     }
 }
 
-/// Writes a reply that is built.
+/// Writes a reply that was built.
 fn send<S: Sink>(sink: &mut S, text: &[u8]) -> Result<(), WriteFault>
     ensures reply { WritesReply (change S.taken S.failures sink.old sink.new) text.now result }
     ensures no_memory { result ≢ Err WriteFault.Memory }

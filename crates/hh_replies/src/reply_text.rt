@@ -12,7 +12,7 @@ use hh_names::Fault;
 use hh_requests::Reply;
 use std::alloc::{AllocError, Global};
 
-/// The head of a reply with this status and phrase and a body of so many bytes, and a further line.
+/// The head of a reply with a status, a phrase, the length of the body in bytes, and one more line.
 fn reply_head(
     alloc: Global,
     status: u16,
@@ -37,7 +37,7 @@ fn body_text(alloc: Global, reply: &Reply) -> Result<String, AllocError>
     value.to_string(alloc)
 }
 
-/// A reply with a further line in its head, or its head where that alone is asked for.
+/// A reply with one more line in its head, or only its head if that is asked for.
 pub(crate) fn reply_with(
     alloc: Global,
     line: &str,
@@ -56,7 +56,7 @@ pub(crate) fn reply_with(
     Ok(text)
 }
 
-/// The line that tells the method that a path has.
+/// The line that tells the method of a path.
 fn allow_line(alloc: Global, cause: &RequestRefusal) -> Result<String, AllocError>
     ensures { IfOk result (λ line. string_bytes line ≡ allow_line cause.now) }
 {
@@ -82,7 +82,7 @@ pub(crate) fn refused_text(alloc: Global, refused: &Refused) -> Result<String, A
     reply_with(alloc, &line, &reply, refused.head_only)
 }
 
-/// The reply where memory was refused, which takes none.
+/// The reply that tells that memory was refused. It takes no memory.
 pub(crate) fn memory_text(head_only: bool) -> &'static [u8]
     ensures { result.now ≡ memory_text head_only }
 {

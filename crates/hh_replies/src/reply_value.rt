@@ -91,7 +91,7 @@ fn period_value(alloc: Global, row: &(PeriodNumber, AccountRow)) -> Result<Value
     Ok(Value::Object(members))
 }
 
-/// The same of each Settlement Period.
+/// What an account has and pays in each Settlement Period.
 fn periods_value(alloc: Global, rows: &[(PeriodNumber, AccountRow)]) -> Result<Value, AllocError>
     ensures { IfOk result (λ value. view value ≡ list_data period_body rows.now) }
 {
@@ -122,7 +122,7 @@ fn account_value(alloc: Global, reply: &AccountReply) -> Result<Value, AllocErro
     Ok(Value::Object(members))
 }
 
-/// What runs have moved to an account.
+/// What runs have posted to an account.
 fn balance_value(alloc: Global, account: &Account, moved: Pence) -> Result<Value, AllocError>
     ensures { IfOk result (λ value. view value ≡ balance_body account.now moved) }
 {
@@ -231,7 +231,7 @@ fn runs_value(alloc: Global, reply: &RunsReply) -> Result<Value, AllocError>
     Ok(Value::Object(members))
 }
 
-/// A refusal, with the places that it has.
+/// A refusal, with the places that it names.
 fn fault_value(alloc: Global, fault: &Fault) -> Result<Value, AllocError>
     ensures { IfOk result (λ value. view value ≡ fault_body fault.now) }
 {
@@ -251,7 +251,7 @@ fn fault_value(alloc: Global, fault: &Fault) -> Result<Value, AllocError>
     Ok(Value::Object(members))
 }
 
-/// Puts a number under its key, if there is one.
+/// Adds a number under a key, if there is one.
 fn put_number(
     alloc: Global,
     members: &mut Map<String, Value>,
@@ -267,7 +267,7 @@ fn put_number(
     }
 }
 
-/// Puts a unit's id under its key, if there is one.
+/// Adds a unit's id under its key, if there is one.
 fn put_unit(
     alloc: Global,
     members: &mut Map<String, Value>,
@@ -282,7 +282,7 @@ fn put_unit(
     }
 }
 
-/// Puts a text under its key.
+/// Adds a text under a key.
 fn put_str(
     alloc: Global,
     members: &mut Map<String, Value>,
@@ -296,7 +296,7 @@ fn put_str(
     put(members, alloc, key, text)
 }
 
-/// Puts the text of an account under its key.
+/// Adds the text of an account under a key.
 fn put_account(
     alloc: Global,
     members: &mut Map<String, Value>,
@@ -310,7 +310,7 @@ fn put_account(
     put(members, alloc, key, Value::String(text))
 }
 
-/// Puts the text of a date.
+/// Adds the text of a date under its key.
 fn put_date(
     alloc: Global,
     members: &mut Map<String, Value>,
@@ -323,7 +323,7 @@ fn put_date(
     put(members, alloc, "date", Value::String(text))
 }
 
-/// Puts the code of a kind of run.
+/// Adds the code of a kind of run under its key.
 fn put_code(
     alloc: Global,
     members: &mut Map<String, Value>,
@@ -335,7 +335,7 @@ fn put_code(
     put_str(alloc, members, "kind", kind.code())
 }
 
-/// Puts energy, in MWh, under its key.
+/// Adds energy, in MWh, under a key.
 fn put_energy(
     alloc: Global,
     members: &mut Map<String, Value>,
@@ -349,7 +349,7 @@ fn put_energy(
     put(members, alloc, key, Value::String(text))
 }
 
-/// Puts a volume, in MWh.
+/// Adds a volume, in MWh, under its key.
 fn put_volume(
     alloc: Global,
     members: &mut Map<String, Value>,

@@ -1,4 +1,4 @@
-//! The statuses of replies, and the phrases that stand with them.
+//! The statuses of replies, and their phrases.
 
 ghost use Rattle.std.specs.Prelude.{◌≡◌};
 ghost use Rattle.hh_replies.specs.Statuses.{phrase_of, reply_status, status_of};
@@ -60,8 +60,8 @@ pub(crate) fn reply_status(reply: &Reply) -> StatusCode
     }
 }
 
-/// The phrase that stands with a status (profile). It is the office's own table: the crate's names of
-/// 413 and 422 are older ones.
+/// The phrase of a status (profile). This is the office's own table, because the crate's names for 413 and
+/// 422 are older ones.
 pub(crate) fn phrase_of(status: u16) -> &'static str
     ensures { result.now ≡ phrase_of status }
 {

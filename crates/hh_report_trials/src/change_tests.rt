@@ -1,5 +1,6 @@
-//! What no clause says: over tables in a database, how many Settlement Periods of a day may have changed as files and a run
-//! come, and the positions of accounts that trade as much as a position may hold, and more.
+//! Tests of what no clause says, over tables in a database: how many Settlement Periods of a day may have
+//! changed as files and a run come, and the positions of accounts that trade as much as a position may
+//! have, and more.
 
 use crate::market::{LOADED_AT, ORDERED_AT, PARTIES, is_loaded, is_run, loaded, run, settings};
 use hh_keyed_rows::RowFault;
@@ -39,7 +40,7 @@ enum Step {
     File(Arrival),
 }
 
-/// A file with the contract of the first period, whose notification has closed.
+/// A file with the contract of the first period, after its notification has closed.
 const LATE_CONTRACT: Arrival = Arrival {
     moment: ORDERED_AT,
     kind: FileKind::Contracts,
@@ -47,7 +48,7 @@ const LATE_CONTRACT: Arrival = Arrival {
     text: "reference,seller,buyer,date,period,mwh\nC1,GENCO-P,SUPCO-C,2024-07-01,1,98.000\n",
 };
 
-/// Another with it.
+/// Another such file.
 const LATER_CONTRACT: Arrival = Arrival {
     moment: ORDERED_AT,
     kind: FileKind::Contracts,
@@ -63,7 +64,7 @@ const PRICE: Arrival = Arrival {
     text: "date,period,price\n2024-07-01,1,60.00000\n",
 };
 
-/// A file with one more party, whose accounts the day has then.
+/// A file with one more party, whose accounts the day has afterwards.
 const PARTY: Arrival = Arrival {
     moment: LOADED_AT,
     kind: FileKind::Parties,
@@ -152,7 +153,7 @@ fn step_over<T: Tables>(
     (count, tables)
 }
 
-/// How many Settlement Periods of a day may have changed behind each of these steps.
+/// How many Settlement Periods of a day may have changed after each of these steps.
 fn steps_over<T: Tables>(
     alloc: Global,
     tables: T,
@@ -180,7 +181,7 @@ fn over_disks(alloc: Global) -> Option<Connection<FileStore<Memory>>> {
     Connection::open_files(alloc, files, Options::new(1)).ok()
 }
 
-/// How many Settlement Periods may have changed behind each of these steps, over a new office in a database.
+/// How many Settlement Periods may have changed after each of these steps, over a new office in a database.
 fn counted(
     alloc: Global,
     connection: Connection<FileStore<Memory>>,
@@ -231,7 +232,7 @@ fn periods_that_may_have_changed(rt: HostRuntime) -> Result<(), Fail> {
 /// The positions of the seller and of the buyer.
 type BothPositions = [Option<Position>; 2];
 
-/// Where the positions of the seller and of the buyer in the second period stand.
+/// The keys of the positions of the seller and of the buyer in the second period.
 fn both_keys() -> Option<[PositionKey; 2]> {
     let at = SettlementPeriod {
         date: SettlementDate::read(b"2024-07-01")?,
@@ -259,7 +260,7 @@ fn both_positions<S: Alter>(
     Ok([sold, bought])
 }
 
-/// Writes these positions in the place of those that stand.
+/// Writes these positions, which replace those that are there.
 fn hold<S: Alter>(
     alloc: Global,
     connection: &mut Connection<S>,
@@ -276,7 +277,7 @@ fn hold<S: Alter>(
     }
 }
 
-/// A new office in a database, in which these positions stand.
+/// A new office in a database with these positions.
 fn office_with(
     alloc: Global,
     connection: Connection<FileStore<Memory>>,
@@ -307,7 +308,7 @@ fn are_arrived<T: Tables>(
     Ok(true)
 }
 
-/// The tables of an office behind these files, and whether it has loaded them.
+/// The tables of an office after these files, and whether it has loaded them.
 fn loaded_over<T: Tables>(
     alloc: Global,
     tables: T,
@@ -331,7 +332,7 @@ fn positions_if<S: Alter>(
     Err(RowFault::Store)
 }
 
-/// The positions behind these files, in the database of an office, which is taken over.
+/// The positions after these files, in the database of an office that is taken over.
 fn positions_behind(
     alloc: Global,
     connection: Connection<FileStore<Memory>>,
@@ -361,7 +362,7 @@ fn known(kwh: i64) -> Option<Position> {
 fn positions_as_large_as_they_may_be(rt: HostRuntime) -> Result<(), Fail> {
     let settings = settings().ok_or("settings")?;
     let keys = both_keys().ok_or("keys")?;
-    // What 9,999 contracts of 10,000 MWh come to: a file with the last of 10,000 follows.
+    // The sum of 9,999 contracts of 10,000 MWh. A file with the last of 10,000 follows.
     let sold = known(99_990_000_000).ok_or("sold")?;
     let bought = known(-99_990_000_000).ok_or("bought")?;
     let connection = over_disks(rt.alloc()).ok_or("disks")?;

@@ -1,5 +1,5 @@
-//! What no clause says: how many readings a date lacks, as an office over tables in memory and one over tables in a database
-//! count them.
+//! Tests of what no clause says: how many readings a date lacks, as counted by an office over tables in
+//! memory and by one over tables in a database.
 
 use crate::market::{LOADED_AT, is_loaded, loaded, settings};
 use hh_names::FileName;
@@ -15,11 +15,11 @@ use sqlite_disk::Memory;
 use std::alloc::{AllocError, Global};
 use std::test::Fail;
 
-/// One reading of the date behind the market's.
+/// One reading on the date after the market's.
 const READING: &str =
     "unit,date,period,metered_mwh,tlm,balancing_mwh\nS1,2024-07-02,3,-1.000,1,0\n";
 
-/// The market's date, which lacks no reading, and the date behind it, which has one of its 96.
+/// The market's date, which lacks no reading, and the date after it, which has one of its 96.
 const DATES: [&[u8]; 2] = [b"2024-07-01", b"2024-07-02"];
 
 /// The file with the one reading.
@@ -42,7 +42,7 @@ fn is_filled<T: Tables>(alloc: Global, office: &mut Office<'_, T>) -> Result<boo
     Ok(loaded(alloc, office)? == 5 && is_loaded(alloc, office, LOADED_AT, upload)?)
 }
 
-/// How many readings a date lacks, if it is written in the form of one.
+/// How many readings a date lacks, if it is written as a date.
 fn lacking<T: Tables>(office: &mut Office<'_, T>, date: &[u8]) -> Result<Option<u64>, StoreFault> {
     match SettlementDate::read(date) {
         Some(date) => Ok(Some(office.missing_readings(date)?)),
@@ -50,7 +50,7 @@ fn lacking<T: Tables>(office: &mut Office<'_, T>, date: &[u8]) -> Result<Option<
     }
 }
 
-/// How many readings each date lacks of a new office that is filled, and whether its settings are these.
+/// How many readings each date lacks in a new office that is filled, and whether its settings are these.
 fn told<T: Tables>(
     alloc: Global,
     office: &mut Office<'_, T>,

@@ -1,7 +1,8 @@
-//! Reports tried from outside, over tables in memory and over tables in a database, and what is kept beside the tables in a
-//! database: tests of what no clause says.
+//! Reports, tested from outside, over tables in memory and over tables in a database, and what is kept
+//! beside the tables in a database. The tests cover what no clause says.
 //!
-//! They stand in a crate of their own, since the tests of a crate are proved with all of it once more.
+//! They are in a crate of their own, because the tests of a crate are proved with all of the crate once
+//! more.
 #![tactic(auto)]
 
 #[cfg(test)]

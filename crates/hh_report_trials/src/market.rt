@@ -1,4 +1,5 @@
-//! The market whose run is reported: two parties that trade in the first period of a day, and nothing in the others.
+//! The market whose run is reported: two parties that trade in the first period of a day, and nothing in
+//! the other periods.
 
 use hh_names::{FileName, OperatorKey};
 use hh_office::Office;
@@ -37,11 +38,11 @@ const UNITS: &str =
 const CONTRACTS: &str =
     "reference,seller,buyer,date,period,mwh\nC1,GENCO-P,SUPCO-C,2024-07-01,1,99.000\n";
 
-/// The header of the meters, and the rows of the first period.
+/// The header of the meter file, and the rows of the first period.
 const METERS: &str = "unit,date,period,metered_mwh,tlm,balancing_mwh\n\
     G1,2024-07-01,1,100.000,0.9950000,0\nS1,2024-07-01,1,-98.000,1.0050000,0\n";
 
-/// The header of the prices, and the row of the first period.
+/// The header of the price file, and the row of the first period.
 const PRICES: &str = "date,period,price\n2024-07-01,1,50.00000\n";
 
 /// The settings of the office.
@@ -60,7 +61,7 @@ pub fn run() -> Option<RunKey> {
     })
 }
 
-/// The file of the meters.
+/// The file of the meter rows.
 fn meters(alloc: Global) -> Result<String, AllocError> {
     let mut text = METERS.to_string(alloc)?;
     for period in 2..=48u8 {
@@ -93,7 +94,7 @@ fn text_of(alloc: Global, kind: FileKind) -> Result<String, AllocError> {
     }
 }
 
-/// What the operator asks.
+/// A request of the operator.
 pub fn asked(alloc: Global, action: Action) -> Result<Request, AllocError> {
     Ok(Request {
         key: Bytes::new(OPERATOR.to_vec(alloc)?),
@@ -142,7 +143,8 @@ pub fn loaded<T: Tables>(alloc: Global, office: &mut Office<'_, T>) -> Result<us
     Ok(FILES.len())
 }
 
-/// How far a new office comes with the market's five files and then the run: 6 where it takes them all.
+/// How far a new office gets with the market's five files and then the run. It is 6 if the office takes
+/// them all.
 pub fn settled<T: Tables>(
     alloc: Global,
     office: &mut Office<'_, T>,

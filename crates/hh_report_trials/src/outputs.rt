@@ -10,7 +10,7 @@ use std::alloc::{AllocError, Global};
 /// More bytes than any of the reports has.
 const ROOM: usize = 30_000;
 
-/// How many bytes an output takes a call, and behind how many a call of it fails.
+/// How many bytes an output takes in a call, and after how many bytes a call of it fails.
 #[derive(Clone, Copy, Debug, PartialEq, Eq)]
 pub struct Output {
     pub piece: usize,
@@ -18,13 +18,13 @@ pub struct Output {
 }
 
 impl Output {
-    /// An output that takes all at once.
+    /// An output that takes everything at once.
     pub const WHOLE: Output = Output {
         piece: ROOM,
         fails_behind: ROOM,
     };
 
-    /// An output that takes a byte a call.
+    /// An output that takes one byte in a call.
     pub const BY_BYTES: Output = Output {
         piece: 1,
         fails_behind: ROOM,
@@ -36,7 +36,8 @@ impl Output {
         Ok(sink.in_pieces(self.piece).failing_after(self.fails_behind))
     }
 
-    /// What is to come of a report of this size: it is whole, or the failure is told behind the bytes that were taken.
+    /// What should come of a report of this size: it is whole, or the failure is told after the bytes that
+    /// were taken.
     fn wanted(&self, size: usize) -> Attempt {
         let fails = self.fails_behind < size;
         Attempt {
@@ -53,8 +54,8 @@ impl Output {
     }
 }
 
-/// What came of a report to an output: how it ended, how many bytes were taken, whether these begin the text, and how many
-/// calls of the output failed.
+/// What came of a report to an output: how it ended, how many bytes were taken, whether these are the
+/// beginning of the text, and how many calls of the output failed.
 #[derive(Clone, Copy, Debug, PartialEq, Eq)]
 pub struct Attempt {
     pub output: Output,
@@ -64,7 +65,7 @@ pub struct Attempt {
     pub failures: u64,
 }
 
-/// Asks an office for a report, by the call for it.
+/// Asks an office for a report, by the call for that report.
 fn write<T: Tables>(
     office: &mut Office<'_, T>,
     report: &Report,
@@ -96,7 +97,7 @@ fn came_of<T: Tables>(
     })
 }
 
-/// What comes of a report with this text to an output, if that is not to come.
+/// What comes of a report with this text to an output, if it is not what should come.
 fn wrong_to<T: Tables>(
     alloc: Global,
     office: &mut Office<'_, T>,
@@ -111,8 +112,8 @@ fn wrong_to<T: Tables>(
     Ok(Some(attempt))
 }
 
-/// What comes first that is not to come, where a report with this text goes to an output that fails behind so many bytes, and
-/// then to one that takes all at once.
+/// The first wrong result if a report with this text goes to an output that fails after a number of bytes,
+/// and then to one that takes everything at once.
 fn wrong_behind<T: Tables>(
     alloc: Global,
     office: &mut Office<'_, T>,
@@ -131,8 +132,8 @@ fn wrong_behind<T: Tables>(
     wrong_to(alloc, office, report, &Output::WHOLE, text)
 }
 
-/// What comes first that is not to come, where a report with this text goes to an output that takes a byte a call, and to those
-/// that fail behind so many bytes.
+/// The first wrong result if a report with this text goes to an output that takes one byte in a call, and
+/// to outputs that fail after these numbers of bytes.
 fn wrong_in_pieces<T: Tables>(
     alloc: Global,
     office: &mut Office<'_, T>,
@@ -149,8 +150,9 @@ fn wrong_in_pieces<T: Tables>(
     wrong_to(alloc, office, report, &Output::BY_BYTES, text)
 }
 
-/// What comes first that is not to come, where a report of this size goes to an output that takes all at once, to those that fail
-/// behind so many bytes, each of which another that takes all follows, and to one that takes a byte a call.
+/// The first wrong result if a report of this size goes to an output that takes everything at once; to
+/// outputs that fail after these numbers of bytes, each of which is followed by one that takes everything;
+/// and to one that takes one byte in a call.
 pub fn first_wrong<T: Tables>(
     alloc: Global,
     office: &mut Office<'_, T>,

@@ -1,5 +1,6 @@
-//! What no clause says: that with ample memory reports are written whole, over both kinds of tables, whatever pieces the
-//! output takes, and that a failure of the output is told and leaves the next report whole.
+//! Tests of what no clause says: with ample memory reports are written whole, over both kinds of tables,
+//! however large the pieces are that the output takes. A failure of the output is told and leaves the next
+//! report whole.
 
 use crate::market::{run, settings, settled};
 use crate::outputs::{Attempt, first_wrong};
@@ -16,18 +17,18 @@ use sqlite_disk::Memory;
 use std::alloc::{AllocError, Global};
 use std::test::Fail;
 
-/// Behind how many bytes outputs fail, the last of them when the day report is whole.
+/// After how many bytes the outputs fail. The last of them fails when the day report is whole.
 const DAY_FAILURES: [usize; 6] = [0, 1, 25, 156, 26_983, 26_984];
 
-/// How far an office comes with the market's files and its run, and what came first, of the day report, the results and the
-/// balances, that is not to come.
+/// How far an office gets with the market's files and its run, and the first wrong result for the day
+/// report, the results and the balances.
 #[derive(Clone, Copy, Debug, PartialEq, Eq)]
 struct Trial {
     settled: usize,
     wrong: [Option<Attempt>; 3],
 }
 
-/// What is to come.
+/// What should come.
 const WANTED: Trial = Trial {
     settled: 6,
     wrong: [None; 3],

@@ -1,4 +1,4 @@
--- What stands of a day report, row after row.
+-- The text of a day report so far, row after row.
 use Rattle.std.proofs.Common.{◌≡◌, ℕ, zero, suc, ◌+◌, ◌-◌, ◌<◌, ◌≤◌, min, max, ◌⊎◌, Bool, eqb, leb, true, false, cond, List, [], ◌∷◌, ◌++◌, map, length, get_or, Option, Some, None, Result, inl, inr, refl, sym, ap, subst, ◌∙◌, append_assoc, arith}
 use Rattle.std.specs.Prelude.{ℤ, pos, neg_ℤ, ◌+ℤ◌, codes, fold, All, IsErrAnd}
 use Rattle.std.specs.List.{cons_option, flat_map, range_with_len}
@@ -23,7 +23,7 @@ use Rattle.hh_reports.proofs.NetLaws.{total_next}
 use Rattle.hh_reports.proofs.OutputLaws.{changed, stopped_on, told_back, went_on, Stops}
 use Rattle.hh_reports.specs.steps.DayReport.{closing_line, closing_lines, run_row_lines}
 
--- the numbers of periods, and those behind them
+-- the numbers of some periods, and of those after them
 range_on : (a m n : ℕ) → range_with_len a (m + n) ≡ range_with_len a m ++ range_with_len (a + m) n
 range_on a zero n =
     let none : zero + n ≡ n = omega arith in
@@ -34,7 +34,7 @@ range_on a (suc m) n =
     let place : (a + 1) + m ≡ a + suc m = omega arith in
     ap (range_with_len a) more ∙ ap (λ l. a ∷ l) (range_on (a + 1) m n) ∙ ap (λ k. a ∷ (range_with_len (a + 1) m ++ range_with_len k n)) place
 
--- the same lines for each of them
+-- two lines that are the same for each of some periods
 pub lines_as : (f g : ℕ → List ℕ) (a n : ℕ) → ((p : ℕ) → a ≤ p → p < a + n → f p ≡ g p) → flat_map f (range_with_len a n) ≡ flat_map g (range_with_len a n)
 lines_as f g a zero same = refl
 lines_as f g a (suc n) same =
@@ -57,7 +57,7 @@ inside_run a b le = grind (arith, nat_tests)
 outside_run : (a b : ℕ) → b < a → leb a b ≡ false
 outside_run a b lt = grind (arith, nat_tests)
 
--- rows that are of other Settlement Periods
+-- no rows are of a Settlement Period, if each is of another one
 none_of_period : (period : ℕ) (rows : Rows) → ((j : ℕ) (d : ℕ × AccountRow) → j < length rows → eqb (get_or rows j d).0 period ≡ false) → rows_of_period period rows ≡ []
 none_of_period period [] other = refl
 none_of_period period (e ∷ rows) other =
@@ -74,7 +74,7 @@ none_above last period rows all above = none_of_period period rows (λ j d lt. l
 none_at_zero : (last : ℕ) (rows : Rows) → AreUpTo last rows → rows_of_period 0 rows ≡ []
 none_at_zero last rows all = none_of_period 0 rows (λ j d lt. let here = all j d lt in other_of_higher (get_or rows j d).0 0 (omega arith))
 
--- a period without rows has no lines of accounts, nor has one behind those of the run
+-- a period without rows has no account lines, and neither has a period beyond those of the run
 neither : (b : Bool) (l : List ℕ) → cond b l l ≡ l
 neither true l = refl
 neither false l = refl
@@ -88,7 +88,7 @@ accounts-beyond run period rows beyond = ap (λ b. cond b (flat_map (period_acco
 accounts-inside : (run : ReportedRun) (period : ℕ) (rows : Rows) → period ≤ run.periods → accounts_in run period rows ≡ flat_map (period_account_line period) (rows_of_period period rows)
 accounts-inside run period rows inside = ap (λ b. cond b (flat_map (period_account_line period) (rows_of_period period rows)) []) (inside_run period run.periods inside)
 
--- before the first row the first period is open
+-- before the first row, the first period is open
 as_first : {X : Type 0} (F : ℕ → List AccountRow → X) (nil : X) → ((p : ℕ) → F p [] ≡ nil) → (last first : ℕ) (rows : Rows) → AreUpTo last rows
     → (last ≡ first) ⊎ ((last ≡ 0) × (first ≡ 1)) → F last (rows_of_period last rows) ≡ F first (rows_of_period first rows)
 as_first F nil none last first rows all (inl same) = ap (λ p. F p (rows_of_period p rows)) same
@@ -105,7 +105,7 @@ closing-later first charges rows period later none =
     ap (λ b. period_residual_line period (neg_ℤ (cond b charges (pos 0)))) (other_of_higher period first later)
     ∙ sym (ap (λ rs. flat_map (period_account_line period) rs ++ period_residual_line period (neg_ℤ (total (λ (row : AccountRow). row.charge) rs))) none)
 
--- the accounts of a period, its residual, and those of the periods behind it
+-- the accounts of a period, its residual, and the lines of the periods after it
 closings_whole : (last first : ℕ) (charges : ℤ) (rows : Rows) (count : ℕ) → AreUpTo last rows → last ≤ first → charges ≡ charges_in first rows
     → flat_map (period_account_line first) (rows_of_period first rows) ++ flat_map (closing_line first charges) (range_with_len first (suc count))
     ≡ flat_map (λ period. period_lines period (rows_of_period period rows)) (range_with_len first (suc count))
@@ -147,7 +147,7 @@ module _ (run : ReportedRun) (rows : Rows) (last next : ℕ) (all : AreUpTo last
     | inr none ↦ inr (omega arith, omega arith)
   ]
 
-  -- the open period is closed, and so are those up to the next
+  -- the open period is closed, and so are the periods up to the next
   settled : (periods_lines closed rows ++ accounts_in run last rows) ++ closing_lines closed (charges_in last rows) until
       ≡ periods_lines until rows ++ accounts_in run next rows
   settled = elim (cases_lt closed until) [
@@ -186,7 +186,7 @@ module _ (run : ReportedRun) (rows : Rows) (last next : ℕ) (all : AreUpTo last
           ∙ sym (append-nil (periods_lines until rows))
           ∙ ap (λ a. periods_lines until rows ++ a) (sym (accounts-none run next rows (none_above last next rows all lower)))
 
--- rows of later periods leave the lines of these as they are
+-- rows of later periods leave the lines of these periods as they are
 rows-kept : (period : ℕ) (rows : Rows) (e : ℕ × AccountRow) → period < e.0 → rows_of_period period (rows ++ e ∷ []) ≡ rows_of_period period rows
 rows-kept period rows e later =
     filter_map-append (row_of_period period) rows (e ∷ [])
@@ -198,7 +198,7 @@ periods-kept count rows e later =
     lines_as (λ period. period_lines period (rows_of_period period (rows ++ e ∷ []))) (λ period. period_lines period (rows_of_period period rows)) 1 count
     (λ p low high. ap (period_lines p) (rows-kept p rows e (omega arith)))
 
--- the rows of the period of one more
+-- the rows of a period with one more row of it
 rows-same : (rows : Rows) (e : ℕ × AccountRow) → rows_of_period e.0 (rows ++ e ∷ []) ≡ rows_of_period e.0 rows ++ e.1 ∷ []
 rows-same rows e =
     filter_map-append (row_of_period e.0) rows (e ∷ [])
@@ -213,7 +213,7 @@ accounts-more run rows e =
       | false ↦ refl
     ]
 
--- the last of rows is the one that came last
+-- the last row is the one that came last
 last-on : (a : ℕ) (rows : Rows) (e : ℕ × AccountRow) → fold (λ _ x. x.0) a (rows ++ e ∷ []) ≡ e.0
 last-on a [] e = refl
 last-on a (x ∷ rows) e = last-on x.0 rows e
@@ -253,7 +253,7 @@ text_row run rows e all upto numbered =
     (closing_lines (min run.periods (last_period rows - 1)) (charges_in (last_period rows) rows) until) (run_row_lines run e)
     (periods_lines until rows) (accounts_in run e.0 rows) (settled run rows (last_period rows) e.0 all upto numbered))
 
--- what the end of the rows adds to the text
+-- what the end of the report adds to the text
 abbrev pub end_text : ReportedRun → Rows → List ℕ
 end_text run rows = closing_lines (min run.periods (last_period rows - 1)) (charges_in (last_period rows) rows) run.periods ++ flat_map net_line (nets_from_rows rows) ++ codes "END\n"
 
@@ -280,7 +280,7 @@ text_end run rows all =
     ∙ sym (regroup heads (periods_lines closed rows) (accounts_in run last rows) closings (nets ++ codes "END\n") (periods_lines run.periods rows) [] whole)
     ∙ ap (λ l. ((heads ++ periods_lines closed rows) ++ accounts_in run last rows) ++ l) (sym (append_assoc closings nets (codes "END\n")))
 
--- the heads alone
+-- the report so far, with no rows
 pub day_begun_none : (run : ReportedRun) → title_line run ++ heads_line ≡ day_report_begun run []
 unfolding day_report_begun
 day_begun_none run =
@@ -291,9 +291,9 @@ day_begun_none run =
     ∙ ap (λ a. (heads ++ []) ++ a) (accounts-none run 0 [] refl)
     ∙ append-nil (heads ++ []) ∙ append-nil heads)
 
--- What a writer of a day report gives with one more row.
+-- The outcome of one more row, for a writer of a day report.
 module _ (a b : Option (List ℕ)) (f g : ℕ) (old : DayState) (run : ReportedRun) (rows : Rows) (before : HasDay (changed a b f g) old run rows) where
-  -- what a row adds, as the writer finds it
+  -- what a row adds, as the writer computes it
   abbrev pub added_text : ℕ × AccountRow → List ℕ
   added_text e = closing_lines (min old.run.periods (old.period - 1)) old.charges (min old.run.periods (e.0 - 1)) ++ run_row_lines old.run e
 
@@ -324,7 +324,7 @@ module _ (a b : Option (List ℕ)) (f g : ℕ) (old : DayState) (run : ReportedR
           sent.well,
         )
 
-    -- the line is not written to its end
+    -- the text of the row is not written to its end
     pub day_stopped : (c : Option (List ℕ)) (n : ℕ) (fault : ReportFault) → Stops (changed b c g n) (old.held ++ added_text e) fault
         → Stops (changed a c f n) (day_report_begun run (rows ++ e ∷ [])) fault
     day_stopped c n fault now =
@@ -349,7 +349,7 @@ module _ (a b : Option (List ℕ)) (f g : ℕ) (old : DayState) (run : ReportedR
         ∙ ap (total (λ (row : AccountRow). row.charge)) (rows-same rows e)
         ∙ total_next (λ (row : AccountRow). row.charge) (rows_of_period e.0 rows) e.1
 
-    -- it is written
+    -- the text of the row is written
     pub day_given : (c : Option (List ℕ)) (n : ℕ) (new : DayState) → new.run ≡ old.run → new.period ≡ e.0
         → new.charges ≡ cond (eqb old.period e.0) old.charges (pos 0) +ℤ e.1.charge → HasAmounts new.nets (map cash_moved rows ++ cash_moved e ∷ [])
         → IsPassed (changed b c g n) new.held (old.held ++ added_text e) → HasDay (changed a c f n) new run (rows ++ e ∷ [])
@@ -363,7 +363,7 @@ module _ (a b : Option (List ℕ)) (f g : ℕ) (old : DayState) (run : ReportedR
           sent = rw next_text (went_on a b c [] old.held new.held f g n (day_report_begun run rows) (added_text e) before.sent now);
         }
 
-  -- what the end adds, as the writer finds it
+  -- what the end adds, as the writer computes it
   abbrev pub ending : Table Account ℤ → List ℕ
   ending nets = closing_lines (min old.run.periods (old.period - 1)) old.charges old.run.periods ++ flat_map net_line nets ++ codes "END\n"
 

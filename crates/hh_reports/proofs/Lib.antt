@@ -1,4 +1,5 @@
 pub mod DayLaws
+pub mod FieldLaws
 pub mod ListLaws
 pub mod NetLaws
 pub mod OrderLaws

@@ -1,4 +1,4 @@
--- What amounts come to for accounts, one amount after the other.
+-- The sums of amounts for accounts, one amount after another.
 use Rattle.std.proofs.Common.{◌≡◌, ℕ, ◌+◌, ◌*◌, ◌≤◌, Bool, true, false, cond, List, [], ◌∷◌, ◌++◌, map, length, Some, None, Ordering, refl, sym, ap, length-append, ◌∙◌, arith}
 use Rattle.std.specs.Prelude.{◌&&◌, ℤ, pos, ◌+ℤ◌, unsigned_abs, unwrap_or, is_some, T}
 use Rattle.std.specs.FinMap.{find, put, is_sorted}
@@ -46,7 +46,7 @@ module _ {K V W : Type 0} (R : K → K → Ordering) (value : K → W) where
 pub total_next : {X : Type 0} (f : X → ℤ) (xs : List X) (x : X) → total f (xs ++ x ∷ []) ≡ total f xs +ℤ f x
 total_next f xs x = total-append f xs (x ∷ []) ∙ ap (λ z. total f xs +ℤ z) (+ℤ_idr (f x))
 
--- an account that has no amount has no sum
+-- the sum of an account that has no amount is 0
 absent : (a : Account) (amounts : Amounts) → is_some (find account_cmp a amounts) ≡ false → sum_for a amounts ≡ pos 0
 absent a [] none = refl
 absent a (e ∷ amounts) none =
@@ -57,7 +57,7 @@ absent a (e ∷ amounts) none =
           ∙ +ℤ_idl (sum_for a amounts) ∙ absent a amounts later
     ] refl none
 
--- what is found under an account, and what is not
+-- what is found under an account that has an amount, and under one that has none
 found_or_absent : (a : Account) (amounts : Amounts) (there : Bool) → is_some (find account_cmp a amounts) ≡ there
     → unwrap_or (cond there (Some (sum_for a amounts)) None) (pos 0) ≡ sum_for a amounts
 found_or_absent a amounts true is = refl
@@ -69,7 +69,7 @@ in_table a amounts = ap is_some (find-in_key_order account_total (latest account
 pub find_sum : (amounts : Amounts) (a : Account) → find account_cmp a (sums_of amounts) ≡ cond (is_some (find account_cmp a (table_of_last account_cmp amounts))) (Some (sum_for a amounts)) None
 find_sum amounts a = find-with account_cmp (λ k. sum_for k amounts) exact_accounts a (table_of_last account_cmp amounts)
 
--- the sums hold of each account what its amounts come to
+-- the sums have for each account the sum of its amounts
 pub sum_found : (amounts : Amounts) (a : Account) → sum_in (sums_of amounts) a ≡ sum_for a amounts
 sum_found amounts a =
     ap (λ o. unwrap_or o (pos 0)) (find_sum amounts a)
@@ -80,7 +80,7 @@ pub sums_sorted : (amounts : Amounts) → T (is_sorted account_cmp (sums_of amou
 sums_sorted amounts =
     rw (is_sorted-with account_cmp (λ k. sum_for k amounts) (table_of_last account_cmp amounts)) (is_sorted-in_key_order account_total (latest account_cmp amounts))
 
--- one more amount: it is added to the sum of its account
+-- one more amount is added to the sum of its account
 one_more : (amounts : Amounts) (e : Account × ℤ) → put account_cmp e.0 (sum_for e.0 amounts +ℤ e.1) (sums_of amounts) ≡ sums_of (amounts ++ e ∷ [])
 one_more amounts e =
     same_entries account_cmp account_total exact_accounts _ _
@@ -111,7 +111,7 @@ one_more amounts e =
               ∙ sym (sum_after q))
         ] refl
 
--- one more amount among the sums of those before
+-- the sums after one more amount
 pub sums_more : (amounts : Amounts) (e : Account × ℤ) (sums new : Table Account ℤ) → sums ≡ sums_of amounts
     → new ≡ put account_cmp e.0 (sum_in sums e.0 +ℤ e.1) sums → new ≡ sums_of (amounts ++ e ∷ [])
 sums_more amounts e sums new so_far added =
@@ -120,7 +120,7 @@ sums_more amounts e sums new so_far added =
     ∙ ap (λ z. put account_cmp e.0 (z +ℤ e.1) (sums_of amounts)) (sum_found amounts e.0)
     ∙ one_more amounts e
 
--- one more amount was given
+-- the state after one more amount
 pub amounts_more : (amounts : Amounts) (e : Account × ℤ) (old new : SumsState)
     → new.sums ≡ put account_cmp e.0 (sum_in old.sums e.0 +ℤ e.1) old.sums → new.given ≡ old.given + 1
     → HasAmounts old amounts → HasAmounts new (amounts ++ e ∷ [])
@@ -134,7 +134,7 @@ amounts_more amounts e old new added counted before =
 sum_small : (x y : ℤ) (m n : ℕ) → unsigned_abs x ≤ m → unsigned_abs y ≤ n → unsigned_abs (x +ℤ y) ≤ m + n
 sum_small x y m n p q = omega (arith, ints)
 
--- the sums stay small with an amount that is
+-- the sums stay small after a small amount is added
 pub small_put : (sums : Table Account ℤ) (e : Account × ℤ) (given : ℕ) → unsigned_abs e.1 ≤ greatest_amount → AreSmall given sums
     → AreSmall (given + 1) (put account_cmp e.0 (sum_in sums e.0 +ℤ e.1) sums)
 small_put sums e given small before a =

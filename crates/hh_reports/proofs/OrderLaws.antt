@@ -1,4 +1,4 @@
--- A day report is the same in whatever order its Settlement Periods come.
+-- A day report does not depend on the order in which its Settlement Periods come.
 use Rattle.std.proofs.Common.{◌≡◌, ℕ, ◌+◌, eqb, true, false, cond, List, [], ◌∷◌, ◌++◌, map, length, Some, None, refl, sym, ap, ◌∙◌, arith}
 use Rattle.std.specs.Prelude.{◌&&◌, ◌||◌, ℤ, pos, ◌+ℤ◌, unsigned_abs, not, filter, sum_by, is_some, codes, IsPermutation}
 use Rattle.std.specs.FinMap.{find}
@@ -23,7 +23,7 @@ use Rattle.hh_reports.specs.Writers.{Rows}
 use Rattle.hh_reports.proofs.DayLaws.{lines_as}
 use Rattle.hh_reports.proofs.NetLaws.{find_sum, in_table, sums_sorted}
 
--- a sum of either sign, by two sums of numbers that are not negative
+-- a sum of either sign, computed from two sums that are not negative
 sum_step : (z t : ℤ) (m n : ℕ) → t +ℤ pos m ≡ pos n → (z +ℤ t) +ℤ pos (unsigned_abs z + m) ≡ pos (unsigned_abs (z +ℤ pos (unsigned_abs z)) + n)
 sum_step z t m n so_far = omega (arith, ints)
 
@@ -52,7 +52,7 @@ has_amount a (e ∷ amounts) = elim (eq_by_cmp account_cmp a e.0) as (λ b. is_s
 found : (amounts : Amounts) (a : Account) → find account_cmp a (sums_of amounts) ≡ cond (list_any (λ e. eq_by_cmp account_cmp a e.0) amounts) (Some (sum_for a amounts)) None
 found amounts a = find_sum amounts a ∙ ap (λ b. cond b (Some (sum_for a amounts)) None) (in_table a amounts ∙ has_amount a amounts)
 
--- sums are the same in whatever order the amounts come
+-- sums do not depend on the order of the amounts
 pub sums-permuted : (xs ys : Amounts) → IsPermutation xs ys → sums_of ys ≡ sums_of xs
 sums-permuted xs ys moved =
     same_entries account_cmp account_total exact_accounts _ _ (sums_sorted ys) (sums_sorted xs)
@@ -61,7 +61,7 @@ sums-permuted xs ys moved =
     ∙ ap (λ z. cond (list_any (λ e. eq_by_cmp account_cmp a e.0) xs) (Some z) None) (total-permuted (λ e. of_account a e.0 e.1) xs ys moved)
     ∙ sym (found xs a))
 
--- the rows of a period are those whose numbers tie with it
+-- the rows of a period are those whose numbers are equal to its own
 ties_same : (p a : ℕ) → not (is_lt (nat_cmp p a)) && not (is_lt (nat_cmp a p)) ≡ eqb a p
 ties_same p a = grind (arith, nat_tests)
 
@@ -77,7 +77,7 @@ of_ties x (e ∷ rows) =
       | false ↦ of_ties x rows
     ]
 
--- the rows of a period stay in their order where rows are sorted by their periods
+-- sorting rows by their periods leaves the order of the rows of each period
 rows-sorted : (period : ℕ) (rows sorted : Rows) → IsPermutation rows sorted → IsStableByKey (λ e. e.0) nat_cmp rows sorted → rows_of_period period sorted ≡ rows_of_period period rows
 rows-sorted period [] sorted moved stable =
     let none : length sorted ≡ 0 = length_permutation [] sorted moved in

@@ -1,4 +1,4 @@
--- What goes out and what is held back, call after call.
+-- What goes out and what is held back, in several calls.
 use Rattle.std.proofs.Common.{◌≡◌, ℕ, ◌+◌, ◌<◌, List, [], ◌∷◌, ◌++◌, length, take, drop, get_or, Option, Some, None, Result, Ok, Err, refl, sym, ap, subst, ◌∙◌, append_assoc, arith}
 use Rattle.std.specs.Io.KnownBytes.{Appends}
 use Rattle.std.specs.Prelude.{IsErrAnd, OnOk}
@@ -22,11 +22,11 @@ appends_more (Some x) None c s t h k = absurd h
 appends_more (Some x) (Some y) None s t h k = absurd k
 appends_more (Some x) (Some y) (Some z) s t h k = rw (k, h) (append_assoc x s t)
 
--- a sink told these bytes and then those, and counted so many failures and then so many
+-- the device's change: a sink had taken a and then b, and had counted f failures and then g
 abbrev pub changed : Option (List ℕ) → Option (List ℕ) → ℕ → ℕ → DeviceChange
 changed a b f g = record { old = a; new = b; old_failures = f; new_failures = g }
 
--- a beginning of a text went out, and then a fault is told
+-- a beginning of a text went out, and then a fault was told
 abbrev pub Stops : DeviceChange → List ℕ → ReportFault → Type 0
 Stops device text fault = AppendsFront device.old device.new text × CountsFault device fault
 
@@ -38,12 +38,12 @@ counted_on Write a b c f g n same counts = subst (λ m. Failed m n) same counts
 pub held_back : (a : Option (List ℕ)) (h : List ℕ) (f : ℕ) → IsShort h → IsPassed (changed a a f f) h h
 held_back a h f short = record { gone = []; went = appends_none a; rest = refl; short = short; well = refl }
 
--- a page that went out
+-- a page went out
 pub passed : {A : Type 0} (device : DeviceChange) (h k : List ℕ) (r : Result A ReportFault) → Sends device h r → OnOk r (k ≡ []) → Passes device k h r
 passed device h k (Ok x) now empty = record { gone = h; went = now.0; rest = sym (append-nil h) ∙ ap (λ u. h ++ u) (sym empty); short = subst IsShort (sym empty) (omega arith); well = now.1 }
 passed device h k (Err fault) now empty = now
 
--- a text behind one that went out or is held back
+-- a text stops, behind one that went out or is held back
 pub stopped_on : (a b c : Option (List ℕ)) (h k : List ℕ) (f g n : ℕ) (s t : List ℕ) (fault : ReportFault)
     → IsPassed (changed a b f g) k (h ++ s) → Stops (changed b c g n) (k ++ t) fault → Stops (changed a c f n) (h ++ (s ++ t)) fault
 stopped_on a b c h k f g n s t fault before now =
@@ -75,14 +75,14 @@ pub written_on : {A : Type 0} (a b c : Option (List ℕ)) (h k m : List ℕ) (f 
 written_on a b c h k m f g n s t (Ok x) before now = went_on a b c h k m f g n s t before now
 written_on a b c h k m f g n s t (Err fault) before now = stopped_on a b c h k f g n s t fault before now
 
--- a text that is not written to its end, and more behind it
+-- a text that was not written to its end, with more text to follow
 pub stopped_before : (device : DeviceChange) (h s t : List ℕ) (fault : ReportFault)
     → Stops device (h ++ s) fault → Stops device (h ++ (s ++ t)) fault
 stopped_before device h s t fault now =
     let (front, rest, cut, sent) = now.0 in
     ((front, rest ++ t, sym (append_assoc h s t) ∙ ap (λ u. u ++ t) cut ∙ append_assoc front rest t, sent), now.1)
 
--- the fault of a call that is told on
+-- the fault of a call is passed on
 pub told_on : {A : Type 0} (device : DeviceChange) (k all : List ℕ) (fault : ReportFault) (r : Result A ReportFault)
     → IsErrAnd r (λ e. e ≡ fault) → Stops device all fault → Passes device k all r
 told_on device k all fault (Ok x) is now = absurd is
@@ -110,7 +110,7 @@ finished a b c k f g n text (Err fault) before now =
       counted_on fault a b c f g n before.well now.1,
     )
 
--- nothing more behind a text
+-- nothing follows the text
 pub at_the_end : {A : Type 0} (device : DeviceChange) (h k text : List ℕ) (r : Result A ReportFault)
     → Passes device k (h ++ text) r → Passes device k (h ++ (text ++ [])) r
 at_the_end device h k text r now = rw (append-nil text) now
@@ -127,14 +127,14 @@ module _ {X : Type 0} (line : X → List ℕ) (xs : List X) (i : ℕ) (x : X) (i
       ap (flat_map line) (sym (take-append-drop (i + 1) xs)) ∙ flat_map-append line (take (i + 1) xs) (drop (i + 1) xs)
       ∙ ap (λ first. first ++ flat_map line (drop (i + 1) xs)) lines_next
 
-  -- the line of one more
+  -- the line of one more element
   pub lines_more : (a b c : Option (List ℕ)) (h k m : List ℕ) (f g n : ℕ)
       → IsPassed (changed a b f g) k (h ++ flat_map line (take i xs)) → IsPassed (changed b c g n) m (k ++ line x)
       → IsPassed (changed a c f n) m (h ++ flat_map line (take (i + 1) xs))
   lines_more a b c h k m f g n before now =
       rw lines_next (went_on a b c h k m f g n (flat_map line (take i xs)) (line x) before now)
 
-  -- a beginning of it went out, and the rest never
+  -- a beginning of the lines went out, and the rest never does
   pub lines_stopped : (a b c : Option (List ℕ)) (h k : List ℕ) (f g n : ℕ) (fault : ReportFault)
       → IsPassed (changed a b f g) k (h ++ flat_map line (take i xs)) → Stops (changed b c g n) (k ++ line x) fault
       → Stops (changed a c f n) (h ++ flat_map line xs) fault
@@ -143,7 +143,7 @@ module _ {X : Type 0} (line : X → List ℕ) (xs : List X) (i : ℕ) (x : X) (i
       (stopped_before (changed a c f n) h (flat_map line (take i xs) ++ line x) (flat_map line (drop (i + 1) xs)) fault
       (stopped_on a b c h k f g n (flat_map line (take i xs)) (line x) fault before now))
 
--- the fault of a call that begins or goes on with a report, told on
+-- the fault of a call that begins a report or goes on with it is passed on
 pub told_back : {A : Type 0} (device : DeviceChange) (Is : A → Type 0) (all : List ℕ) (fault : ReportFault) (r : Result A ReportFault)
     → IsErrAnd r (λ e. e ≡ fault) → Stops device all fault → Reaches device Is all r
 told_back device Is all fault (Ok x) is now = absurd is

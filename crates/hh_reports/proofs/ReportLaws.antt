@@ -9,7 +9,7 @@ use Rattle.std.proofs.lemmas.List.{get_or_default, take_all}
 use Rattle.std.proofs.lemmas.List.FromFn.{get_or-range_with_len, length-range_with_len}
 use Rattle.hh_calc.specs.declared.result.AccountRow.{AccountRow}
 
--- a number as a word of 128 bits holds it
+-- a number as a word of 128 bits
 abbrev pub word : ℤ → ℤ
 word x = to_z w128 (of_z w128 x)
 
@@ -19,7 +19,7 @@ long_word x le = let fits : FitsSigned w128 x = omega (arith, ints) in to_z-of_z
 pub short_word : (x : ℤ) → unsigned_abs x ≤ 2 ^ 126 → word x ≡ x
 short_word x small = let less : unsigned_abs x ≤ 10 ^ 38 = omega arith in long_word x less
 
--- the numbers of so many periods behind one
+-- the numbers of so many periods after one
 pub among_periods : (first count step : ℕ) → step < count → step < length (range_with_len first count)
 among_periods first count step inside = rw (length-range_with_len first count) inside
 
@@ -29,14 +29,14 @@ period_at first count step inside = sym (get_or-range_with_len first count step 
 pub all_periods : (first count step : ℕ) → count ≤ step → take step (range_with_len first count) ≡ range_with_len first count
 all_periods first count step all = take_all step (range_with_len first count) (rw (length-range_with_len first count) all)
 
--- so many rows have Settlement Periods that never fall, none above the last
+-- the Settlement Periods of the first rows never fall, and none is above the last
 abbrev pub Rises : List (ℕ × AccountRow) → ℕ → Type 0
 Rises rows i = (a b : ℕ) (d : ℕ × AccountRow) → a ≤ b → b < i → (get_or rows a d).0 ≤ (get_or rows b d).0
 
 abbrev pub StaysBelow : List (ℕ × AccountRow) → ℕ → ℕ → Type 0
 StaysBelow rows i last = (a : ℕ) (d : ℕ × AccountRow) → a < i → (get_or rows a d).0 ≤ last
 
--- a row more
+-- one more row
 module _ (rows : List (ℕ × AccountRow)) (i : ℕ) (row : ℕ × AccountRow) (inside : i < length rows) (is : row ≡ get_or rows i row) where
   here : (b : ℕ) (d : ℕ × AccountRow) → b ≡ i → (get_or rows b d).0 ≡ row.0
   here b d same = ap (λ k. (get_or rows k d).0) same ∙ ap (λ (e : ℕ × AccountRow). e.0) (get_or_default rows i d row inside ∙ sym is)

@@ -27,7 +27,7 @@ stays_up last [] rising first = tt
 stays_up last (e ∷ rest) rising first =
     (first e (omega arith), stays_up e.0 rest (λ i j d le lt. rising (suc i) (suc j) d (omega arith) (omega arith)) (λ d lt. rising 0 (suc 0) d (omega arith) (omega arith)))
 
--- what is still to come behind these rows
+-- the text still to come after these rows
 ended : ReportedRun → Rows → Rows → List ℕ
 ended run front [] = end_text run front
 ended run front (e ∷ rest) = row_text run front e ++ ended run (front ++ e ∷ []) rest
@@ -45,7 +45,7 @@ whole_day run front (e ∷ rest) all some up =
     ∙ whole_day run (front ++ e ∷ []) rest (upto_more front e all higher one) (subst (λ p. 1 ≤ p) last one) (subst (λ p. StaysUp p rest) last up.1)
     ∙ ap (day_report_text run) (append_assoc front (e ∷ []) rest)
 
--- a beginning of what stands is one of the whole report
+-- a beginning of the text so far is a beginning of the whole report
 pub day_stopped_early : (device : DeviceChange) (run : ReportedRun) (front rest all : Rows) (fault : ReportFault) → front ++ rest ≡ all
     → AreUpTo (last_period front) front → 1 ≤ last_period front → StaysUp (last_period front) rest
     → Stops device (day_report_begun run front) fault → Stops device (day_report_text run all) fault
@@ -57,7 +57,7 @@ last_le : (b a : ℕ) (rows : Rows) → a ≤ b → All (λ e. e.0 ≤ b) rows �
 last_le b a [] le all = le
 last_le b a (e ∷ rows) le all = last_le b e.0 rows (all 0 e (omega arith)) (λ k d lt. all (suc k) d (omega arith))
 
--- the rows before one are of its Settlement Period or of earlier ones
+-- the rows before a row are of its Settlement Period or of earlier ones
 pub last_before : (rows : Rows) (i : ℕ) (row : ℕ × AccountRow) → IsNonDecreasingBy (λ e. e.0) rows → i < length rows → row ≡ get_or rows i row → last_period (take i rows) ≤ row.0
 last_before rows i row rising inside is =
     last_le row.0 0 (take i rows) (omega arith) (λ k d lt.
@@ -69,7 +69,7 @@ last_before rows i row rising inside is =
     let there : (get_or rows i d).0 ≡ row.0 = ap (λ (e : ℕ × AccountRow). e.0) (get_or_default rows i d row inside ∙ sym is) in
     omega arith)
 
--- the row behind one is of its Settlement Period or of a later one
+-- the row after a row is of its Settlement Period or of a later one
 pub first_behind : (rows : Rows) (i : ℕ) (row : ℕ × AccountRow) → IsNonDecreasingBy (λ e. e.0) rows → i < length rows → row ≡ get_or rows i row
     → (d : ℕ × AccountRow) → 0 < length (drop (i + 1) rows) → row.0 ≤ (get_or (drop (i + 1) rows) 0 d).0
 first_behind rows i row rising inside is d more =
@@ -90,15 +90,15 @@ heads_go_on run rows =
     let parts : ((heads ++ periods) ++ nets) ++ codes "END\n" ≡ heads ++ (periods ++ (nets ++ codes "END\n")) = simp append_assoc in
     (periods ++ (nets ++ codes "END\n"), parts ∙ ap (λ t. t ++ (periods ++ (nets ++ codes "END\n"))) (day_begun_none run))
 
--- a beginning of the heads is one of the whole report
+-- a beginning of the heads is a beginning of the whole report
 pub heads_stopped : (device : DeviceChange) (run : ReportedRun) (rows : Rows) (fault : ReportFault) → Stops device (day_report_begun run []) fault → Stops device (day_report_text run rows) fault
 heads_stopped device run rows fault now =
     let on = heads_go_on run rows in
     stopped_early device (day_report_begun run []) on.0 (day_report_text run rows) fault (sym on.1) now
 
--- ---- what stands of the report begins it
+-- ---- the text so far begins the whole report
 
--- where the periods of two lists together never fall, they never fall in the first, nor from its last on
+-- if the periods of two lists together never fall, they never fall in the first list, nor in the second from the first's last on
 stays-parted : (last : ℕ) (front rest : Rows) → StaysUp last (front ++ rest) → StaysUp last front × StaysUp (fold (λ _ e. e.0) last front) rest
 stays-parted last [] rest up = (tt, up)
 stays-parted last (e ∷ front) rest up = let more = stays-parted e.0 front rest up.1 in ((up.0, more.0), more.1)

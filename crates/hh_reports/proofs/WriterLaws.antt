@@ -1,4 +1,4 @@
--- What the writers of reports give, row after row.
+-- The outcomes of the writers of reports, row after row.
 use Rattle.std.proofs.Common.{◌≡◌, ℕ, List, [], ◌∷◌, ◌++◌, Option, Result, Ok, Err, sym, ap, ◌∙◌, append_assoc}
 use Rattle.std.specs.List.{flat_map}
 use Rattle.std.specs.Prelude.{codes, ℤ}
@@ -17,7 +17,7 @@ use Rattle.hh_reports.specs.Writers.{BalancesState, GivesBalances, GivesResults,
 use Rattle.hh_reports.proofs.ListLaws.{stopped_early}
 use Rattle.hh_reports.proofs.OutputLaws.{changed, stopped_on, went_on, Stops}
 
--- the lines of a list are followed by those of what comes behind it
+-- the lines of a list are followed by those of the list after it
 lines_on : {X : Type 0} (line : X → List ℕ) (header : List ℕ) (xs ys : List X) → header ++ flat_map line (xs ++ ys) ≡ (header ++ flat_map line xs) ++ flat_map line ys
 lines_on line header xs ys = ap (λ l. header ++ l) (flat_map-append line xs ys) ∙ sym (append_assoc header (flat_map line xs) (flat_map line ys))
 
@@ -29,11 +29,11 @@ pub balances_on : (balance : Account → ℤ) (parties later : List (List ℕ)) 
 unfolding balances_text
 balances_on balance parties later = lines_on (party_lines balance) (codes "account,moved_pence\n") parties later
 
--- one line more
+-- the line of one element
 one_line : {X : Type 0} (line : X → List ℕ) (x : X) → flat_map line (x ∷ []) ≡ line x
 one_line line x = append-nil (line x)
 
--- a row was written behind those before
+-- a row was written behind those before it
 pub results_row : {A : Type 0} (a b c : Option (List ℕ)) (f g n : ℕ) (old new : ResultsState) (run : ReportedRun) (rows : Rows) (e : ℕ × AccountRow) (r : Result A ReportFault)
     → new.run ≡ old.run → Passes (changed b c g n) new.held (old.held ++ result_line old.run e) r
     → HasResults (changed a b f g) old run rows → GivesResults (changed a c f n) new run (rows ++ e ∷ []) r
@@ -47,7 +47,7 @@ results_row a b c f g n old new run rows e (Err fault) same now before =
     rw (results_on run rows (e ∷ []), one_line (result_line run) e, ← before.run_is)
     (stopped_on a b c [] old.held f g n (results_text old.run rows) (result_line old.run e) fault (rw before.run_is before.sent) now)
 
--- the lines of a party were written behind those before
+-- the lines of a party were written behind those before them
 pub balances_party : {A : Type 0} (a b c : Option (List ℕ)) (f g n : ℕ) (old new : BalancesState) (amounts : Amounts) (parties : List (List ℕ)) (party : List ℕ) (r : Result A ReportFault)
     → new.sums ≡ old.sums → Passes (changed b c g n) new.held (old.held ++ party_lines (λ a. sum_for a amounts) party) r
     → HasBalances (changed a b f g) old amounts parties → GivesBalances (changed a c f n) new amounts (parties ++ party ∷ []) r
@@ -63,7 +63,7 @@ balances_party a b c f g n old new amounts parties party (Err fault) same now be
     rw (balances_on balance parties (party ∷ []), one_line (party_lines balance) party)
     (stopped_on a b c [] old.held f g n (balances_text parties balance) (party_lines balance party) fault before.sent now)
 
--- the headers alone
+-- the header with no lines
 pub results_begun : (run : ReportedRun) → codes "date,kind,account,period,credited,balancing,contracts,imbalance,charge,share\n" ≡ results_text run []
 unfolding results_text
 results_begun run = sym (append-nil (codes "date,kind,account,period,credited,balancing,contracts,imbalance,charge,share\n"))
@@ -72,7 +72,7 @@ pub balances_begun : (balance : Account → ℤ) → codes "account,moved_pence\
 unfolding balances_text
 balances_begun balance = sym (append-nil (codes "account,moved_pence\n"))
 
--- a beginning of the text of some rows is one of the text of more
+-- a beginning of the text of some rows is a beginning of the text of more rows
 pub results_stopped : (device : DeviceChange) (run : ReportedRun) (rows later all : Rows) (fault : ReportFault) → rows ++ later ≡ all
     → Stops device (results_text run rows) fault → Stops device (results_text run all) fault
 results_stopped device run rows later all fault is now =
@@ -85,7 +85,7 @@ balances_stopped device balance parties later all fault is now =
     stopped_early device (balances_text parties balance) (flat_map (party_lines balance) later) (balances_text all balance) fault
     (sym (balances_on balance parties later) ∙ ap (λ all. balances_text all balance) is) now
 
--- the whole text goes on from that of some rows
+-- the whole text goes on from the text of some rows
 pub results_go_on : ResultsGoOn
 results_go_on run rows later = (flat_map (result_line run) later, results_on run rows later)
 

@@ -1,4 +1,4 @@
--- What some of a report's rows give begins the whole report.
+-- The text of a report after some of its rows begins the whole report.
 use Rattle.std.specs.Prelude.{◌≡◌, ℕ, ◌≤◌, ℤ, List, ◌++◌, All}
 use Rattle.std.specs.List.Sorted.{IsNonDecreasingBy}
 use Rattle.hh_names.specs.declared.account.Account.{Account}
@@ -7,19 +7,19 @@ use Rattle.hh_reports.specs.DayReport.{day_report_begun, day_report_text}
 use Rattle.hh_reports.specs.Exports.{balances_text, results_text}
 use Rattle.hh_reports.specs.Writers.{Rows}
 
--- the text goes on from this one
+-- the text begins with this one
 abbrev pub GoesOnFrom : List ℕ → List ℕ → Type 0
 GoesOnFrom begun text = (rest : List ℕ) × (text ≡ begun ++ rest)
 
--- the results of some rows, and of these with later ones
+-- the results of some rows begin the results of these and later ones
 abbrev pub ResultsGoOn : Type 0
 ResultsGoOn = (run : ReportedRun) (rows later : Rows) → GoesOnFrom (results_text run rows) (results_text run (rows ++ later))
 
--- the balances of some parties, and of these with later ones
+-- the balances of some parties begin the balances of these and later ones
 abbrev pub BalancesGoOn : Type 0
 BalancesGoOn = (balance : Account → ℤ) (parties later : List (List ℕ)) → GoesOnFrom (balances_text parties balance) (balances_text (parties ++ later) balance)
 
--- what stands of a day report after some rows, and the report of these with later ones, if all come in the order of their Settlement Periods
+-- the text of a day report after some rows begins the report of these and later ones, if all come in the order of their Settlement Periods
 abbrev pub DayGoesOn : Type 0
 DayGoesOn =
     (run : ReportedRun) (rows later : Rows) → All (λ e. 1 ≤ e.0) rows → IsNonDecreasingBy (λ e. e.0) (rows ++ later)

@@ -1,13 +1,14 @@
 -- The day report of a run.
 use Rattle.std.specs.Prelude.{ℕ, ◌-◌, min, ◌==◌, nat_le, ℤ, neg_ℤ, List, [], ◌∷◌, ◌++◌, fold, map, filter_map, Option, Some, None, codes, decimal, if◌then◌else◌}
 use Rattle.std.specs.List.{flat_map, range_with_len}
+use Rattle.hh_num.specs.Fixed.{flush_right}
 use Rattle.hh_num.specs.Totals.{total}
 use Rattle.hh_time.specs.DateText.{date_text}
 use Rattle.hh_names.specs.declared.account.Account.{Account}
 use Rattle.hh_calc.specs.declared.result.AccountRow.{AccountRow}
 use Rattle.hh_runs.specs.RunKinds.{run_kind_code}
 use Rattle.hh_reports.specs.declared.run.ReportedRun.{ReportedRun}
-use Rattle.hh_reports.specs.Fields.{cash_of, energies_of, energy_text, flush_left, pence_text, flush_right, spaced_line}
+use Rattle.hh_reports.specs.Fields.{cash_of, energies_of, energy_text, flush_left, pence_text, spaced_line}
 use Rattle.hh_names.specs.Accounts.{account_text}
 use Rattle.hh_reports.specs.Nets.{nets_from_rows}
 
@@ -44,7 +45,7 @@ row_of_period period e = if e.0 == period then Some e.1 else None
 abbrev pub rows_of_period : ℕ → List (ℕ × AccountRow) → List AccountRow
 rows_of_period period rows = filter_map (row_of_period period) rows
 
--- a line for each account, then the residual: minus the sum of the charges
+-- a line for each account, then the residual, which is minus the sum of the charges
 unfoldable pub period_lines : ℕ → List AccountRow → List ℕ
 period_lines period rows = flat_map (period_account_line period) rows ++ period_residual_line period (neg_ℤ (total (λ row. row.charge) rows))
 
@@ -57,7 +58,7 @@ unfoldable pub day_report_text : ReportedRun → List (ℕ × AccountRow) → Li
 day_report_text run rows =
     title_line run ++ heads_line ++ periods_lines run.periods rows ++ flat_map net_line (nets_from_rows rows) ++ codes "END\n"
 
--- the Settlement Period of the last row; 0 where there is none
+-- the Settlement Period of the last row, or 0 if there is none
 abbrev pub last_period : List (ℕ × AccountRow) → ℕ
 last_period rows = fold (λ _ e. e.0) 0 rows
 
@@ -65,11 +66,11 @@ last_period rows = fold (λ _ e. e.0) 0 rows
 abbrev pub charges_in : ℕ → List (ℕ × AccountRow) → ℤ
 charges_in period rows = total (λ row. row.charge) (rows_of_period period rows)
 
--- the lines of the accounts of a Settlement Period; none where the run has fewer periods
+-- the lines of the accounts of a Settlement Period, or none if the run doesn't have that many periods
 abbrev pub accounts_in : ReportedRun → ℕ → List (ℕ × AccountRow) → List ℕ
 accounts_in run period rows = if nat_le period run.periods then flat_map (period_account_line period) (rows_of_period period rows) else []
 
--- what stands of the day report of a run once these rows came in the order of their periods: those before the last row's are whole, and of that one the accounts stand
+-- the text of the day report so far, if these rows came in the order of their periods: the lines of the periods before the last row's, and the account lines of the last row's
 unfoldable pub day_report_begun : ReportedRun → List (ℕ × AccountRow) → List ℕ
 day_report_begun run rows =
     title_line run ++ heads_line ++ periods_lines (min run.periods (last_period rows - 1)) rows ++ accounts_in run (last_period rows) rows

@@ -1,4 +1,4 @@
--- What other programs take in: the results of a run and the balances of accounts, as comma-separated values.
+-- The exports for other programs: the results of a run and the balances of accounts, as comma-separated values.
 use Rattle.std.specs.Prelude.{ℕ, ℤ, List, [], ◌∷◌, ◌++◌, map, codes, decimal}
 use Rattle.std.specs.List.{flat_map}
 use Rattle.hh_time.specs.DateText.{date_text}

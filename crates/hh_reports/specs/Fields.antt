@@ -13,11 +13,7 @@ energy_text ticks = fixed_text 10 ticks
 unfoldable pub pence_text : ℤ → List ℕ
 pence_text pence = signed_decimal pence
 
--- a text behind so many blanks that it fills a width
-unfoldable pub flush_right : ℕ → List ℕ → List ℕ
-flush_right width text = replicate (width - length text) 32 ++ text
-
--- a text before so many blanks that it fills a width
+-- a text, with so many blanks behind it that it fills a width
 unfoldable pub flush_left : ℕ → List ℕ → List ℕ
 flush_left width text = text ++ replicate (width - length text) 32
 

@@ -1,4 +1,4 @@
--- What amounts come to for accounts.
+-- The sums of amounts for accounts.
 use Rattle.std.specs.Prelude.{ℕ, ℤ, List, map}
 use Rattle.hh_num.specs.Totals.{total}
 use Rattle.hh_tables.specs.Tables.{Table, table_of_last}
@@ -8,15 +8,15 @@ use Rattle.hh_calc.specs.declared.result.AccountRow.{AccountRow}
 use Rattle.hh_calc.specs.Formulas.{of_account}
 use Rattle.hh_calc.specs.Settled.{paid_by}
 
--- amounts, each under its account, as they came
+-- amounts, each with its account, in the order in which they came
 abbrev pub Amounts : Type 0
 Amounts = List (Account × ℤ)
 
--- what the amounts come to for an account
+-- the sum of the amounts for an account
 abbrev pub sum_for : Account → Amounts → ℤ
 sum_for a amounts = total (λ e. of_account a e.0 e.1) amounts
 
--- each account that has an amount, once and in account order, with what its amounts come to
+-- each account that has an amount, once and in account order, with the sum of its amounts
 abbrev pub sums_of : Amounts → Table Account ℤ
 sums_of amounts = map (λ e. (e.0, sum_for e.0 amounts)) (table_of_last account_cmp amounts)
 

@@ -1,4 +1,4 @@
--- What the writers of reports keep, and what stands written of a report once they were given some of it.
+-- What the writers of reports keep, and which text they have written after they were given some rows.
 use Rattle.std.specs.Prelude.{◌≡◌, ℕ, ◌≤◌, ℤ, List, length, map, All, Result}
 use Rattle.hh_devices.specs.DeviceChanges.{DeviceChange}
 use Rattle.hh_tables.specs.Tables.{Table}
@@ -43,27 +43,27 @@ pub record DayState : Type 0 where
   pub nets : SumsState
   pub held : List ℕ
 
--- What changes in a sink since a report was begun.
+-- What has changed in a sink since a report was begun.
 module _ (device : DeviceChange) where
-  -- the results of a run with these rows went out, but for the bytes that are held back
+  -- the results of a run with these rows went out, except the bytes that are held back
   pub record HasResults (writer : ResultsState) (run : ReportedRun) (rows : Rows) : Type 0 where
     pub run_is : writer.run ≡ run
     pub sent : IsPassed device writer.held (results_text run rows)
 
-  -- so it is, or a call failed, and a beginning of those results went out
+  -- the same, or a call failed and a beginning of those results went out
   abbrev pub GivesResults : {A : Type 0} → ResultsState → ReportedRun → Rows → Result A ReportFault → Type 0
   GivesResults writer run rows result = Reaches device (λ _. HasResults writer run rows) (results_text run rows) result
 
-  -- the balances of these parties by these amounts went out, but for the bytes that are held back
+  -- the balances of these parties by these amounts went out, except the bytes that are held back
   pub record HasBalances (writer : BalancesState) (amounts : Amounts) (parties : List (List ℕ)) : Type 0 where
     pub sums : writer.sums ≡ sums_of amounts
     pub sent : IsPassed device writer.held (balances_text parties (λ a. sum_for a amounts))
 
-  -- so it is, or a call failed, and a beginning of those balances went out
+  -- the same, or a call failed and a beginning of those balances went out
   abbrev pub GivesBalances : {A : Type 0} → BalancesState → Amounts → List (List ℕ) → Result A ReportFault → Type 0
   GivesBalances writer amounts parties result = Reaches device (λ _. HasBalances writer amounts parties) (balances_text parties (λ a. sum_for a amounts)) result
 
-  -- the day report of a run begins with these rows, none of which is of a later period than the last, and so much of it went out, but for the bytes that are held back
+  -- the day report of a run was given these rows, none of a later period than the last, and its text so far went out, except the bytes that are held back
   pub record HasDay (writer : DayState) (run : ReportedRun) (rows : Rows) : Type 0 where
     pub run_is : writer.run ≡ run
     pub period : writer.period ≡ last_period rows
@@ -72,6 +72,6 @@ module _ (device : DeviceChange) where
     pub in_order : All (λ e. (1 ≤ e.0) × (e.0 ≤ last_period rows)) rows
     pub sent : IsPassed device writer.held (day_report_begun run rows)
 
-  -- so it is, or a call failed, and a beginning of what stands of that report went out
+  -- the same, or a call failed and a beginning of that text went out
   abbrev pub GivesDay : {A : Type 0} → DayState → ReportedRun → Rows → Result A ReportFault → Type 0
   GivesDay writer run rows result = Reaches device (λ _. HasDay writer run rows) (day_report_begun run rows) result

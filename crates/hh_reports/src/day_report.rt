@@ -8,7 +8,8 @@ ghost use Rattle.hh_reports.specs.declared.run.ReportedRun.{ReportedRun};
 ghost use Rattle.hh_reports.specs.DayReport.{day_report_begun, day_report_text, heads_line, net_line, period_account_line, period_residual_line, title_line};
 ghost use Rattle.hh_reports.specs.steps.DayReport.{closed_before, closing_line, closing_lines, run_row_lines};
 ghost use Rattle.hh_reports.specs.steps.Output.{Passes};
-ghost use Rattle.hh_reports.specs.Fields.{cash_of, energies_of, energy_text, pence_text, flush_right};
+ghost use Rattle.hh_reports.specs.Fields.{cash_of, energies_of, energy_text, pence_text};
+ghost use Rattle.hh_num.specs.Fixed.{flush_right};
 ghost use Rattle.hh_reports.specs.Output.{IsShort, Reaches, Sends};
 ghost use Rattle.hh_reports.specs.Writers.{GivesDay, HasDay, Rows};
 
@@ -28,13 +29,13 @@ use std::marker::Model;
 const HEADS: &[u8] =
     b"PER ACCOUNT                  CREDITED            BALANCING            CONTRACTS            IMBALANCE         CHARGE          SHARE\n";
 
-/// A writer of the day report of a run, given one row after the other in the order of the Settlement
-/// Periods. It keeps no rows: of the text only the lines of a page that is not full, and beside it the sum
-/// of the charges of the last row's period and a net for each account. Contracts see these.
+/// A writer of the day report of a run. It is given one row after another in the order of their
+/// Settlement Periods. It keeps no rows. It keeps the lines of a page that is not full, the sum of the
+/// charges of the last row's period, and a net for each account. Contracts see these.
 #[derive(Drop)]
 pub struct DayReportWriter {
     run: ReportedRun,
-    /// The Settlement Period of the last row; 0 where there is none.
+    /// The Settlement Period of the last row, or 0 if there is none.
     period: u8,
     /// The sum of the charges of that period.
     charges: i128,
@@ -65,7 +66,7 @@ impl DayReportWriter {
     ///
     /// # Errors
     ///
-    /// `Memory` where memory is refused, `Write` where the output failed or took nothing in this call. A
+    /// `Memory` if memory is refused. `Write` if the output failed or took nothing in this call. A
     /// beginning of the text may have gone out.
     pub fn begin<S: Sink>(
         alloc: Global,
@@ -87,21 +88,21 @@ impl DayReportWriter {
         })
     }
 
-    /// Whether a row of this Settlement Period may be taken: the last row is of no later one, and fewer than
-    /// 2^62 rows were taken.
+    /// Whether a row of this Settlement Period may be taken: it is not earlier than that of the last row,
+    /// and fewer than 2^62 rows were taken.
     pub fn may_take(&self, period: PeriodNumber) -> bool
         ensures { result ≡ (nat_le self.now.period period && nat_lt self.now.nets.given (2 ^ 62)) }
     {
         self.period <= period.number() && !self.nets.is_full()
     }
 
-    /// Takes a row of a Settlement Period, that of the last row or a later one. Periods that end with it
-    /// get their residuals. A period that the run has not gets no lines, but its rows count in the nets.
-    /// No more than 2^62 rows are taken, so that their sums fit.
+    /// Takes a row of the last row's Settlement Period or of a later one. Periods that end with it get
+    /// their residuals. A period that the run doesn't have gets no lines, but its rows count in the nets.
+    /// At most 2^62 rows are taken, so that their sums fit.
     ///
     /// # Errors
     ///
-    /// As of `begin`. The writer then serves no more.
+    /// The same as for `begin`. The writer can't be used after an error.
     pub fn row<S: Sink>(
         &mut self,
         period: PeriodNumber,
@@ -133,11 +134,11 @@ impl DayReportWriter {
     }
 
     /// Writes the residuals of the periods that had none, the day net of each account, and what is held
-    /// back. The day report of the rows that were given then went out whole.
+    /// back. The day report of all given rows has then gone out.
     ///
     /// # Errors
     ///
-    /// As of `begin`.
+    /// The same as for `begin`.
     pub fn finish<S: Sink>(self, out: &mut S) -> Result<(), ReportFault>
         ensures { (begun : S) (run : ReportedRun) (rows : Rows)
             → HasDay (change S.taken S.failures begun out.old) self run rows
@@ -156,14 +157,14 @@ impl DayReportWriter {
     }
 }
 
-/// Writes the day report of a run: a line for each account of each Settlement Period with its energies
-/// in MWh and its cash in pence, after these the residual of the period; then the day net of each
-/// account (profile). The rows of the run's accounts stand under their Settlement Periods. Lines are
-/// made in memory, and go out by the page.
+/// Writes the day report of a run (profile). For each Settlement Period it has a line for each account
+/// with its energies in MWh and its cash in pence, and then a line with the residual of the period. At the
+/// end it has the day net of each account. Each row is given with its Settlement Period. Lines are made in
+/// memory, and go out by the page.
 ///
 /// # Errors
 ///
-/// `Memory` where memory is refused, `Write` where the output failed or took nothing in this call. A
+/// `Memory` if memory is refused. `Write` if the output failed or took nothing in this call. A
 /// beginning of the report may have gone out.
 pub fn write_day_report<S: Sink>(
     alloc: Global,
@@ -199,7 +200,7 @@ fn write_rising<S: Sink>(
     writer.finish(out)
 }
 
-/// Writes the line that tells the run, and the heads of the columns.
+/// Writes the title line and the heads of the columns.
 fn write_heads<S: Sink>(page: &mut Page, run: &ReportedRun, out: &mut S) -> Result<(), ReportFault>
     ensures { Passes (change S.taken S.failures out.old out.new) page.new
         (page.old ++ (title_line run.now ++ heads_line)) result }
@@ -208,7 +209,7 @@ fn write_heads<S: Sink>(page: &mut Page, run: &ReportedRun, out: &mut S) -> Resu
     page.put(heads(), out)
 }
 
-/// Writes what a row adds to a report whose last row was of this Settlement Period, with these charges.
+/// Writes what a row adds to a report whose last row was of the period `last`, with these charges.
 fn write_row<S: Sink>(
     page: &mut Page,
     run: &ReportedRun,
@@ -232,7 +233,7 @@ fn write_row<S: Sink>(
     write_account(page, period, row, out)
 }
 
-/// How many Settlement Periods of a run are before this one; none where it is 0.
+/// How many Settlement Periods of a run are before this one, or none for period 0.
 fn closed_before(run: &ReportedRun, period: u8) -> u8
     ensures value { result ≡ closed_before run.now period }
     ensures room { result < 255 }
@@ -240,8 +241,8 @@ fn closed_before(run: &ReportedRun, period: u8) -> u8
     run.periods.min(period.saturating_sub(1))
 }
 
-/// The charges of the period of a row with those of the rows before, where the last of these was of this
-/// period and its charges came to this.
+/// The charges of a row's period so far, with those of the row. `charges` are those of the period of the
+/// row before.
 fn charges_with(last: u8, charges: i128, period: u8, row: &AccountRow) -> i128
     requires { unsigned_abs charges ≤ 2 ^ 125 }
     ensures sum { result ≡ (if last == period then charges else pos 0) +ℤ row.now.charge }
@@ -251,8 +252,8 @@ fn charges_with(last: u8, charges: i128, period: u8, row: &AccountRow) -> i128
     before + i128::from(row.charge.units())
 }
 
-/// Writes the residuals of the Settlement Periods behind so many, up to another number of them. The first
-/// of these has charges that come to this, the others none. A page that is full goes out before.
+/// Writes the residuals of the Settlement Periods after the closed ones, up to another number of periods.
+/// The first of them has these charges, the others have none. A full page goes out before.
 fn write_closings<S: Sink>(
     page: &mut Page,
     closed: u8,
@@ -273,8 +274,8 @@ fn write_closings<S: Sink>(
     Ok(())
 }
 
-/// Writes the residual of a Settlement Period, where the charges come to this in the first and to nothing in
-/// another.
+/// Writes the residual of a Settlement Period. The period has these charges if it is the first, and
+/// otherwise none.
 fn write_closing<S: Sink>(
     page: &mut Page,
     first: u8,
@@ -290,8 +291,8 @@ fn write_closing<S: Sink>(
     write_residual(page, period, -charges, out)
 }
 
-/// Writes what stands behind the last row of a report: the residuals of the Settlement Periods that had
-/// none, and the day nets.
+/// Writes what follows the last row of a report: the residuals of the Settlement Periods that had none,
+/// and the day nets.
 fn write_end<S: Sink>(
     page: &mut Page,
     run: &ReportedRun,
@@ -312,14 +313,14 @@ fn write_end<S: Sink>(
 }
 
 /// The line of the heads of the columns.
-#[tactic(auto, unfolding(crate::specs::DayReport::heads_line, crate::specs::Fields::spaced_line, crate::specs::Fields::flush_right, crate::specs::Fields::flush_left))]
+#[tactic(auto, unfolding(crate::specs::DayReport::heads_line, crate::specs::Fields::spaced_line, hh_num::specs::Fixed::flush_right, crate::specs::Fields::flush_left))]
 fn heads() -> &'static [u8]
     ensures { result.now ≡ heads_line }
 {
     HEADS
 }
 
-/// Writes the line that tells the run.
+/// Writes the title line, which names the run.
 fn write_title<S: Sink>(page: &mut Page, run: &ReportedRun, out: &mut S) -> Result<(), ReportFault>
     ensures { Passes (change S.taken S.failures out.old out.new) page.new
         (page.old ++ title_line run.now) result }
@@ -328,7 +329,7 @@ fn write_title<S: Sink>(page: &mut Page, run: &ReportedRun, out: &mut S) -> Resu
     page.pass(out)
 }
 
-/// Appends the line that tells the run.
+/// Appends the title line, which names the run.
 #[tactic(auto, unfolding(crate::specs::DayReport::title_line, crate::specs::Fields::spaced_line))]
 fn push_title(page: &mut Page, run: &ReportedRun) -> Result<(), AllocError>
     ensures { OnOk result (page.new ≡ page.old ++ title_line run.now) }
@@ -380,14 +381,10 @@ fn push_energies(page: &mut Page, row: &AccountRow) -> Result<(), AllocError>
     ensures { OnOk result (page.new ≡ page.old
         ++ flat_map (λ e. codes " " ++ flush_right 20 (energy_text e)) (energies_of row.now)) }
 {
-    page.push(b" ")?;
-    page.push_energy_right(20, row.credited)?;
-    page.push(b" ")?;
-    page.push_energy_right(20, row.balancing)?;
-    page.push(b" ")?;
-    page.push_energy_right(20, row.contracts)?;
-    page.push(b" ")?;
-    page.push_energy_right(20, row.imbalance)
+    page.push_energy_right(b' ', 20, row.credited)?;
+    page.push_energy_right(b' ', 20, row.balancing)?;
+    page.push_energy_right(b' ', 20, row.contracts)?;
+    page.push_energy_right(b' ', 20, row.imbalance)
 }
 
 /// Appends the cash of a row, each amount behind a blank.
@@ -395,10 +392,8 @@ fn push_cash(page: &mut Page, row: &AccountRow) -> Result<(), AllocError>
     ensures { OnOk result (page.new ≡ page.old
         ++ flat_map (λ c. codes " " ++ flush_right 14 (pence_text c)) (cash_of row.now)) }
 {
-    page.push(b" ")?;
-    page.push_pence_right(14, i128::from(row.charge.units()))?;
-    page.push(b" ")?;
-    page.push_pence_right(14, i128::from(row.share.units()))
+    page.push_pence_right(b' ', 14, i128::from(row.charge.units()))?;
+    page.push_pence_right(b' ', 14, i128::from(row.share.units()))
 }
 
 /// Writes the line of the residual of a Settlement Period.
@@ -422,8 +417,7 @@ fn push_residual_line(page: &mut Page, period: u8, residual: i128) -> Result<(),
 {
     push_period(page, period)?;
     page.push_left(12, b"RESIDUAL")?;
-    page.push(b" ")?;
-    page.push_pence_right(14, residual)?;
+    page.push_pence_right(b' ', 14, residual)?;
     page.push(b"\n")
 }
 
@@ -463,7 +457,6 @@ fn push_net_line(page: &mut Page, net: &(Account, i128)) -> Result<(), AllocErro
 {
     page.push(b"NET ")?;
     page.push_account_left(12, &net.0)?;
-    page.push(b" ")?;
-    page.push_pence_right(16, net.1)?;
+    page.push_pence_right(b' ', 16, net.1)?;
     page.push(b"\n")
 }

@@ -1,4 +1,4 @@
-//! What other programs take in: the results of a run and the balances of accounts.
+//! Exports for other programs: the results of a run and the balances of accounts.
 
 ghost use Rattle.std.specs.Prelude.{◌≡◌, ℕ, List, [], ◌∷◌, ◌++◌, codes, decimal, IfOk, OnOk};
 ghost use Rattle.std.specs.List.{flat_map};
@@ -33,7 +33,7 @@ const RESULTS_HEADER: &[u8] =
 /// The header of balances.
 const BALANCES_HEADER: &[u8] = b"account,moved_pence\n";
 
-/// A writer of the results of a run, given one row after the other. It keeps no rows: of the text only the
+/// A writer of the results of a run. It is given one row after another, and keeps no rows. It keeps the
 /// lines of a page that is not full. Contracts see the run and the bytes that are held back.
 #[derive(Drop)]
 pub struct ResultsWriter {
@@ -54,7 +54,7 @@ impl ResultsWriter {
     ///
     /// # Errors
     ///
-    /// `Memory` where memory is refused, `Write` where the output failed or took nothing in this call. A
+    /// `Memory` if memory is refused. `Write` if the output failed or took nothing in this call. A
     /// beginning of the text may have gone out.
     pub fn begin<S: Sink>(
         alloc: Global,
@@ -70,11 +70,11 @@ impl ResultsWriter {
         Ok(ResultsWriter { run: *run, page })
     }
 
-    /// Takes a row of a Settlement Period, which goes out behind those that were given before.
+    /// Takes a row of a Settlement Period. It goes out behind those that were given before.
     ///
     /// # Errors
     ///
-    /// As of `begin`. The writer then serves no more.
+    /// The same as for `begin`. The writer can't be used after an error.
     pub fn row<S: Sink>(
         &mut self,
         period: PeriodNumber,
@@ -89,11 +89,11 @@ impl ResultsWriter {
         write_result(&mut self.page, &self.run, period, row, out)
     }
 
-    /// Writes what is held back. The results of the rows that were given then went out whole.
+    /// Writes what is held back. The results of all given rows have then gone out.
     ///
     /// # Errors
     ///
-    /// As of `begin`.
+    /// The same as for `begin`.
     pub fn finish<S: Sink>(mut self, out: &mut S) -> Result<(), ReportFault>
         ensures { (begun : S) (run : ReportedRun) (rows : Rows)
             → HasResults (change S.taken S.failures begun out.old) self run rows
@@ -104,12 +104,12 @@ impl ResultsWriter {
 }
 
 /// Writes the results of a run as comma-separated values: a header, then a line for each row, in the
-/// order of the rows, with energies in MWh and cash in pence (profile). Lines are made in memory, and go out
-/// by the page.
+/// order of the rows, with energies in MWh and cash in pence (profile). Lines are made in memory, and go
+/// out by the page.
 ///
 /// # Errors
 ///
-/// `Memory` where memory is refused, `Write` where the output failed or took nothing in this call. A
+/// `Memory` if memory is refused. `Write` if the output failed or took nothing in this call. A
 /// beginning of the text may have gone out.
 pub fn write_results<S: Sink>(
     alloc: Global,
@@ -185,14 +185,10 @@ fn push_energies(page: &mut Page, row: &AccountRow) -> Result<(), AllocError>
     ensures { OnOk result (page.new ≡ page.old
         ++ flat_map (λ e. codes "," ++ energy_text e) (energies_of row.now)) }
 {
-    page.push(b",")?;
-    page.push_energy(row.credited)?;
-    page.push(b",")?;
-    page.push_energy(row.balancing)?;
-    page.push(b",")?;
-    page.push_energy(row.contracts)?;
-    page.push(b",")?;
-    page.push_energy(row.imbalance)
+    page.push_energy(b',', row.credited)?;
+    page.push_energy(b',', row.balancing)?;
+    page.push_energy(b',', row.contracts)?;
+    page.push_energy(b',', row.imbalance)
 }
 
 /// Appends the cash of a row, each amount behind a comma.
@@ -200,15 +196,13 @@ fn push_cash(page: &mut Page, row: &AccountRow) -> Result<(), AllocError>
     ensures { OnOk result (page.new ≡ page.old
         ++ flat_map (λ c. codes "," ++ pence_text c) (cash_of row.now)) }
 {
-    page.push(b",")?;
-    page.push_pence(i128::from(row.charge.units()))?;
-    page.push(b",")?;
-    page.push_pence(i128::from(row.share.units()))
+    page.push_pence(b',', i128::from(row.charge.units()))?;
+    page.push_pence(b',', i128::from(row.share.units()))
 }
 
-/// A writer of balances, given one party after the other once all postings are summed. It keeps no
-/// parties: of the text only the lines of a page that is not full. Contracts see the sums of the postings
-/// and the bytes that are held back.
+/// A writer of balances. It is given one party after another, after all postings are summed, and keeps no
+/// parties. It keeps the lines of a page that is not full. Contracts see the sums of the postings and the
+/// bytes that are held back.
 #[derive(Drop)]
 pub struct BalancesWriter {
     sums: SumTable,
@@ -224,11 +218,11 @@ impl Model for BalancesWriter {
 }
 
 impl BalancesWriter {
-    /// Begins the balances by what postings come to: the header.
+    /// Begins the balances, from the sums of postings: the header.
     ///
     /// # Errors
     ///
-    /// `Memory` where memory is refused, `Write` where the output failed or took nothing in this call. A
+    /// `Memory` if memory is refused. `Write` if the output failed or took nothing in this call. A
     /// beginning of the text may have gone out.
     pub fn begin<S: Sink>(
         alloc: Global,
@@ -248,11 +242,11 @@ impl BalancesWriter {
         })
     }
 
-    /// Takes a party: the lines of both its accounts go out behind those of the parties before.
+    /// Takes a party. The lines of both its accounts go out behind those of the parties before.
     ///
     /// # Errors
     ///
-    /// As of `begin`. The writer then serves no more.
+    /// The same as for `begin`. The writer can't be used after an error.
     pub fn party<S: Sink>(&mut self, party: PartyId, out: &mut S) -> Result<(), ReportFault>
         ensures { (begun : S) (postings : Amounts) (parties : List (List ℕ))
             → HasBalances (change S.taken S.failures begun out.old) self.old postings parties
@@ -262,11 +256,11 @@ impl BalancesWriter {
         write_party(&mut self.page, party, &self.sums, out)
     }
 
-    /// Writes what is held back. The balances of the parties that were given then went out whole.
+    /// Writes what is held back. The balances of all given parties have then gone out.
     ///
     /// # Errors
     ///
-    /// As of `begin`.
+    /// The same as for `begin`.
     pub fn finish<S: Sink>(mut self, out: &mut S) -> Result<(), ReportFault>
         ensures { (begun : S) (postings : Amounts) (parties : List (List ℕ))
             → HasBalances (change S.taken S.failures begun out.old) self postings parties
@@ -278,12 +272,13 @@ impl BalancesWriter {
 }
 
 /// Writes the balances of the accounts of parties as comma-separated values: a header, then a line for
-/// both accounts of each party, in the order of the parties, with what was posted to the account in all,
-/// in pence; 0 where nothing was (profile). Lines are made in memory, and go out by the page.
+/// each of both accounts of each party, in the order of the parties (profile). A balance is the sum of what
+/// was posted to the account, in pence, or 0 if nothing was. Lines are made in memory, and go out by the
+/// page.
 ///
 /// # Errors
 ///
-/// `Memory` where memory is refused, `Write` where the output failed or took nothing in this call. A
+/// `Memory` if memory is refused. `Write` if the output failed or took nothing in this call. A
 /// beginning of the text may have gone out.
 pub fn write_balances<S: Sink>(
     alloc: Global,
@@ -302,7 +297,7 @@ pub fn write_balances<S: Sink>(
     writer.finish(out)
 }
 
-/// What postings come to for each account.
+/// The sum of the postings to each account.
 fn posted_sums(alloc: Global, postings: &[(Account, Pence)]) -> Result<AccountSums, AllocError>
     ensures { IfOk result (λ sums. HasAmounts sums postings.now) }
 {
@@ -364,7 +359,6 @@ fn push_balance_line(page: &mut Page, account: &Account, balance: i128) -> Resul
     ensures { OnOk result (page.new ≡ page.old ++ balance_line account.now balance) }
 {
     page.push_account(account)?;
-    page.push(b",")?;
-    page.push_pence(balance)?;
+    page.push_pence(b',', balance)?;
     page.push(b"\n")
 }

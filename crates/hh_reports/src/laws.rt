@@ -1,8 +1,8 @@
-//! Laws on what stands of reports, each a clause of a function that does nothing.
+//! Laws on the text of reports so far. Each is a clause of a function that does nothing.
 
 ghost use Rattle.hh_reports.specs.Beginnings.{BalancesGoOn, DayGoesOn, ResultsGoOn};
 
-/// What some rows give of a report begins what they give with those behind them.
+/// The text of a report after some rows begins the report of these rows and later ones.
 pub fn reports_go_on()
     ensures results { ResultsGoOn }
     ensures balances { BalancesGoOn }

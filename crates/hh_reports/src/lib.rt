@@ -1,4 +1,4 @@
-//! The reports of an office: what a run settled, and what was posted to accounts in all.
+//! The reports of an office: what a run settled, and the sums of what was posted to accounts.
 #![tactic(auto)]
 
 mod day_report;

@@ -1,30 +1,29 @@
-//! Pages: lines of reports that are made and not out yet.
+//! Pages: lines of reports that are made but not out yet.
 
-ghost use Rattle.std.specs.Prelude.{◌≡◌, ◌≤◌, ◌++◌, [], replicate, OnOk};
+ghost use Rattle.std.specs.Prelude.{◌≡◌, ◌≤◌, ◌∷◌, ◌++◌, [], replicate, OnOk};
 ghost use Rattle.hh_devices.specs.DeviceChanges.{change};
+ghost use Rattle.hh_num.specs.Fixed.{flush_right};
 ghost use Rattle.hh_names.specs.Accounts.{account_text};
-ghost use Rattle.hh_reports.specs.Fields.{energy_text, flush_left, pence_text, flush_right};
+ghost use Rattle.hh_reports.specs.Fields.{energy_text, flush_left, pence_text};
 ghost use Rattle.hh_reports.specs.Output.{Sends};
 ghost use Rattle.hh_reports.specs.steps.Output.{Passes};
 
 use crate::fault::ReportFault;
 use hh_devices::{Sink, write_whole};
 use hh_names::Account;
-use hh_num::Ticks;
+use hh_num::{Pence, Ticks};
 use itoa::Buffer;
 use std::alloc::{AllocError, Global};
 use std::marker::Model;
 
-/// With so many bytes a page is full, and goes out.
+/// A page with this many bytes is full, and goes out.
 const PAGE_BYTES: usize = 16_384;
 
-/// The lines of a report that are not out yet, and the one that is being made, in memory that serves one
-/// page after the other. Contracts see the bytes.
+/// The lines of a report that are not out yet, and the one that is being made. The memory is used again
+/// for each page. Contracts see the bytes.
 #[derive(Drop)]
 pub(crate) struct Page {
     text: Vec<u8>,
-    /// A field that is to stand in a width, while it is made.
-    field: Vec<u8>,
 }
 
 impl Model for Page {
@@ -42,7 +41,6 @@ impl Page {
     {
         Page {
             text: Vec::new(alloc),
-            field: Vec::new(alloc),
         }
     }
 
@@ -84,14 +82,14 @@ impl Page {
         self.text.extend_from_slice(text)
     }
 
-    /// Appends a text behind so many blanks that it fills a width.
+    /// Appends a text, with blanks before it to fill a width.
     pub(crate) fn push_right(&mut self, width: u8, text: &[u8]) -> Result<(), AllocError>
         ensures { OnOk result (self.new ≡ self.old ++ flush_right width text.now) }
     {
         push_right(&mut self.text, width, text)
     }
 
-    /// Appends a text before so many blanks that it fills a width.
+    /// Appends a text, with blanks behind it to fill a width.
     pub(crate) fn push_left(&mut self, width: u8, text: &[u8]) -> Result<(), AllocError>
         ensures { OnOk result (self.new ≡ self.old ++ flush_left width text.now) }
     {
@@ -105,7 +103,8 @@ impl Page {
         push_account(&mut self.text, account)
     }
 
-    /// Appends the name of an account before so many blanks that it fills a width.
+    /// Appends the name of an account, with blanks behind it to fill a width.
+    #[tactic(auto, using(crate::proofs::FieldLaws::name_filled))]
     pub(crate) fn push_account_left(
         &mut self,
         width: u8,
@@ -113,46 +112,79 @@ impl Page {
     ) -> Result<(), AllocError>
         ensures { OnOk result (self.new ≡ self.old ++ flush_left width (account_text account.now)) }
     {
-        self.field.clear();
-        push_account(&mut self.field, account)?;
-        push_left(&mut self.text, width, &self.field)
+        let start = self.text.len();
+        push_account(&mut self.text, account)?;
+        let written = self.text.len() - start;
+        push_blanks(&mut self.text, usize::from(width).saturating_sub(written))
     }
 
-    /// Appends an energy in MWh.
+    /// Appends a mark, and behind it an energy in MWh.
+    #[tactic(auto, using(crate::proofs::FieldLaws::fills_none), unfolding(crate::specs::Fields::energy_text))]
+    pub(crate) fn push_energy(&mut self, mark: u8, energy: Ticks) -> Result<(), AllocError>
+        ensures { OnOk result (self.new ≡ self.old ++ mark ∷ energy_text energy) }
+    {
+        energy.write_field(mark, 0, &mut self.text)
+    }
+
+    /// Appends a mark, and then an energy in MWh with blanks before it to fill a width of at most 39.
     #[tactic(auto, unfolding(crate::specs::Fields::energy_text))]
-    pub(crate) fn push_energy(&mut self, energy: Ticks) -> Result<(), AllocError>
-        ensures { OnOk result (self.new ≡ self.old ++ energy_text energy) }
+    pub(crate) fn push_energy_right(
+        &mut self,
+        mark: u8,
+        width: u8,
+        energy: Ticks,
+    ) -> Result<(), AllocError>
+        requires { width ≤ 39 }
+        ensures { OnOk result (self.new
+            ≡ self.old ++ mark ∷ flush_right width (energy_text energy)) }
     {
-        energy.write_to(&mut self.text)
+        energy.write_field(mark, usize::from(width), &mut self.text)
     }
 
-    /// Appends an energy in MWh behind so many blanks that it fills a width.
-    #[tactic(auto, unfolding(crate::specs::Fields::energy_text))]
-    pub(crate) fn push_energy_right(&mut self, width: u8, energy: Ticks) -> Result<(), AllocError>
-        ensures { OnOk result (self.new ≡ self.old ++ flush_right width (energy_text energy)) }
+    /// Appends a mark, and behind it an amount of pence.
+    #[tactic(auto, using(crate::proofs::FieldLaws::fills_none))]
+    pub(crate) fn push_pence(&mut self, mark: u8, pence: i128) -> Result<(), AllocError>
+        ensures { OnOk result (self.new ≡ self.old ++ mark ∷ pence_text pence) }
     {
-        self.field.clear();
-        energy.write_to(&mut self.field)?;
-        push_right(&mut self.text, width, &self.field)
+        self.push_pence_right(mark, 0, pence)
     }
 
-    /// Appends an amount of pence.
-    #[tactic(auto, unfolding(crate::specs::Fields::pence_text))]
-    pub(crate) fn push_pence(&mut self, pence: i128) -> Result<(), AllocError>
-        ensures { OnOk result (self.new ≡ self.old ++ pence_text pence) }
+    /// Appends a mark, and then an amount of pence with blanks before it to fill a width of at most 39.
+    pub(crate) fn push_pence_right(
+        &mut self,
+        mark: u8,
+        width: u8,
+        pence: i128,
+    ) -> Result<(), AllocError>
+        requires { width ≤ 39 }
+        ensures { OnOk result (self.new ≡ self.old ++ mark ∷ flush_right width (pence_text pence)) }
     {
-        let mut buffer = Buffer::new();
-        self.text.extend_from_slice(buffer.format(pence).as_bytes())
+        match i64::try_from(pence) {
+            Ok(pence) => push_small_pence(&mut self.text, mark, width, pence),
+            Err(_) => push_large_pence(&mut self.text, mark, width, pence),
+        }
     }
+}
 
-    /// Appends an amount of pence behind so many blanks that it fills a width.
-    #[tactic(auto, unfolding(crate::specs::Fields::pence_text))]
-    pub(crate) fn push_pence_right(&mut self, width: u8, pence: i128) -> Result<(), AllocError>
-        ensures { OnOk result (self.new ≡ self.old ++ flush_right width (pence_text pence)) }
-    {
-        let mut buffer = Buffer::new();
-        push_right(&mut self.text, width, buffer.format(pence).as_bytes())
-    }
+/// Appends a mark, and then an amount of pence with blanks before it to fill a width of at most 39.
+#[tactic(auto, using(crate::proofs::FieldLaws::text_of_whole))]
+fn push_small_pence(text: &mut Vec<u8>, mark: u8, width: u8, pence: i64) -> Result<(), AllocError>
+    requires { width ≤ 39 }
+    ensures { OnOk result (text.new.items
+        ≡ text.old.items ++ mark ∷ flush_right width (pence_text pence)) }
+{
+    Pence::of(pence).write_field(mark, usize::from(width), text)
+}
+
+/// Appends a mark, and then an amount of pence of any size with blanks before it to fill a width.
+#[tactic(auto, unfolding(crate::specs::Fields::pence_text))]
+fn push_large_pence(text: &mut Vec<u8>, mark: u8, width: u8, pence: i128) -> Result<(), AllocError>
+    ensures { OnOk result (text.new.items
+        ≡ text.old.items ++ mark ∷ flush_right width (pence_text pence)) }
+{
+    let mut buffer = Buffer::new();
+    text.push(mark)?;
+    push_right(text, width, buffer.format(pence).as_bytes())
 }
 
 /// Appends the name of an account: its party, a dash and its side.
@@ -165,7 +197,7 @@ fn push_account(text: &mut Vec<u8>, account: &Account) -> Result<(), AllocError>
     Ok(())
 }
 
-/// Appends so many blanks.
+/// Appends `count` blanks.
 fn push_blanks(text: &mut Vec<u8>, count: usize) -> Result<(), AllocError>
     requires { count ≤ 255 }
     ensures { OnOk result (text.new.items ≡ text.old.items ++ replicate count 32) }
@@ -173,8 +205,8 @@ fn push_blanks(text: &mut Vec<u8>, count: usize) -> Result<(), AllocError>
     text.resize(text.len() + count, b' ')
 }
 
-/// Appends a field behind so many blanks that it fills a width.
-#[tactic(auto, unfolding(crate::specs::Fields::flush_right))]
+/// Appends a field, with blanks before it to fill a width.
+#[tactic(auto, unfolding(hh_num::specs::Fixed::flush_right))]
 fn push_right(text: &mut Vec<u8>, width: u8, field: &[u8]) -> Result<(), AllocError>
     ensures { OnOk result (text.new.items ≡ text.old.items ++ flush_right width field.now) }
 {
@@ -182,7 +214,7 @@ fn push_right(text: &mut Vec<u8>, width: u8, field: &[u8]) -> Result<(), AllocEr
     text.extend_from_slice(field)
 }
 
-/// Appends a field before so many blanks that it fills a width.
+/// Appends a field, with blanks behind it to fill a width.
 #[tactic(auto, unfolding(crate::specs::Fields::flush_left))]
 fn push_left(text: &mut Vec<u8>, width: u8, field: &[u8]) -> Result<(), AllocError>
     ensures { OnOk result (text.new.items ≡ text.old.items ++ flush_left width field.now) }

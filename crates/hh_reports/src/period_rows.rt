@@ -23,7 +23,8 @@ pub(crate) fn is_rising(rows: &[(PeriodNumber, AccountRow)]) -> bool
     true
 }
 
-/// The rows in the order of their Settlement Periods, those of one period in the order in which they came.
+/// The rows in the order of their Settlement Periods. Rows of one period stay in the order in which they
+/// came.
 pub(crate) fn in_order_of_periods(
     alloc: Global,
     rows: &[(PeriodNumber, AccountRow)],

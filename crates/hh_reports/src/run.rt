@@ -1,4 +1,4 @@
-//! Which run a report is of.
+//! The run that a report shows.
 
 use hh_runs::RunKind;
 use hh_time::SettlementDate;

@@ -1,4 +1,4 @@
-//! What amounts come to for accounts.
+//! The sums of amounts for accounts.
 
 ghost use Rattle.std.specs.Prelude.{◌≡◌, ◌<◌, ◌≤◌, ◌+◌, ◌*◌, ◌^◌, ◌+ℤ◌, [], ◌∷◌, ◌++◌, nat_le, unsigned_abs, OnErr, OnOk};
 ghost use Rattle.std.specs.FinMap.{put};
@@ -15,13 +15,13 @@ use hh_tables::ListTable;
 use std::alloc::{AllocError, Global};
 use std::marker::Model;
 
-/// So many amounts are taken, so that their sums fit.
+/// The most amounts that are taken, so that their sums fit.
 const MOST_AMOUNTS: u64 = 1 << 62;
 
 /// Sums of pence, in account order.
 pub(crate) type SumTable = ListTable<Account, i128>;
 
-/// An amount of pence under its account, at most 2^64 in size.
+/// An amount of pence with its account, at most 2^64 in size.
 #[derive(Clone, Copy)]
 struct Amount {
     account: Account,
@@ -42,12 +42,12 @@ impl Model for Amount {
     ghost inverse = { λ v. record { account = v.0; pence = v.1 } };
 }
 
-/// What amounts come to for each account, given one amount after the other. It keeps one sum for each
+/// The sum of amounts for each account. It is given one amount after another. It keeps one sum for each
 /// account, and no amounts. Contracts see the sums in account order, and how many amounts were given.
 #[derive(Drop)]
 pub struct AccountSums {
     sums: SumTable,
-    /// Where the sum of the next amount's account likely lies.
+    /// The place where the sum of the next amount's account is likely to be.
     place: usize,
     given: u64,
 }
@@ -82,8 +82,8 @@ impl AccountSums {
         self.given >= MOST_AMOUNTS
     }
 
-    /// Takes an amount in pence that was posted to an account. No more than 2^62 amounts are taken, so
-    /// that their sums fit. `Err` only where memory is refused: the sums then serve no more.
+    /// Takes an amount in pence that was posted to an account. At most 2^62 amounts are taken, so that
+    /// their sums fit. `Err` only if memory is refused: the sums can't be used after that.
     pub fn posting(&mut self, account: Account, amount: Pence) -> Result<(), AllocError>
         requires few { self.old.given < 2 ^ 62 }
         ensures { (amounts : Amounts) → HasAmounts self.old amounts
@@ -139,8 +139,9 @@ fn cash_of_row(row: &AccountRow) -> Amount
     }
 }
 
-/// The place behind that of an amount's account, which likely has this one. There the sum of the next
-/// amount's account likely lies: each Settlement Period has rows of the same accounts in the same order.
+/// The place after that of an amount's account, which is likely this one. The sum of the next amount's
+/// account is likely to be there, because each Settlement Period has rows of the same accounts in the
+/// same order.
 fn place_behind(sums: &SumTable, place: usize, amount: &Amount) -> usize {
     let rows = sums.rows();
     if place < rows.len() && rows[place].0 == amount.account {
@@ -149,7 +150,7 @@ fn place_behind(sums: &SumTable, place: usize, amount: &Amount) -> usize {
     sums.count_below(&amount.account).saturating_add(1)
 }
 
-/// Adds an amount to the sum of its account, which is looked for at a place first.
+/// Adds an amount to the sum of its account. Looks for the account at this place first.
 fn add_to(sums: &mut SumTable, place: usize, amount: Amount) -> Result<(), AllocError>
     requires { unsigned_abs (sum_in sums.old amount.0) ≤ 2 ^ 62 * greatest_amount }
     ensures added { OnOk result (sums.new

@@ -12,7 +12,7 @@ pub record ContractsView : Type 0 where
   pub date : ℕ
   pub contracts : List ContractRow
 
--- the rows of an account in a run, each with the number of its Settlement Period, and what they come to
+-- the rows of an account in a run, each with the number of its Settlement Period, and their net
 pub record AccountView : Type 0 where
   pub account : Account
   pub run : RunKey

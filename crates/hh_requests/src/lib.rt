@@ -1,4 +1,4 @@
-//! What is asked of an office, and what is replied.
+//! The requests to an office, and its replies.
 #![tactic(auto)]
 
 mod reply;

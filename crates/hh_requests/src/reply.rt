@@ -1,4 +1,4 @@
-//! What an office replies.
+//! The replies of an office.
 
 ghost use Rattle.std.specs.Prelude.{◌≡◌};
 
@@ -10,7 +10,7 @@ use hh_runs::{DayNet, RunKey, RunKind, Summary};
 use hh_time::SettlementDate;
 use std::marker::Model;
 
-/// What became of the rows of an accepted file (profile).
+/// What became of the rows of an accepted file.
 #[derive(Clone, Copy, Debug, PartialEq, Eq)]
 pub struct Loaded {
     /// How many rows were applied: all but the late ones.
@@ -142,7 +142,7 @@ impl AccountReply {
         self.run
     }
 
-    /// What the account pays over the date in all, in pence, negative where it is paid.
+    /// What the account pays over the date in all, in pence, negative if it is paid.
     pub fn net(&self) -> DayNet
         ensures { result ≡ self.now.net }
     {
@@ -157,7 +157,7 @@ impl AccountReply {
     }
 }
 
-/// The kinds of the runs of a date, in their order (profile).
+/// The kinds of the runs of a date, in their order.
 #[derive(Debug, Drop)]
 pub struct RunsReply {
     date: SettlementDate,
@@ -198,7 +198,7 @@ impl RunsReply {
     }
 }
 
-/// The reply to a request (profile).
+/// The reply to a request.
 #[derive(Debug, Drop)]
 pub enum Reply {
     /// A file was accepted, now or before.
@@ -207,7 +207,7 @@ pub enum Reply {
     Ran { run: RunKey, summary: Summary },
     /// The rows of an account that were asked for.
     Account(AccountReply),
-    /// What the runs of all dates have moved to an account, in pence, positive where it pays.
+    /// What the runs of all dates have posted to an account, in pence, positive if it pays.
     Balance { account: Account, moved: Pence },
     /// The contracts that were asked for.
     Contracts(ContractsReply),

@@ -1,8 +1,8 @@
-//! The reports that an office may be asked for.
+//! The reports that an office can be asked for.
 
 use hh_runs::RunKey;
 
-/// Which report is asked for (profile).
+/// Which report is asked for.
 #[derive(Clone, Copy, Debug, PartialEq, Eq)]
 pub enum Report {
     /// The day report of a run.

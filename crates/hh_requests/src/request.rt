@@ -1,4 +1,4 @@
-//! What is asked of an office.
+//! The requests to an office.
 
 ghost use Rattle.std.specs.Prelude.{◌≡◌};
 
@@ -8,7 +8,7 @@ use hh_runs::RunKey;
 use hh_time::SettlementDate;
 use std::marker::Model;
 
-/// Bytes as they came: a file's, or a key's (profile). Contracts see the list of them.
+/// Bytes as they came: those of a file or a key. Contracts see the list of them.
 #[derive(Debug, Drop)]
 pub struct Bytes {
     items: Vec<u8>,
@@ -30,7 +30,7 @@ impl Bytes {
         Bytes { items }
     }
 
-    /// The bytes one after the other.
+    /// The bytes, as a slice.
     pub fn as_slice(&self) -> &[u8]
         ensures { result.now ≡ self.now }
     {
@@ -38,7 +38,7 @@ impl Bytes {
     }
 }
 
-/// A file that is sent (profile). Its name is the one under which it is kept, and never a path.
+/// A file that is sent. Its name is the one under which it is kept, and never a path (profile).
 #[derive(Debug, Drop)]
 pub struct Upload {
     pub kind: FileKind,
@@ -46,19 +46,19 @@ pub struct Upload {
     pub body: Bytes,
 }
 
-/// What is asked (profile).
+/// What is asked for.
 #[derive(Debug, Drop)]
 pub enum Action {
-    /// That a file be loaded (profile).
+    /// To load a file.
     Load(Upload),
-    /// That a run of a date and kind be made (profile).
+    /// To make the run of a date and kind.
     Run(RunKey),
     /// What an account has and pays in the latest run of a date (Section T in shape).
     Account {
         account: Account,
         date: SettlementDate,
     },
-    /// What the runs of all dates have moved to an account (profile).
+    /// What the runs of all dates have posted to an account.
     Balance {
         account: Account,
     },
@@ -67,13 +67,13 @@ pub enum Action {
         account: Account,
         date: SettlementDate,
     },
-    /// Which runs a date has (profile).
+    /// Which runs a date has.
     Runs {
         date: SettlementDate,
     },
 }
 
-/// What is asked, and the key that is shown with it (profile).
+/// A request: what is asked for, and the key that is shown with it.
 #[derive(Debug, Drop)]
 pub struct Request {
     pub key: Bytes,

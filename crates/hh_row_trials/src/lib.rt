@@ -1,7 +1,8 @@
-//! Rows of a database tried from outside: that a database gives back what was written into it, and that
-//! rows which no office wrote are refused.
+//! Rows of a database, tested from outside: a database returns what was written into it, and rows that no
+//! office wrote are refused.
 //!
-//! They stand in a crate of their own, since the tests of a crate are proved with all of it once more.
+//! They are in a crate of their own, because the tests of a crate are proved with all of the crate once
+//! more.
 #![tactic(auto)]
 
 #[cfg(test)]

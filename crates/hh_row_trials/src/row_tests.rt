@@ -1,4 +1,4 @@
-//! Rows that a database gives back, and rows that no office wrote.
+//! Rows that a database returns, and rows that no office wrote.
 
 use hh_keyed_rows::{
     AccountAmounts, Columned, NoColumns, OneRow, RowFault, columns_of, read_entry,
@@ -40,7 +40,7 @@ fn is_written<K: Columned + Drop, V: Columned + Drop, S: Alter>(
     holds(conn, alloc, &key, &value, condition)
 }
 
-/// Whether a condition holds of the columns of a key and its value.
+/// Whether a condition holds for the columns of a key and its value.
 fn holds<K: Columned, V: Columned, S: Alter>(
     conn: &mut Connection<S>,
     alloc: Global,

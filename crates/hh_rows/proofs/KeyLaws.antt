@@ -1,4 +1,4 @@
--- The orders of Settlement Periods and of the keys are total, and tell each two apart.
+-- The orders of Settlement Periods and of keys are total, and two that they find equal are the same.
 use Rattle.std.proofs.Common.{ℕ, List, ap}
 use Rattle.std.specs.Cmp.{IsTotalOrder, nat_cmp_total, on_total, then_total}
 use Rattle.std.specs.Ordering.{nat_cmp}

@@ -20,7 +20,7 @@ is_inside inner outer = nat_le outer.from inner.from && nat_le inner.to outer.to
 abbrev pub range_between : ℕ → ℕ → Option Range
 range_between from to = if nat_le from to then Some (record { from = from; to = to }) else None
 
--- the last date of a range: no text stands for the last date that is accepted
+-- the last date of a range; an empty text means the last date that is accepted
 abbrev pub last_date_value : List ℕ → Option ℕ
 last_date_value text = if length text == 0 then Some last_date else date_value text
 

@@ -1,4 +1,4 @@
--- The orders of Settlement Periods and of the keys that rows stand under: the first field decides, then the second.
+-- The orders of Settlement Periods and of the keys of rows: the first field decides, then the second.
 use Rattle.std.specs.declared.cmp.Ordering.{Ordering}
 use Rattle.std.specs.Ordering.{nat_cmp, on, then_cmp}
 use Rattle.hh_rows.specs.declared.settlement_period.SettlementPeriod.{SettlementPeriod}

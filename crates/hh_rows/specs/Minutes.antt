@@ -2,6 +2,6 @@
 use Rattle.std.specs.Prelude.{ℕ, List, Option}
 use Rattle.hh_num.specs.Naturals.{natural_up_to}
 
--- the minutes that a text of digits alone says: 0 to 1,440
+-- the minutes that a text of digits alone writes: 0 to 1,440
 unfoldable pub lead_minutes_value : List ℕ → Option ℕ
 lead_minutes_value text = natural_up_to 1440 text

@@ -1,4 +1,4 @@
--- Of which kind a row is, the rows that a file of a kind can have, and how large it may be.
+-- The kind of a row, the rows that a file of a kind can have, and the greatest size of a file.
 use Rattle.std.specs.Prelude.{◌≡◌, ℕ, ◌≤◌, List, length, IsTrue}
 use Rattle.std.specs.List.{AllByRecursion}
 use Rattle.hh_num.specs.Quantities.{prices, volumes}
@@ -23,7 +23,7 @@ most_bytes = 1_048_576
 abbrev pub most_rows : ℕ
 most_rows = 20_000
 
--- the kind of file that a row stands in
+-- the kind of file that a row belongs to
 abbrev pub row_kind : Row → FileKind
 row_kind (row.Party r) = kind.Parties
 row_kind (row.Unit r) = kind.Units
@@ -58,7 +58,7 @@ pub record IsReallocationRow (r : ReallocationRow) : Type 0 where
   pub key : IsReallocationKey r.key
   pub reallocation : IsReallocation r.reallocation
 
--- so it is of a row of any kind
+-- the same for a row of any kind
 abbrev pub IsRow : Row → Type 0
 IsRow (row.Party r) = IsPartyRow r
 IsRow (row.Unit r) = IsUnitRow r
@@ -72,8 +72,8 @@ pub record IsRowOf (k : FileKind) (r : Row) : Type 0 where
   pub of_kind : row_kind r ≡ k
   pub valued : IsRow r
 
--- These bytes can be a file of a kind that reads as these rows: the rows are of the kind, and there are no more bytes and rows than
--- there may be.
+-- A file of a kind with these bytes can have these rows: the rows are of the kind, and neither the bytes nor the rows are more
+-- than a file may have.
 pub record IsFileOf (k : FileKind) (body : List ℕ) (rows : List Row) : Type 0 where
   pub small : length body ≤ most_bytes
   pub few : length rows ≤ most_rows

@@ -1,4 +1,4 @@
--- Which values the fields of rows and settings have: those in the grammars and within the ranges of their texts.
+-- The values that fields of rows and settings can have: each is in the grammar and range of its text.
 use Rattle.std.specs.Prelude.{◌≤◌, ℤ, IsTrue}
 use Rattle.hh_num.specs.Quantities.{Measure, multipliers, percentages, volumes}
 use Rattle.hh_num.specs.Ranges.{IsBetween}
@@ -17,7 +17,7 @@ use Rattle.hh_rows.specs.declared.rows.UnitRegistration.{UnitRegistration}
 use Rattle.hh_rows.specs.declared.settings.Settings.{Settings}
 use Rattle.hh_rows.specs.declared.settlement_period.SettlementPeriod.{SettlementPeriod}
 
--- so many units of a quantity are from its least to its most
+-- so many units of a quantity lie within its range
 abbrev pub IsQuantity : Measure → ℤ → Type 0
 IsQuantity measure units = IsBetween measure.least measure.most units
 
@@ -63,7 +63,7 @@ pub record IsReallocation (r : Reallocation) : Type 0 where
   pub percent : IsQuantity percentages r.percent
   pub fixed : IsQuantity volumes r.fixed
 
--- the keys that rows of meter volumes, of contracts and of reallocations stand under
+-- the keys of rows of meter volumes, of contracts and of reallocations
 pub record IsUnitPeriod (key : UnitPeriod) : Type 0 where
   pub unit : IsTrue (is_unit_id key.unit)
   pub at : IsPeriod key.at

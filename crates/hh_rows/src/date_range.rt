@@ -38,8 +38,8 @@ impl DateRange {
         }
     }
 
-    /// The range from a date to the one that a text names, no text standing for 2099-12-31. `None`
-    /// where the text names no date, or one before the first.
+    /// The range from a date to the one that a text names. An empty text means 2099-12-31. `None`
+    /// if the text names no date, or one before the first.
     #[tactic(auto, unfolding(crate::specs::DateRanges::range_to_value))]
     pub fn read_to(from: SettlementDate, to: &[u8]) -> Option<DateRange>
         ensures { result ≡ range_to_value from to.now }
@@ -76,7 +76,7 @@ impl DateRange {
         self.from <= date && date <= self.to
     }
 
-    /// Whether each date of this range is one of the other, as are its first and its last.
+    /// Whether each date of this range is in the other. Its first and last dates decide it.
     pub fn is_inside(self, other: DateRange) -> bool
         ensures { result ≡ is_inside self other }
     {
@@ -84,7 +84,7 @@ impl DateRange {
     }
 }
 
-/// The last date of a range that a text names, no text standing for 2099-12-31.
+/// The last date of a range that a text names. An empty text means 2099-12-31.
 fn read_last_date(text: &[u8]) -> Option<SettlementDate>
     ensures { result ≡ last_date_value text.now }
 {

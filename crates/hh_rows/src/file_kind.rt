@@ -3,7 +3,7 @@
 ghost use Rattle.std.specs.Prelude.{◌≡◌};
 ghost use Rattle.hh_rows.specs.Kinds.{kind_value, kind_word};
 
-/// What the rows of a file are (profile).
+/// The kinds of file, by what their rows are (profile).
 #[derive(Clone, Copy, Debug, PartialEq, Eq)]
 pub enum FileKind {
     Parties,

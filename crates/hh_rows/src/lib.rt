@@ -1,4 +1,4 @@
-//! The rows of the six kinds of file, the keys that they stand under, and an office's settings.
+//! The rows of the six kinds of file, their keys, and an office's settings.
 #![tactic(auto)]
 
 mod date_range;

@@ -24,28 +24,28 @@ pub struct UnitRegistration {
     pub range: DateRange,
 }
 
-/// A row of a file of parties (profile).
+/// A row of a file of parties.
 #[derive(Clone, Copy, Debug, PartialEq, Eq)]
 pub struct PartyRow {
     pub party: PartyId,
     pub registration: PartyRegistration,
 }
 
-/// A row of a file of units (profile).
+/// A row of a file of units.
 #[derive(Clone, Copy, Debug, PartialEq, Eq)]
 pub struct UnitRow {
     pub unit: UnitId,
     pub registration: UnitRegistration,
 }
 
-/// A row of a file of meter volumes (profile).
+/// A row of a file of meter volumes.
 #[derive(Clone, Copy, Debug, PartialEq, Eq)]
 pub struct MeterRow {
     pub key: UnitPeriod,
     pub reading: Reading,
 }
 
-/// A row of a file of prices (profile).
+/// A row of a file of prices.
 #[derive(Clone, Copy, Debug, PartialEq, Eq)]
 pub struct PriceRow {
     pub at: SettlementPeriod,
@@ -67,7 +67,7 @@ pub struct ReallocationRow {
     pub reallocation: Reallocation,
 }
 
-/// A row of a file of any kind (profile).
+/// A row of a file of any kind.
 #[derive(Clone, Copy, Debug, PartialEq, Eq)]
 pub enum Row {
     Party(PartyRow),

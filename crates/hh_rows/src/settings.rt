@@ -28,7 +28,7 @@ impl Model for LeadMinutes {
 }
 
 impl LeadMinutes {
-    /// So many minutes, if they are at most 1,440.
+    /// The lead of these minutes, if they are at most 1,440.
     pub fn new(minutes: u16) -> Option<LeadMinutes>
         ensures { SomeIff result (minutes ≤ 1440) minutes }
     {
@@ -39,7 +39,7 @@ impl LeadMinutes {
         }
     }
 
-    /// The minutes that a text says: 0 to 1,440, in the grammar of `read_natural`.
+    /// The minutes that a text writes: 0 to 1,440, in the grammar of `read_natural`.
     #[tactic(auto, unfolding(crate::specs::Minutes::lead_minutes_value))]
     pub fn read(text: &[u8]) -> Option<LeadMinutes>
         ensures { result ≡ lead_minutes_value text.now }
@@ -66,7 +66,7 @@ impl Default for LeadMinutes {
     }
 }
 
-/// What an office is set up with (profile).
+/// What an office is set up with.
 #[derive(Clone, Copy, Debug, PartialEq, Eq)]
 pub struct Settings {
     /// How long before a Settlement Period its notifications close.
@@ -76,8 +76,8 @@ pub struct Settings {
 }
 
 impl Settings {
-    /// That the minutes are within their range and the key in its grammar: does nothing, but carries this
-    /// for a proof.
+    /// A fact for proofs: the minutes are within their range, and the key is in its grammar. The call
+    /// does nothing.
     pub fn are_settings(&self)
         ensures { AreSettings self.now }
     {

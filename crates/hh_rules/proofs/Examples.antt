@@ -1,4 +1,4 @@
--- Late rows, rows that come again, and refusals, computed.
+-- Late rows, rows that come again, and refusals: computed examples.
 use Rattle.std.proofs.Common.{◌≡◌, ℕ, List, [], ◌∷◌, ◌++◌, refl, Some, None, false, Option}
 use Rattle.std.specs.Prelude.{ℤ, pos, codes, ◌+◌, ◌-◌, ◌*◌, map}
 use Rattle.hh_names.specs.declared.account.Account.{Account}
@@ -57,7 +57,7 @@ registered = party (codes "GENCO") (codes "genco0001") ∷ party (codes "SUPCO")
 abbrev volumes : History → List ℤ
 volumes history = map (λ e. e.1) (registered_in summer history).contracts
 
--- a row a second before the deadline is in force, one at the deadline is late, and one accepted last counts whatever its moment
+-- a row a second before the deadline is in force; one at the deadline is late; one accepted last counts, though it came earlier
 in_time : volumes (registered ++ sold loading (pos 99_000) ∷ sold (pos 1_719_784_799) (pos 98_000) ∷ []) ≡ pos 98_000 ∷ []
 in_time = refl
 
@@ -77,7 +77,7 @@ abbrev reallocated : Account → ℤ → Accepted
 reallocated account percent =
     accepted_at loading (row.Reallocation (record { key = record { unit_period = record { unit = codes "G1"; at = first_period }; account = account }; reallocation = record { percent = percent; fixed = pos 0 } }))
 
--- 60 and 40 percent are in force; the second can't become more
+-- 60 and 40 percent are in force; the 40 percent can't become more
 sixty : judged registered (reallocated supco_p (pos 6_000_000)) ≡ None
 sixty = refl
 
@@ -90,7 +90,7 @@ over_hundred = refl
 own_lead : judged registered (reallocated genco_p (pos 1)) ≡ Some refusal.OwnLead
 own_lead = refl
 
--- a late row fixes its reference, and no other seller and buyer come in time
+-- a late row fixes its reference, and a row in time with another seller and buyer is refused
 moved : judged (registered ++ accepted_at (pos 1_719_784_800) (sale (codes "C9") genco_p supco_c (pos 1)) ∷ []) (accepted_at loading (sale (codes "C9") supco_c genco_p (pos 1))) ≡ Some refusal.ReferenceMoved
 moved = refl
 

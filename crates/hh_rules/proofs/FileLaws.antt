@@ -1,4 +1,4 @@
--- What becomes of a file's rows, row after row.
+-- What becomes of a file's rows, one row after another.
 use Rattle.std.proofs.Common.{◌≡◌, ◌<◌, ℕ, ◌+◌, ℤ, List, [], ◌∷◌, ◌++◌, true, false, cond, refl, sym, ap, subst, ◌∙◌, Option, Some, None, Ok, Err, map, length, take, drop, get_or, arith}
 use Rattle.std.specs.Prelude.{filter, not, is_none, option_to_list, Result}
 use Rattle.std.specs.Result.{IsErr, IsErrAnd}
@@ -64,7 +64,7 @@ module _ (timetable : Timetable) where
       ap (cons_option (fixed_after history b)) (fixed-append (history ++ b ∷ []) rows a ∙ ap (λ h. fixed_references timetable (history ++ b ∷ []) rows ++ option_to_list (fixed_after h a)) (append_assoc history (b ∷ []) rows))
       ∙ cons_option-append (fixed_after history b) (fixed_references timetable (history ++ b ∷ []) rows) (option_to_list (fixed_after (history ++ b ∷ rows) a))
 
-  -- what a file's rows come to with one more row
+  -- the outcome of a file's rows with one more row
   pub file_outcome-append : (history rows : History) (a : Accepted)
       → file_outcome timetable history (rows ++ a ∷ [])
       ≡ with_done a.row (row_done (is_in_time timetable a) (fixes_reference (registered_in timetable (history ++ rows)) a.row)) (file_outcome timetable history rows)
@@ -81,7 +81,7 @@ module _ (timetable : Timetable) where
         | false ↦ refl
       ]
 
--- a part that agrees on a row tells whether the row fixes its reference
+-- a part of a register that agrees on a row tells whether the row fixes its reference
 same_fixes : (whole part : Registered) (r : Row) → AgreesOn whole part r → fixes_reference part r ≡ fixes_reference whole r
 same_fixes whole part (row.Party r) agrees = refl
 same_fixes whole part (row.Unit r) agrees = refl
@@ -90,11 +90,11 @@ same_fixes whole part (row.Price r) agrees = refl
 same_fixes whole part (row.Contract r) (seller, buyer, reference, volume) = ap is_none reference
 same_fixes whole part (row.Reallocation r) agrees = refl
 
--- what stands in the place of another outcome, or is memory's refusal, for an outcome that follows
+-- if one outcome leads to another, the answer to the first (itself, or that memory was refused) is one to the second
 other_outcome : (r : Refusal) (P Q S : Type 0) → (Q → S) → ByRefusal r P Q → ByRefusal r P S
 other_outcome r P Q S follows = elim r as (λ r. ByRefusal r P Q → ByRefusal r P S) [ refusal.Memory ↦ λ p. p | _ ↦ follows ]
 
--- how far a file is judged: what is left to say of its rows, and what was said
+-- how far a file is judged: the faults of the rest of its rows, and the outcome of the rows so far
 pub record IsJudgedTo (zone : TimeZone) (first : RegisterView) (moment : ℤ) (rows : List Row) (i : ℕ) (register : RegisterView) (file : FileRowsView) (history : History) : Type 0 where
   pub serves : ServesFor (drop i rows) (register_of (timetable_of zone first) (history ++ coming_at moment (take i rows))) register
   pub fault : first_fault (timetable_of zone first) (history ++ coming_at moment (take i rows)) (i + 1) (coming_at moment (drop i rows))
@@ -105,7 +105,7 @@ abbrev pub AreJudgedTo : TimeZone → RegisterView → ℤ → List Row → ℕ 
 AreJudgedTo zone first moment rows i register file =
     (history : History) → ServesAfterHistory zone first rows history → IsJudgedTo zone first moment rows i register file history
 
--- a refusal of a row of this number, or what comes later
+-- the fault of a row of this number if it is refused, and otherwise the later fault
 abbrev told : ℕ → Option Refusal → Option Fault → Option Fault
 told n why later = elim why [ Some r ↦ Some (row_fault r n) | None ↦ later ]
 
@@ -179,12 +179,12 @@ module _ (zone : TimeZone) (first : RegisterView) (moment : ℤ) (rows : List Ro
     }
 
   module _ (file : FileRowsView) (so_far : AreJudgedTo zone first moment rows i register file) where
-    -- a row that is refused gives the answer to the file
+    -- a row that is refused decides the answer to the file
     file_refused : (e : Fault) → Refuses faults e (judged_row_at zone register moment (i + 1) r) → JudgesFile zone first moment rows (Err e)
     file_refused e refused history serves =
         other_outcome e.refusal _ _ _ (refused_here history file (so_far history serves) e (refusal_at zone register moment r) refl) refused
 
-    -- a row that is accepted leaves it to those that follow
+    -- after a row that is accepted, the rows that follow decide
     judged_to_more : judged_row_at zone register moment (i + 1) r ≡ Ok tt → (done : RowDone) → done ≡ done_at zone register moment r
         → (more : FileRowsView) → more ≡ with_done r done file
         → AreJudgedTo zone first moment rows (i + 1) (register_after zone register moment r) more
@@ -195,7 +195,7 @@ module _ (zone : TimeZone) (first : RegisterView) (moment : ℤ) (rows : List Ro
         not_refused None answer = refl
         not_refused (Some why) answer = cc answer
 
--- no row is judged by readings, prices and contract volumes
+-- no refusal depends on readings, prices and contract volumes
 refused_but_volumes : (zone : TimeZone) (other register : RegisterView) (moment : ℤ) (r : Row) → refusal_at zone (with_volumes_of other register) moment r ≡ refusal_at zone register moment r
 refused_but_volumes zone other register moment (row.Party r) = refl
 refused_but_volumes zone other register moment (row.Unit r) = refl
@@ -212,7 +212,7 @@ done_but_volumes zone other register moment (row.Price r) = refl
 done_but_volumes zone other register moment (row.Contract r) = refl
 done_but_volumes zone other register moment (row.Reallocation r) = refl
 
--- a file is judged so far, by a register that has all of this one but the readings, prices and contract volumes
+-- the file is judged so far; the register lacks only readings, prices and contract volumes in force
 pub record AreJudgedBut (zone : TimeZone) (first : RegisterView) (moment : ℤ) (rows : List Row) (i : ℕ) (register : RegisterView) (file : FileRowsView) : Type 0 where
   pub full : RegisterView
   pub but_volumes : register ≡ with_volumes_of register full
@@ -245,7 +245,7 @@ module _ (zone : TimeZone) (first : RegisterView) (moment : ℤ) (rows : List Ro
       reached : next ≡ with_volumes_of register (register_after zone so_far.full moment r)
       reached = after ∙ ap (λ g. with_volumes_of register (register_after zone g moment r)) so_far.but_volumes
 
--- before the first row nothing is judged
+-- before the first row
 pub judged_from_start : (zone : TimeZone) (register : RegisterView) (moment : ℤ) (rows : List Row) (file : FileRowsView) → file ≡ no_rows
     → AreJudgedBut zone register moment rows 0 register file
 judged_from_start zone register moment rows file none = record {
@@ -258,7 +258,7 @@ judged_from_start zone register moment rows file none = record {
   };
 }
 
--- when all rows are judged, the file is
+-- after the last row the file is judged
 pub judged_to_end : (zone : TimeZone) (first : RegisterView) (moment : ℤ) (rows : List Row) (i : ℕ) (register : RegisterView) (file : FileRowsView)
     → i ≡ length rows → AreJudgedBut zone first moment rows i register file → JudgesFile zone first moment rows (Ok file)
 judged_to_end zone first moment rows i register file at_end all history serves =
@@ -273,7 +273,7 @@ pub passed_on : {X Y : Type 0} (view : X → Y) (result : Result X Fault) (e : F
 passed_on view (Ok x) e outcome passed refused = absurd (false_is_not_true passed.0)
 passed_on view (Err f) e outcome passed refused = subst (λ g. Refuses faults g outcome) (sym passed.1) refused
 
--- each row counts once, in time or late
+-- each row counts once, as in time or as late
 pub count_with : (r : Row) (done : RowDone) (file : FileRowsView)
     → length (with_done r done file).rows + (with_done r done file).late ≡ length file.rows + file.late + 1
 count_with r (Applied fixes) file = let longer = length-append file.rows (r ∷ []) in omega arith

@@ -1,4 +1,4 @@
--- The rows of a table whose keys pass a test, with one more row.
+-- The rows of a table whose keys pass a test, after one more row.
 use Rattle.std.proofs.Common.{◌≡◌, [], ◌∷◌, Bool, true, false, cond, refl, sym, ap, ◌∙◌, Some, None, Ordering}
 use Rattle.std.specs.Prelude.{◌&&◌, filter, T}
 use Rattle.std.specs.Cmp.{IsTotalOrder, Equal-is}
@@ -47,7 +47,7 @@ passes_alike : {K : Type 0} {R : K → K → Ordering} → ((x y : K) → R x y 
 passes_alike {R = R} exact passes x y same = ap passes (exact x y ((Equal-is (R x y)).0 same))
 
 module _ {K V : Type 0} {R : K → K → Ordering} (o : IsTotalOrder R) (exact : (x y : K) → R x y ≡ Equal → x ≡ y) (passes : K → Bool) where
-  -- a key is found where it passes
+  -- a key is found among those rows only if it passes
   find-filter : (es : Table K V) (q : K) → find R q (filter (λ e. passes e.0) es) ≡ cond (passes q) (find R q es) None
   find-filter [] q = no_matter (passes q) None
   find-filter (e ∷ es) q =
@@ -66,7 +66,7 @@ module _ {K V : Type 0} {R : K → K → Ordering} (o : IsTotalOrder R) (exact :
             ] refl
       ] refl
 
-  -- a row that is put stands among those that pass where its key passes
+  -- a row that is put is among those rows only if its key passes
   pub filter-put : (k : K) (v : V) (es : Table K V) → T (is_sorted R es)
       → filter (λ e. passes e.0) (put R k v es) ≡ cond (passes k) (put R k v (filter (λ e. passes e.0) es)) (filter (λ e. passes e.0) es)
   filter-put k v es sorted =

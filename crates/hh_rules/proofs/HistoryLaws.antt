@@ -1,4 +1,4 @@
--- To accept a row and look back over the history is to change the tables by the row.
+-- Two ways to the same tables: looking back over a history with one more row, or changing the tables by the row.
 use Rattle.std.proofs.Common.{◌≡◌, List, [], ◌∷◌, ◌++◌, Bool, true, false, cond, refl, ap, ◌∙◌, Option, Some, None, Ordering}
 use Rattle.std.specs.Prelude.{filter, option_to_list}
 use Rattle.std.specs.declared.cmp.Ordering.TheVariants.{Equal}
@@ -24,13 +24,13 @@ cons_option-none : {X : Type 0} (o : Option X) → cons_option o [] ≡ option_t
 cons_option-none None = refl
 cons_option-none (Some x) = refl
 
--- the entries of a history with one more row
+-- the entries of a history, after one more row
 pub entries_of-append : {K V : Type 0} (entry : Row → Option (K × V)) (history : History) (a : Accepted) → entries_of entry (history ++ a ∷ []) ≡ entries_of entry history ++ option_to_list (entry a.row)
 entries_of-append entry [] a = cons_option-none (entry a.row)
 entries_of-append entry (x ∷ history) a =
     ap (cons_option (entry x.row)) (entries_of-append entry history a) ∙ cons_option-append (entry x.row) (entries_of entry history) (option_to_list (entry a.row))
 
--- the rows of a history with one more that pass a test
+-- the rows that pass a test, after one more row
 pub filter-append : {X : Type 0} (test : X → Bool) (xs : List X) (x : X) → filter test (xs ++ x ∷ []) ≡ cond (test x) (filter test xs ++ x ∷ []) (filter test xs)
 filter-append test [] x = refl
 filter-append test (y ∷ xs) x =
@@ -67,7 +67,7 @@ module _ {K V : Type 0} {R : K → K → Ordering} (o : IsTotalOrder R) (exact :
   entries_if true history a = entries_of-append entry history a
   entries_if false history a = refl
 
-  -- of the rows in time: a late row changes nothing
+  -- the rows in time, after one more row: a late row changes nothing
   pub timely-append : (timetable : Timetable) (history : History) (a : Accepted) →
       table_of_last R (entries_of entry (filter (is_in_time timetable) (history ++ a ∷ []))) ≡ put_in_time R (is_in_time timetable a) (entry a.row) (table_of_last R (entries_of entry (filter (is_in_time timetable) history)))
   timely-append timetable history a =

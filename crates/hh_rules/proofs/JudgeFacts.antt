@@ -1,4 +1,4 @@
--- What an accepted row has, and that a refusal has the least number.
+-- The properties of an accepted row; and that the refusal of a row is the one with the least number.
 use Rattle.std.proofs.Common.{◌≡◌, ◌∙◌, ◌<◌, ◌≤◌, List, [], ◌∷◌, refl, sym, ap, subst, Bool, true, false, le_refl, arith}
 use Rattle.std.specs.Prelude.{ℕ, nat_le, ℤ, ◌+ℤ◌, ◌≤ℤ◌, int_lt, ◌&&◌, Option, Some, None, Result, Ok, Err, IfErr, is_none, if◌then◌else◌}
 use Rattle.std.proofs.lemmas.Bool.{and_parts}
@@ -42,7 +42,7 @@ within : (in_time : Bool) (most sum : ℤ) → (in_time && int_lt most sum) ≡ 
 within true most sum e t = grind (arith, ints)
 within false most sum e t = cc
 
--- the date of an accepted row has the row's period
+-- an accepted row's period exists on its date
 lacks_none : (timetable : Timetable) (standing : Standing) (moment : ℤ) (r : Row)
     → first_met (refusals_of standing (timing_of timetable (accepted_at moment r)) r) ≡ None
     → lacks_period (timing_of timetable (accepted_at moment r)) ≡ false
@@ -53,7 +53,7 @@ lacks_none timetable standing moment (row.Price r) none = (none_met (price_refus
 lacks_none timetable standing moment (row.Contract r) none = (none_met (contract_refusals standing (timing_of timetable (accepted_at moment (row.Contract r))) r) none).1.1.0
 lacks_none timetable standing moment (row.Reallocation r) none = (none_met (reallocation_refusals standing (timing_of timetable (accepted_at moment (row.Reallocation r))) r) none).1.1.1.0
 
--- where the date has the period, the row comes in time if it lies before its deadline
+-- if the date has the period, the row comes in time exactly if it comes before its deadline
 in_time_by : (has_period in_time : Bool) → lacks_period (timing_by has_period in_time) ≡ false → comes_in_time (timing_by has_period in_time) ≡ in_time
 in_time_by true true e = refl
 in_time_by true false e = refl
@@ -70,7 +70,7 @@ accepted_has_room standing timing (row.Contract r) none = tt
 accepted_has_room standing timing (row.Reallocation r) none =
     within (comes_in_time timing) hundred_percent (percent_of_others r.key standing.tables.reallocations +ℤ r.reallocation.percent) (none_met (reallocation_refusals standing timing r) none).1.1.1.1.1.0
 
--- the refusals of each kind stand in the order of their numbers
+-- the refusals of each kind are in the order of their numbers
 abbrev none_below : ℕ → List (Refusal × Bool) → Bool
 none_below n rs = list_all (λ r. nat_le n (refusal_number r.0)) rs
 
@@ -95,7 +95,7 @@ none_less least (r ∷ rs) e =
     let halves = and_parts (nat_le (refusal_number least) (refusal_number r.0)) (none_below (refusal_number least) rs) e in
     (λ met. at_most (refusal_number least) (refusal_number r.0) halves.0, none_less least rs halves.1)
 
--- so the first whose condition is met has the least number of those
+-- so the first refusal whose condition is met has the least number
 first_is_least : (rs : List (Refusal × Bool)) (least : Refusal) → rises rs ≡ true → first_met rs ≡ Some least → IsLeast least rs
 first_is_least [] least in_order is = tt
 first_is_least (r ∷ rs) least in_order is =
@@ -105,7 +105,7 @@ first_is_least (r ∷ rs) least in_order is =
       | false ↦ λ unmet e. (λ met. absurd (false_is_not_true (sym unmet ∙ met)), first_is_least rs least halves.1 e)
     ] refl is
 
--- a row that is judged by the timing that was found, at the moment that was passed on
+-- a row that is judged by the timing found for it, at the moment passed on
 module _ (timetable : Timetable) (standing : Standing) (z moment : ℤ) (r : Row) (timing : Timing) (answer : Option Refusal) (passed : z ≡ moment)
     (timed : timing ≡ timing_of timetable (accepted_at z r)) (told : answer ≡ first_met (refusals_of standing timing r)) where
   timed_at : timing ≡ timing_of timetable (accepted_at moment r)
@@ -123,7 +123,7 @@ module _ (timetable : Timetable) (standing : Standing) (z moment : ℤ) (r : Row
       ap comes_in_time timed_at
       ∙ in_time_by (has_its_period timetable.midnight r) (is_in_time timetable (accepted_at moment r)) (lacks_none timetable standing moment r (sym told_at ∙ none))
 
--- where none is met, none has a lesser number
+-- if no condition is met, no refusal that is met has a lesser number
 none_is_least : (rs : List (Refusal × Bool)) (least : Refusal) → NoneMet rs → IsLeast least rs
 none_is_least [] least none = tt
 none_is_least (r ∷ rs) least none = (λ met. absurd (false_is_not_true (sym none.0 ∙ met)), none_is_least rs least none.1)
@@ -132,7 +132,7 @@ pub least_of_none : {X : Type 0} (rs : List (Refusal × Bool)) → first_met rs 
 least_of_none rs none (Ok x) = tt
 least_of_none rs none (Err fault) = none_is_least rs fault.refusal (none_met rs none)
 
--- no row is refused by memory's refusal
+-- no row is refused with the refusal for memory
 abbrev is_rows : Refusal → Bool
 is_rows refusal.Memory = false
 is_rows _ = true

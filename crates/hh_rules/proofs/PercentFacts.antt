@@ -1,4 +1,4 @@
--- The percentages of a unit in a Settlement Period, with and without an account's.
+-- The percentages of a unit in a Settlement Period, with and without those of an account.
 use Rattle.std.proofs.Common.{◌≡◌, refl, sym, ap, subst, ◌∙◌, cond, Bool, true, false, arith}
 use Rattle.std.specs.Prelude.{ℤ, pos, ◌+ℤ◌, ◌≤ℤ◌, ◌&&◌, not, Option, Some, None, Result, Ok, Err, OnOk, OnErr, T, unwrap_or}
 use Rattle.std.specs.Cmp.{eq_by_cmp_equiv}
@@ -68,14 +68,14 @@ module _ (key : ReallocationKey) where
   sorted : (es : Table ReallocationKey Reallocation) → IsTable reallocation_key_cmp es → T (is_sorted reallocation_key_cmp es)
   sorted es h = subst T (sym h) tt
 
-  -- what others have, and what the key's account has, make up the unit's percentage
+  -- the percentages of other accounts and of the key's account make up the unit's
   others_and_own : (es : Table ReallocationKey Reallocation) → IsTable reallocation_key_cmp es
       → percent_of_others key es +ℤ percent_in (find reallocation_key_cmp key es) ≡ percent_at es key.unit_period
   others_and_own es h =
       ap (λ z. percent_of_others key es +ℤ z) (sym (own_part (find reallocation_key_cmp key es)))
       ∙ total-others reallocation_key_total key (percent_if key.unit_period) (λ e. cond (is_of_other key e.0) e.1.percent (pos 0)) none_of_tied same_of_apart (alike key.unit_period) es (sorted es h)
 
-  -- so what others have is the whole, as the table of percentages has it, less the account's own
+  -- so those of other accounts are the unit's, from the table of percentages, less the account's own
   pub others_from : (ps : Table UnitPeriod ℤ) (es : Table ReallocationKey Reallocation) → IsTable reallocation_key_cmp es → SumsPercents ps es
       → (percent : Option ℤ) (own : Option Reallocation) (all part : ℤ)
       → percent ≡ find unit_period_cmp key.unit_period ps → own ≡ find reallocation_key_cmp key es
@@ -122,7 +122,7 @@ module _ (key : ReallocationKey) where
   pub others_not_negative : (ps : Table UnitPeriod ℤ) (es : Table ReallocationKey Reallocation) → SumsPercents ps es → pos 0 ≤ℤ percent_of_others key es
   others_not_negative ps es before = total-some (λ w. w.percent) (is_of_other key) es before.none_negative
 
-  -- both tables with a row more, or as they were
+  -- both tables after a row, or unchanged if it failed
   pub adds_up_after : {E : Type 0} (v : Reallocation) (sum : ℤ) (ps new_ps : Table UnitPeriod ℤ) (es new_es : Table ReallocationKey Reallocation) (r : Result (Unit {0}) E)
       → IsTable reallocation_key_cmp es → SumsPercents ps es → pos 0 ≤ℤ v.percent → sum ≡ percent_of_others key es +ℤ v.percent
       → OnOk r (new_ps ≡ put unit_period_cmp key.unit_period sum ps) → OnOk r (new_es ≡ put reallocation_key_cmp key v es)

@@ -1,4 +1,4 @@
--- What a contract row in the place of another changes of the positions: those of its seller and of its buyer alone.
+-- A contract row that replaces another changes only the positions of its seller and its buyer.
 use Rattle.std.proofs.Common.{◌≡◌, Bool, true, false, cond, refl, sym, ap, ◌∙◌, arith, FitsSigned, to_z, of_z}
 use Rattle.std.specs.Prelude.{◌≢◌, ℤ, pos, neg_ℤ, ◌-ℤ◌, Option, Some, unwrap_or}
 use Rattle.std.specs.Cmp.{IsTotalOrder, Equal-is, eq_by_cmp_equiv, on_total, then_total}
@@ -64,7 +64,7 @@ module _ (positions : Table PositionKey Position) where
   beside : (k q : PositionKey) (p : Position) → q ≢ k → position_in (put position_key_cmp k p positions) q ≡ position_in positions q
   beside k q p apart = ap (λ o. unwrap_or o (Known (pos 0))) (found_beside k q p apart)
 
-  -- what is lost stays lost where a volume is added
+  -- a lost position stays lost when a volume is added
   stays_lost : (k q : PositionKey) (volume : ℤ) → position_in positions q ≡ Lost → position_in (with_moved k volume positions) q ≡ Lost
   stays_lost k q volume lost =
       in_put k q (position_plus volume (position_in positions k))
@@ -97,7 +97,7 @@ lost_stays_lost old new positions key lost =
     let more : ℤ = new.contract.volume -ℤ volume_of old in
     stays_lost (with_moved (seller_key new) more positions) (buyer_key new) key (pos 0 -ℤ more) (stays_lost positions (seller_key new) key more lost)
 
--- a number that a machine's word holds
+-- a number that fits a 64-bit word
 abbrev word : ℤ → ℤ
 word z = to_z w64 (of_z w64 z)
 
@@ -106,7 +106,7 @@ in_word z (low, high) =
     let fits : FitsSigned w64 z = omega (arith, ints) in
     to_z-of_z w64 z fits
 
--- what a volume grows by, and what it falls by
+-- the change of a volume, added and taken off
 module _ (volume taken units held : ℤ) (is : units ≡ volume) (held_is : held ≡ taken)
     (within : IsBetween (neg_ℤ (pos 10_000_000)) (pos 10_000_000) volume) (held_within : IsBetween (neg_ℤ (pos 10_000_000)) (pos 10_000_000) held) where
   grows : word (word units -ℤ word held) ≡ volume -ℤ taken
@@ -118,7 +118,7 @@ module _ (volume taken units held : ℤ) (is : units ≡ volume) (held_is : held
   falls : word (pos 0 -ℤ word (word units -ℤ word held)) ≡ pos 0 -ℤ (volume -ℤ taken)
   falls = ap (λ z. word (pos 0 -ℤ z)) grows ∙ in_word (pos 0 -ℤ (volume -ℤ taken)) (omega (arith, ints), omega (arith, ints))
 
--- Both positions that are put are moved.
+-- Both positions are moved, and put.
 module _ (old : Option ContractRow) (new : ContractRow) (positions : Table PositionKey Position) (seller buyer : PositionKey)
     (seller_is : seller ≡ seller_key new) (buyer_is : buyer ≡ buyer_key new) (before sold beside bought : Position) (units held : ℤ)
     (is : units ≡ new.contract.volume) (held_is : held ≡ volume_of old)

@@ -54,11 +54,11 @@ module _ (timetable : Timetable) (moment : ℤ) (tables : Registered) where
   }
 
 module _ {K V : Type 0} {R : K → K → Ordering} (o : IsTotalOrder R) where
-  -- a table with a row put under a key has that row replaced, and no other
+  -- putting a row under a key replaces that row, and no other
   replaced : (key : K) (value : V) (old new : Table K V) → new ≡ put R key value old → ReplacesRowOf R key value old new
   replaced key value old new is other = ap (find R other) is ∙ find-put R o other key value old
 
-  -- an entry that is put only where its key is new leaves the key that is there
+  -- an entry put only if its key is new leaves the keys that are there
   kept-put_new : ((x y : K) → R x y ≡ Equal → x ≡ y) → (e : Option (K × V)) (table : Table K V) (q : K)
       → is_some (find R q table) ≡ true → find R q (put_new R e table) ≡ find R q table
   kept-put_new exact None table q there = refl
@@ -72,14 +72,14 @@ module _ {K V : Type 0} {R : K → K → Ordering} (o : IsTotalOrder R) where
       apart new false differs = refl
       apart new true same = absurd (false_is_not_true (sym new ∙ ap (λ k. is_some (find R k table)) (sym (exact q e.0 ((Equal-is (R q e.0)).0 same))) ∙ there))
 
-  -- an entry that is put only where its key is new is found under a new key
+  -- an entry put only if its key is new is found, if the key was new
   found-put_new : (key : K) (value : V) (table : Table K V) → find R key table ≡ None → find R key (put_new R (Some (key, value)) table) ≡ Some value
   found-put_new key value table new =
       ap (λ b. find R key (cond b table (put R key value table))) (ap is_some new)
       ∙ find-put R o key key value table
       ∙ ap (λ b. cond b (Some value) (find R key table)) ((eq_by_cmp_equiv o).refl key)
 
--- what became of a row tells whether it was in time
+-- the outcome of a row tells whether it was in time
 late_is : (in_time first fixes : Bool) (done : RowDone) → done ≡ row_done in_time first → done ≡ Late fixes → in_time ≡ false
 late_is true first fixes done is late = cc
 late_is false first fixes done is late = refl
@@ -88,7 +88,7 @@ applied_is : (in_time first fixes : Bool) (done : RowDone) → done ≡ row_done
 applied_is true first fixes done is applied = refl
 applied_is false first fixes done is applied = cc
 
--- an accepted row has the effects of one more row
+-- an accepted row changes what one more row has to change
 pub one_more_row : (timetable : Timetable) (a : Accepted) (old new : Standing) (done : RowDone)
     → new ≡ standing_with (is_in_time timetable a) a.row old → (first : Bool) → done ≡ row_done (is_in_time timetable a) first → IsOneMoreRow timetable a old new done
 one_more_row timetable a old new done changed first became =

@@ -1,4 +1,4 @@
--- A register that serves for a row judges it as the whole one does, and serves for the rows that follow.
+-- A part of a register that serves for a row judges it as the whole register does, and serves for the rows that follow.
 use Rattle.std.proofs.Common.{◌≡◌, ℕ, ◌+◌, ℤ, List, [], ◌∷◌, Bool, true, false, cond, refl, sym, ap, subst, ◌∙◌, Option, Some, None, Ordering}
 use Rattle.std.specs.Prelude.{pos, ◌+ℤ◌, not, ◌&&◌, ◌||◌, nat_le, int_lt, is_none, is_some, slice_index_or, filter, T}
 use Rattle.std.specs.Cmp.{IsTotalOrder}
@@ -38,7 +38,7 @@ use Rattle.hh_rules.proofs.FilterFacts.{filter-put, rising_of}
 abbrev is_at : UnitPeriod → ReallocationKey × Reallocation → Bool
 is_at at e = eq_by_cmp unit_period_cmp e.0.unit_period at
 
--- an entry in time among those of a unit in a Settlement Period, where it is one of them
+-- after an entry in time, the entries of a unit in a Settlement Period: the entry is put if it is one of theirs
 abbrev put_here : UnitPeriod → Bool → Option (ReallocationKey × Reallocation) → Table ReallocationKey Reallocation → Table ReallocationKey Reallocation
 put_here at in_time None rows = rows
 put_here at false (Some e) rows = rows
@@ -57,7 +57,7 @@ both_tests : (a b : Bool) (x : ℤ) → cond (a && b) x (pos 0) ≡ cond a (cond
 both_tests true b x = refl
 both_tests false b x = refl
 
--- the percentage of others, from the reallocations of the unit in the period alone
+-- the percentage of other accounts depends only on the reallocations of the unit in the period
 others_at : (tables : Registered) (key : ReallocationKey)
     → percent_of_others key tables.reallocations ≡ total (λ e. cond (not (is_same_account e.0.account key.account)) e.1.percent (pos 0)) (reallocations_at tables key.unit_period)
 others_at tables key =
@@ -101,23 +101,23 @@ module _ (timing : Timing) (whole part : Standing) (parties : part.party_count �
       ∷ (refusal.OwnLead, is_some_that (λ u. is_same_account u.lead r.key.account) (unit i))
       ∷ (refusal.OverHundred, comes_in_time timing && int_lt hundred_percent (others i +ℤ r.reallocation.percent)) ∷ [])
 
--- a part that serves for a row refuses it for the whole's reason, or for none
+-- a part that serves for a row refuses it for the same reason as the whole, or accepts it as the whole does
 pub part_refuses : (zone : TimeZone) (part whole : RegisterView) (moment : ℤ) (r : Row) (rows : List Row) → ServesFor (r ∷ rows) whole part
     → refusal_at zone part moment r ≡ refusal_at zone whole moment r
 part_refuses zone part whole moment r rows serves =
     ap (λ minutes. first_met (refusals_of part.standing (timing_of (timetable_in zone minutes) (accepted_at moment r)) r)) serves.lead_minutes
     ∙ judged_alike (timing_of (timetable_of zone whole) (accepted_at moment r)) whole.standing part.standing serves.parties serves.units r (All-head (AgreesOn whole.standing.tables part.standing.tables) r rows serves.agrees)
 
--- so the row gets the whole's answer
+-- so the row gets the answer that the whole gives
 pub part_judges : (zone : TimeZone) (register : RegisterView) (moment : ℤ) (r : Row) → JudgesAsWhole zone register moment r (judged_at zone register moment r)
 part_judges zone register moment r whole rows serves = ap judged (part_refuses zone register whole moment r rows serves)
 
--- the part has of an entry's key what the whole has
+-- under an entry's key, the part has the same as the whole
 abbrev AgreesAt : {K V : Type 0} → (K → K → Ordering) → Option (K × V) → Table K V → Table K V → Type 0
 AgreesAt R None whole part = Unit {0}
 AgreesAt R (Some e) whole part = find R e.0 part ≡ find R e.0 whole
 
--- entries that are put into both leave them alike
+-- both still agree after the same entries are put
 module _ {K V : Type 0} {R : K → K → Ordering} (o : IsTotalOrder R) (whole part : Table K V) (q : K) (same : find R q part ≡ find R q whole) where
   alike-put : (k : K) (v : V) → find R q (put R k v part) ≡ find R q (put R k v whole)
   alike-put k v = find-put R o q k v part ∙ ap (cond (eq_by_cmp R q k) (Some v)) same ∙ sym (find-put R o q k v whole)
@@ -140,7 +140,7 @@ module _ {K V : Type 0} {R : K → K → Ordering} (o : IsTotalOrder R) (whole p
         | false ↦ alike-put e.0 e.1
       ]
 
--- a new entry counts in both or in neither
+-- a new entry is counted in both, or in neither
 same_count : {K V : Type 0} (R : K → K → Ordering) (e : Option (K × V)) (whole part : Table K V) (m n : ℕ) → AgreesAt R e whole part → m ≡ n
     → count_new R e part m ≡ count_new R e whole n
 same_count R None whole part m n own same = same
@@ -171,7 +171,7 @@ module _ (whole part : Registered) where
   own_reference (row.Contract r) (seller, buyer, reference, volume) = reference
   own_reference (row.Reallocation r) agrees = tt
 
-  -- what is in force of a unit in a Settlement Period, after a row
+  -- the reallocations in force of a unit in a Settlement Period, after a row
   reallocations_after : (tables : Registered) → IsTable reallocation_key_cmp tables.reallocations → (in_time : Bool) (e : Option (ReallocationKey × Reallocation)) (at : UnitPeriod)
       → filter (is_at at) (put_in_time reallocation_key_cmp in_time e tables.reallocations) ≡ put_here at in_time e (reallocations_at tables at)
   reallocations_after tables rising in_time None at = refl
@@ -179,7 +179,7 @@ module _ (whole part : Registered) where
   reallocations_after tables rising true (Some e) at =
       filter-put reallocation_key_total exact_reallocation_keys (λ k. eq_by_cmp unit_period_cmp k.unit_period at) e.0 e.1 tables.reallocations (sorted_table reallocation_key_cmp tables.reallocations rising)
 
-  -- after a row that both accept the part has what another row is judged by, and the row in force of its key
+  -- after a row that both accept, the part still agrees with the whole on another row
   agrees_after : IsTable reallocation_key_cmp whole.reallocations → IsTable reallocation_key_cmp part.reallocations
       → (in_time : Bool) (r : Row) → AgreesOn whole part r → (other : Row) → AgreesOn whole part other → AgreesOn (with_row in_time r whole) (with_row in_time r part) other
   agrees_after rising rising_part in_time r own (row.Party x) party =
@@ -208,7 +208,7 @@ module _ (whole part : Registered) where
         ∙ sym (reallocations_after whole rising in_time (reallocation_entry r) x.key.unit_period),
   )
 
--- after a row that both accept, a part that serves for it and for more rows serves for those
+-- a part that serves for a row and for more rows serves for those after a row that both accept
 pub part_serves : (zone : TimeZone) (old : RegisterView) (moment : ℤ) (r : Row)
     → ServesAfter zone old moment r (register_after zone old moment r)
 part_serves zone old moment r whole rows serves =

@@ -17,7 +17,7 @@ use Rattle.hh_rules.specs.Refusals.{whole_standing}
 use Rattle.hh_rules.proofs.HistoryLaws.{looks_back}
 
 module _ (in_time : Bool) (tables : Registered) where
-  -- a party is counted where it is new
+  -- a party is counted if it is new
   party_count-with : (r : Row) → T (is_sorted bytes_cmp tables.parties)
       → count_new bytes_cmp (party_entry r) tables.parties (length tables.parties) ≡ length (with_row in_time r tables).parties
   party_count-with (row.Party r) sorted = sym (length-put bytes_cmp bytes_total r.party r.registration tables.parties sorted)
@@ -27,7 +27,7 @@ module _ (in_time : Bool) (tables : Registered) where
   party_count-with (row.Contract r) sorted = refl
   party_count-with (row.Reallocation r) sorted = refl
 
-  -- a unit is counted where it is new
+  -- a unit is counted if it is new
   unit_count-with : (r : Row) → T (is_sorted bytes_cmp tables.units)
       → count_new bytes_cmp (unit_entry r) tables.units (length tables.units) ≡ length (with_row in_time r tables).units
   unit_count-with (row.Party r) sorted = refl
@@ -37,7 +37,7 @@ module _ (in_time : Bool) (tables : Registered) where
   unit_count-with (row.Contract r) sorted = refl
   unit_count-with (row.Reallocation r) sorted = refl
 
--- what a history stands for, after one more row
+-- what is registered and in force by a history, after one more row
 pub standing-append : (timetable : Timetable) (history : History) (a : Accepted)
     → standing_with (is_in_time timetable a) a.row (whole_standing (registered_in timetable history)) ≡ whole_standing (registered_in timetable (history ++ a ∷ []))
 standing-append timetable history a =

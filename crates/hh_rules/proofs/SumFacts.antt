@@ -14,13 +14,13 @@ pub both_true : (a b : Bool) → T (a && b) → T a × T b
 both_true true b h = (tt, h)
 both_true false b h = absurd h
 
--- what a row adds to a sum, 0 where there is none
+-- what a row adds to a sum, 0 if there is no row
 abbrev pub part_of : {K V : Type 0} → (K × V → ℤ) → K → Option V → ℤ
 part_of f k None = pos 0
 part_of f k (Some v) = f (k, v)
 
 module _ {K V : Type 0} {R : K → K → Ordering} (o : IsTotalOrder R) (k : K) where
-  -- a key that lies below each key above x is not found above x
+  -- a key below all keys above x is not found above x
   find_above : (x : K) → ((y : K) → R x y ≡ Less → R k y ≡ Less) → (es : List (K × V)) → T (below_all R x es) → find R k es ≡ None
   find_above x below [] h = refl
   find_above x below (e ∷ es) h = elim (R x e.0) as (λ r. R x e.0 ≡ r → T (is_lt r && below_all R x es) → cond (eq_by_cmp R k e.0) (Some e.1) (find R k es) ≡ None) [
@@ -29,7 +29,7 @@ module _ {K V : Type 0} {R : K → K → Ordering} (o : IsTotalOrder R) (k : K) 
     | Greater ↦ λ is rest. absurd rest
   ] refl h
 
-  -- a row in the place of its key's
+  -- the sum after a row replaces the row of its key
   pub total-put-part : (f : K × V → ℤ) → ((x : K) (w : V) → R k x ≡ Equal → f (x, w) ≡ f (k, w)) → (v : V) (es : List (K × V)) → T (is_sorted R es)
       → total f (put R k v es) +ℤ part_of f k (find R k es) ≡ total f es +ℤ f (k, v)
   total-put-part f alike v [] h = omega (arith, ints)
@@ -68,7 +68,7 @@ module _ {K V : Type 0} {R : K → K → Ordering} (o : IsTotalOrder R) (k : K) 
     | Greater ↦ (all.0, all-put P v es here all.1)
   ]
 
--- a sum over some of the rows, none of which is negative
+-- a sum over some of the rows, if no row is negative
 pub total-some : {K V : Type 0} (amount : V → ℤ) (test : K → Bool) (es : List (K × V)) → AllByRecursion (λ e. pos 0 ≤ℤ amount e.1) es
     → pos 0 ≤ℤ total (λ e. cond (test e.0) (amount e.1) (pos 0)) es
 total-some amount test [] all = omega (arith, ints)

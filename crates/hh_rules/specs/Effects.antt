@@ -19,7 +19,7 @@ use Rattle.hh_rules.specs.History.{History, Registered, registered_in}
 use Rattle.hh_rules.specs.Lateness.{Timetable, Accepted}
 use Rattle.hh_rules.specs.Refusals.{Standing, whole_standing}
 
--- whether a row is the first of its reference, whose seller and buyer it fixes
+-- whether a row is the first of its reference, and so fixes its seller and buyer
 abbrev pub fixes_reference : Registered → Row → Bool
 fixes_reference tables (row.Contract r) = is_none (find bytes_cmp r.key.reference tables.references)
 fixes_reference tables _ = false
@@ -28,7 +28,7 @@ fixes_reference tables _ = false
 abbrev pub row_done : Bool → Bool → RowDone
 row_done in_time fixes = if in_time then Applied fixes else Late fixes
 
--- the table with an entry, if there is one, in the place of its key's
+-- the table with an entry, if there is one, replacing the entry of its key
 abbrev pub put_entry : {K V : Type 0} → (K → K → Ordering) → Option (K × V) → Table K V → Table K V
 put_entry R None table = table
 put_entry R (Some e) table = put R e.0 e.1 table
@@ -38,18 +38,18 @@ abbrev pub put_new : {K V : Type 0} → (K → K → Ordering) → Option (K × 
 put_new R None table = table
 put_new R (Some e) table = if is_some (find R e.0 table) then table else put R e.0 e.1 table
 
--- the table with an entry in the place of its key's, if its row is in time
+-- the table with an entry, if its row is in time, replacing the entry of its key
 abbrev pub put_in_time : {K V : Type 0} → (K → K → Ordering) → Bool → Option (K × V) → Table K V → Table K V
 put_in_time R in_time None table = table
 put_in_time R in_time (Some e) table = if in_time then put R e.0 e.1 table else table
 
--- one more where there is an entry whose key is new
+-- one more, if there is an entry with a new key
 abbrev pub count_new : {K V : Type 0} → (K → K → Ordering) → Option (K × V) → Table K V → ℕ → ℕ
 count_new R None table count = count
 count_new R (Some e) table count = if is_some (find R e.0 table) then count else count + 1
 
--- What is registered and in force after one more row: its entries stand in the place of those of their keys. A contract or
--- reallocation row that is late is not in force, but fixes its reference where that is new.
+-- What is registered and in force after one more row: its entries replace those of their keys. A contract or reallocation
+-- row that is late is not in force, but a contract row fixes its reference if that is new, also if the row is late.
 abbrev pub with_row : Bool → Row → Registered → Registered
 with_row in_time r tables = record {
   parties = put_entry bytes_cmp (party_entry r) tables.parties;
@@ -61,7 +61,7 @@ with_row in_time r tables = record {
   reallocations = put_in_time reallocation_key_cmp in_time (reallocation_entry r) tables.reallocations;
 }
 
--- the standing after one more row
+-- what rows are judged by, after one more row
 abbrev pub standing_with : Bool → Row → Standing → Standing
 standing_with in_time r standing = record {
   tables = with_row in_time r standing.tables;
@@ -69,7 +69,7 @@ standing_with in_time r standing = record {
   unit_count = count_new bytes_cmp (unit_entry r) standing.tables.units standing.unit_count;
 }
 
--- no row in force changes; references stand apart
+-- no row in force changes; references are not rows in force
 pub record KeepsRowsInForce (old new : Registered) : Type 0 where
   pub parties : new.parties ≡ old.parties
   pub units : new.units ≡ old.units
@@ -78,7 +78,7 @@ pub record KeepsRowsInForce (old new : Registered) : Type 0 where
   pub contracts : new.contracts ≡ old.contracts
   pub reallocations : new.reallocations ≡ old.reallocations
 
--- the key has this row, and each other key what it had
+-- the key has this row, and each other key has what it had
 abbrev pub ReplacesRowOf : {K V : Type 0} → (K → K → Ordering) → K → V → Table K V → Table K V → Type 0
 ReplacesRowOf {K} R key value old new =
     (other : K) → find R other new ≡ (if eq_by_cmp R other key then Some value else find R other old)
@@ -88,7 +88,7 @@ abbrev pub KeepsReferences : Registered → Registered → Type 0
 KeepsReferences old new = (reference : List ℕ) → is_some (find bytes_cmp reference old.references) ≡ true
     → find bytes_cmp reference new.references ≡ find bytes_cmp reference old.references
 
--- what follows of an accepted row, and of what became of it
+-- what an accepted row changes, by what became of it
 pub record IsOneMoreRow (timetable : Timetable) (a : Accepted) (old new : Standing) (done : RowDone) : Type 0 where
   -- a late row changes no row in force
   pub late : (fixes : Bool) → done ≡ Late fixes → KeepsRowsInForce old.tables new.tables
@@ -101,10 +101,10 @@ pub record IsOneMoreRow (timetable : Timetable) (a : Accepted) (old new : Standi
       → ReplacesRowOf contract_key_cmp r.key r.contract.volume old.tables.contracts new.tables.contracts
   pub reallocation : (r : ReallocationRow) → a.row ≡ row.Reallocation r → (fixes : Bool) → done ≡ Applied fixes
       → ReplacesRowOf reallocation_key_cmp r.key r.reallocation old.tables.reallocations new.tables.reallocations
-  -- the first row of a reference fixes its seller and buyer, also where it is late, and no row moves them
+  -- the first row of a reference fixes its seller and buyer, even if it is late, and no row changes them
   pub fixes : (r : ContractRow) → a.row ≡ row.Contract r → find bytes_cmp r.key.reference old.tables.references ≡ None
       → find bytes_cmp r.key.reference new.tables.references ≡ Some r.contract.counterparties
   pub keeps : KeepsReferences old.tables new.tables
-  -- what a history stands for becomes what the history with this row stands for
+  -- what looking back over a history gives becomes what looking back over the history with this row gives
   pub looks_back : (history : History) → old ≡ whole_standing (registered_in timetable history)
       → new ≡ whole_standing (registered_in timetable (history ++ a ∷ []))

@@ -1,4 +1,4 @@
--- What a row puts under which key, for each of the seven tables; a row of another kind puts nothing.
+-- The entry that a row puts into each of the seven tables; a row of another kind puts none.
 use Rattle.std.specs.Prelude.{ℕ, ℤ, List, Option, Some, None}
 use Rattle.hh_rows.specs.declared.keys.UnitPeriod.{UnitPeriod}
 use Rattle.hh_rows.specs.declared.keys.ContractKey.{ContractKey}

@@ -1,4 +1,4 @@
--- What becomes of the rows of a file: each sees those before it.
+-- What becomes of the rows of a file: each is judged after those before it.
 use Rattle.std.specs.Prelude.{ℕ, ◌+◌, ℤ, List, [], ◌∷◌, ◌++◌, map, filter, length, not, Bool, Option, Some, None, Result, Ok, Err, if◌then◌else◌}
 use Rattle.std.specs.List.{cons_option}
 use Rattle.jiff.specs.declared.tz.timezone.TimeZone.{TimeZone}
@@ -18,7 +18,7 @@ use Rattle.hh_rules.specs.RegisterView.{RegisterView, ServesFor, timetable_of}
 abbrev pub coming_at : ℤ → List Row → History
 coming_at moment rows = map (accepted_at moment) rows
 
--- a reference with its seller and buyer, where a row fixes them
+-- a reference with its seller and buyer, if a row fixes them
 abbrev pub fixed_by : Bool → Option (List ℕ × Counterparties) → Option (List ℕ × Counterparties)
 fixed_by fixes entry = if fixes then entry else None
 
@@ -28,7 +28,7 @@ module _ (timetable : Timetable) where
   refusal_after history a =
       first_met (refusals_of (whole_standing (registered_in timetable history)) (timing_of timetable a) a.row)
 
-  -- the first of the rows that is refused after a history and the rows before it, with its number from n on
+  -- the fault of the first row that is refused after a history and the rows before it; rows are numbered from n on
   abbrev pub first_fault : History → ℕ → List Accepted → Option Fault
   first_fault history n [] = None
   first_fault history n (a ∷ rows) = elim (refusal_after history a) [
@@ -57,7 +57,7 @@ pub record FileRowsView : Type 0 where
   pub late : ℕ
   pub references : List (List ℕ × Counterparties)
 
--- what an accepted file's rows come to after a history
+-- the outcome of an accepted file's rows after a history
 abbrev pub file_outcome : Timetable → History → List Accepted → FileRowsView
 file_outcome timetable history rows = record {
   rows = timely_rows timetable rows;
@@ -65,7 +65,7 @@ file_outcome timetable history rows = record {
   references = fixed_references timetable history rows;
 }
 
--- the rows of a file after a history, or the fault of the first that is refused
+-- that outcome, or the fault of the first row that is refused
 abbrev pub judged_file : Timetable → History → List Accepted → Result FileRowsView Fault
 judged_file timetable history rows = elim (first_fault timetable history 1 rows) [
   | Some fault ↦ Err fault
@@ -82,7 +82,7 @@ abbrev pub ServesAfterHistory : TimeZone → RegisterView → List Row → Histo
 ServesAfterHistory zone register rows history =
     ServesFor rows (register_of (timetable_of zone register) history) register
 
--- the answer to a file's rows is that of looking back over the history, whatever history the register serves for
+-- the answer to a file's rows is that of looking back over each history after which the register serves for the rows
 abbrev pub JudgesFile : TimeZone → RegisterView → ℤ → List Row → Result FileRowsView Fault → Type 0
 JudgesFile zone register moment rows answer =
     (history : History) → ServesAfterHistory zone register rows history

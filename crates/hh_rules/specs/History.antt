@@ -38,7 +38,7 @@ nothing_registered = record { parties = []; units = []; references = []; meters 
 abbrev pub entries_of : {K V : Type 0} → (Row → Option (K × V)) → History → List (K × V)
 entries_of entry history = filter_map (λ a. entry a.row) history
 
--- A registration, a reading and a price are those of their key's last row. A reference's seller and buyer are those of its
+-- A registration, a reading and a price come from the last row of their key. A reference's seller and buyer come from its
 -- first row, late or not. Of the contract and reallocation rows of a key that are in time, the last is in force.
 abbrev pub registered_in : Timetable → History → Registered
 registered_in timetable history =

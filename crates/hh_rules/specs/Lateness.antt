@@ -1,4 +1,4 @@
--- Whether the Settlement Period of a row is there, and whether the row comes in time for it.
+-- Whether the Settlement Period of a row exists, and whether the row comes in time for it.
 use Rattle.std.specs.Prelude.{ℕ, ℤ, int_lt, Bool, true, false, if◌then◌else◌}
 use Rattle.hh_time.specs.Days.{Midnights, deadline, has_period}
 use Rattle.hh_rows.specs.declared.settlement_period.SettlementPeriod.{SettlementPeriod}
@@ -21,7 +21,7 @@ pub record Accepted : Type 0 where
 abbrev pub accepted_at : ℤ → Row → Accepted
 accepted_at moment r = record { moment = moment; row = r }
 
--- the date of a Settlement Period has the period
+-- the date of a Settlement Period has a period of its number
 abbrev pub is_there : Midnights → SettlementPeriod → Bool
 is_there midnight at = has_period midnight at.date at.period
 
@@ -46,7 +46,7 @@ is_in_time timetable a = elim a.row [
   | _ ↦ true
 ]
 
--- the timing of a row whose date has its period or not, and which comes in time or not
+-- the timing of a row, by whether its date has its period, and whether it comes in time
 abbrev pub timing_by : Bool → Bool → Timing
 timing_by has_period in_time = if has_period then (if in_time then InTime else Late) else NoSuchPeriod
 

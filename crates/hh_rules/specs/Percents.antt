@@ -20,12 +20,12 @@ abbrev pub is_of_other : ReallocationKey → ReallocationKey → Bool
 is_of_other key other =
     eq_by_cmp unit_period_cmp other.unit_period key.unit_period && not (is_same_account other.account key.account)
 
--- the percentage of a key's unit that is in force in the key's Settlement Period for other accounts than the key's
+-- the percentage in force for other accounts than the key's, of the key's unit in its Settlement Period
 abbrev pub percent_of_others : ReallocationKey → Table ReallocationKey Reallocation → ℤ
 percent_of_others key reallocations =
     total (λ e. if is_of_other key e.0 then e.1.percent else pos 0) reallocations
 
--- a table of percentages that has them all, none of the reallocations being negative, and their keys rising
+-- the table of percentages is the sums of the reallocations, none of which is negative; the reallocations' keys rise
 pub record SumsPercents (percents : Table UnitPeriod ℤ) (reallocations : Table ReallocationKey Reallocation) : Type 0 where
   pub sums : (at : UnitPeriod) → unwrap_or (find unit_period_cmp at percents) (pos 0) ≡ percent_at reallocations at
   pub rising : IsTable reallocation_key_cmp reallocations

@@ -28,7 +28,7 @@ pub record Standing : Type 0 where
   pub party_count : ℕ
   pub unit_count : ℕ
 
--- the standing that has everything that the tables have
+-- what rows are judged by, if the tables have all parties and units
 abbrev pub whole_standing : Registered → Standing
 whole_standing tables = record { tables = tables; party_count = length tables.parties; unit_count = length tables.units }
 
@@ -55,7 +55,7 @@ abbrev pub is_unit_moved : UnitRegistration → UnitRegistration → Bool
 is_unit_moved known new =
     not (is_same_account known.lead new.lead && is_same_mark known.interconnector new.interconnector)
 
--- a row of prices needs its period alone
+-- a row of prices needs only its period
 abbrev pub price_refusals : Timing → List (Refusal × Bool)
 price_refusals timing = (refusal.NoSuchPeriod, lacks_period timing) ∷ []
 
@@ -68,11 +68,11 @@ module _ (standing : Standing) where
   abbrev pub registered_unit : List ℕ → Option UnitRegistration
   registered_unit unit = find bytes_cmp unit standing.tables.units
 
-  -- the party is registered, and its range does not hold the date
+  -- the party is registered, but not for the date
   abbrev pub is_party_off : List ℕ → ℕ → Bool
   is_party_off party date = is_some_that (λ p. not (holds p.range date)) (registered_party party)
 
-  -- the unit is registered, and its range does not hold the date
+  -- the unit is registered, but not for the date
   abbrev pub is_unit_off : List ℕ → ℕ → Bool
   is_unit_off unit date = is_some_that (λ u. not (holds u.range date)) (registered_unit unit)
 
@@ -112,12 +112,12 @@ module _ (standing : Standing) where
       ∷ (refusal.NoSuchPeriod, lacks_period timing)
       ∷ counterparty_refusals (find bytes_cmp r.key.reference standing.tables.references) r.contract.counterparties
 
-  -- with the row more than 100 percent of the unit would be in force
+  -- with the row, more than 100 percent of the unit would be in force
   abbrev pub passes_hundred : ReallocationRow → Bool
   passes_hundred r =
       int_lt hundred_percent (percent_of_others r.key standing.tables.reallocations +ℤ r.reallocation.percent)
 
-  -- a late row is never in force, so that with it no more than 100 percent can be
+  -- a late row is never in force, so it can't take the unit above 100 percent
   abbrev pub reallocation_refusals : Timing → ReallocationRow → List (Refusal × Bool)
   reallocation_refusals timing r =
       let party = r.key.account.party in

@@ -1,4 +1,4 @@
--- What contracts see of a register in memory, and when a part of one serves for some rows.
+-- What contracts see of a register in memory, and when a part of a register serves for some rows.
 use Rattle.std.specs.Prelude.{◌≡◌, ℕ, ℤ, List, ◌∷◌, filter, All, Bool, Option, Some, None, Result, Ok, Err, if◌then◌else◌}
 use Rattle.std.specs.FinMap.{find, put}
 use Rattle.std.specs.Ordering.{eq_by_cmp}
@@ -29,7 +29,7 @@ use Rattle.hh_rules.specs.History.{Registered, nothing_registered}
 use Rattle.hh_rules.specs.Lateness.{Timetable, accepted_at, is_in_time, timing_of}
 use Rattle.hh_rules.specs.Refusals.{Standing, passes_hundred, refusals_of}
 
--- what rows are judged by, and the minutes by which notifications close before their period
+-- what rows are judged by, and how many minutes before their period notifications close
 pub record RegisterView : Type 0 where
   pub lead_minutes : ℕ
   pub standing : Standing
@@ -55,7 +55,7 @@ empty_part lead_minutes party_count unit_count = record (empty_register lead_min
 abbrev pub tables_in : RegisterView → Registered
 tables_in register = register.standing.tables
 
--- when local midnights fall in a zone, and so many minutes before a period
+-- the local midnights of a zone, with the minutes by which notifications close before a period
 abbrev pub timetable_in : TimeZone → ℕ → Timetable
 timetable_in zone lead_minutes = record { midnight = midnight_in (plain_zone zone); lead_minutes = lead_minutes }
 
@@ -63,7 +63,7 @@ timetable_in zone lead_minutes = record { midnight = midnight_in (plain_zone zon
 abbrev pub timetable_of : TimeZone → RegisterView → Timetable
 timetable_of zone register = timetable_in zone register.lead_minutes
 
--- the answer to a row that is refused for a reason, or for none
+-- the answer to a row: a refusal, if there is a reason for one
 abbrev pub judged : Option Refusal → Result (Unit {0}) Fault
 judged None = Ok tt
 judged (Some r) = Err (plain_fault r)
@@ -76,7 +76,7 @@ after_row in_time r register = record register { standing = standing_with in_tim
 abbrev pub with_tables : Registered → RegisterView → RegisterView
 with_tables tables register = record register { standing = record register.standing { tables = tables } }
 
--- what a register holds of a key stands in the place of what it held, and counts no party or unit
+-- Registers after they hold one thing more. It replaces what was held under its key, and counts no party or unit.
 module _ (register : RegisterView) where
   abbrev pub holding_party : List ℕ → PartyRegistration → RegisterView
   holding_party party registration =
@@ -106,12 +106,12 @@ module _ (register : RegisterView) where
   holding_reallocation key reallocation =
       with_tables (record (tables_in register) { reallocations = put reallocation_key_cmp key reallocation (tables_in register).reallocations }) register
 
-  -- the answer to a reallocation that it is to hold: more than 100 percent of a unit can't be in force
+  -- the answer to a reallocation to be held: refused if more than 100 percent of a unit would be in force
   abbrev pub held_reallocation : ReallocationKey → Reallocation → Result (Unit {0}) Fault
   held_reallocation key reallocation =
       if passes_hundred register.standing (record { key = key; reallocation = reallocation }) then Err (plain_fault OverHundred) else Ok tt
 
--- of a row that comes to a register at a moment
+-- for a row that comes to a register at a moment
 module _ (zone : TimeZone) (register : RegisterView) (moment : ℤ) (r : Row) where
   -- whether the row comes in time
   abbrev pub in_time_at : Bool
@@ -129,11 +129,11 @@ module _ (zone : TimeZone) (register : RegisterView) (moment : ℤ) (r : Row) wh
   abbrev pub judged_at : Result (Unit {0}) Fault
   judged_at = judged refusal_at
 
-  -- of the row's refusals whose conditions are met, none has a lesser number than this
+  -- no refusal of the row whose condition is met has a lesser number than this one
   abbrev pub IsLeastRefusal : Refusal → Type 0
   IsLeastRefusal why = IsLeast why refusals_at
 
-  -- of the row's refusals whose conditions are met, none has a lesser number than the fault's
+  -- no refusal of the row whose condition is met has a lesser number than the fault's
   abbrev pub IsLeastFault : Fault → Type 0
   IsLeastFault fault = IsLeastRefusal fault.refusal
 
@@ -154,20 +154,20 @@ module _ (zone : TimeZone) (register : RegisterView) (moment : ℤ) (r : Row) wh
 abbrev pub reallocations_at : Registered → UnitPeriod → Table ReallocationKey Reallocation
 reallocations_at tables at = filter (λ e. eq_by_cmp unit_period_cmp e.0.unit_period at) tables.reallocations
 
--- both have the same of a party
+-- both registers have the same for a party
 abbrev pub AgreesOnParty : Registered → Registered → List ℕ → Type 0
 AgreesOnParty whole part party = find bytes_cmp party part.parties ≡ find bytes_cmp party whole.parties
 
--- both have the same of a unit
+-- both registers have the same for a unit
 abbrev pub AgreesOnUnit : Registered → Registered → List ℕ → Type 0
 AgreesOnUnit whole part unit = find bytes_cmp unit part.units ≡ find bytes_cmp unit whole.units
 
--- both have the same of a reference
+-- both registers have the same for a reference
 abbrev pub AgreesOnReference : Registered → Registered → List ℕ → Type 0
 AgreesOnReference whole part reference =
     find bytes_cmp reference part.references ≡ find bytes_cmp reference whole.references
 
--- the part has of the whole what a row is judged by, and the row in force of its key
+-- the part has the same as the whole for all that the row is judged by, and for the row in force of its key
 abbrev pub AgreesOn : Registered → Registered → Row → Type 0
 AgreesOn whole part (row.Party r) = AgreesOnParty whole part r.party
 AgreesOn whole part (row.Unit r) =
@@ -187,8 +187,8 @@ AgreesOn whole part (row.Reallocation r) =
     × AgreesOnUnit whole part r.key.unit_period.unit
     × (reallocations_at part r.key.unit_period ≡ reallocations_at whole r.key.unit_period)
 
--- a part that serves for some rows closes notifications when the whole does, counts all parties and units, and has what
--- the rows are judged by, and the rows in force of their keys
+-- A part serves for some rows: notifications close when the whole's do, and it counts all parties and units. It has all that the
+-- rows are judged by, and the rows in force of their keys.
 pub record ServesFor (rows : List Row) (whole part : RegisterView) : Type 0 where
   pub rising : IsTable reallocation_key_cmp (tables_in whole).reallocations
   pub part_rising : IsTable reallocation_key_cmp (tables_in part).reallocations
@@ -197,12 +197,12 @@ pub record ServesFor (rows : List Row) (whole part : RegisterView) : Type 0 wher
   pub units : part.standing.unit_count ≡ whole.standing.unit_count
   pub agrees : All (AgreesOn whole.standing.tables part.standing.tables) rows
 
--- the answer to a row is the whole's, of whatever whole the register serves for the row
+-- the answer to a row is that of each whole register for which this one serves for the row
 abbrev pub JudgesAsWhole : TimeZone → RegisterView → ℤ → Row → Result (Unit {0}) Fault → Type 0
 JudgesAsWhole zone register moment r answer =
     (whole : RegisterView) (rows : List Row) → ServesFor (r ∷ rows) whole register → answer ≡ judged_at zone whole moment r
 
--- after a row that both accept, a part that serves for it and for more rows serves for those
+-- after a row that both accept, a part that served for it and for more rows serves for the others
 abbrev pub ServesAfter : TimeZone → RegisterView → ℤ → Row → RegisterView → Type 0
 ServesAfter zone old moment r new =
     (whole : RegisterView) (rows : List Row) → ServesFor (r ∷ rows) whole old

@@ -10,17 +10,17 @@ ghost use Rattle.hh_rules.specs.steps.FileRows.{judged_row_at, with_volumes_of};
 ghost use Rattle.hh_rules.specs.RegisterView.{after_row, done_at, register_after, tables_in};
 ghost use Rattle.hh_rules.specs.steps.RegisterView.{IsKeptIn};
 
+use crate::last_asked::LastAsked;
 use crate::register::Register;
 use crate::row_done::RowDone;
 use hh_names::{Counterparties, Fault, Reference};
 use hh_rows::{ContractRow, Row};
-use hh_time::Day;
 use jiff::tz::TimeZone;
 use std::alloc::{AllocError, Global};
 use std::marker::Model;
 
-/// What the rows of an accepted file come to: those that are not late, in their order, how many are
-/// late, and the references that the rows fixed, late ones included (profile).
+/// The outcome of an accepted file's rows: those that are not late, in their order, how many are
+/// late, and the references that the rows fixed, those of late rows included (profile).
 #[derive(Debug, Drop)]
 pub struct FileRows {
     rows: Vec<Row>,
@@ -43,7 +43,7 @@ impl Model for FileRows {
 impl FileRows {
     ghost use Rattle.hh_rules.specs.steps.FileRows.{no_rows, with_done, with_fixed};
 
-    /// No rows, with room for so many. `Err` only where memory is refused.
+    /// No rows, with room for `count` of them. `Err` only if memory is refused.
     fn with_room(alloc: Global, count: usize) -> Result<FileRows, AllocError>
         ensures { IfOk result (λ file. file ≡ no_rows) }
     {
@@ -84,7 +84,7 @@ impl FileRows {
         self.late
     }
 
-    /// One more row, and what became of it.
+    /// Adds one more row, by what became of it.
     fn add(&mut self, row: &Row, done: RowDone) -> Result<(), AllocError>
         requires { self.old.late < 4294967295 }
         ensures ok { OnOk result (self.new ≡ with_done row.now done self.old) }
@@ -117,9 +117,9 @@ impl FileRows {
 }
 
 impl Register {
-    /// What the rows of a file come to that come at a moment, in seconds since 1970-01-01T00:00:00Z, one
-    /// after the other; or the first refusal, 30 to 42 with its row, or 90 where memory is refused
-    /// (profile). The register serves for the rows, and is used up.
+    /// The outcome of a file's rows, judged one after the other, that come at a moment in seconds since
+    /// 1970-01-01T00:00:00Z (profile). A refusal is that of the first refused row: 30 to 42 with the
+    /// row's number, or 90 if memory is refused. The register must serve for the rows, and is used up.
     pub fn judge_file(
         mut self,
         alloc: Global,
@@ -131,7 +131,7 @@ impl Register {
         ensures judged { JudgesFile zone.now self moment rows.now result }
         ensures count { IfOk result (λ file. length file.rows + file.late ≡ length rows.now) }
     {
-        let mut last = None;
+        let mut last = LastAsked::nothing();
         let mut file = FileRows::with_room(alloc, rows.len())?;
         for (index, row) in rows.iter().enumerate() {
             let done = self.take_row(&mut last, zone, moment, index as u32 + 1, row)?;
@@ -140,18 +140,18 @@ impl Register {
         Ok(file)
     }
 
-    /// Takes a row of this number in its file, as `apply_row` does, but for the readings, prices and
-    /// contract volumes in force: no row is judged by them.
+    /// Takes a row of this number in its file, as `apply_row` does. The readings, prices and contract
+    /// volumes in force stay as they are, because no row is judged by them.
     fn take_row(
         &mut self,
-        last: &mut Option<Day>,
+        last: &mut LastAsked,
         zone: &TimeZone<'_>,
         moment: i64,
         number: u32,
         row: &Row,
     ) -> Result<RowDone, Fault>
-        requires { IsKeptIn zone.now last.old }
-        ensures kept { IsKeptIn zone.now last.new }
+        requires { IsKeptIn zone.now last.old.day }
+        ensures kept { IsKeptIn zone.now last.new.day }
         ensures judged { Gives faults (λ _. tt) result
             (judged_row_at zone.now self.old moment number row.now) }
         ensures next { OnOk result (self.new
@@ -164,7 +164,7 @@ impl Register {
         }
     }
 
-    /// Changes what an accepted row changes of what rows are judged by, and says what became of it.
+    /// Makes an accepted row's changes to what rows are judged by, and says what became of the row.
     fn note(&mut self, in_time: bool, row: &Row) -> Result<RowDone, AllocError>
         requires { HasRoomFor in_time row.now self.old.standing }
         ensures ok { OnOk result (self.new

@@ -1,4 +1,4 @@
-//! What the register of a part holds: rows of the tables of what is registered and in force.
+//! Filling the register of a part with rows of the tables of what is registered and in force.
 
 ghost use Rattle.std.specs.Prelude.{◌≡◌, OnOk, OnErr};
 ghost use Rattle.hh_names.specs.Faults.{faults, Gives};
@@ -14,8 +14,8 @@ use hh_rows::{
 use std::alloc::AllocError;
 
 impl Register {
-    /// Holds what is registered of a party, in the place of what it held of it; it counts no party. `Err`
-    /// only where memory is refused: the register is then as it was.
+    /// Holds what is registered of a party, replacing what it held of it. Doesn't count the party. `Err`
+    /// only if memory is refused: the register is then as it was.
     pub fn hold_party(
         &mut self,
         party: PartyId,
@@ -27,8 +27,8 @@ impl Register {
         self.parties.put(party, registration)
     }
 
-    /// Holds what is registered of a unit, in the place of what it held of it; it counts no unit. `Err`
-    /// only where memory is refused: the register is then as it was.
+    /// Holds what is registered of a unit, replacing what it held of it. Doesn't count the unit. `Err`
+    /// only if memory is refused: the register is then as it was.
     pub fn hold_unit(
         &mut self,
         unit: UnitId,
@@ -37,11 +37,11 @@ impl Register {
         ensures ok { OnOk result (self.new ≡ holding_unit self.old unit registration) }
         ensures err { OnErr result (self.new ≡ self.old) }
     {
-        self.units.put(unit, registration)
+        self.units.put_row(unit, registration)
     }
 
-    /// Holds the seller and the buyer of a reference, in the place of those that it held. `Err` only
-    /// where memory is refused: the register is then as it was.
+    /// Holds the seller and the buyer of a reference, replacing those that it held. `Err` only if memory
+    /// is refused: the register is then as it was.
     pub fn hold_reference(
         &mut self,
         reference: Reference,
@@ -53,8 +53,8 @@ impl Register {
         self.references.put(reference, counterparties)
     }
 
-    /// Holds the reading that counts for a unit in a Settlement Period, in the place of the one that it
-    /// held. `Err` only where memory is refused: the register is then as it was.
+    /// Holds the reading that counts for a unit in a Settlement Period, replacing the one that it held.
+    /// `Err` only if memory is refused: the register is then as it was.
     pub fn hold_reading(&mut self, key: UnitPeriod, reading: Reading) -> Result<(), AllocError>
         ensures ok { OnOk result (self.new ≡ holding_reading self.old key reading) }
         ensures err { OnErr result (self.new ≡ self.old) }
@@ -62,8 +62,8 @@ impl Register {
         self.meters.put(key, reading)
     }
 
-    /// Holds the price that counts for a Settlement Period, in the place of the one that it held. `Err`
-    /// only where memory is refused: the register is then as it was.
+    /// Holds the price that counts for a Settlement Period, replacing the one that it held. `Err` only
+    /// if memory is refused: the register is then as it was.
     pub fn hold_price(&mut self, at: SettlementPeriod, price: Price) -> Result<(), AllocError>
         ensures ok { OnOk result (self.new ≡ holding_price self.old at price) }
         ensures err { OnErr result (self.new ≡ self.old) }
@@ -71,8 +71,8 @@ impl Register {
         self.prices.put(at, price)
     }
 
-    /// Holds the volume in force of a reference in a Settlement Period, in the place of the one that it
-    /// held; the reference's seller and buyer are held apart. `Err` only where memory is refused: the
+    /// Holds the volume in force of a reference in a Settlement Period, replacing the one that it held.
+    /// The reference's seller and buyer are held by `hold_reference`. `Err` only if memory is refused: the
     /// register is then as it was.
     pub fn hold_contract(&mut self, key: ContractKey, volume: Kwh) -> Result<(), AllocError>
         ensures ok { OnOk result (self.new ≡ holding_contract self.old key volume) }
@@ -81,8 +81,8 @@ impl Register {
         self.contracts.put(key, volume)
     }
 
-    /// Holds a reallocation in force, in the place of the one of its key that it held. Refused is 38,
-    /// where more than 100 percent of a unit would be in force, or 90 if memory runs out; the register is
+    /// Holds a reallocation in force, replacing the one of its key that it held. Refused with 38 if more
+    /// than 100 percent of a unit would be in force, and with 90 if memory is refused. The register is
     /// then as it was.
     pub fn hold_reallocation(
         &mut self,

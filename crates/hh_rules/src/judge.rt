@@ -10,11 +10,12 @@ ghost use Rattle.hh_rules.specs.RegisterView.{judged_at, refusal_at, tables_in, 
 ghost use Rattle.hh_rules.specs.steps.RegisterView.{IsKeptIn, IsRefusedFor, TellsInTime};
 ghost use Rattle.hh_rules.specs.Refusals.{contract_refusals, is_unit_moved, meter_refusals, party_refusals, passes_hundred, price_refusals, reallocation_refusals, refusals_of, unit_refusals};
 
+use crate::last_asked::LastAsked;
 use crate::register::Register;
 use crate::timing::Timing;
 use hh_names::{Account, Fault, Refusal, UnitId};
 use hh_rows::{ContractRow, MeterRow, PartyRow, ReallocationRow, Row, UnitRegistration, UnitRow};
-use hh_time::{Day, SettlementDate};
+use hh_time::SettlementDate;
 use jiff::tz::TimeZone;
 
 /// How many parties there may be.
@@ -27,52 +28,53 @@ const MOST_UNITS: u32 = 2000;
 const HUNDRED_PERCENT: i64 = 10_000_000;
 
 impl Register {
-    /// Whether a row that comes at a moment, in seconds since 1970-01-01T00:00:00Z, would be accepted,
-    /// and why not: refusals 30 to 42, of which the least number wins (profile). Takes no memory.
+    /// Whether a row that comes at a moment, in seconds since 1970-01-01T00:00:00Z, would be accepted. If
+    /// not, the refusal is the one of 30 to 42 with the least number that applies (profile). Takes no
+    /// memory.
     pub fn check_row(&self, zone: &TimeZone<'_>, moment: i64, row: &Row) -> Result<(), Fault>
         ensures answer { result ≡ judged_at zone.now self.now moment row.now }
         ensures least { IfErr result (IsLeastFault zone.now self.now moment row.now) }
         ensures part { JudgesAsWhole zone.now self.now moment row.now result }
     {
-        let mut last = None;
+        let mut last = LastAsked::nothing();
         match self.judge(&mut last, zone, moment, row) {
             Ok(_) => Ok(()),
             Err(refusal) => Err(Fault::of(refusal)),
         }
     }
 
-    /// Whether a row that comes at a moment is in time, where it would be accepted; or why it would not.
-    /// The Settlement Day that was asked for last is kept.
+    /// Whether a row that would be accepted comes in time, or why it would be refused. Keeps what was asked
+    /// for last.
     pub(crate) fn judge(
         &self,
-        last: &mut Option<Day>,
+        last: &mut LastAsked,
         zone: &TimeZone<'_>,
         moment: i64,
         row: &Row,
     ) -> Result<bool, Refusal>
-        requires { IsKeptIn zone.now last.old }
-        ensures kept { IsKeptIn zone.now last.new }
+        requires { IsKeptIn zone.now last.old.day }
+        ensures kept { IsKeptIn zone.now last.new.day }
         ensures accepted { OnOk result (refusal_at zone.now self.now moment row.now ≡ None) }
         ensures in_time { IfOk result (TellsInTime zone.now self.now moment row.now) }
         ensures room { IfOk result (λ in_time. HasRoomFor in_time row.now self.now.standing) }
         ensures refused { IfErr result (IsRefusedFor zone.now self.now moment row.now) }
         ensures least { IfErr result (IsLeastRefusal zone.now self.now moment row.now) }
     {
-        let timing = self.timing_of(last, zone, moment, row);
-        match self.refusal_of(timing, row) {
+        let timing = self.timing_of(&mut last.day, zone, moment, row);
+        match self.refusal_of(&mut last.unit, timing, row) {
             Some(refusal) => Err(refusal),
             None => Ok(timing.comes_in_time()),
         }
     }
 
-    /// Why a row is refused, if it is.
-    fn refusal_of(&self, timing: Timing, row: &Row) -> Option<Refusal>
+    /// Why a row is refused, if it is. Keeps the place of the unit of a reading.
+    fn refusal_of(&self, last: &mut usize, timing: Timing, row: &Row) -> Option<Refusal>
         ensures { result ≡ first_met (refusals_of self.now.standing timing row.now) }
     {
         match row {
             Row::Party(row) => self.refusal_of_party(row),
             Row::Unit(row) => self.refusal_of_unit(row),
-            Row::Meter(row) => self.refusal_of_meter(timing, row),
+            Row::Meter(row) => self.refusal_of_meter(last, timing, row),
             Row::Price(_) => refusal_of_price(timing),
             Row::Contract(row) => self.refusal_of_contract(timing, row),
             Row::Reallocation(row) => self.refusal_of_reallocation(timing, row),
@@ -110,11 +112,11 @@ impl Register {
         }
     }
 
-    /// Why a row of meter volumes is refused, if it is.
-    fn refusal_of_meter(&self, timing: Timing, row: &MeterRow) -> Option<Refusal>
+    /// Why a row of meter volumes is refused, if it is. Keeps the place of its unit.
+    fn refusal_of_meter(&self, last: &mut usize, timing: Timing, row: &MeterRow) -> Option<Refusal>
         ensures { result ≡ first_met (meter_refusals self.now.standing timing row.now) }
     {
-        let Some(unit) = self.unit(&row.key.unit) else {
+        let Some(unit) = self.unit_behind(last, &row.key.unit) else {
             return Some(Refusal::UnknownUnit);
         };
         if !unit.range.holds(row.key.at.date) {
@@ -183,7 +185,7 @@ impl Register {
         registration.lead
     }
 
-    /// Whether with the row more than 100 percent would be in force.
+    /// Whether more than 100 percent would be in force with the row.
     pub(crate) fn passes_hundred(&self, row: &ReallocationRow) -> bool
         ensures { result ≡ passes_hundred self.now.standing row.now }
     {
@@ -191,7 +193,7 @@ impl Register {
     }
 }
 
-/// Why a known unit may not get another registration, if it may not.
+/// Why a known unit may not get a new registration, if it may not.
 fn refusal_of_change(known: UnitRegistration, new: UnitRegistration) -> Option<Refusal>
     ensures { result ≡ first_met ((ShrinksRange, not (is_inside known.range new.range))
         ∷ (UnitMoved, is_unit_moved known new) ∷ []) }

@@ -1,10 +1,11 @@
-//! The register of parties, units, references and rows in force, and the rule by which a row is
-//! accepted or refused. The names and rows that it speaks of are handed on.
+//! The register of parties, units, references and rows in force, and the rules by which a row is
+//! accepted or refused.
 #![tactic(auto)]
 
 mod file_rows;
 mod hold;
 mod judge;
+mod last_asked;
 mod positions;
 mod register;
 mod row_done;

@@ -14,27 +14,27 @@ use hh_tables::TreeTable;
 use std::alloc::{AllocError, Global};
 use std::marker::Model;
 
-/// An account in a Settlement Period, which its position stands under (profile). Ordered by Settlement
-/// Period, then by account.
+/// The key of a position: an account in a Settlement Period. Ordered by Settlement Period, then by
+/// account.
 #[derive(Clone, Copy, Debug, PartialEq, Eq, PartialOrd, Ord)]
 pub struct PositionKey {
     pub at: SettlementPeriod,
     pub account: Account,
 }
 
-/// What an account sells less what it buys by the contracts in force of a Settlement Period (Section P in
+/// What an account sells less what it buys by the contracts in force in a Settlement Period (Section P in
 /// shape), if that is known.
 #[derive(Clone, Copy, Debug, PartialEq, Eq)]
 pub enum Position {
     /// The net volume in kWh.
     Known(NetKwh),
-    /// It has passed 100,000,000 MWh in size at some time, and is not kept since.
+    /// The net volume passed 100,000,000 MWh in size at some time. It is not kept since then.
     Lost,
 }
 
 impl Position {
-    /// The position after a volume in kWh is added to it: lost where the sum passes 100,000,000 MWh in
-    /// size, and where it was lost before (profile).
+    /// The position after a volume in kWh is added to it. It is lost if the sum passes 100,000,000 MWh in
+    /// size, or if it was lost before.
     fn plus(self, volume: i64) -> Position
         requires { IsMove volume }
         ensures { result ≡ position_plus volume self }
@@ -49,8 +49,8 @@ impl Position {
     }
 }
 
-/// The positions of accounts, under their Settlement Periods and accounts (profile). Contracts see the
-/// table of those that were ever moved or held.
+/// The positions of accounts, by Settlement Period and account. Contracts see the table of those that
+/// were ever moved or held.
 #[derive(Drop)]
 pub struct Positions {
     positions: TreeTable<PositionKey, Position>,
@@ -67,7 +67,7 @@ impl Model for Positions {
 }
 
 impl Positions {
-    /// The positions where no account has sold or bought. Takes no memory.
+    /// The positions when no account has sold or bought. Takes no memory.
     pub fn new(alloc: Global) -> Positions
         ensures { result ≡ [] }
     {
@@ -76,7 +76,7 @@ impl Positions {
         }
     }
 
-    /// What an account sells less what it buys in a Settlement Period, 0 kWh where it has no position
+    /// What an account sells less what it buys in a Settlement Period, 0 kWh if it has no position
     /// (Section P in shape).
     pub fn of(&self, key: &PositionKey) -> Position
         ensures { result ≡ position_in self.now key.now }
@@ -87,8 +87,8 @@ impl Positions {
         }
     }
 
-    /// Takes a position in the place of its key's, as it was kept (profile). `Err` only where memory is
-    /// refused: the positions are then as they were.
+    /// Holds a position that was kept, replacing that of its key. `Err` only if memory is refused: the
+    /// positions are then as they were.
     pub fn hold(&mut self, key: PositionKey, position: Position) -> Result<(), AllocError>
         ensures ok { OnOk result (self.new ≡ put position_key_cmp key position self.old) }
         ensures err { OnErr result (self.new ≡ self.old) }
@@ -96,9 +96,9 @@ impl Positions {
         self.positions.put(key, position)
     }
 
-    /// Takes a contract row in the place of another of its key, or of none: the seller's position gains
-    /// the new volume and loses the old one, and the buyer's the other way round (Section P in shape).
-    /// `Err` only where memory is refused: the positions are then as they were.
+    /// Replaces a contract row by another of its key, or takes the first row of a key. The seller's
+    /// position gains the new volume and loses the old one. The buyer's changes the other way round
+    /// (Section P in shape). `Err` only if memory is refused: the positions are then as they were.
     pub fn replace(
         &mut self,
         old: Option<&ContractRow>,
@@ -118,7 +118,7 @@ impl Positions {
         self.positions.put_two(sold, bought)
     }
 
-    /// What stands under a key once this position stands under its own.
+    /// The position of a key, after this other position is put under its own key.
     fn of_beside(&self, other: &(PositionKey, Position), key: &PositionKey) -> Position
         ensures { let after = put position_key_cmp other.now.0 other.now.1 self.now in
             result ≡ position_in after key.now }
@@ -131,7 +131,7 @@ impl Positions {
     }
 
     /// The positions that were ever moved or held, with their keys, in the order of the keys. `Err` only
-    /// where memory is refused.
+    /// if memory is refused.
     pub fn rows(&self, alloc: Global) -> Result<Vec<(PositionKey, Position)>, AllocError>
         ensures { IfOk result (λ rows. rows.items ≡ self.now) }
     {
@@ -139,7 +139,7 @@ impl Positions {
     }
 }
 
-/// The volume of a contract row in kWh, 0 where there is no row.
+/// The volume of a contract row in kWh, 0 if there is no row.
 fn volume_of(row: Option<&ContractRow>) -> i64
     ensures value { result ≡ volume_of (option_copied row.entry) }
     ensures range { IsBetween (neg_ℤ (pos 10_000_000)) (pos 10_000_000) result }
@@ -150,7 +150,7 @@ fn volume_of(row: Option<&ContractRow>) -> i64
     }
 }
 
-/// Where the position of an account that a contract row names stands.
+/// The key of the position of an account that a contract row names.
 fn key_of(row: &ContractRow, account: Account) -> PositionKey
     ensures { result ≡ position_key row.now account }
 {
@@ -160,9 +160,8 @@ fn key_of(row: &ContractRow, account: Account) -> PositionKey
     }
 }
 
-/// That a contract row in the place of another moves the positions of its seller and its buyer, and no
-/// other; that a known position is lost exactly where its sum passes 100,000,000 MWh in size; and that a
-/// lost one stays lost (profile).
+/// A contract row that replaces another moves the positions of its seller and its buyer, and no other. A
+/// known position is lost exactly if its sum passes 100,000,000 MWh in size. A lost position stays lost.
 pub fn positions_by_keys()
     ensures others { MovesNoOther }
     ensures both { MovesBothAccounts }

@@ -14,6 +14,7 @@ ghost use Rattle.hh_rules.specs.Percents.{percent_of_others};
 ghost use Rattle.hh_rules.specs.steps.Percents.{percent_in};
 ghost use Rattle.hh_rules.specs.RegisterView.{after_row, done_at, empty_part, empty_register, judged_at, register_after, tables_in, AddsOneRow, IsLeastFault, JudgesAsWhole, ServesAfter};
 
+use crate::last_asked::LastAsked;
 use crate::row_done::RowDone;
 use hh_names::{Counterparties, Fault, PartyId, Reading, Reallocation, Reference, UnitId};
 use hh_num::{Kwh, Percent, Price};
@@ -21,26 +22,28 @@ use hh_rows::{
     ContractKey, ContractRow, LeadMinutes, MeterRow, PartyRegistration, PartyRow, PriceRow,
     ReallocationKey, ReallocationRow, Row, SettlementPeriod, UnitPeriod, UnitRegistration, UnitRow,
 };
-use hh_tables::{TreeTable, put_both};
+use hh_tables::{ListTable, TreeTable, put_both};
 use jiff::tz::TimeZone;
 use std::alloc::{AllocError, Global};
 use std::marker::Model;
 
-/// What rows are judged by and what they change (profile): the parties, units and references, the rows
-/// in force, and how many parties and units there are in all.
+/// What rows are judged by and what they change: the parties, units and references, the rows in force,
+/// and how many parties and units there are in all.
 #[derive(Drop)]
 pub struct Register {
     lead_minutes: LeadMinutes,
     party_count: u32,
     unit_count: u32,
     pub(crate) parties: TreeTable<PartyId, PartyRegistration>,
-    pub(crate) units: TreeTable<UnitId, UnitRegistration>,
+    /// A list, so that the unit of a row is found behind that of the row before. A unit that is put in
+    /// the middle moves all behind it. That is cheap enough only because there are at most 2,000.
+    pub(crate) units: ListTable<UnitId, UnitRegistration>,
     pub(crate) references: TreeTable<Reference, Counterparties>,
     pub(crate) meters: TreeTable<UnitPeriod, Reading>,
     pub(crate) prices: TreeTable<SettlementPeriod, Price>,
     pub(crate) contracts: TreeTable<ContractKey, Kwh>,
     reallocations: TreeTable<ReallocationKey, Reallocation>,
-    /// The percentages in force, added up, so that no row needs a walk over the others.
+    /// The percentages in force, added up, so that no row needs to go through the others.
     percents: TreeTable<UnitPeriod, Percent>,
 }
 
@@ -78,7 +81,7 @@ impl Register {
         Register::part(alloc, lead_minutes, 0, 0)
     }
 
-    /// The register of a part, that counts so many parties and units in all and holds none of them yet.
+    /// The register of a part. It counts these numbers of parties and units, but holds none of them yet.
     /// Takes no memory.
     pub fn part(
         alloc: Global,
@@ -93,7 +96,7 @@ impl Register {
             party_count,
             unit_count,
             parties: TreeTable::new(alloc),
-            units: TreeTable::new(alloc),
+            units: ListTable::new(alloc),
             references: TreeTable::new(alloc),
             meters: TreeTable::new(alloc),
             prices: TreeTable::new(alloc),
@@ -110,35 +113,52 @@ impl Register {
         self.lead_minutes
     }
 
-    /// How many parties there are in all, of which `apply_row` lets there be 400.
+    /// How many parties there are in all. `apply_row` allows at most 400.
     pub fn party_count(&self) -> u32
         ensures { result ≡ self.now.standing.party_count }
     {
         self.party_count
     }
 
-    /// How many units there are in all, of which `apply_row` lets there be 2,000.
+    /// How many units there are in all. `apply_row` allows at most 2,000.
     pub fn unit_count(&self) -> u32
         ensures { result ≡ self.now.standing.unit_count }
     {
         self.unit_count
     }
 
-    /// What is registered of a party, if it is registered (profile).
+    /// What is registered of a party, if it is registered.
     pub fn party(&self, party: &PartyId) -> Option<PartyRegistration>
         ensures { result ≡ find bytes_cmp party.now (tables_in self.now).parties }
     {
         self.parties.get(party)
     }
 
-    /// What is registered of a unit, if it is registered (profile).
+    /// What is registered of a unit, if it is registered.
     pub fn unit(&self, unit: &UnitId) -> Option<UnitRegistration>
         ensures { result ≡ find bytes_cmp unit.now (tables_in self.now).units }
     {
         self.units.get(unit)
     }
 
-    /// The seller and the buyer of a reference, which its first row fixed, if there was one (Section P in
+    /// What is registered of a unit, if it is registered. Looks first behind the place that was kept,
+    /// because a file's readings mostly name the units in their order. Keeps the unit's place.
+    pub(crate) fn unit_behind(&self, last: &mut usize, unit: &UnitId) -> Option<UnitRegistration>
+        ensures { result ≡ find bytes_cmp unit.now (tables_in self.now).units }
+    {
+        *last = self.place_of_unit(last.saturating_add(1), unit);
+        self.units.get_near(*last, unit)
+    }
+
+    /// The place of a unit: this one if it is the unit's, or the one where it belongs.
+    fn place_of_unit(&self, place: usize, unit: &UnitId) -> usize {
+        match self.units.rows().get(place) {
+            Some(row) if row.0 == *unit => place,
+            _ => self.units.count_below(unit),
+        }
+    }
+
+    /// The seller and the buyer of a reference, if it is known. Its first row fixed them (Section P in
     /// shape).
     pub fn reference(&self, reference: &Reference) -> Option<Counterparties>
         ensures { result ≡ find bytes_cmp reference.now (tables_in self.now).references }
@@ -146,14 +166,14 @@ impl Register {
         self.references.get(reference)
     }
 
-    /// The reading that counts for a unit in a Settlement Period, if there is one (profile).
+    /// The reading that counts for a unit in a Settlement Period, if there is one.
     pub fn reading(&self, key: &UnitPeriod) -> Option<Reading>
         ensures { result ≡ find unit_period_cmp key.now (tables_in self.now).meters }
     {
         self.meters.get(key)
     }
 
-    /// The price that counts for a Settlement Period, in 10^-5 pound per MWh, if there is one (profile).
+    /// The price that counts for a Settlement Period, in 10^-5 pound per MWh, if there is one.
     pub fn price(&self, at: &SettlementPeriod) -> Option<Price>
         ensures { result ≡ find settlement_period_cmp at.now (tables_in self.now).prices }
     {
@@ -177,8 +197,8 @@ impl Register {
     }
 
     /// Accepts a row that comes at a moment, in seconds since 1970-01-01T00:00:00Z, and changes what is
-    /// registered or in force; or refuses it with 30 to 42, of which the least number wins, or with 90
-    /// where memory is refused (profile). A refusal leaves the register as it was.
+    /// registered or in force (profile). Refuses it with the least number of 30 to 42 that applies, or with
+    /// 90 if memory is refused. A refusal leaves the register as it was.
     pub fn apply_row(
         &mut self,
         zone: &TimeZone<'_>,
@@ -193,7 +213,7 @@ impl Register {
         ensures unchanged { OnErr result (self.new ≡ self.old) }
         ensures serves { OnOk result (ServesAfter zone.now self.old moment row self.new) }
     {
-        let mut last = None;
+        let mut last = LastAsked::nothing();
         let in_time = match self.judge(&mut last, zone, moment, &row) {
             Ok(in_time) => in_time,
             Err(refusal) => return Err(Fault::of(refusal)),
@@ -201,7 +221,7 @@ impl Register {
         Ok(self.accept(in_time, row)?)
     }
 
-    /// Changes what an accepted row changes, and says what became of it.
+    /// Makes the changes of an accepted row, and says what became of it.
     fn accept(&mut self, in_time: bool, row: Row) -> Result<RowDone, AllocError>
         requires { HasRoomFor in_time row self.old.standing }
         ensures ok { OnOk result (self.new ≡ after_row in_time row self.old) }
@@ -214,7 +234,7 @@ impl Register {
         Ok(RowDone::of(in_time, fixes_reference))
     }
 
-    /// Whether a row is the first of its reference, whose seller and buyer it fixes.
+    /// Whether a row is the first of its reference, and so fixes its seller and buyer.
     pub(crate) fn fixes_reference(&self, row: &Row) -> bool
         ensures { result ≡ fixes_reference (tables_in self.now) row.now }
     {
@@ -236,7 +256,7 @@ impl Register {
         all - own
     }
 
-    /// Changes what an accepted row changes.
+    /// Makes the changes of an accepted row.
     fn put_row(&mut self, in_time: bool, row: Row) -> Result<(), AllocError>
         requires { HasRoomFor in_time row self.old.standing }
         ensures ok { OnOk result (self.new ≡ after_row in_time row self.old) }
@@ -252,7 +272,7 @@ impl Register {
         }
     }
 
-    /// Registers a party anew, or gives it a new registration.
+    /// Registers a new party, or gives a known one a new registration.
     pub(crate) fn put_party(&mut self, row: PartyRow) -> Result<(), AllocError>
         requires { HasRoomFor true (rows.Party row) self.old.standing }
         ensures ok { OnOk result (self.new ≡ after_row true (rows.Party row) self.old) }
@@ -266,21 +286,21 @@ impl Register {
         Ok(())
     }
 
-    /// Registers a unit anew, or gives it a new registration.
+    /// Registers a new unit, or gives a known one a new registration.
     pub(crate) fn put_unit(&mut self, row: UnitRow) -> Result<(), AllocError>
         requires { HasRoomFor true (rows.Unit row) self.old.standing }
         ensures ok { OnOk result (self.new ≡ after_row true (rows.Unit row) self.old) }
         ensures err { OnErr result (self.new ≡ self.old) }
     {
         let is_new = self.units.get(&row.unit).is_none();
-        self.units.put(row.unit, row.registration)?;
+        self.units.put_row(row.unit, row.registration)?;
         if is_new {
             self.unit_count += 1;
         }
         Ok(())
     }
 
-    /// Takes a reading in the place of its key's.
+    /// Puts a reading, replacing that of its key.
     pub(crate) fn put_meter(&mut self, row: MeterRow) -> Result<(), AllocError>
         ensures ok { OnOk result (self.new ≡ after_row true (rows.Meter row) self.old) }
         ensures err { OnErr result (self.new ≡ self.old) }
@@ -288,7 +308,7 @@ impl Register {
         self.meters.put(row.key, row.reading)
     }
 
-    /// Takes a price in the place of its Settlement Period's.
+    /// Puts a price, replacing that of its Settlement Period.
     pub(crate) fn put_price(&mut self, row: PriceRow) -> Result<(), AllocError>
         ensures ok { OnOk result (self.new ≡ after_row true (rows.Price row) self.old) }
         ensures err { OnErr result (self.new ≡ self.old) }
@@ -296,7 +316,7 @@ impl Register {
         self.prices.put(row.at, row.price)
     }
 
-    /// Fixes a new reference, and takes a contract that is in time in the place of its key's.
+    /// Fixes a new reference, and puts a contract that is in time, replacing that of its key.
     pub(crate) fn put_contract(&mut self, in_time: bool, row: ContractRow) -> Result<(), AllocError>
         ensures ok { OnOk result (self.new ≡ after_row in_time (rows.Contract row) self.old) }
         ensures err { OnErr result (self.new ≡ self.old) }
@@ -313,7 +333,7 @@ impl Register {
         }
     }
 
-    /// Takes a reallocation in the place of its key's, if it is in time.
+    /// Puts a reallocation that is in time, replacing that of its key.
     pub(crate) fn put_reallocation(
         &mut self,
         in_time: bool,
@@ -339,7 +359,7 @@ impl Register {
     }
 }
 
-/// The units of a percentage, 0 where there is none.
+/// The units of a percentage, 0 if there is none.
 fn units_of(percent: Option<Percent>) -> i64
     ensures value { result ≡ unwrap_or percent (pos 0) }
     ensures range { IsBetween (pos 0) (pos 10_000_000) result }
@@ -350,7 +370,7 @@ fn units_of(percent: Option<Percent>) -> i64
     }
 }
 
-/// The percentage of a reallocation, in 10^-5 percent, 0 where there is none.
+/// The percentage of a reallocation, in 10^-5 percent, 0 if there is none.
 fn percent_in(reallocation: Option<Reallocation>) -> i64
     ensures value { result ≡ percent_in reallocation }
     ensures range { IsBetween (pos 0) (pos 10_000_000) result }

@@ -1,4 +1,4 @@
-//! Whether a row's Settlement Period is there, and whether the row comes in time for it.
+//! Whether a row's Settlement Period exists, and whether the row comes in time for it.
 
 ghost use Rattle.std.specs.Prelude.{◌≡◌, true, not, Some, None, IfNone, IfSome};
 ghost use Rattle.jiff.specs.Words.{plain_zone};
@@ -40,7 +40,7 @@ impl Timing {
         matches!(self, Timing::InTime)
     }
 
-    /// The timing of a row that is never late, whose date has the period or lacks it.
+    /// The timing of a row that is never late, by whether its date has the period.
     pub(crate) fn never_late(self) -> Timing
         ensures { result ≡ timing_by (not (lacks_period self)) true }
     {
@@ -52,9 +52,9 @@ impl Timing {
 }
 
 impl Register {
-    /// The timing of a row that comes at a moment, in seconds since 1970-01-01T00:00:00Z. Rows of
-    /// parties and units have no period, and only contracts and reallocations are ever late. The
-    /// Settlement Day that was asked for last is kept.
+    /// The timing of a row that comes at a moment, in seconds since 1970-01-01T00:00:00Z. Rows of parties
+    /// and units have no period. Only contracts and reallocations are ever late. Keeps the Settlement Day
+    /// that was asked for last.
     pub(crate) fn timing_of(
         &self,
         last: &mut Option<Day>,
@@ -82,7 +82,7 @@ impl Register {
     }
 }
 
-/// The timing of a row of contracts or reallocations for a Settlement Period, where it comes at a
+/// The timing of a row of contracts or reallocations for a Settlement Period. The row comes at a
 /// moment, in seconds since 1970-01-01T00:00:00Z (Section P in shape; the deadline is profile).
 fn notification_timing(
     last: &mut Option<Day>,
@@ -108,8 +108,8 @@ fn notification_timing(
     }
 }
 
-/// The Settlement Day of a date in a zone, if it has one. The one that was asked for last is kept:
-/// mostly the rows of a file name one date, and midnights are dear.
+/// The Settlement Day of a date in a zone, if it has one. Keeps the one that was asked for last, because
+/// most rows of a file name the same date, and midnights take time to compute.
 fn day_again(last: &mut Option<Day>, date: SettlementDate, zone: &TimeZone<'_>) -> Option<Day>
     requires { IsKeptIn zone.now last.old }
     ensures date { IfSome result (λ day. day.date ≡ date) }

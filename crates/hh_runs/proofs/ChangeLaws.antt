@@ -1,4 +1,4 @@
--- The changes of a list of accounts: whichever of two rows of an account counts, its change is the same.
+-- The changes of a list of accounts: of two rows of an account it doesn't matter which counts, for both have the same change.
 use Rattle.std.proofs.Common.{◌≡◌, List, [], ◌∷◌, Bool, true, false, cond, map, refl, sym, ap, ◌∙◌, Some, None, Ordering}
 use Rattle.std.specs.Prelude.{ℤ, is_some, pos, filter, filter_map, if◌then◌else◌}
 use Rattle.std.specs.List.{cons_option}
@@ -17,7 +17,7 @@ use Rattle.hh_runs.specs.DayNets.{DayNets, is_difference, with_change}
 use Rattle.hh_runs.specs.Postings.{entry_of}
 use Rattle.hh_runs.specs.steps.Postings.{posting_for}
 
--- rows whose columns go by their keys
+-- rows whose columns depend only on their keys
 module _ {K V W : Type 0} {R : K → K → Ordering} (o : IsTotalOrder R) (exact : (x y : K) → R x y ≡ Equal → x ≡ y) (f : K → V) where
   abbrev by_key : K × W → K × V
   by_key e = (e.0, f e.0)

@@ -1,4 +1,4 @@
--- The order of kinds of run is total, and tells each two kinds apart.
+-- The order of kinds of run is total, and two kinds that it finds equal are the same.
 use Rattle.std.proofs.Common.{◌≡◌, ℕ, cond, refl, sym, ap, ◌∙◌}
 use Rattle.std.specs.Prelude.{◌==◌}
 use Rattle.std.specs.Cmp.{IsTotalOrder, nat_cmp_total, on_total}
@@ -7,7 +7,7 @@ use Rattle.hh_runs.specs.declared.run_kind.RunKind.{RunKind}
 use Rattle.hh_runs.specs.declared.run_kind.RunKind.TheVariants.{SF, R1, R2, R3, RF, DF}
 use Rattle.hh_runs.specs.RunKinds.{run_kind_cmp, run_kind_number}
 
--- the kind before which so many come
+-- the kind of run with this number, which is how many kinds come before it
 abbrev run_kind_at : ℕ → RunKind
 run_kind_at n = cond (n == 0) SF (cond (n == 1) R1 (cond (n == 2) R2 (cond (n == 3) R3 (cond (n == 4) RF DF))))
 

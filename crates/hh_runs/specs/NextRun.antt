@@ -15,8 +15,8 @@ use Rattle.hh_runs.specs.RunKinds.{run_kind_number}
 abbrev pub is_earlier_kind : RunKind → RunKind → Bool
 is_earlier_kind a b = nat_lt (run_kind_number a) (run_kind_number b)
 
--- the refusals of a further run of a date that has runs of these kinds, with their conditions, by their numbers: no run comes
--- behind one of a later kind, and the first run of a date is SF
+-- the refusals of a further run of a date that has runs of these kinds, with their conditions, in the order of their numbers:
+-- no run comes after one of a later kind, and the first run of a date is SF
 abbrev pub order_refusals : List RunKind → RunKind → List (Refusal × Bool)
 order_refusals done wanted =
     (RunOrder, list_any (is_earlier_kind wanted) done)
@@ -32,6 +32,6 @@ abbrev pub new_unless : Option Refusal → Result NextRun Fault
 new_unless None = Ok New
 new_unless (Some why) = Err (plain_fault why)
 
--- what becomes of a run of a kind that is asked for on a date that has runs of these kinds: it is kept where it is there
+-- what becomes of a run of a kind that is asked for on a date that has runs of these kinds; a run that exists is kept
 abbrev pub next_run : List RunKind → RunKind → Result NextRun Fault
 next_run done wanted = if is_done done wanted then Ok Kept else new_unless (first_met (order_refusals done wanted))

@@ -1,4 +1,4 @@
-//! What differs between two runs of a date.
+//! The differences between two runs of a date.
 
 ghost use Rattle.std.specs.Prelude.{◌≡◌, ◌++◌, [], filter_map, map, IfOk, OnOk};
 ghost use Rattle.hh_names.specs.Accounts.{account_cmp};
@@ -15,9 +15,9 @@ use hh_num::Pence;
 use hh_tables::ListTable;
 use std::alloc::{AllocError, Global};
 
-/// What differs between the day nets of two runs of a date: the accounts of either run whose net is
-/// another in the new one than in the old, 0 standing for an account that is not there, each with its
-/// new net less its old, in account order (profile). `Err` only where memory is refused.
+/// The differences between the day nets of two runs of a date (profile). They are the accounts of either
+/// run whose net differs, each with its new net less its old, in account order. An account that a run
+/// doesn't have counts as 0 there. `Err` only if memory is refused.
 #[tactic(auto, using(crate::proofs::ChangeLaws::changes_in_order, crate::proofs::ChangeLaws::postings_are))]
 pub fn differences(
     alloc: Global,
@@ -104,7 +104,7 @@ fn change_of(old: &DayNetTable, new: &DayNetTable, account: &Account) -> Pence
     Pence::of(net_in(new, account) - net_in(old, account))
 }
 
-/// The day net of an account among these, in pence, 0 standing for an account that is not there.
+/// The day net of an account among these, in pence, 0 if the account has none.
 fn net_in(nets: &DayNetTable, account: &Account) -> i64
     ensures value { result ≡ day_net_of nets.now account.now }
     ensures range { IsBetween day_cash.least day_cash.most result }

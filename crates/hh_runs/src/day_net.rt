@@ -1,4 +1,4 @@
-//! What accounts pay over a Settlement Day in all.
+//! What accounts pay over a Settlement Day.
 
 ghost use Rattle.std.proofs.Common.{rules};
 ghost use Rattle.hh_runs.specs.DayNets.{day_cash};
@@ -7,7 +7,7 @@ use hh_names::Account;
 use hh_num::{Quantity, Scaled};
 use hh_tables::ListTable;
 
-/// Cash over a Settlement Day: whole pence, at most 10^14 in size, positive where the account pays.
+/// Cash over a Settlement Day: whole pence, at most 10^14 in size, positive if the account pays.
 #[derive(Clone, Copy, Debug, PartialEq, Eq, PartialOrd, Ord)]
 pub struct DayCash;
 
@@ -35,9 +35,9 @@ impl Quantity for DayCash {
     }
 }
 
-/// The day net of an account, in pence: what it pays over a Settlement Day in all, its charges and its
-/// shares of the residuals, at most 10^14 in size and negative where it is paid (profile).
+/// The day net of an account, in pence (profile). It is the sum of the account's charges and shares of the
+/// residuals over a Settlement Day, at most 10^14 in size, and negative if the account is paid.
 pub type DayNet = Scaled<DayCash>;
 
-/// The day nets of accounts, in account order (profile).
+/// The day nets of accounts, in account order.
 pub type DayNetTable = ListTable<Account, DayNet>;

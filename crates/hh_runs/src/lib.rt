@@ -1,4 +1,4 @@
-//! Runs: their kinds and order, what a run is summed up as, and what differs between two runs of a date.
+//! Runs: their kinds and order, their summaries, and the differences between two runs of a date.
 #![tactic(auto)]
 
 mod changes;

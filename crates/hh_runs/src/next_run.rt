@@ -1,6 +1,6 @@
 //! What becomes of a run that is asked for.
 
-/// What becomes of a run of a kind that is asked for.
+/// What becomes of a run that is asked for.
 #[derive(Clone, Copy, Debug, PartialEq, Eq)]
 pub enum NextRun {
     /// The date has no run of the kind, and may have one.

@@ -14,8 +14,8 @@ use hh_names::{Fault, Refusal};
 ///
 /// # Errors
 ///
-/// `RunOrder`, 50, where the date has no run of the kind, but one of a later kind; `NoInitialRun`, 51,
-/// where it has no run, and the kind isn't SF.
+/// `RunOrder`, 50, if the date has no run of the kind, but one of a later kind. `NoInitialRun`, 51,
+/// if it has no run, and the kind isn't SF.
 pub fn next_kind(done: &[RunKind], wanted: RunKind) -> Result<NextRun, Fault>
     ensures { result ≡ next_run done.now wanted }
 {

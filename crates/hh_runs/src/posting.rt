@@ -3,8 +3,8 @@
 use hh_names::Account;
 use hh_num::Pence;
 
-/// What a run posts to an account: pence, positive where the account pays more than by the run of the
-/// date before. A run posts no 0 (profile).
+/// What a run posts to an account: pence, positive if the account pays more than by the run of the
+/// date before. A run never posts 0 (profile).
 #[derive(Clone, Copy, Debug, PartialEq, Eq)]
 pub struct Posting {
     pub account: Account,

@@ -3,7 +3,7 @@
 use crate::run_kind::RunKind;
 use hh_time::SettlementDate;
 
-/// The date that a run settles, and its kind (profile). Runs are ordered by date, then by kind.
+/// The date that a run settles, and its kind. Runs are ordered by date, then by kind.
 #[derive(Clone, Copy, Debug, PartialEq, Eq, PartialOrd, Ord)]
 pub struct RunKey {
     pub date: SettlementDate,

@@ -9,7 +9,7 @@ ghost use Rattle.hh_runs.specs.RunKinds.{run_kind_cmp, run_kind_code, run_kind_n
 
 use std::cmp::Ordering;
 
-/// A kind of settlement run. The kinds stand in the order in which a date has them (profile).
+/// A kind of settlement run. The kinds are in the order in which a date has them (profile).
 #[derive(Clone, Copy, Debug)]
 pub enum RunKind {
     /// The initial settlement run, the first of each date.
@@ -60,14 +60,14 @@ impl RunKind {
         }
     }
 
-    /// Whether the kind comes before another (profile).
+    /// Whether the kind comes before another.
     pub(crate) fn is_before(self, other: RunKind) -> bool
         ensures { result ≡ is_earlier_kind self other }
     {
         self.number() < other.number()
     }
 
-    /// The code that names the kind (profile).
+    /// The code that names the kind.
     pub fn code(self) -> &'static str
         ensures { result.now ≡ run_kind_code self }
     {

@@ -1,8 +1,8 @@
-//! What a run is summed up as.
+//! The summary of a run.
 
 use hh_num::Pence;
 
-/// The summary of a run (profile).
+/// The summary of a run.
 #[derive(Clone, Copy, Debug, PartialEq, Eq)]
 pub struct Summary {
     /// How many Settlement Periods the date has: 46, 48 or 50.

@@ -26,7 +26,7 @@ module _ (p : ℕ → Bool) (text : List ℕ) where
   pub cut_parts : (end : ℕ) → Some end ≡ position p text → slice_split p text ≡ take end text ∷ slice_split p (take (length text - (end + 1)) (drop (end + 1) text))
   cut_parts end is = (cut end is).1 ∙ ap (λ rest. take end text ∷ slice_split p rest) (sym (take_rest text (end + 1)))
 
-  -- where none does, the text is the one part
+  -- if no byte passes, the text is the only part
   pub uncut : None ≡ position p text → slice_split p text ≡ text ∷ []
   uncut is = elim (nat_lt (position_or_len p text) (length text)) as (λ b. nat_lt (position_or_len p text) (length text) ≡ b → None ≡ cond b (Some (position_or_len p text)) None
       → slice_split p text ≡ text ∷ []) [

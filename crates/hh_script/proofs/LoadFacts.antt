@@ -1,11 +1,11 @@
--- The words behind `load`, one after the other.
+-- The words after `load`, one after the other.
 use Rattle.std.proofs.Common.{◌≡◌, ℕ, ◌<◌, List, [], ◌∷◌, length, refl, sym, ap, ◌∙◌, arith, None}
 use Rattle.std.specs.Prelude.{◌==◌}
 use Rattle.std.proofs.lemmas.List.Splits.{length-slice_split}
 use Rattle.hh_script.specs.Steps.{load_value}
 use Rattle.hh_script.specs.Words.{words_of}
 
--- a text has some word
+-- a text has at least one word
 pub some_word : (text : List ℕ) → 0 < length (words_of text)
 some_word text = omega (arith, length-slice_split (λ b. b == 32) text)
 
@@ -15,7 +15,7 @@ too_many a b c [] more = absurd (omega arith)
 too_many a b c (d ∷ []) more = absurd (omega arith)
 too_many a b c (d ∷ e ∷ words) more = refl
 
--- so that words of which more than one stand behind the third are none
+-- so words with more than one after the third are no load
 pub five_words : (words : List (List ℕ)) (a : List ℕ) (second : List (List ℕ)) → words ≡ a ∷ second → (b : List ℕ) (third : List (List ℕ)) → second ≡ b ∷ third
     → (c : List ℕ) (fourth : List (List ℕ)) → third ≡ c ∷ fourth → 1 < length fourth → None ≡ load_value words
 five_words words a second first_is b third second_is c fourth third_is more =

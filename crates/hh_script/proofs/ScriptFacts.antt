@@ -12,7 +12,7 @@ use Rattle.hh_script.proofs.LineFacts.{cut_parts, uncut}
 abbrev is_end : ℕ → Bool
 is_end b = b == 10
 
--- a part with others behind it stays
+-- a part with others after it is kept
 behind_part : (part : List ℕ) (b : ℕ) (parts : List (List ℕ)) → but_empty_last (part ∷ onto_first b parts) ≡ part ∷ but_empty_last (onto_first b parts)
 behind_part part b [] = refl
 behind_part part b (next ∷ parts) = refl
@@ -44,7 +44,7 @@ pub no_lines : (rest : List ℕ) → rest ≡ [] → lines_of rest ≡ []
 unfolding lines_of
 no_lines rest none = ap (λ l. but_empty_last (slice_split is_end l)) none
 
--- values before others, if these are all there
+-- values before others, if all of these are there
 abbrev pub all_behind : {A : Type 0} → List A → Option (List A) → Option (List A)
 all_behind front None = None
 all_behind front (Some xs) = Some (front ++ xs)
@@ -53,12 +53,12 @@ all_behind-onto : {A : Type 0} (front : List A) (x : A) (others : Option (List A
 all_behind-onto front x None = refl
 all_behind-onto front x (Some xs) = ap Some (sym (append_assoc front (x ∷ []) xs))
 
--- What is read so far, and what the rest has.
+-- What was read so far, and what the rest has.
 pub record IsReadTo (bytes rest : List ℕ) (lines : List ScriptLine) : Type 0 where
   pub values : script_value bytes ≡ all_behind (map step_of lines) (script_value rest)
   pub off : first_off bytes ≡ position_from is_off (length lines + 1) (lines_of rest)
 
--- One line more.
+-- One more line.
 pub read_more : (bytes rest : List ℕ) (lines : List ScriptLine) → IsReadTo bytes rest lines → (text more : List ℕ) (line : ScriptLine) (now : List ScriptLine) → lines_of rest ≡ text ∷ lines_of more
     → Some (step_of line) ≡ step_value text → now ≡ lines ++ line ∷ [] → IsReadTo bytes more now
 read_more bytes rest lines so_far text more line now is value last = record {
@@ -76,7 +76,7 @@ pub read_all : (bytes rest : List ℕ) (lines : List ScriptLine) → IsReadTo by
 read_all bytes rest lines so_far none =
     so_far.values ∙ ap (λ ls. all_behind (map step_of lines) (all_values step_value ls)) (no_lines rest none) ∙ ap Some (append-nil (map step_of lines))
 
--- a list that is empty by its test
+-- a list whose length is tested as 0 is empty
 pub nothing_left : (rest : List ℕ) (b : Bool) → b ≡ (length rest == 0) → b ≡ true → rest ≡ []
 nothing_left [] b is holds = refl
 nothing_left (x ∷ rest) b is holds =

@@ -15,7 +15,7 @@ pub record ReportStep : Type 0 where
 abbrev pub report_of : ReportLine → ReportStep
 report_of l = record { key = l.key.now; report = l.report }
 
--- the report of a run in a form, if the run is there
+-- the report of a run in a form, if the run's words are right
 abbrev pub asked_of_run : List ℕ → Option RunKey → Option Report
 asked_of_run form (Some run) = form_value form (Some run)
 asked_of_run form None = None

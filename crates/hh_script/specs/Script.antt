@@ -8,13 +8,13 @@ abbrev pub unless_empty : List ℕ → List (List ℕ)
 unless_empty [] = []
 unless_empty (b ∷ bytes) = (b ∷ bytes) ∷ []
 
--- the parts but for an empty last one
+-- the parts, without an empty last one
 abbrev pub but_empty_last : List (List ℕ) → List (List ℕ)
 but_empty_last [] = []
 but_empty_last (part ∷ []) = unless_empty part
 but_empty_last (part ∷ next ∷ parts) = part ∷ but_empty_last (next ∷ parts)
 
--- the lines of a script: each ends with LF, the last perhaps not
+-- the lines of a script: each ends with LF, which the last may lack
 unfoldable pub lines_of : List ℕ → List (List ℕ)
 lines_of bytes = but_empty_last (slice_split (λ b. b == 10) bytes)
 
@@ -23,7 +23,7 @@ abbrev pub onto : {A : Type 0} → Option A → Option (List A) → Option (List
 onto (Some x) (Some xs) = Some (x ∷ xs)
 onto _ _ = None
 
--- the values of all of a list, if each has one
+-- the values of all items of a list, if each has one
 abbrev pub all_values : {A B : Type 0} → (A → Option B) → List A → Option (List B)
 all_values value [] = Some []
 all_values value (x ∷ xs) = onto (value x) (all_values value xs)

@@ -1,4 +1,4 @@
--- The steps of a script: what its lines ask for by their words.
+-- The steps of a script: what the words of its lines ask for.
 use Rattle.std.specs.Prelude.{ℕ, ℤ, List, [], ◌∷◌, Option, Some, None, option_map, codes, bytes_eq, if◌then◌else◌}
 use Rattle.hh_rows.specs.Kinds.{kind_value}
 use Rattle.hh_rows.specs.declared.file_kind.FileKind.{FileKind}
@@ -14,7 +14,7 @@ use Rattle.hh_script.specs.Reports.{ReportStep, report_of, report_value}
 use Rattle.hh_script.specs.Serves.{serve_value}
 use Rattle.hh_script.specs.Words.{words_of}
 
--- a file to be loaded: when, by whom, of which kind, where it lies, and the name by which it is registered
+-- a file to be loaded: when, by whom, of which kind, its path, and the name by which it is registered
 pub record LoadStep : Type 0 where
   pub moment : ℤ
   pub key : List ℕ
@@ -35,15 +35,15 @@ pub data Step : Type 0 where
   WriteReport : ReportStep → Step
   Serve : ServeLine → Step
 
--- the load that a line says
+-- the load that a line asks for
 abbrev pub load_of : LoadLine → LoadStep
 load_of l = record { moment = l.moment; key = l.key.now; kind = l.kind; path = l.path.now; name = l.name }
 
--- the run that a line says
+-- the run that a line asks for
 abbrev pub run_of : RunLine → RunStep
 run_of r = record { moment = r.moment; key = r.key.now; run = r.run }
 
--- the step that a line says
+-- the step that a line asks for
 abbrev pub step_of : ScriptLine → Step
 step_of (line.Load l) = LoadFile (load_of l)
 step_of (line.Run r) = MakeRun (run_of r)
@@ -73,7 +73,7 @@ run_value (moment ∷ key ∷ date ∷ kind ∷ []) =
     run_from (moment_value moment) (shown_key_value key) (run_key_value date kind)
 run_value _ = None
 
--- the step that words ask for: the first says of which kind
+-- the step that words ask for; the first word decides its kind
 abbrev pub step_of_words : List (List ℕ) → Option Step
 step_of_words [] = None
 step_of_words (command ∷ words) =

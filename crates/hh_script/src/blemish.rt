@@ -1,6 +1,6 @@
-//! Mistakes of a line that are not seen where the line is shown.
+//! Mistakes in a line that can't be seen when the line is shown.
 
-/// What a word has that is not seen where the line is shown (profile).
+/// A mistake in a word that can't be seen when the line is shown.
 #[derive(Clone, Copy, Debug, PartialEq, Eq)]
 pub enum Blemish {
     /// The last word of the line ends with a carriage return.
@@ -9,13 +9,13 @@ pub enum Blemish {
     ByteOrderMark,
     /// The word has a tab.
     Tab,
-    /// The word is empty: a blank stands beside another, or at an end of the line.
+    /// The word is empty: a blank is beside another, or at an end of the line.
     DoubledBlank,
 }
 
 impl Blemish {
-    /// The blemish of a word, if it has one. Of several it is the one that is tested first: no
-    /// bytes, a byte order mark, a tab, a carriage return.
+    /// The blemish of a word, if it has one. If it has several, this is the first of: empty, a byte order
+    /// mark, a tab, a carriage return.
     pub(crate) fn of(word: &[u8], is_first: bool, is_last: bool) -> Option<Blemish> {
         if word.is_empty() {
             Some(Blemish::DoubledBlank)

@@ -8,7 +8,7 @@ use hh_word_values::{
     read_count, read_moment, read_path, read_path_name, read_port, read_shown_key,
 };
 
-/// What was expected in the place of a word that is off its grammar (profile).
+/// What was expected in the place of a word that is off its grammar.
 #[derive(Clone, Copy, Debug, PartialEq, Eq)]
 pub enum Expected {
     /// The name of a command.
@@ -75,8 +75,8 @@ impl Expected {
     }
 }
 
-/// What the words of a line have to be, one after the other: its first word says it, and of a
-/// report the form too.
+/// What the words of a line must be, one after the other. Its first word decides, and for a report the form
+/// as well.
 pub(crate) fn form_of(line: &[u8]) -> &'static [Expected] {
     let (command, words) = parts_of(line);
     match command {
@@ -105,7 +105,7 @@ pub(crate) fn form_of(line: &[u8]) -> &'static [Expected] {
     }
 }
 
-/// What the words of a line have to be whose words behind `report` these are.
+/// What the words of a line must be that has these words after `report`.
 fn report_form(words: &[u8]) -> &'static [Expected] {
     let (_, asked) = parts_of(words);
     match parts_of(asked).0 {
@@ -120,7 +120,7 @@ fn report_form(words: &[u8]) -> &'static [Expected] {
     }
 }
 
-/// The first word of a text, and what follows the blank behind it: nothing where there is one word.
+/// The first word of a text, and what follows the blank after it. That is empty if there is only one word.
 fn parts_of(text: &[u8]) -> (&[u8], &[u8]) {
     match split_word(text) {
         Some(parts) => parts,

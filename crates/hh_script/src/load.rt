@@ -19,14 +19,14 @@ pub struct LoadLine<'a> {
     /// The key that is shown, in the grammar of the operator's key or of a party's.
     pub key: &'a [u8],
     pub kind: FileKind,
-    /// Where the file lies.
+    /// The path of the file.
     pub path: &'a str,
     /// The name by which the file is registered: what follows the path's last `/`.
     pub name: FileName,
 }
 
 impl<'a> LoadLine<'a> {
-    /// The line that the words behind `load` are, if they are one.
+    /// The line with these words after `load`, if they form one.
     pub(crate) fn read(text: &'a [u8]) -> Option<LoadLine<'a>>
         ensures { option_map load_of result ≡ load_value (words_of text.entry.now) }
     {
@@ -36,7 +36,7 @@ impl<'a> LoadLine<'a> {
         LoadLine::of(moment, key, kind, only_word(text)?)
     }
 
-    /// The line of these four words, if each is on its grammar.
+    /// The line with these four words, if each is in its grammar.
     fn of(moment: &[u8], key: &'a [u8], kind: &[u8], path: &'a [u8]) -> Option<LoadLine<'a>>
         ensures { option_map load_of result ≡ load_from (moment_value moment.now)
             (shown_key_value key.entry.now) (kind_value kind.now) (path_value path.entry.now)

@@ -1,4 +1,4 @@
-//! The word by which a line is off its form.
+//! The first wrong word of a line that is off its form.
 
 use crate::blemish::Blemish;
 use crate::expected::{Expected, form_of};
@@ -6,24 +6,24 @@ use crate::words::split_word;
 use hh_word_values::CutText;
 use std::fmt;
 
-/// The first word by which a line is off its form (profile): one that is wrong or missing, else the
-/// first that is too many.
+/// The first wrong word of a line that is off its form (profile): the first that is off its grammar or
+/// missing, otherwise the first that is too many.
 #[derive(Clone, Copy, Debug, PartialEq, Eq)]
 pub struct OffWord {
     /// The place of the word in the line, from 1.
     pub place: usize,
-    /// The word as it is in the line, up to a tab. It is empty where the word is missing; one that is
-    /// there and empty has the blemish of a doubled blank.
+    /// The word as it is in the line, up to a tab. It is empty if the word is missing. A word that is there
+    /// and empty has the blemish `DoubledBlank`.
     pub text: CutText,
-    /// What was expected in its place.
+    /// What was expected at its place.
     pub expected: Expected,
-    /// What the word has that is not seen where the line is shown.
+    /// The mistake in the word that can't be seen when the line is shown.
     pub blemish: Option<Blemish>,
 }
 
 impl OffWord {
-    /// The word by which a line is off its form. Of a line that has a form, which no caller asks
-    /// for, the word behind the last is said to be missing.
+    /// The first wrong word of a line that is off its form. No caller asks this for a line that has a form.
+    /// For such a line the word after the last is reported as missing.
     pub(crate) fn of(line: &[u8]) -> OffWord {
         if line.is_empty() {
             return OffWord::missing(1, Expected::Line);
@@ -43,7 +43,7 @@ impl OffWord {
         OffWord::behind(form.len() + 1, rest)
     }
 
-    /// The word that is too many, the first of these behind a form.
+    /// The first word that is too many: the first of `rest`.
     fn behind(place: usize, rest: Option<&[u8]>) -> OffWord {
         match rest {
             Some(text) => {
@@ -80,7 +80,8 @@ impl OffWord {
     }
 }
 
-/// A word as it is shown: up to a tab, since a key may be behind it. Of a key only its length is told.
+/// A word as it is shown: only up to a tab, because a key may follow. If it is a key, only its length is
+/// told.
 fn shown_text(word: &[u8], is_key: bool) -> CutText {
     if is_key {
         return CutText::of(word);
@@ -91,7 +92,7 @@ fn shown_text(word: &[u8], is_key: bool) -> CutText {
     }
 }
 
-/// The next word of a text, and the words behind it, if there are any.
+/// The next word of a text, and the words after it, if there are any.
 fn next_word(text: &[u8]) -> (&[u8], Option<&[u8]>) {
     match split_word(text) {
         Some((word, more)) => (word, Some(more)),
@@ -99,8 +100,9 @@ fn next_word(text: &[u8]) -> (&[u8], Option<&[u8]>) {
     }
 }
 
-/// The text says which word it is, how it stands, what was expected, and the word's blemish:
-/// `word 4 "party": expected one of parties, ..`. Of a key only its length is told. It has no line end.
+/// The text tells which word it is, what is there, what was expected, and the word's blemish: `word 4
+/// "party": expected one of parties, ..`. If it is a key, only its length is told. The text has no line
+/// end.
 impl fmt::Display for OffWord {
     fn fmt<W: fmt::Write>(&self, f: &mut fmt::Formatter<W>) -> fmt::Result {
         write_expected(f, self)?;
@@ -111,7 +113,7 @@ impl fmt::Display for OffWord {
     }
 }
 
-/// Which word it is, how it stands, and what was expected.
+/// Writes which word it is, what is there, and what was expected.
 fn write_expected<W: fmt::Write>(f: &mut fmt::Formatter<W>, off: &OffWord) -> fmt::Result {
     let (place, text, expected) = (off.place, &off.text, off.expected.text());
     if off.expected == Expected::Line {

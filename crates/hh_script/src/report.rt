@@ -17,7 +17,7 @@ pub struct ReportLine<'a> {
 }
 
 impl<'a> ReportLine<'a> {
-    /// The line that the words behind `report` are, if they are one.
+    /// The line with these words after `report`, if they form one.
     pub(crate) fn read(text: &'a [u8]) -> Option<ReportLine<'a>>
         ensures { option_map report_of result ≡ report_value (words_of text.entry.now) }
     {
@@ -29,7 +29,7 @@ impl<'a> ReportLine<'a> {
     }
 }
 
-/// The report that the words behind the key ask for, if they ask for one.
+/// The report that the words after the key ask for, if they ask for one.
 fn read_asked(text: &[u8]) -> Option<Report>
     ensures { result ≡ asked_value (words_of text.now) }
 {

@@ -22,7 +22,7 @@ pub struct RunLine<'a> {
 }
 
 impl<'a> RunLine<'a> {
-    /// The line that the words behind `run` are, if they are one.
+    /// The line with these words after `run`, if they form one.
     pub(crate) fn read(text: &'a [u8]) -> Option<RunLine<'a>>
         ensures { option_map run_of result ≡ run_value (words_of text.entry.now) }
     {
@@ -32,7 +32,7 @@ impl<'a> RunLine<'a> {
         RunLine::of(moment, key, date, only_word(text)?)
     }
 
-    /// The line of these four words, if each is on its grammar.
+    /// The line with these four words, if each is in its grammar.
     fn of(moment: &[u8], key: &'a [u8], date: &[u8], kind: &[u8]) -> Option<RunLine<'a>>
         ensures { option_map run_of result ≡ run_from (moment_value moment.now)
             (shown_key_value key.entry.now) (run_key_value date.now kind.now) }

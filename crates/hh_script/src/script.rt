@@ -1,4 +1,4 @@
-//! Scripts, read whole before a line of them is run.
+//! Scripts. A script is read whole before any of its lines is run.
 
 ghost use Rattle.std.specs.Prelude.{◌≡◌, ◌<◌, ◌∷◌, Some, length, map, IfErr, IfOk};
 ghost use Rattle.hh_script.specs.Steps.{step_of};
@@ -10,23 +10,22 @@ use crate::script_line::ScriptLine;
 use crate::words::place_of;
 use std::alloc::Global;
 
-/// Why a script is not read (profile).
+/// Why a script is not read.
 #[derive(Clone, Copy, Debug, PartialEq, Eq)]
 pub enum ScriptFault {
-    /// The first line that is off its form, numbered from 1, and the word by which it is.
+    /// The first line that is off its form, numbered from 1, and its first wrong word.
     Off { line: usize, word: OffWord },
     /// Memory was refused.
     Memory,
 }
 
-/// The lines of a script (profile): one command a line, its words parted by single blanks, each line
-/// ended by LF, the last perhaps not. A script of no bytes has no lines.
+/// The lines of a script (profile). Each line is one command. Its words are separated by single blanks.
+/// Each line ends with LF, which the last may lack. A script of no bytes has no lines.
 ///
 /// # Errors
 ///
-/// `Off` with the number of the first line that is off its form or has a word off its grammar, and
-/// with the first such word; an empty line is off its form. `Memory` may come in the place of any
-/// answer.
+/// `Off` with the number of the first line that is off its form or has a word off its grammar, and with the
+/// first such word. An empty line is off its form. `Memory` may take the place of any answer.
 pub fn read_script<'a>(alloc: Global, bytes: &'a [u8]) -> Result<Vec<ScriptLine<'a>>, ScriptFault>
     ensures lines { IfOk result (λ lines.
         script_value bytes.entry.now ≡ Some (map step_of lines.items)) }

@@ -1,4 +1,4 @@
-//! The lines of a script, of which there are several kinds.
+//! The lines of a script. There are several kinds.
 
 ghost use Rattle.std.specs.Prelude.{◌≡◌, option_map};
 ghost use Rattle.hh_script.specs.Steps.{step_of, step_value};
@@ -9,21 +9,21 @@ use crate::run::RunLine;
 use crate::serve::ServeLine;
 use crate::words::split_word;
 
-/// What a line of a script asks for (profile).
+/// What a line of a script asks for.
 #[derive(Clone, Copy, Debug, PartialEq, Eq)]
 pub enum ScriptLine<'a> {
-    /// That a file be loaded (profile).
+    /// That a file be loaded.
     Load(LoadLine<'a>),
-    /// That a run be made (profile).
+    /// That a run be made.
     Run(RunLine<'a>),
-    /// That a report be written (profile).
+    /// That a report be written.
     Report(ReportLine<'a>),
-    /// That connections be served (profile).
+    /// That connections be served.
     Serve(ServeLine),
 }
 
 impl<'a> ScriptLine<'a> {
-    /// What a line asks for, if it has a form: its first word says which.
+    /// What a line asks for, if it has a form. Its first word decides which.
     #[tactic(auto, unfolding(crate::specs::Steps::step_value))]
     pub(crate) fn read(line: &'a [u8]) -> Option<ScriptLine<'a>>
         ensures { option_map step_of result ≡ step_value line.entry.now }

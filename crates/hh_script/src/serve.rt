@@ -9,19 +9,19 @@ ghost use Rattle.hh_script.specs.Words.{words_of};
 use crate::words::{only_word, split_word};
 use hh_word_values::{read_count, read_moment, read_port};
 
-/// `serve SECONDS PORT COUNT`: connections to be served on a port of the loopback (profile).
+/// `serve SECONDS PORT COUNT`: connections to be served on a port of the loopback interface (profile).
 #[derive(Clone, Copy, Debug, PartialEq, Eq)]
 pub struct ServeLine {
-    /// The moment of each request that comes, in seconds since 1970-01-01T00:00:00Z.
+    /// The moment at which each request is handled, in seconds since 1970-01-01T00:00:00Z.
     pub moment: i64,
-    /// The port; for 0 the machine chooses a free one.
+    /// The port. For 0 the machine chooses a free one.
     pub port: u16,
     /// How many connections are served before the script goes on: at most 1,000,000.
     pub count: u32,
 }
 
 impl ServeLine {
-    /// The line that the words behind `serve` are, if they are one.
+    /// The line with these words after `serve`, if they form one.
     pub(crate) fn read(text: &[u8]) -> Option<ServeLine>
         ensures { result ≡ serve_value (words_of text.now) }
     {
@@ -30,7 +30,7 @@ impl ServeLine {
         ServeLine::of(moment, port, only_word(count)?)
     }
 
-    /// The line of these three words, if each is on its grammar.
+    /// The line with these three words, if each is in its grammar.
     fn of(moment: &[u8], port: &[u8], count: &[u8]) -> Option<ServeLine>
         ensures { result ≡ serve_from (moment_value moment.now) (port_value port.now)
             (count_value count.now) }

@@ -1,4 +1,4 @@
--- What serving comes to, by what was read, handled and written.
+-- What comes of serving, given what was read, handled and written.
 use Rattle.std.proofs.Common.{◌≡◌, ◌≤◌, ◌⊎◌, ℕ, ℤ, List, Bool, true, false, cond, Option, Result, Ok, Err, inl, inr, refl, sym, subst, ap, arith}
 use Rattle.std.specs.Prelude.{MatchBool, IsErrAnd}
 use Rattle.hh_devices.specs.DeviceChanges.{DeviceChange}
@@ -46,12 +46,12 @@ reply_up (reply.Balance x y) old new same = omega (arith, same)
 reply_up (reply.Contracts x) old new same = omega (arith, same)
 reply_up (reply.Runs x) old new same = omega (arith, same)
 
--- an answer is that the reply was not written
+-- the answer is that the reply was not written
 passed_on : (result : Result Served ServeFault) (fault : WriteFault) → IsErrAnd result (λ served. served ≡ serve_fault fault) → Err (serve_fault fault) ≡ result
 passed_on (Ok served) fault is = absurd is
 passed_on (Err served) fault is = ap Err (sym is)
 
--- what writing answers where it fails
+-- the result of writing if it fails
 abbrev pub unwritten : WriteFault → Result (Unit {0}) WriteFault
 unwritten fault = Err fault
 
@@ -72,7 +72,7 @@ module _ (source : Option (List ℕ)) (old new : OfficeView) (counted counts : �
     not_replied fault result told writes wants =
         subst (λ (r : Result Served ServeFault). Serves source old new counted counts moment device r) (passed_on result fault told) (unreplied fault writes wants)
 
-  -- The reply to a refused request was.
+  -- The reply to a refused request was written, or not to its end.
   module _ (refused : Refused) (is : IsAnswer source old new counted counts moment (Err refused)) where
     pub refusal_replied : WritesRefusal device refused (Ok tt) → Serves source old new counted counts moment device (Ok outcome.Refused)
     refusal_replied (text, replies, writes, well) = (refused, text, is, replies, writes)
@@ -113,7 +113,7 @@ module _ (old new : OfficeView) (moment at : ℤ) (same : at ≡ moment) (reques
       let transition : Transition = step (midnight_of old) s at request in
       stands_by at s transition.state transition.reply (is_given_up given) (steps s before) (stands s before))
 
--- A request was read and handled, at a moment that is written in two ways, with what a crash leaves then.
+-- A request was read and handled, at a moment that is written in two ways, together with what a crash leaves after it.
 module _ {T L : Type 0} (is_honest : T → Type 0) (is_open : T → Bool) (may_leave : T → L → Type 0) (holds : L → Content → Type 0) (old new : Kept T)
     (source : Option (List ℕ)) (moment at : ℤ) (same : at ≡ moment) (device : DeviceChange) (request : Request) (given : Reply)
     (read : Incoming) (is : read ≡ Asked request) (message : IsReadOf source (Ok read)) (left : CrashStep is_honest is_open may_leave holds old new at request given) where

@@ -1,4 +1,4 @@
--- What serving a connection comes to: a request is read, the office handles it, and one reply goes out.
+-- What comes of serving a connection: a request is read, the office handles it, and one reply is written.
 use Rattle.std.specs.Prelude.{◌≡◌, ◌≢◌, ◌≤◌, ◌⊎◌, ℕ, ℤ, List, false, Option, IfSome, Result, Ok, Err}
 use Rattle.std.specs.Io.KnownBytes.{Appends, Keeps}
 use Rattle.hh_devices.specs.DeviceChanges.{DeviceChange, HasFailed, IsWell}
@@ -26,7 +26,7 @@ use Rattle.hh_serve.specs.declared.serve.ServeFault.TheVariants.{Memory, Read, W
 use Rattle.hh_serve.specs.declared.serve.Served.{Served}
 use Rattle.hh_serve.specs.declared.serve.Served.TheVariants as outcome
 
--- the office handled a request that came at a moment and replied this, with all that it promises of a request
+-- the office handled a request at a moment and gave this reply, with all that it promises about a request
 pub record Handles (old new : OfficeView) (counted counts : ℕ) (moment : ℤ) (request : Request) (given : Reply) : Type 0 where
   pub step : HandleStep old new moment request given
   pub stands : StandsAfter old new moment request given
@@ -37,33 +37,33 @@ pub record Handles (old new : OfficeView) (counted counts : ℕ) (moment : ℤ) 
   pub foreign : ForbidsOthers old request given
   pub refusals_counted : StandsForSome old → CountsReply given counted counts
 
--- what is replied: a reply of the office, or that the request is refused before the office is asked
+-- what is answered: a reply of the office, or a refusal of the request before the office is asked
 abbrev pub Answer : Type 0
 Answer = Result Reply Refused
 
--- bytes tell an answer: they are those of the reply, or those of the refusal or of memory that was refused to build them
+-- the bytes of an answer: those of the office's reply; or, for a refusal, those of its reply or of the reply that memory was refused
 abbrev pub RepliesAnswer : Answer → List ℕ → Type 0
 RepliesAnswer (Ok given) text = text ≡ reply_text given false
 RepliesAnswer (Err refused) text = RepliesRefused refused text
 
--- this was read of a source, which had these bytes where it tells them
+-- `read` was read from a source, whose bytes are known or not
 abbrev pub IsReadOf : Option (List ℕ) → Result Incoming WireFault → Type 0
 IsReadOf source read = IfSome source (λ bytes. Reads bytes read)
 
--- A source had these bytes, an office was the one before and is the other after a call that comes at a moment, and its store had
--- counted so many refusals and counts so many.
+-- `source` is what a source brought. `old` is the office before a call that comes at `moment`, and `new` after it. The office's store had
+-- counted `counted` refusals before the call, and counts `counts` after it.
 module _ (source : Option (List ℕ)) (old new : OfficeView) (counted counts : ℕ) (moment : ℤ) where
-  -- The answer is the office's reply to the request that the bytes ask, which it handled; or it is the refusal of what the bytes ask,
-  -- or of memory to read it, and the office stays as it was.
+  -- The answer is the office's reply to the request that the bytes ask, which the office handled. Or it refuses what the bytes ask, or
+  -- tells that memory for reading it was refused, and the office is as it was.
   abbrev pub IsAnswer : Answer → Type 0
   IsAnswer (Ok given) = (request : Request) × IsReadOf source (Ok (incoming.Asked request)) × Handles old new counted counts moment request given
   IsAnswer (Err refused) = IsReadOf source (Err (fault.Refused refused)) × (new ≡ old)
 
-  -- What changes in a sink by the call.
+  -- `device` is the change of a sink by the call.
   module _ (device : DeviceChange) where
-    -- Nothing was sent, and nothing is done; the office's reply to what was asked went out; a refusal did; a read failed, and nothing
-    -- is done; a beginning of an answer went out; or nothing did, since memory was refused to build the reply of the office to a request that it handled, and that reply
-    -- tells something else than refused memory.
+    -- Closed: the client sent nothing, and nothing was done. Replied: the office's reply was written. Refused: the reply of a refusal was
+    -- written. Read: a read failed, and nothing was done. Write: a beginning of an answer was written. Memory: the office handled the
+    -- request, but memory for building its reply was refused, so nothing was written; that reply is not itself the refusal for memory.
     abbrev pub Serves : Result Served ServeFault → Type 0
     Serves (Ok outcome.Closed) = IsReadOf source (Ok incoming.Closed) × (new ≡ old) × Keeps device.old device.new
     Serves (Ok outcome.Replied) = (given : Reply) × IsAnswer (Ok given) × Appends device.old device.new (reply_text given false)
@@ -72,28 +72,28 @@ module _ (source : Option (List ℕ)) (old new : OfficeView) (counted counts : �
     Serves (Err Write) = (answer : Answer) × (text : List ℕ) × IsAnswer answer × RepliesAnswer answer text × AppendsFront device.old device.new text
     Serves (Err Memory) = (given : Reply) × IsAnswer (Ok given) × (given ≢ reply.Refused memory_fault) × Keeps device.old device.new
 
--- an office stands for the state that it stood for, or for the machine's state after one request that came at a moment
+-- an office represents the state that it represented before, or the machine's state after one request that came at a moment
 abbrev pub StandsAfterOne : OfficeView → OfficeView → ℤ → Type 0
 StandsAfterOne old new moment =
     (s : State) → Stands old s
     → (new.zone ≡ old.zone) × (Stands new s ⊎ ((request : Request) × Stands new (next (midnight_of old) s moment request)))
 
--- the store of an office counts no fewer refusals after a call than before it, if the office stood for some state that the machine
+-- the store of an office counts no fewer refusals after a call than before it, if the office represented some state that the machine
 -- reaches
 abbrev pub CountsUp : {T : Type 0} → (T → ℕ) → Kept T → Kept T → Type 0
 CountsUp refusals old new = StandsForSome old.seen → refusals old.tables ≤ refusals new.tables
 
--- a source counts one failure where a call answers that a read failed, and none elsewhere
+-- a source counts one failure if a call answers that a read failed, and otherwise none
 abbrev pub CountsReading : Result Served ServeFault → ℕ → ℕ → Type 0
 CountsReading (Err Read) old new = Failed old new
 CountsReading served old new = new ≡ old
 
--- a sink counts one failure where a call answers that a write failed, and none elsewhere
+-- a sink counts one failure if a call answers that a write failed, and otherwise none
 abbrev pub CountsWriting : DeviceChange → Result Served ServeFault → Type 0
 CountsWriting device (Err Write) = HasFailed device
 CountsWriting device served = IsWell device
 
--- where a read failed, what the source had given till then waits for more
+-- if a read failed, what the source had brought until then is the beginning of a request that needs more bytes
 abbrev pub ServingFailsAwaiting : Result Served ServeFault → Option (List ℕ) → Option (List ℕ) → Type 0
 ServingFailsAwaiting (Err Read) old new = HasGiven Awaits old new
 ServingFailsAwaiting served old new = Unit {0}

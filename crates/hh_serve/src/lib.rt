@@ -1,4 +1,4 @@
-//! Connections that are served: what is read, what the office does, and what goes out.
+//! Serving connections: what is read, what the office does, and what is written.
 #![tactic(auto)]
 
 mod serve;

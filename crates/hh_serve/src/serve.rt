@@ -1,4 +1,4 @@
-//! Connections that are served: a request is read, the office handles it, and one reply is written.
+//! Serving connections: a request is read, the office handles it, and one reply is written.
 
 ghost use Rattle.hh_devices.specs.DeviceChanges.{change};
 ghost use Rattle.hh_office.specs.Views.{IsSure};
@@ -12,12 +12,12 @@ use hh_store::Tables;
 use hh_wire::{Incoming, Routes, WireFault, read_request};
 use std::alloc::Global;
 
-/// What came of a connection that was served.
+/// What came of serving a connection.
 #[derive(Clone, Copy, Debug, PartialEq, Eq)]
 pub enum Served {
-    /// The client closed before its first byte, and nothing was written.
+    /// The client closed before it sent a byte, and nothing was written.
     Closed,
-    /// The request was whole, and the reply of the office to it was written.
+    /// The whole request was read, and the office's reply to it was written.
     Replied,
     /// The request was refused before the office was asked, and one reply that tells so was written. The
     /// client may still be sending.
@@ -29,7 +29,7 @@ pub enum Served {
 pub enum ServeFault {
     /// A call of the source failed. Nothing was done, and nothing was written.
     Read,
-    /// The sink failed or took nothing, and a beginning of the reply went out.
+    /// The sink failed or took nothing, and a beginning of the reply was written.
     Write,
     /// The request was handled, but memory was refused for the reply, and nothing was written.
     Memory,
@@ -49,17 +49,17 @@ impl From<WriteFault> for ServeFault {
     }
 }
 
-/// Serves a connection (profile): reads what the client sends, has the office handle the request at a
-/// moment, in seconds since 1970-01-01T00:00:00Z, and writes one reply. A request that is refused before
-/// the office is asked, and memory that is refused for reading one, are replied too. Once the request is
-/// whole, or refused, nothing more is read.
+/// Serves a connection (profile). It reads what the client sends, has the office handle the request at a
+/// moment, in seconds since 1970-01-01T00:00:00Z, and writes one reply. There is also a reply if the
+/// request is refused before the office is asked, or if memory for reading it is refused. Once the request
+/// is whole or refused, nothing more is read.
 ///
 /// # Errors
 ///
-/// `Read` where a call of the source failed in this call, and then nothing was done. `Write` where the
-/// sink failed or took nothing in this call: the request was handled then, or refused. `Memory` where the
-/// reply of the office cannot be built: the request was handled then, and nothing was written. One that
-/// loads a file or orders a run may come again after either.
+/// `Read`: a call of the source failed in this call, and nothing was done. `Write`: the sink failed or took
+/// nothing in this call, after the request was handled or refused. `Memory`: the office's reply cannot be
+/// built; the request was handled, and nothing was written. After `Write` or `Memory` a client may send a
+/// request that loads a file or orders a run again.
 pub fn serve_one<T: Tables, I: Source, O: Sink>(
     alloc: Global,
     routes: &mut Routes,

@@ -1,4 +1,4 @@
-//! What clients send to an office in memory, and what they are to get.
+//! What clients send to an office in memory, and what they should get.
 
 use hh_devices::{MemorySink, MemorySource};
 use hh_names::OperatorKey;
@@ -13,7 +13,7 @@ use std::alloc::Global;
 /// The moment of all connections, 2024-06-29T22:26:40Z.
 pub const MOMENT: i64 = 1_719_700_000;
 
-/// More than any request or reply has.
+/// More bytes than any request or reply has.
 pub const WHOLE: usize = 9_000;
 
 /// The operator sends the file of two parties.
@@ -21,7 +21,7 @@ pub const LOAD: &[u8] = b"POST /files/parties/f1.csv HTTP/1.1\r\nHost: localhost
     x-office-key: op-settle001\r\nContent-Length: 74\r\n\r\n\
     party,from,to,key\nGENCO,2024-01-01,,genco0001\nSUPCO,2024-01-01,,supco0001\n";
 
-/// The reply, also to one that comes again.
+/// The reply, also if the file comes again.
 pub const LOADED: &[u8] =
     b"HTTP/1.1 200 OK\r\nContent-Type: application/json\r\nContent-Length: 22\r\n\
     Connection: close\r\n\r\n{\"applied\":2,\"late\":0}";
@@ -31,7 +31,7 @@ pub const CONTRACT: &[u8] = b"POST /files/contracts/c1.csv HTTP/1.1\r\nHost: loc
     x-office-key: op-settle001\r\nContent-Length: 78\r\n\r\n\
     reference,seller,buyer,date,period,mwh\nC1,GENCO-P,SUPCO-C,2024-07-01,1,98.000\n";
 
-/// The reply, also to one that comes again.
+/// The reply, also if the file comes again.
 pub const CONTRACTED: &[u8] =
     b"HTTP/1.1 200 OK\r\nContent-Type: application/json\r\nContent-Length: 22\r\n\
     Connection: close\r\n\r\n{\"applied\":1,\"late\":0}";
@@ -40,27 +40,27 @@ pub const CONTRACTED: &[u8] =
 pub const CONTRACTS: &[u8] =
     b"GET /contracts/GENCO-P/2024-07-01 HTTP/1.1\r\nHost: localhost\r\nx-office-key: genco0001\r\n\r\n";
 
-/// The reply as long as that file was not loaded.
+/// The reply before that file is loaded.
 pub const NO_CONTRACT: &[u8] =
     b"HTTP/1.1 200 OK\r\nContent-Type: application/json\r\nContent-Length: 56\r\n\
     Connection: close\r\n\r\n{\"account\":\"GENCO-P\",\"contracts\":[],\"date\":\"2024-07-01\"}";
 
-/// The reply once it is.
+/// The reply after it is loaded.
 pub const ONE_CONTRACT: &[u8] =
     b"HTTP/1.1 200 OK\r\nContent-Type: application/json\r\nContent-Length: 141\r\n\
     Connection: close\r\n\r\n{\"account\":\"GENCO-P\",\"contracts\":[{\"counterparty\":\"SUPCO-C\",\
     \"mwh\":\"98.000\",\"period\":1,\"reference\":\"C1\",\"role\":\"seller\"}],\"date\":\"2024-07-01\"}";
 
-/// One of them asks for the balance of its own account.
+/// One of the parties asks for the balance of its own account.
 pub const BALANCE: &[u8] =
     b"GET /balances/SUPCO-C HTTP/1.1\r\nHost: localhost\r\nx-office-key: supco0001\r\n\r\n";
 
-/// The reply, as no run has moved anything.
+/// The reply, as no run has posted anything.
 pub const BALANCED: &[u8] =
     b"HTTP/1.1 200 OK\r\nContent-Type: application/json\r\nContent-Length: 37\r\n\
     Connection: close\r\n\r\n{\"account\":\"SUPCO-C\",\"moved_pence\":0}";
 
-/// The reply as long as the file was not loaded, since nobody has that key.
+/// The reply before the file is loaded, because nobody has that key.
 pub const FORBIDDEN: &[u8] =
     b"HTTP/1.1 403 Forbidden\r\nContent-Type: application/json\r\nContent-Length: 33\r\n\
     Connection: close\r\n\r\n{\"name\":\"Forbidden\",\"refused\":60}";
@@ -79,9 +79,9 @@ pub fn new_office(alloc: Global) -> Option<Office<'static, PlainTables>> {
     Some(Office::new(alloc, PlainTables::new(alloc, settings), london()))
 }
 
-/// What a client sends, how many bytes go at a time both ways, behind how many a read of it fails and a write to it, and for
-/// how many it has room; and what is to come of it: whether it is served, how many reads and writes fail, and the bytes that
-/// go out.
+/// What a client sends; how many bytes pass at a time in either direction; after how many bytes a read or a
+/// write of it fails; and for how many bytes it has room. Then what should come of it: how it is served,
+/// how many reads and writes fail, and the bytes that are written.
 #[derive(Clone, Copy)]
 pub struct Conversation<'a> {
     pub sends: &'a [u8],
@@ -96,7 +96,7 @@ pub struct Conversation<'a> {
 }
 
 impl<'a> Conversation<'a> {
-    /// A client that sends all at once, without a failure, and gets a reply.
+    /// A client that sends everything at once, without a failure, and gets a reply.
     pub fn of(sends: &'a [u8], gets: &'a [u8]) -> Conversation<'a> {
         Conversation {
             sends,
@@ -111,7 +111,8 @@ impl<'a> Conversation<'a> {
         }
     }
 
-    /// A client that sends all at once, without a failure, and is refused before the office is asked.
+    /// A client that sends everything at once, without a failure, and is refused before the office is
+    /// asked.
     pub fn refused(sends: &'a [u8], gets: &'a [u8]) -> Conversation<'a> {
         Conversation {
             served: Ok(Served::Refused),
@@ -119,7 +120,7 @@ impl<'a> Conversation<'a> {
         }
     }
 
-    /// Whether that comes of it.
+    /// Whether what should come of it comes.
     fn comes(
         &self,
         alloc: Global,
@@ -140,7 +141,7 @@ impl<'a> Conversation<'a> {
     }
 }
 
-/// Whether that comes of these clients of a new office, one after the other.
+/// Whether what should come of these clients comes, one after the other, at a new office.
 pub fn all_come(alloc: Global, conversations: &[Conversation<'_>]) -> bool {
     let Some(mut office) = new_office(alloc) else {
         return false;

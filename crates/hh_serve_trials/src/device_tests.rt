@@ -1,11 +1,12 @@
-//! Clients in memory that send whole requests, pieces of them or a beginning, or of which a read or a write fails.
+//! Clients in memory that send whole requests, pieces of them, or only a beginning, or whose reads or
+//! writes fail.
 
 use crate::conversations::*;
 use hh_serve::{ServeFault, Served};
 use std::alloc::Global;
 use std::test::Fail;
 
-/// A file is to be sent that is one byte too long.
+/// A request to load a file that is one byte too long.
 const TOO_LARGE: &[u8] =
     b"POST /files/meters/a.csv HTTP/1.1\r\nHost: localhost\r\nContent-Length: 1048577\r\n\r\n";
 
@@ -14,10 +15,10 @@ const BODY_TOO_LARGE: &[u8] =
     b"HTTP/1.1 413 Content Too Large\r\nContent-Type: application/json\r\nContent-Length: 36\r\n\
     Connection: close\r\n\r\n{\"name\":\"BodyTooLarge\",\"refused\":66}";
 
-/// A head with a header that has no name, as far as that shows.
+/// A head with a header that has no name, up to the byte that shows this.
 const BROKEN: &[u8] = b"GET / HTTP/1.1\n:";
 
-/// A client that sends pieces of so many bytes, and waits for what it gets then: a further read would fail.
+/// A client that sends pieces of this size and then waits for its reply. A further read would fail.
 fn waiting(piece: usize, client: Conversation<'_>) -> Conversation<'_> {
     Conversation {
         piece,
@@ -26,7 +27,7 @@ fn waiting(piece: usize, client: Conversation<'_>) -> Conversation<'_> {
     }
 }
 
-/// Whether each of these gets its reply in time.
+/// Whether each of these clients gets its reply without a further read.
 fn are_replied(alloc: Global, piece: usize) -> bool {
     let conversations = [
         waiting(piece, Conversation::of(BALANCE, FORBIDDEN)),
@@ -46,8 +47,8 @@ fn requests_in_pieces_get_their_replies_in_time(rt: HostRuntime) -> Result<(), F
     Ok(())
 }
 
-/// A request to an office in some state: what brings the office there, the request, and an enquiry that tells whether it
-/// was handled, as it is answered where it wasn't and where it was.
+/// A request to an office in some state: what brings the office into the state, the request, and an enquiry
+/// that tells whether it was handled, with the reply if it was not and the reply if it was.
 #[derive(Clone, Copy)]
 struct Scene<'a> {
     before: Conversation<'a>,
@@ -80,8 +81,8 @@ fn scenes() -> [Scene<'static>; 3] {
     ]
 }
 
-/// Whether a request that is cut behind so many bytes is refused, one whose read fails there is told, and nothing is done
-/// for either. Nothing goes out where nothing came.
+/// If a request is cut off after this many bytes, it is refused. If a read fails there, that is told. In
+/// both cases nothing is done, and if nothing came, nothing is written. Answers whether this is so.
 fn is_left(alloc: Global, scene: &Scene<'_>, piece: usize, read_fails: usize) -> bool {
     let sends = scene.request.sends;
     let cut = Conversation {
@@ -117,8 +118,9 @@ fn nothing_is_done_for_a_request_that_is_cut_or_whose_read_fails(
     Ok(())
 }
 
-/// Whether a request is handled of a client with so much room, a write to which fails behind so many bytes: that is told, a
-/// beginning of the reply went out, and the request gets the same reply when it comes again, which changes nothing.
+/// A client has this much room, or a write to it fails after this many bytes. Its request is handled. The
+/// failure is told, and a beginning of the reply is written. When the request comes again, it gets the same
+/// reply and changes nothing. Answers whether this is so.
 fn is_handled(alloc: Global, scene: &Scene<'_>, room: usize, write_fails: usize) -> bool {
     let reply = scene.request.gets;
     let failing = Conversation {
@@ -142,7 +144,7 @@ fn a_failed_write_is_told_and_the_request_may_come_again(rt: HostRuntime) -> Res
         for count in 0..scene.request.gets.len() {
             assert!(rt; is_handled(rt.alloc(), scene, WHOLE, count));
 
-            // One with no more room takes nothing.
+            // A client without any more room takes nothing.
             assert!(rt; is_handled(rt.alloc(), scene, count, WHOLE));
         }
     }

@@ -1,4 +1,4 @@
-//! One process that serves a connection of the loopback, and is its client.
+//! One process that serves a connection over the loopback interface, and is also its client.
 
 use crate::conversations::*;
 use hh_serve::{Served, serve_one};
@@ -10,7 +10,7 @@ use std::io::Write;
 use std::net::{Ipv4Addr, TcpStream};
 use std::test::Fail;
 
-/// Whether a new office replies over the next connection of a listener.
+/// Whether a new office replies on the next connection of a listener.
 fn is_replied<L: Listener>(alloc: Global, listener: &mut L) -> bool {
     let Some(mut office) = new_office(alloc) else {
         return false;

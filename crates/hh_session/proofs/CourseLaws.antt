@@ -1,4 +1,4 @@
--- What becomes of the lines of a script, by what its parts do.
+-- What becomes of the lines of a script, given what its parts do.
 use Rattle.std.proofs.Common.{◌≡◌, ℕ, ◌+◌, ◌<◌, ◌≤◌, Bool, false, not, List, [], ◌∷◌, ◌++◌, length, map, take, refl, sym, ap, subst, ◌∙◌, Option, Some, None, Result, Ok, Err, inl, inr, arith}
 use Rattle.std.specs.Result.{IsErrAnd}
 use Rattle.std.specs.Prelude.{IfErr, IfOk, IsTrue, OnErr, OnOk, slice_index_or}
@@ -29,7 +29,7 @@ use Rattle.hh_session.specs.steps.Course.{BeginsLine, RunsStep, StopsStep, Tells
 use Rattle.hh_session.specs.Lines.{told_done, told_line}
 use Rattle.hh_session.proofs.GivingUpLaws.{script_then, step_then}
 
--- a load and a run that are given up as memory ran out leave the state
+-- a load or a run that is given up for memory leaves the state as it is
 pub load_gives_up : (host : HostView) (fails : Type 0) (midnight : Midnights) (load : LoadStep) (s : State)
     → LoadDoes host fails midnight s load no_memory s
 load_gives_up host fails midnight load s = inr (inl refl, refl)
@@ -42,7 +42,7 @@ refused_undone : (told : Told) → IsRefusal told → told_done told ≡ false
 refused_undone (Replied given) refusal = ap not refusal
 refused_undone Unreadable refusal = absurd refusal
 
--- What a line that is told in a line of its own does, by what it came to and what went out.
+-- What a line does that is told by one line of text, given what came of it and what was written.
 module _ (old new : OfficeView) (device : DeviceChange) (told : Told) (does : State → Told → State → Type 0) (up : (s : State) → does s no_memory s)
     (comes : (s : State) → Stands old s → (t : State) × does s told t × StandsNow old new t) (leaves : LeavesRefused old new told) where
   given_up : IsRefusal told → (s : State) → Stands old s → StandsNow old new s
@@ -95,12 +95,12 @@ module _ (host : HostView) (fails : Type 0) (midnight : Midnights) (before after
     ap (λ bytes. bytes ++ line) is ∙ append_assoc line0 rest line,
   )
 
--- what is asked of steps that are all done, by the steps behind them, is asked of those but the last
+-- a step that satisfies `AllDone` satisfies `AllDoneButLast` once one more step follows
 but_last : (strict : Bool) (step : Step) (behind : List Step) (done : Bool) → AllDone strict behind done → AllDoneButLast strict (behind ++ step ∷ []) done
 but_last strict step [] done fits = fits
 but_last strict step (next ∷ behind) done fits = fits
 
--- the same where the last is not done
+-- in a strict script, a step that satisfies `AllDone` satisfies `LastNotDone` once one more step follows
 last_not : (strict : Bool) → IsTrue strict → (step : Step) (behind : List Step) (done : Bool) → AllDone strict behind done → LastNotDone (behind ++ step ∷ []) done
 last_not strict asked step [] done fits = fits asked
 last_not strict asked step (next ∷ behind) done fits = fits asked
@@ -111,17 +111,17 @@ cut_behind [] step = refl
 cut_behind (first ∷ []) step = refl
 cut_behind (first ∷ second ∷ steps) step = ap (λ more. first ∷ more) (cut_behind (second ∷ steps) step)
 
--- The office's store had counted so many refusals at first, so many then, and counts so many in the end. The steps so far were run, and all
--- done where they are strict.
+-- The office's store had counted `first` refusals at first and `mid` after the lines so far, and counts `last` in the end. The steps so far
+-- were run, and all were done if they are strict.
 module _ (host : HostView) (old now new : OfficeView) (first mid last : ℕ)
     {S : Type 0} (taken : S → Option (List ℕ)) (failures : S → ℕ) (before between after : S) (strict : Bool)
     (steps : List Step) (step : Step) (ran : RunsScript host (CountsMore first mid) old now (change taken failures before between) (AllDone strict) steps) where
-  -- the office stands for some state after the lines so far
+  -- the office represents some state after the lines so far
   pub some_between : StandsForSome old → StandsForSome now
   some_between (s, stands) = let (text, t, does, went, (now_stands, zone)) = ran s stands in (t, now_stands)
 
   module _ (up : StandsForSome old → first ≤ mid) (further : StandsForSome now → mid ≤ last) where
-    -- the count does not fall by all of them and one more
+    -- the count does not fall over the lines so far and one more
     pub up_more : StandsForSome old → first ≤ last
     up_more some = omega (arith, up some, further (some_between some))
 
@@ -151,12 +151,12 @@ module _ (host : HostView) (old now new : OfficeView) (first mid last : ℕ)
           (new_stands, new_zone ∙ zone),
         )
 
-    -- a line behind which a script goes on
+    -- a line after which a script goes on
     pub script_more : (done : Bool) → (IsTrue strict → IsTrue done) → RunsStep host (CountsMore mid last) now new (change taken failures between after) step done
         → RunsScript host (CountsMore first last) old new (change taken failures before after) (AllDone strict) (steps ++ step ∷ [])
     script_more done fits = script_next (AllDone strict) (λ behind d fit. fit) done fits
 
-    -- a line that is not done, behind which a strict script stops
+    -- a line that is not done, at which a strict script stops
     pub script_undone : IsTrue strict → RunsStep host (CountsMore mid last) now new (change taken failures between after) step false
         → RunsScript host (CountsMore first last) old new (change taken failures before after) LastNotDone (steps ++ step ∷ [])
     script_undone asked = script_next LastNotDone (last_not strict asked step) false refl
@@ -181,10 +181,10 @@ module _ (host : HostView) (old now new : OfficeView) (first mid last : ℕ)
           (new_stands, new_zone ∙ zone),
         )
 
--- The office was read after some lines, and its store had counted so many refusals at first, so many after them, and so many later.
+-- The office was read after some lines. Its store had counted `first` refusals at first and `last` after the lines, and counts `later` now.
 module _ (host : HostView) (old new heard : OfficeView) (same : heard ≡ new) (first last later : ℕ) (device : DeviceChange) (may : List Step → Bool → Type 0) (steps : List Step)
     (up : StandsForSome old → first ≤ last) (further : StandsForSome new → last ≤ later) where
-  -- it is as after the lines
+  -- it is as it was after the lines
   heard_script : RunsScript host (CountsMore first last) old new device may steps → RunsScript host (CountsMore first later) old heard device may steps
   heard_script runs s stands =
       let (text, t, does, went, now) = runs s stands in (
@@ -195,7 +195,7 @@ module _ (host : HostView) (old new heard : OfficeView) (same : heard ≡ new) (
         subst (λ o. StandsNow old o t) (sym same) now,
       )
 
--- The tables of a state that an office stands for add up.
+-- The tables of a state that an office represents add up.
 module _ (conserve : ReachedConserve) (host : HostView) (fails : Type 0) (old new : OfficeView) (device : DeviceChange) where
   sums_now : (t : State) → StandsNow old new t → Conserves (midnight_of old) t new.content
   sums_now t ((reached, is), zone) =
@@ -208,7 +208,7 @@ module _ (conserve : ReachedConserve) (host : HostView) (fails : Type 0) (old ne
   first_conserve : (strict : Bool) (steps : List Step) → StopsScript host fails old new device strict steps → FirstConserve host fails old new strict steps
   first_conserve strict steps stops s stands = let (count, text, t, does, cut, now) = stops s stands in (count, text, t, does, sums_now t now)
 
-  -- the steps were not run to their end, and the tables of the state after those that were add up
+  -- the steps were not run to their end, and the tables add up in the state after the steps that were run
   pub early_conserves : (strict : Bool) (steps : List Step) (why : LinesStop) → EndsEarly host fails old new device strict steps why → EarlyConserves host fails old new strict steps why
   early_conserves strict steps Output stops = first_conserve strict steps stops
   early_conserves strict steps (Line number) (may, runs) = script_conserves LastNotDone (take number steps) runs
@@ -232,22 +232,22 @@ pub ok_both : {T E : Type 0} (r : Result T E) (P : Type 0) (Q R : T → Type 0) 
 ok_both (Ok x) P Q R f p q = f x p q
 ok_both (Err e) P Q R f p q = tt
 
--- the steps of the lines so far and of the next
+-- the steps of the lines so far and of the next line
 pub one_more_step : (lines : List ScriptLine) (i : ℕ) (line : ScriptLine) → i < length lines
     → map step_of (take (i + 1) lines) ≡ map step_of (take i lines) ++ step_of (slice_index_or lines i line) ∷ []
 one_more_step lines i line inside = ap (map step_of) (take_more lines i line inside) ∙ map-append step_of (take i lines) (slice_index_or lines i line ∷ [])
 
--- the same of a line that is known to be there
+-- the same for a line that is known to be there
 pub next_step : (lines : List ScriptLine) (i : ℕ) (line : ScriptLine) → i < length lines → line ≡ slice_index_or lines i line
     → map step_of (take (i + 1) lines) ≡ map step_of (take i lines) ++ step_of line ∷ []
 next_step lines i line inside is = subst (λ l. map step_of (take (i + 1) lines) ≡ map step_of (take i lines) ++ step_of l ∷ []) (sym is) (one_more_step lines i line inside)
 
--- so many steps of a script are those of so many lines
+-- the first steps of a script are those of its first lines
 pub first_steps : (lines : List ScriptLine) (n : ℕ) → take n (map step_of lines) ≡ map step_of (take n lines)
 first_steps lines n = take-map step_of n lines
 
--- The lines so far were run, then one more, and then the office was read. Its store had counted so many refusals at first, so many after
--- the lines so far, so many after the one more, and so many later.
+-- The lines so far were run, then one more, and then the office was read. Its store had counted `first` refusals at first, `mid` after the
+-- lines so far and `last` after the next line, and counts `later` now.
 module _ (host : HostView) (old now new heard : OfficeView) (first mid last later : ℕ)
     {S : Type 0} (taken : S → Option (List ℕ)) (failures : S → ℕ) (before between after : S) (strict : Bool)
     (lines : List ScriptLine) (i : ℕ) (line : ScriptLine) (inside : i < length lines) (is : line ≡ slice_index_or lines i line)
@@ -265,7 +265,7 @@ module _ (host : HostView) (old now new heard : OfficeView) (first mid last late
       let (text, u, does, went, (new_stands, zone)) = runs t stands in
       omega (arith, ran_up some, more (u, new_stands))
 
-  -- the lines up to it, as they are heard
+  -- the lines up to this one, after the office was read
   heard_of : (may : List Step → Bool → Type 0)
       → RunsScript host (CountsMore first last) old new (change taken failures before after) may (map step_of (take i lines) ++ step_of line ∷ [])
       → RunsScript host (CountsMore first later) old heard (change taken failures before after) may (map step_of (take (i + 1) lines))
@@ -273,13 +273,13 @@ module _ (host : HostView) (old now new heard : OfficeView) (first mid last late
       subst (RunsScript host (CountsMore first later) old heard (change taken failures before after) may) (sym (next_step lines i line inside is))
       (heard_script host old new heard same first last later (change taken failures before after) may (map step_of (take i lines) ++ step_of line ∷ []) ran_up more ran_more)
 
-  -- it is done, or the lines are not strict
+  -- the line is done, or the lines are not strict
   pub line_heard : (IsTrue strict → IsTrue done) → RunsScript host (CountsMore first later) old heard (change taken failures before after) (AllDone strict) (map step_of (take (i + 1) lines))
   line_heard fits =
       heard_of (AllDone strict)
       (script_more host old now new first mid last taken failures before between after strict (map step_of (take i lines)) (step_of line) ran up further done fits runs)
 
-  -- it is not done, and strict lines stop behind it
+  -- the line is not done, and strict lines stop at it
   pub line_stops : IsTrue strict → done ≡ false
       → EndsEarly host (CountsMore first later) old heard (change taken failures before after) strict (map step_of lines) (Line (i + 1))
   line_stops asked undone =

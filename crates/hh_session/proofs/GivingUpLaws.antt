@@ -1,4 +1,4 @@
--- When a line of a script is given up for the store, by the store's count.
+-- When a line of a script is given up for the store, given the store's count.
 use Rattle.std.proofs.Common.{ℕ, ◌≤◌, Bool, List, [], ◌∷◌, arith, Result, Ok, Err, inl, inr}
 use Rattle.hh_time.specs.Days.{Midnights}
 use Rattle.hh_states.specs.States.{State}
@@ -17,7 +17,7 @@ report_up old new (Ok x) same = omega (arith, same)
 report_up old new (Err (Refused fault)) counts = fault_up old new fault counts
 report_up old new (Err Write) same = omega (arith, same)
 
--- where the store may have failed, it may in more cases
+-- what is shown if the store may have failed where `fails` holds, is shown if it may have failed where `others` holds
 module _ (fails others : Type 0) (implies : fails → others) (host : HostView) (midnight : Midnights) where
   pub step_then : (s : State) (step : Step) (done : Bool) (text : List ℕ) (t : State) → StepDoes host fails midnight s step done text t
       → StepDoes host others midnight s step done text t

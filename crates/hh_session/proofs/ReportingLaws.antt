@@ -1,4 +1,4 @@
--- What goes out for a line that asks for a report, by what the office wrote and what was told behind it.
+-- What is written for a line that asks for a report, given what the office wrote and what was told after it.
 use Rattle.std.proofs.Common.{◌≡◌, ℕ, List, [], ◌++◌, refl, sym, ap, subst, ◌∙◌, Bool, true, false, Option, Result, Ok, Err, inl, inr}
 use Rattle.std.specs.Prelude.{MatchBool}
 use Rattle.std.specs.Io.KnownBytes.{Appends}
@@ -29,7 +29,7 @@ use Rattle.hh_session.specs.steps.Reporting.{BeginsReport, RunsReport}
 use Rattle.hh_session.proofs.CourseLaws.{appends_more}
 use Rattle.hh_desk.proofs.GivingUpLaws.{fault_where}
 
--- an office that stands for a state has the tables of one
+-- an office that represents a state has the tables of a state that the machine reaches
 pub reached_by : (office : OfficeView) → StandsForSome office → AreReached office.content
 reached_by office (s, stands) = (midnight_of office, s, stands)
 
@@ -37,19 +37,19 @@ front_behind : (before between after : Option (List ℕ)) (text line : List ℕ)
 front_behind before between after text line went (front, rest, cut, more) =
     (text ++ front, rest, ap (λ bytes. text ++ bytes) cut ∙ sym (append_assoc text front rest), appends_more before between after text front went more)
 
--- An output was in this state before, in this once the office was done, and in this in the end.
+-- The state of an output: before the line, after the office was done, and in the end.
 module _ {S : Type 0} (taken : S → Option (List ℕ)) (failures : S → ℕ) (before between after : S) where
   pub cut_report : (fails : Type 0) (report : Result (List ℕ) Refusal) → ReportsAs (change taken failures before between) {A = Unit {0}} report (Err Write)
       → (done : Bool) × (text : List ℕ) × GoesOut fails report done text × AppendsFront (taken before) (taken between) text
   cut_report fails (Ok text) (went, failed) = (true, text, inl (refl, refl), went)
   cut_report fails (Err why) none = absurd none
 
-  -- The store had counted so many refusals before and counts so many.
+  -- The store had counted `earlier` refusals before, and counts `later` now.
   module _ (fault : Fault) (earlier later : ℕ) (store : CountsStoreFault fault earlier later) where
     abbrev fails : Type 0
     fails = CountsMore earlier later
 
-    -- the refusal of the whole, where it isn't one that gives up
+    -- the refusal of the whole report, if it does not give up
     refused_as : (b : Bool) → gives_up fault ≡ b → (why : Refusal) → MatchBool b (Unit {0}) (fault ≡ plain_fault why) → GoesOut fails (Err why) false (refusal_line fault)
     refused_as true up why is = inr (refl, ([], [], fault, refl, fault_where earlier later fault up store, refl))
     refused_as false up why is = inl (refl, ap refusal_line is)
@@ -76,7 +76,7 @@ module _ {S : Type 0} (taken : S → Option (List ℕ)) (failures : S → ℕ) (
     begun_report (Err why) (is, (none, same)) (inr (refusal, told)) =
         (false, refusal_line memory_fault, inr (refl, ([], [], memory_fault, refl, inl refl, refl)), subst (λ b. AppendsFront b (taken after) (refusal_line memory_fault)) none told)
 
--- A line that asks for a report is a step of a script, which leaves the office.
+-- A line that asks for a report is a step of a script that leaves the office as it is.
 module _ (host : HostView) (fails : Type 0) (old new : OfficeView) (same : new ≡ old) (device : DeviceChange) (step : ReportStep) where
   stays : (s : State) → Stands old s → StandsNow old new s
   stays s stands = (subst (λ o. Stands o s) (sym same) stands, ap (λ (o : OfficeView). o.zone) same)

@@ -24,9 +24,9 @@ use Rattle.hh_session.specs.Course.{AllDoneButLast, EndsEarly, LastNotDone, Runs
 use Rattle.hh_session.specs.Script.{IsMarketZone, NewOfficeCuts, NewOfficeEnds, NewOfficeWrites}
 use Rattle.hh_session.proofs.GivingUpLaws.{script_then}
 
--- So many bytes were read of a file, or all of it.
+-- `bytes` is what was read of a file: its first `most + 1` bytes, or all of it if it has fewer.
 module _ (most : ℕ) (all bytes : List ℕ) (front : bytes ≡ take (most + 1) all) where
-  -- where they are too many, it has too many
+  -- if more than `most` bytes were read, the file has more than `most`
   pub read_larger : most < length bytes → most < length all
   read_larger more = go (ltb most (length all)) refl
     where
@@ -37,7 +37,7 @@ module _ (most : ℕ) (all bytes : List ℕ) (front : bytes ≡ take (most + 1) 
           let same : length bytes ≡ length all = ap length (front ∙ take_all (most + 1) all (omega arith)) in
           absurd (omega arith)
 
-  -- where they are not, they are the whole
+  -- if not, all of the file was read
   pub read_whole : length bytes ≤ most → bytes ≡ all
   read_whole few = go (ltb most (length all)) refl
     where
@@ -59,7 +59,7 @@ module _ (host : HostView) (settings : Settings) (fine : AreSettings settings) (
   sums_now t ((reached, is), same) =
       conserve (midnight_of first) t (subst (λ z. IsReached (midnight_in (plain_zone z)) t) same reached)
 
-  -- what the steps do where a store that counts no refusal may have failed, they do where it never fails
+  -- what the steps do if the store may have failed only where it counts a refusal, they do if it never fails, as it counts none
   never_fails : (may : List Step → Bool → Type 0) (ran : List Step) (text : List ℕ) (t : State)
       → ScriptDoes host (CountsMore 0 0) (midnight_of first) may (empty_state settings) ran text t
       → ScriptDoes host ⊥ (midnight_of first) may (empty_state settings) ran text t

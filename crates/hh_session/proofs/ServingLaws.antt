@@ -1,4 +1,4 @@
--- What a line that serves does, by what came of the connections of its port.
+-- What a line that serves does, given what came of the connections on its port.
 use Rattle.std.proofs.Common.{ℕ, [], true, false, refl, inl, inr}
 use Rattle.hh_devices.specs.DeviceChanges.{DeviceChange}
 use Rattle.hh_devices.specs.Devices.{AppendsFront}
@@ -10,7 +10,7 @@ use Rattle.hh_desk.specs.Lines.{listening_line}
 use Rattle.hh_session.specs.steps.Serving.{StopsServing}
 use Rattle.hh_session.specs.Serving.{no_socket_line}
 
--- A line that serves was begun, and the office stays.
+-- A line that serves has begun, and the office is as it was.
 module _ (host : HostView) (fails : Type 0) (office : OfficeView) (device : DeviceChange) (line : ServeLine) where
   pub serving_cut : (port : ℕ) → IsPortFor line.port port → host.ports.brings line.port [] → AppendsFront device.old device.new (listening_line port)
       → StopsServing host fails office office device line

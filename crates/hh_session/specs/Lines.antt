@@ -13,7 +13,7 @@ use Rattle.hh_desk.specs.Lines.{loaded_line, run_line}
 abbrev pub refusal_line : Fault → List ℕ
 refusal_line fault = fault_text fault ++ codes "\n"
 
--- the line of a reply; no line of a script asks for accounts, balances, contracts or the runs of a date
+-- the line of a reply (no line of a script asks for accounts, balances, contracts or the runs of a date)
 abbrev pub reply_line : Reply → List ℕ
 reply_line (reply.Loaded loaded) = loaded_line loaded
 reply_line (reply.Ran run summary) = run_line run summary
@@ -23,12 +23,12 @@ reply_line (reply.Contracts contracts) = []
 reply_line (reply.Runs runs) = []
 reply_line (reply.Refused fault) = refusal_line fault
 
--- the line that tells what a line of a script came to
+-- the line that tells what came of a line of a script
 abbrev pub told_line : Told → List ℕ
 told_line (told.Replied given) = reply_line given
 told_line told.Unreadable = codes "fault file\n"
 
--- what a load or a run came to was done, and was neither refused nor met a fault
+-- whether a load or a run was done: it was not refused and met no fault
 abbrev pub told_done : Told → Bool
 told_done (told.Replied given) = not (is_refused given)
 told_done told.Unreadable = false

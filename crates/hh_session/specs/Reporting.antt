@@ -10,7 +10,7 @@ use Rattle.hh_script.specs.Reports.{ReportStep}
 use Rattle.hh_desk.specs.GivingUp.{GivesUpWhere}
 use Rattle.hh_session.specs.Lines.{refusal_line}
 
--- what is written of a report: its text, or the line of its refusal
+-- what is written for a report: its text, or the line of its refusal
 abbrev pub report_written : Result (List ℕ) Refusal → List ℕ
 report_written (Ok text) = text
 report_written (Err why) = refusal_line (plain_fault why)
@@ -25,15 +25,15 @@ abbrev pub report_begun : Result (List ℕ) Refusal → List ℕ
 report_begun (Ok text) = text
 report_begun (Err why) = []
 
--- The store may have failed only where this holds.
+-- The store may have failed only if `fails` holds.
 module _ (fails : Type 0) where
-  -- a report was given up: a beginning of it was written, and the line that tells why
+  -- a report was given up: a beginning of it was written, and then the line that tells why
   abbrev pub IsGivenUp : Result (List ℕ) Refusal → List ℕ → Type 0
   IsGivenUp report text =
       (front rest : List ℕ) × (fault : Fault)
       × (report_begun report ≡ front ++ rest) × GivesUpWhere fails fault × (text ≡ front ++ refusal_line fault)
 
-  -- this goes out of a report, and it was written to its end or not
+  -- `text` was written for a report, and `done` says whether the report was written to its end
   abbrev pub GoesOut : Result (List ℕ) Refusal → Bool → List ℕ → Type 0
   GoesOut report done text = ((done ≡ is_written report) × (text ≡ report_written report)) ⊎ ((done ≡ false) × IsGivenUp report text)
 

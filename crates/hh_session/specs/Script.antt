@@ -1,4 +1,4 @@
--- How the script in a file is run over a new office.
+-- How a script in a file is run over a new office.
 use Rattle.std.specs.Prelude.{◌≡◌, ℕ, ◌<◌, ◌≤◌, Bool, List, length, take, Some, None, codes}
 use Rattle.std.specs.Io.KnownBytes.{Appends}
 use Rattle.jiff.specs.Placed.{IsPosixZone}
@@ -31,34 +31,35 @@ most_script_bytes = 16_777_216
 abbrev pub IsMarketZone : TimeZone → Type 0
 IsMarketZone zone = IsPosixZone (codes "GMT0BST,M3.5.0/1,M10.5.0") (plain_zone zone)
 
--- A host may show this of files and ports, and an office has these settings.
+-- `host` is what a host may show about files and ports. `settings` are the settings of the office.
 module _ (host : HostView) (settings : Settings) where
-  -- What steps write over a new office of the market's zone, whose tables in the state after them add up: each run's rows,
-  -- contracts, charges with shares, the credits of units, and postings. The tables are in memory, so no line tells that a store
-  -- refused. `may` says which steps may have been done, and which may not.
+  -- What steps write over a new office of the market's zone. In the state after them the office's tables add up: the rows of each run,
+  -- contracts, charges with shares, the credits of units, and postings. The tables are in memory, so no line tells that a store refused.
+  -- `may` says which steps may have been done, and which may not.
   abbrev pub NewOfficeDoes : (List Step → Bool → Type 0) → List Step → List ℕ → Type 0
   NewOfficeDoes may steps text =
       (zone : TimeZone) × IsMarketZone zone
       × (let midnight : Midnights = midnight_in (plain_zone zone) in
       (t : State) × ScriptDoes host ⊥ midnight may (empty_state settings) steps text t × Conserves midnight t (tables_of midnight t))
 
-  -- What changes in an output.
+  -- `device` is the change of an output.
   module _ (device : DeviceChange) where
-    -- steps were run over a new office, and what they write went out
+    -- steps were run over a new office, and what they write was written
     abbrev pub NewOfficeWrites : (List Step → Bool → Type 0) → List Step → Type 0
     NewOfficeWrites may steps = (text : List ℕ) × NewOfficeDoes may steps text × Appends device.old device.new text
 
-    -- the first of the steps were run, the last of them was cut short, and a beginning of what they write went out
+    -- only the first of the steps were run, the last of these was cut short, and a beginning of what they write was written
     abbrev pub NewOfficeCuts : Bool → List Step → Type 0
     NewOfficeCuts strict steps =
         (count : ℕ) × (text : List ℕ) × NewOfficeDoes (AllDoneButLast strict) (cut_after count steps) text × AppendsFront device.old device.new text
 
-    -- The steps were not run to their end: the output failed; or they are strict, and those up to a line were run, the first that was not done.
+    -- The steps were not run to their end. Either the output failed. Or they are strict, and those up to a line were run: all but the last
+    -- of these were done, and the last was not.
     abbrev pub NewOfficeEnds : Bool → List Step → LinesStop → Type 0
     NewOfficeEnds strict steps Output = HasFailed device × NewOfficeCuts strict steps
     NewOfficeEnds strict steps (Line number) = MayStopBehind strict steps number × NewOfficeWrites LastNotDone (take number steps)
 
--- A script lies at a path of a host.
+-- A script is in the file at `path`.
 module _ (host : HostView) (path : List ℕ) where
   -- the file may read as a script of these steps
   abbrev pub IsScript : List Step → Type 0
@@ -72,13 +73,13 @@ module _ (host : HostView) (path : List ℕ) where
       ((fault ≡ plain_fault FileTooLarge) × ((all : List ℕ) × host.reads path (Some all) × (most_script_bytes < length all)))
   IsUnread (stop.Early why) = ⊥
 
-  -- An office has these settings, and this changes in an output.
+  -- `settings` are the settings of an office, and `device` is the change of an output.
   module _ (settings : Settings) (device : DeviceChange) where
-    -- the script was run, and what it writes went out; if it is strict, each line was done
+    -- the script was run, and what it writes was written; if it is strict, each line was done
     abbrev pub WritesScript : Bool → Type 0
     WritesScript strict = (steps : List Step) × IsScript steps × NewOfficeWrites host settings device (AllDone strict) steps
 
-    -- why the script is not run, or not to its end: it is not read, and nothing went out; or it ended early
+    -- why the script is not run, or not to its end: it was not read, and nothing was written; or its run ended early
     abbrev pub StopsAt : Bool → ScriptStop → Type 0
     StopsAt strict (stop.Early why) = (steps : List Step) × IsScript steps × NewOfficeEnds host settings device strict steps why
     StopsAt strict why = (device.new ≡ device.old) × IsUnread why

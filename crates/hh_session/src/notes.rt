@@ -1,4 +1,4 @@
-//! What hears what came of each line of a script, beside what is written of it.
+//! Listeners for what came of each line of a script, beside what is written for it.
 
 ghost use Rattle.std.specs.Prelude.{◌≡◌};
 ghost use Rattle.hh_office.specs.Views.{IsSure};
@@ -16,7 +16,7 @@ use std::alloc::Global;
 /// What came of a line of a script.
 #[derive(Clone, Copy, Debug, PartialEq, Eq)]
 pub enum Came {
-    /// It was done. Of a file that was loaded, so many rows were late.
+    /// It was done. If it loaded a file, `late` of the file's rows were late.
     Done { late: u32 },
     /// The office refused.
     Refused(Fault),
@@ -42,7 +42,7 @@ impl Came {
         }
     }
 
-    /// The same of a reply.
+    /// What came of a reply.
     fn of_reply(reply: &Reply) -> Came
         ensures { was_done result ≡ not (is_refused reply.now) }
     {
@@ -68,10 +68,9 @@ impl Came {
     }
 }
 
-/// What hears what came of each line of a script. It may read the office, and leaves it as it is.
+/// A listener for what came of each line of a script. It may read the office, and leaves it as it is.
 pub trait Notes {
-    /// Hears what came of a line, which is numbered from 1. The line has been run, and what it writes has
-    /// gone out.
+    /// Called after a line has run and what it writes was written. Lines are numbered from 1.
     fn hear<T: Tables, H: Host>(
         &mut self,
         alloc: Global,
@@ -87,7 +86,7 @@ pub trait Notes {
         ensures sure { IsSure T.is_open office.new → IsSure T.is_open office.old };
 }
 
-/// Hears nothing.
+/// Ignores what it is told.
 #[derive(Clone, Copy, Debug)]
 pub struct NoNotes;
 

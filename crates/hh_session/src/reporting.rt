@@ -18,8 +18,8 @@ use hh_script::ReportLine;
 use hh_store::Tables;
 use std::alloc::Global;
 
-/// Writes a report, or the line of its refusal. One that is given up begins, and the line follows it.
-/// Answers what came of it.
+/// Writes a report, or the line of its refusal. If the report is given up, a beginning of it may have been
+/// written, and the line follows. Answers what came of it.
 pub(crate) fn write_report<T: Tables, O: Sink>(
     alloc: Global,
     office: &mut Office<'_, T>,

@@ -27,9 +27,9 @@ use std::alloc::Global;
 /// Why the lines of a script are not run to their end.
 #[derive(Clone, Copy, Debug, PartialEq, Eq)]
 pub enum LinesStop {
-    /// The output failed or took nothing, and a beginning of the text went out.
+    /// The output failed or took nothing, and a beginning of the text was written.
     Output,
-    /// This line, numbered from 1, was refused or met a fault, and the lines were to stop there.
+    /// This line, numbered from 1, was refused or met a fault, and the lines are strict.
     Line { number: usize },
 }
 
@@ -43,17 +43,17 @@ impl From<DeviceFailed> for LinesStop {
     }
 }
 
-/// Runs the lines of a script over an office, one after the other, and writes what comes of each
-/// (profile): `applied=N late=M`; `run DATE KIND periods N accounts N residual T postings N`; a
-/// report; `listening 127.0.0.1:PORT`, before connections are served; a refusal's text; `fault file`
-/// where the file cannot be read, and `fault socket` where the port is not listened on. What came of a
-/// line is heard once it is written. Strict lines stop behind the first that is refused or meets a fault.
+/// Runs the lines of a script over an office, one after the other, and writes what comes of each (profile):
+/// `applied=N late=M`; `run DATE KIND periods N accounts N residual T postings N`; a report; `listening
+/// 127.0.0.1:PORT`, before connections are served; a refusal's text; `fault file` if the file cannot be
+/// read; `fault socket` if the port cannot be listened on. `notes` hears what came of a line once it is
+/// written. If `strict`, the run stops after the first line that is refused or meets a fault.
 ///
 /// # Errors
 ///
-/// `Output` where the output failed or took nothing in this call: the first of the lines were run, and a
-/// beginning of what they write went out. `Line` where strict lines stop: those up to there were run, all
-/// but the last were done, and what they write went out.
+/// `Output`: the output failed or took nothing in this call. Only the first of the lines were run, and a
+/// beginning of what they write was written. `Line`: a strict run stopped at this line. The lines up to it
+/// were run, all before it were done, and what they write was written.
 pub fn run_lines<T: Tables, H: Host, N: Notes, O: Sink>(
     alloc: Global,
     office: &mut Office<'_, T>,
@@ -98,7 +98,7 @@ pub fn run_lines<T: Tables, H: Host, N: Notes, O: Sink>(
     Ok(())
 }
 
-/// Runs a line of a script over an office, writes what comes of it, and answers what came of it.
+/// Runs a line of a script over an office, writes what comes of it, and answers it.
 fn run_line<T: Tables, H: Host, O: Sink>(
     alloc: Global,
     office: &mut Office<'_, T>,

@@ -1,4 +1,4 @@
-//! The script in a file, run over a new office.
+//! A script in a file, run over a new office.
 
 ghost use Rattle.std.specs.Prelude.{◌≡◌, ◌≤◌, Some, length, map, IfErr, IfOk, OnOk};
 ghost use Rattle.hh_devices.specs.DeviceChanges.{change};
@@ -29,7 +29,8 @@ pub const MOST_SCRIPT_BYTES: usize = 16_777_216;
 pub enum ScriptStop {
     /// Its file cannot be read. Nothing was run.
     File,
-    /// The first line that is off its form, numbered from 1, and its first word that is. Nothing was run.
+    /// The first line that is off its form, numbered from 1, and the first of its words that is. Nothing
+    /// was run.
     Off { line: usize, word: OffWord },
     /// It has too many bytes (10), or memory was refused (90). Nothing was run.
     Refused(Fault),
@@ -76,13 +77,13 @@ impl From<LinesStop> for ScriptStop {
     }
 }
 
-/// Runs the script in a file over a new office with these settings, whose tables are in memory, and
-/// writes what comes of each of its lines (profile), as `run_lines` does. All lines are read before any is
-/// run.
+/// Runs the script in a file over a new office with these settings, and writes what comes of each of its
+/// lines (profile), as `run_lines` does. The office's tables are in memory. All lines are read before any
+/// is run.
 ///
 /// # Errors
 ///
-/// `File`, `Off` and `Refused`, with nothing written; `Early` as of `run_lines`.
+/// `File`, `Off` and `Refused`, with nothing written. `Early` as for `run_lines`.
 pub fn run_script<H: Host, N: Notes, O: Sink>(
     alloc: Global,
     settings: Settings,
@@ -105,11 +106,11 @@ pub fn run_script<H: Host, N: Notes, O: Sink>(
     Ok(())
 }
 
-/// The bytes of a script's file, where it has not too many.
+/// The bytes of a script's file, if it is not too large.
 ///
 /// # Errors
 ///
-/// `File` where it cannot be read, `Refused` where it has too many bytes (10) or memory was refused (90).
+/// `File`: it cannot be read. `Refused`: it has too many bytes (10), or memory was refused (90).
 pub fn read_script_file<H: Host>(alloc: Global, host: &H, path: &str) -> Result<Vec<u8>, ScriptStop>
     ensures whole { IfOk result (λ bytes. (H.view host.now).reads path.now (Some bytes.items)) }
     ensures small { IfOk result (λ bytes. length bytes.items ≤ most_script_bytes) }
@@ -123,7 +124,7 @@ pub fn read_script_file<H: Host>(alloc: Global, host: &H, path: &str) -> Result<
     Ok(bytes)
 }
 
-/// Runs lines over a new office, whose tables are in memory, as `run_lines` does.
+/// Runs lines over a new office with tables in memory, as `run_lines` does.
 fn run_new_office<H: Host, N: Notes, O: Sink>(
     alloc: Global,
     settings: Settings,

@@ -19,8 +19,9 @@ use hh_sockets::{Listener, SocketFailed};
 use hh_store::Tables;
 use std::alloc::Global;
 
-/// Listens on a port of the loopback, tells which, and then serves so many connections at the line's
-/// moment, one after the other. A port that is not listened on is told in its place. Answers what came of it.
+/// Listens on a port of the loopback interface and tells which one. Then it serves as many connections as
+/// the line says, one after the other, at the line's moment. If the port cannot be listened on, it tells
+/// that instead. Answers what came of it.
 pub(crate) fn serve_connections<T: Tables, H: Host, O: Sink>(
     alloc: Global,
     office: &mut Office<'_, T>,

@@ -1,4 +1,4 @@
-//! How it is told what the lines of a script came to.
+//! How it is told what came of the lines of a script.
 
 ghost use Rattle.std.specs.Prelude.{◌≡◌, IfOk, OnErr, OnOk, false};
 ghost use Rattle.std.specs.Io.KnownBytes.{Appends};
@@ -18,8 +18,8 @@ use hh_names::Fault;
 use hh_requests::Reply;
 use std::alloc::{AllocError, Global};
 
-/// Tells what a line came to. Where memory is refused for the line of a refusal, that is told in its
-/// place; the others take none. Answers what it came to.
+/// Tells what came of a line, and answers it. Only the line of a refusal takes memory. If that memory is
+/// refused, the line of refused memory is told instead.
 pub(crate) fn tell<O: Sink>(alloc: Global, told: &Told, out: &mut O) -> Result<Came, DeviceFailed>
     ensures told { OnOk result (TellsLine (change O.taken O.failures out.old out.new) told.now) }
     ensures came { IfOk result (λ came. was_done came ≡ told_done told.now) }
@@ -31,8 +31,8 @@ pub(crate) fn tell<O: Sink>(alloc: Global, told: &Told, out: &mut O) -> Result<C
     Ok(Came::of(told))
 }
 
-/// Writes what a line came to. Where memory is refused for the line of a refusal, that is told in its
-/// place; the others take none.
+/// Writes what came of a line. Only the line of a refusal takes memory. If that memory is refused, the line
+/// of refused memory is written instead.
 fn write_told<O: Sink>(alloc: Global, told: &Told, out: &mut O) -> Result<(), DeviceFailed>
     ensures told { OnOk result (TellsLine (change O.taken O.failures out.old out.new) told.now) }
     ensures well { OnOk result (O.failures out.new ≡ O.failures out.old) }
@@ -64,7 +64,7 @@ fn write_reply<O: Sink>(alloc: Global, reply: &Reply, out: &mut O) -> Result<(),
     }
 }
 
-/// Tells a refusal, or that of memory where memory is refused for its line. Answers what it came to.
+/// Tells a refusal, or refused memory if memory is refused for the refusal's line. Answers what came of it.
 pub(crate) fn tell_refused<O: Sink>(
     alloc: Global,
     fault: Fault,
@@ -82,7 +82,7 @@ pub(crate) fn tell_refused<O: Sink>(
     Ok(Came::Refused(fault))
 }
 
-/// Writes a refusal, or that of memory where memory is refused for its line.
+/// Writes a refusal, or refused memory if memory is refused for the refusal's line.
 fn write_refusal<O: Sink>(alloc: Global, fault: &Fault, out: &mut O) -> Result<(), DeviceFailed>
     ensures told { OnOk result (TellsLine (change O.taken O.failures out.old out.new)
         (Replied (Refused fault.now))) }
@@ -97,7 +97,7 @@ fn write_refusal<O: Sink>(alloc: Global, fault: &Fault, out: &mut O) -> Result<(
     }
 }
 
-/// Writes that memory was refused. Takes none.
+/// Writes that memory was refused. Takes no memory.
 fn write_no_memory<O: Sink>(out: &mut O) -> Result<(), DeviceFailed>
     ensures told { OnOk result (Appends (O.taken out.old) (O.taken out.new)
         (told_line no_memory)) }

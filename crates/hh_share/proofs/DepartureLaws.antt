@@ -1,9 +1,9 @@
 -- The shares depart least from the quotas.
 -- The square of a share's distance from its quota is a parabola over the whole pence that the account might get. A line of
--- one slope for all accounts lies nowhere above it and meets it at the share. The slope comes from a bar that the remainders
--- of those who get one penny more reach, and the others do not pass: it is what one penny more adds to the square where
--- the remainder is the bar, m * m - 2 * m * bar with m for the sum of the weights. Summed over the accounts, the lines
--- come to the same for all splits of one amount.
+-- one slope for all accounts is nowhere above the parabola and meets it at the share. The slope comes from a bar: remainders
+-- that get one penny more reach the bar, and the others do not pass it. The slope is what one penny more adds to the square
+-- if the remainder is the bar: m * m - 2 * m * bar, where m is the sum of the weights. Summed over the accounts, the lines
+-- give the same for all splits of one amount.
 use Rattle.std.proofs.Common.{◌≡◌, ◌⊎◌, inl, inr, ℕ, zero, suc, ◌+◌, ◌*◌, ◌^◌, ◌<◌, ◌≤◌, List, [], ◌∷◌, map, length, refl, sym, ap, ◌∙◌, subst, Bool, true, false, cond, arith}
 use Rattle.std.specs.Prelude.{nat_lt, sum, sum_by, count_by, ℤ, pos, negsuc, neg_ℤ, unsigned_abs, ◌+ℤ◌, ◌-ℤ◌, ◌*ℤ◌, ◌≤ℤ◌}
 use Rattle.std.specs.List.{enumerate_from, zip}
@@ -20,7 +20,7 @@ use Rattle.hh_share.proofs.CountLaws.{sum_by-enumerate}
 use Rattle.hh_share.proofs.SumLaws.{effective_positive, shares_sum}
 
 -- ---- products of integers
--- the square of an integer that is a less b
+-- the square of the integer a less b
 square_is : (z : ℤ) (a b : ℕ) → up z + b ≡ down z + a → unsigned_abs z ^ 2 + 2 * (a * b) ≡ a * a + b * b
 square_is z a b e = rw (power_two (unsigned_abs z)) (product z e)
   where
@@ -39,7 +39,7 @@ neg-times (pos zero) a = omega (arith, ints)
 neg-times (pos (suc n)) a = omega (arith, ints)
 neg-times (negsuc n) a = omega (arith, ints)
 
--- Where z is p less q, and i and j with i ≤ j are no more than m apart: m * m * z * (z - 1) + 2 * m * (j - i) * z is not negative,
+-- Let z be p less q, and i ≤ j at most m apart. Then m * m * z * (z - 1) + 2 * m * (j - i) * z is not negative,
 -- since z * z is at least z, and z * (z - 1) at least 2 * -z.
 not_negative : (m i j : ℕ) (z : ℤ) (p q : ℕ) → i ≤ j → j ≤ i + m → up z + q ≡ down z + p
     → m * m * (2 * (p * q) + p) + 2 * (m * (j * q + i * p)) ≤ m * m * (p * p + q * q + q) + 2 * (m * (j * p + i * q))
@@ -63,7 +63,7 @@ abbrev IsOverLine : (ℤ → ℕ) → ℕ → ℕ → ℤ → ℤ → Type 0
 IsOverLine f a b s t = (pos (f s) +ℤ ((t *ℤ pos a) +ℤ (s *ℤ pos b))) ≤ℤ (pos (f t) +ℤ ((s *ℤ pos a) +ℤ (t *ℤ pos b)))
 
 module _ (m low over bar : ℕ) where
-  -- so it is at the whole pence, where the remainder does not pass the bar
+  -- this holds at the whole pence, if the remainder does not pass the bar
   lower_over : over ≤ bar → bar ≤ over + m → (t : ℤ) → IsOverLine (off m (m * low + over)) (m * m) (2 * (m * bar)) (pos (low + 0)) t
   lower_over least most t =
       let here = square_is (pos (m * low + over) -ℤ (pos (low + 0) *ℤ pos m)) (m * low + over) ((low + 0) * m) (omega (arith, ints)) in
@@ -71,7 +71,7 @@ module _ (m low over bar : ℕ) where
       let h = not_negative m over bar (t -ℤ pos low) (up t) (low + down t) least most (omega (arith, ints)) in
       omega (arith, ints)
 
-  -- and at one penny more, where it reaches the bar
+  -- and at one penny more, if the remainder reaches the bar
   upper_over : bar ≤ over → over ≤ bar + m → (t : ℤ) → IsOverLine (off m (m * low + over)) (m * m) (2 * (m * bar)) (pos (low + 1)) t
   upper_over least most t =
       let here = square_is (pos (m * low + over) -ℤ (pos (low + 1) *ℤ pos m)) (m * low + over) ((low + 1) * m) (omega (arith, ints)) in
@@ -80,7 +80,7 @@ module _ (m low over bar : ℕ) where
       omega (arith, ints)
 
 -- ---- the bar
--- the first number p up to m at which g is below k, or m
+-- the first number p below m for which g is below k, or m if there is none
 abbrev First : (ℕ → ℕ) → ℕ → ℕ → Type 0
 First g k m = (p : ℕ) × (p ≤ m) × ((n : ℕ) → g n < k → p ≤ n) × ((p ≡ m) ⊎ (g p < k))
 
@@ -103,13 +103,13 @@ module _ (rs : List ℕ) where
   abbrev above : ℕ → ℕ
   above n = count_by (λ r. nat_lt n r) rs
 
-  -- they come before n
+  -- the remainders above n come before it
   above_before : (place n : ℕ) → above n ≤ rank rs (place, n)
   above_before place n =
       subst (λ c. c ≤ rank rs (place, n)) (sum_by-enumerate (λ r. cond (nat_lt n r) 1 0) 0 rs)
       (sum_by-le-sum_by (λ (b : ℕ × ℕ). cond (nat_lt n b.1) 1 0) (λ b. cond (comes_before b (place, n)) 1 0) (enumerate_from 0 rs) (λ b. grind arith))
 
-  -- what comes before a number is above each smaller one
+  -- the remainders that come before a number are above each smaller number
   before_above : (place n p : ℕ) → p < n → rank rs (place, n) ≤ above p
   before_above place n p l =
       subst (λ c. rank rs (place, n) ≤ c) (sum_by-enumerate (λ r. cond (nat_lt p r) 1 0) 0 rs)
@@ -120,7 +120,7 @@ module _ (rs : List ℕ) where
     reaches : rank rs (place, n) < k → bar.0 ≤ n
     reaches more = let h = above_before place n in bar.2 n (omega arith)
 
-    -- and one that gets none does not pass it
+    -- a remainder that gets none does not pass the bar
     does_not_pass : n < m → k ≤ rank rs (place, n) → n ≤ bar.0
     does_not_pass small none =
         elim bar.3 as (λ o. n ≤ bar.0) [ inl last ↦ omega arith | inr low ↦ not_below bar.0 (before_above place n bar.0) (omega arith) ]
@@ -133,7 +133,7 @@ module _ (ws : List ℕ) (positive : 0 < sum ws) where
   abbrev m : ℕ
   m = sum ws
 
-  -- the size of each share lies on such a line, of a slope that is the same for all
+  -- each share's size is on such a line, and the slope is the same for all
   module _ (size : ℕ) where
     abbrev bar : First (above (map (remainder size ws) ws)) (leftover size ws) m
     bar = first (above (map (remainder size ws) ws)) (leftover size ws) m
@@ -155,7 +155,7 @@ module _ (ws : List ℕ) (positive : 0 < sum ws) where
   abbrev square : ℤ → ℕ → ℤ → ℕ
   square amount w t = distance amount ws w t ^ 2
 
-  -- with both signs turned it is the same
+  -- changing both signs leaves it
   square-neg : (a w : ℕ) (t : ℤ) → square (negsuc a) w t ≡ square (pos (suc a)) w (neg_ℤ t)
   square-neg a w t = ap (λ n. n ^ 2) (rw (neg-times t m) (omega (arith, ints)))
 
@@ -164,14 +164,14 @@ module _ (ws : List ℕ) (positive : 0 < sum ws) where
       let h = rw (neg-times t x, neg-times t y) at over in
       rw (square-neg a w (neg_ℤ s), square-neg a w t, neg_ℤ-neg_ℤ s, neg-times s x, neg-times s y) (omega (arith, ints))
 
-  -- there is one slope, a less b, for the shares of an amount
+  -- the shares of an amount have one slope, a less b
   shares_over : (amount : ℤ) → (a : ℕ) × (b : ℕ) × ((place w : ℕ) (t : ℤ) → IsOverLine (square amount w) a b (share_of amount ws (place, w)) t)
   shares_over (pos n) =
       (m * m, 2 * (m * (bar n).0), λ place w t. subst (λ b. IsOverLine (square (pos n) w) (m * m) (2 * (m * (bar n).0)) (cond b (neg_ℤ (pos (share_size n ws (place, w)))) (pos (share_size n ws (place, w)))) t) (sym (le-ltb n 0 (omega arith))) (size_over n place w t))
   shares_over (negsuc n) =
       (2 * (m * (bar (suc n)).0), m * m, λ place w t. over-neg n w (m * m) (2 * (m * (bar (suc n)).0)) (pos (share_size (suc n) ws (place, w))) t (size_over (suc n) place w (neg_ℤ t)))
 
--- lines summed are a line
+-- the sum of lines is a line
 sums_over : (f : ℕ → ℤ → ℕ) (share : ℕ × ℕ → ℤ) (a b : ℕ) → ((place w : ℕ) (t : ℤ) → IsOverLine (f w) a b (share (place, w)) t)
     → (place : ℕ) (ws : List ℕ) (ts : List ℤ) → length ts ≡ length ws
     → let ss : List ℤ = map share (enumerate_from place ws) in
@@ -187,7 +187,7 @@ sums_over f share a b each place (w ∷ ws) (t ∷ ts) same =
     let rest = sums_over f share a b each (place + 1) ws ts (omega arith) in
     rw (sum_by-cons (λ c. f c.0 c.1) (w, s) (zip ws ss), sum_by-cons (λ c. f c.0 c.1) (w, t) (zip ws ts), plus-times t (total (λ t. t) ts) a, plus-times t (total (λ t. t) ts) b, plus-times s (total (λ s. s) ss) a, plus-times s (total (λ s. s) ss) b) (omega (arith, ints))
 
--- Of all splits of an amount none departs less from the quotas than the shares, over the weights that count.
+-- No split of an amount departs less from the quotas than the shares do, by the weights that count.
 pub shares_depart_least : (amount : ℤ) (ws : List ℕ) → DepartsLeast amount (effective ws) (shares amount ws)
 shares_depart_least amount [] other split = omega arith
 shares_depart_least amount (w ∷ ws) other split =

@@ -1,4 +1,4 @@
--- Small apportionments, computed.
+-- Small apportionments, computed examples.
 use Rattle.std.proofs.Common.{◌≡◌, [], ◌∷◌, refl, arith}
 use Rattle.std.specs.Prelude.{pos, negsuc}
 use Rattle.hh_share.specs.Shares.{shares}
@@ -33,11 +33,11 @@ two_to_one = refl
 first_period : shares (pos 5050) (995_000_000_000 ∷ 984_900_000_000 ∷ []) ≡ pos 2538 ∷ pos 2512 ∷ []
 first_period = refl
 
--- the same period, where no account has energy but of interconnector units
+-- the same period, if the only energy is of interconnector units
 interconnectors : shares (pos 5050) (0 ∷ 0 ∷ 0 ∷ 0 ∷ []) ≡ pos 1263 ∷ pos 1263 ∷ pos 1262 ∷ pos 1262 ∷ []
 interconnectors = refl
 
--- of the rests 1, 3 and 3 the second comes first, the third next, and the first last
+-- of the rests 1, 3 and 3, the second comes first, the third next, and the first last
 before_first : places_before (pos 1 ∷ pos 3 ∷ pos 3 ∷ []) 0 ≡ 2
 before_first = refl
 
@@ -47,14 +47,14 @@ before_second = refl
 before_third : places_before (pos 1 ∷ pos 3 ∷ pos 3 ∷ []) 2 ≡ 1
 before_third = refl
 
--- One penny over weights of 2 and 1: to the first it departs by 2, to the second by 8.
+-- One penny over weights of 2 and 1: given to the first account it departs by 2, given to the second by 8.
 to_the_first : departure (pos 1) (2 ∷ 1 ∷ []) (pos 1 ∷ pos 0 ∷ []) ≡ 2
 to_the_first = refl
 
 to_the_second : departure (pos 1) (2 ∷ 1 ∷ []) (pos 0 ∷ pos 1 ∷ []) ≡ 8
 to_the_second = refl
 
--- Five pence over three equal weights: to give both that are left over to the first account departs by 24, and one to each of two by 6.
+-- Five pence over three equal weights: giving both leftover pence to one account departs by 24, giving one each to two by 6.
 all_to_the_first : departure (pos 5) (1 ∷ 1 ∷ 1 ∷ []) (pos 3 ∷ pos 1 ∷ pos 1 ∷ []) ≡ 24
 all_to_the_first = refl
 

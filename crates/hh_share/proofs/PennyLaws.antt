@@ -1,26 +1,24 @@
--- The leftover pence go to those that come first by their remainders, and so the sizes are those of the definition.
+-- The leftover pence go to the first accounts by their remainders, so the sizes are those of the definition.
 use Rattle.std.proofs.Common.{◌≡◌, ℕ, zero, suc, ◌+◌, ◌-◌, ◌*◌, ◌<◌, ◌≤◌, ◌^◌, List, [], ◌∷◌, map, take, length, get_or, refl, sym, ap, ◌∙◌, subst, cond, All, arith}
 use Rattle.std.specs.Prelude.{nat_lt, ◌==◌, sum, sum_by, count_by, ℤ, pos, unsigned_abs}
-use Rattle.std.specs.List.{enumerate_from, Contains}
-use Rattle.std.specs.List.Sorted.{IsPermutation}
+use Rattle.std.specs.List.{enumerate_from}
 use Rattle.std.proofs.lemmas.List.{get_or-map, get_or_default, length-map, same_lists}
-use Rattle.std.proofs.lemmas.List.Elements.{All-map, All-take}
-use Rattle.std.proofs.lemmas.List.FromFn.{length-enumerate_from, get_or-enumerate_from}
+use Rattle.std.proofs.lemmas.List.Elements.{All-map}
+use Rattle.std.proofs.lemmas.List.FromFn.{length-enumerate_from}
 use Rattle.std.proofs.lemmas.List.Sums.{sum_by-le, count_by-le-length}
-use Rattle.std.proofs.lemmas.List.Sorted.{All-permutation, Contains-permutation, length_permutation}
 use Rattle.std.proofs.Math.Nat.{mod-lt}
 use Rattle.hh_share.specs.declared.shares.Quota.{Quota}
 use Rattle.hh_share.specs.Shares.{lower_quota, remainder, leftover, rank, effective, shares, shares_by, share_of, share_size, with_sign_of}
 use Rattle.hh_share.specs.steps.Shares.{sizes_by}
 use Rattle.hh_share.specs.steps.Quotas.{quota_for}
-use Rattle.hh_share.specs.Ranking.{places_before, places_in, AreRanked}
-use Rattle.hh_share.specs.steps.Ranking.{HasPennies}
-use Rattle.hh_share.proofs.CountLaws.{claimant_is, count, count_by-count}
-use Rattle.hh_share.proofs.RankingLaws.{rank_is_before, listed}
+use Rattle.hh_share.specs.Ranking.{places_before}
+use Rattle.hh_share.specs.steps.Ranking.{AreFirst, HasPennies}
+use Rattle.hh_share.proofs.CountLaws.{claimant_is}
+use Rattle.hh_share.proofs.RankingLaws.{rank_is_before}
 use Rattle.hh_share.proofs.ShareFacts.{length-quotas, lower_same, quota_is}
 use Rattle.hh_share.proofs.SumLaws.{leftover_few, some_over, share_size_within}
 
--- as many sizes as weights, and none is larger than what is apportioned
+-- there are as many sizes as weights, and none is larger than the apportioned pence
 pub sizes_within : (size : ℕ) (ws : List ℕ) → (0 < length ws → 0 < sum ws) → All (λ n. n ≤ size) (sizes_by size ws)
 sizes_within size ws positive =
     All-map (λ n. n ≤ size) (share_size size ws) (enumerate_from 0 ws)
@@ -29,7 +27,7 @@ sizes_within size ws positive =
     let is = get_or_default (enumerate_from 0 ws) k d (0, 0) inside ∙ claimant_is ws k within in
     subst (λ a. share_size size ws a ≤ size) (sym is) (share_size_within size ws (positive (omega arith)) k within))
 
--- the sizes with the sign of the amount are the shares
+-- the sizes, with the sign of the amount, are the shares
 pub shares_are : (amount : ℤ) (ws vs : List ℕ) → vs ≡ effective ws → map (with_sign_of amount) (sizes_by (unsigned_abs amount) vs) ≡ shares amount ws
 shares_are amount ws vs vs_is = joined (enumerate_from 0 vs) ∙ ap (shares_by amount) vs_is
   where
@@ -37,13 +35,13 @@ shares_are amount ws vs vs_is = joined (enumerate_from 0 vs) ∙ ap (shares_by a
     joined [] = refl
     joined (c ∷ cs) = ap (λ t. share_of amount vs c ∷ t) (joined cs)
 
--- weights in memory have a sum that leaves room for a sign
+-- the sum of weights in memory leaves room for a sign
 pub sum_small : (ws : List ℕ) → All (λ w. w < 2 ^ 64) ws → length ws < 2 ^ 63 → sum ws < 2 ^ 127
 sum_small ws fit few =
     let h = sum_by-le (λ w. w) 18_446_744_073_709_551_615 ws (λ k d inside. let w = fit k d inside in omega arith) in
     omega arith
 
--- each remainder is below what the sum of the weights is below
+-- if the sum of the weights is below a bound, so is each remainder
 pub remainders_small : (size bound n : ℕ) (ws : List ℕ) (quotas : List Quota) → (0 < length ws → 0 < sum ws) → sum ws < bound
     → quotas ≡ map (quota_for size ws) (take n ws) → All (λ q. q.remainder < bound) quotas
 remainders_small size bound n [] quotas positive below are =
@@ -57,7 +55,7 @@ remainders_small size bound n (w ∷ ws) quotas positive below are =
     (All-map (λ q. q.remainder < bound) (quota_for size (w ∷ ws)) (take n (w ∷ ws))
     (λ k d inside. let h = mod-lt (size * get_or (take n (w ∷ ws)) k d) (positive (omega arith)) in omega arith))
 
--- the remainders of quotas, as rests
+-- the remainders of quotas as integers
 rests-quotas : (size : ℕ) (ws vs : List ℕ) → map (λ q. pos q.remainder) (map (quota_for size ws) vs) ≡ map (λ r. pos r) (map (remainder size ws) vs)
 rests-quotas size ws [] = refl
 rests-quotas size ws (v ∷ vs) = ap (λ t. pos (remainder size ws v) ∷ t) (rests-quotas size ws vs)
@@ -72,54 +70,24 @@ leftover_within size (w ∷ ws) positive some =
     let h : some_over size (w ∷ ws) p (w ∷ ws) ≤ length (w ∷ ws) = count_by-le-length (λ v. nat_lt 0 (remainder size (w ∷ ws) v)) (w ∷ ws) in
     omega arith
 
--- each place of a list is below its length
-places_inside : {X : Type 0} (xs : List X) → All (λ p. p < length xs) (places_in xs)
-places_inside xs =
-    All-map (λ p. p < length xs) (λ a. a.0) (enumerate_from 0 xs)
-    (λ k d inside.
-    let within : k < length xs = subst (λ n. k < n) (length-enumerate_from 0 xs) inside in
-    let is = ap (λ a. a.0) (get_or-enumerate_from 0 xs k d within) in
-    omega arith)
-
--- and stands at itself
-place_at : {X : Type 0} (xs : List X) (k : ℕ) → k < length xs → Contains (places_in xs) k
-place_at [] k inside = absurd (omega arith)
-place_at (x ∷ xs) k inside =
-    let all : List (ℕ × _) = enumerate_from 0 (x ∷ xs) in
-    let within : k < length all = subst (λ n. k < n) (sym (length-enumerate_from 0 (x ∷ xs))) inside in (
-      k,
-      subst (λ n. k < n) (sym (length-map all (λ a. a.0))) within,
-      get_or-map (λ a. a.0) all k (0, x) k within
-          ∙ ap (λ a. a.0) (get_or-enumerate_from 0 (x ∷ xs) k (0, x) inside)
-          ∙ (let e : 0 + k ≡ k = omega arith in e),
-    )
-
 module _ (size : ℕ) (ws : List ℕ) (quotas : List Quota) (positive : 0 < length ws → 0 < sum ws) (are : quotas ≡ map (quota_for size ws) ws)
-    (rests : List ℤ) (rests_are : rests ≡ map (λ q. pos q.remainder) quotas)
-    (places : List ℕ) (once : IsPermutation (places_in rests) places) (ranks : AreRanked rests places) where
+    (rests : List ℤ) (rests_are : rests ≡ map (λ q. pos q.remainder) quotas) where
   length-rests : length rests ≡ length ws
   length-rests = ap length rests_are ∙ length-map quotas (λ (q : Quota). pos q.remainder) ∙ length-quotas size ws quotas positive are
 
-  -- there is a place for each weight
-  pub length-places : length places ≡ length ws
-  length-places =
-      length_permutation (places_in rests) places once ∙ length-map (enumerate_from 0 rests) (λ (a : ℕ × ℤ). a.0) ∙ length-enumerate_from 0 rests ∙ length-rests
-
-  -- and each is one of theirs
-  pub places_within : (n : ℕ) → All (λ p. p < length ws) (take n places)
-  places_within n =
-      subst (λ m. All (λ p. p < m) (take n places)) length-rests
-      (All-take (λ p. p < length rests) n places (All-permutation (λ p. p < length rests) (places_in rests) places once (places_inside rests)))
-
-  -- the pence that are left over are no more than places
-  pub left_within : (left : ℕ) → (0 < size → 0 < length ws) → left ≡ size - sum_by (λ q. q.lower) quotas → left ≤ length places
+  -- there are no more leftover pence than rests
+  pub left_within : (left : ℕ) → (0 < size → 0 < length ws) → left ≡ size - sum_by (λ q. q.lower) quotas → left ≤ length rests
   left_within left some left_is =
       let h = leftover_within size ws positive some in
       let same : left ≡ leftover size ws = left_is ∙ ap (λ n. size - n) (lower_same size ws quotas positive are) in
-      let l = length-places in
+      let l = length-rests in
       omega arith
 
-  module _ (left : ℕ) (left_is : left ≡ size - sum_by (λ q. q.lower) quotas) (few : left ≤ length places) where
+  module _ (left : ℕ) (left_is : left ≡ size - sum_by (λ q. q.lower) quotas) (places : List ℕ) (first : AreFirst rests left places) where
+    -- each place is the place of a weight
+    pub places_within : All (λ p. p < length ws) places
+    places_within = subst (λ m. All (λ p. p < m) places) length-rests first.inside
+
     left_same : left ≡ leftover size ws
     left_same = left_is ∙ ap (λ n. size - n) (lower_same size ws quotas positive are)
 
@@ -127,7 +95,7 @@ module _ (size : ℕ) (ws : List ℕ) (quotas : List Quota) (positive : 0 < leng
       abbrev own_rank : ℕ
       own_rank = rank (map (remainder size ws) ws) (place, remainder size ws (get_or ws place 0))
 
-      -- so many rests come before it
+      -- as many rests come before it as its rank says
       before_is : places_before rests place ≡ own_rank
       before_is =
           let rs : List ℕ = map (remainder size ws) ws in
@@ -135,20 +103,14 @@ module _ (size : ℕ) (ws : List ℕ) (quotas : List Quota) (positive : 0 < leng
           ∙ rank_is_before rs place (subst (λ n. place < n) (sym (length-map ws (remainder size ws))) inside)
           ∙ ap (λ r. rank rs (place, r)) (get_or-map (remainder size ws) ws place 0 0 inside)
 
-      -- it is listed among the first where fewer come before it
-      penny_is : count_by (λ p. p == place) (take left places) ≡ cond (nat_lt own_rank (leftover size ws)) 1 0
+      -- it is listed if fewer rests come before it than pence are left over
+      penny_is : count_by (λ p. p == place) places ≡ cond (nat_lt own_rank (leftover size ws)) 1 0
       penny_is =
-          let found = Contains-permutation (places_in rests) places place once (place_at rests place (subst (λ n. place < n) (sym length-rests) inside)) in
-          let j : ℕ = found.0 in
-          let stands : get_or places j 0 ≡ place = get_or_default places j 0 _ found.1 ∙ found.2 in
-          let j_is : j ≡ own_rank = sym (ranks j found.1) ∙ ap (places_before rests) stands ∙ before_is in
-          count_by-count (λ p. p == place) (take left places)
-          ∙ ap (λ q. count (λ p. p == q) (take left places)) (sym stands)
-          ∙ listed (places_before rests) places ranks j found.1 left few
-          ∙ (λ i. cond (nat_lt (j_is i) (left_same i)) 1 0)
+          first.listed place (subst (λ n. place < n) (sym length-rests) inside)
+          ∙ (λ i. cond (nat_lt (before_is i) (left_same i)) 1 0)
 
-    -- with their pennies the sizes are those of the definition
-    pub sizes_are : (wholes sizes : List ℕ) → wholes ≡ map (λ q. q.lower) quotas → HasPennies wholes (take left places) sizes → sizes ≡ sizes_by size ws
+    -- with their pennies, the sizes are those of the definition
+    pub sizes_are : (wholes sizes : List ℕ) → wholes ≡ map (λ q. q.lower) quotas → HasPennies wholes places sizes → sizes ≡ sizes_by size ws
     sizes_are wholes sizes wholes_are has =
         same_lists sizes (sizes_by size ws) (as_many ∙ sym (length-map (enumerate_from 0 ws) (share_size size ws) ∙ length-enumerate_from 0 ws))
         (λ k d within.

@@ -13,24 +13,24 @@ use Rattle.hh_share.specs.Shares.{lower_quota, remainder, leftover, comes_before
 use Rattle.hh_share.proofs.CountLaws.{count_by-map, sum_by-enumerate}
 use Rattle.hh_share.proofs.SumLaws.{length-effective, length-shares, effective_positive, some_over, leftover_few, gets_more}
 
--- a test or another counts no less than the test
+-- a test counts no more than the test or another
 or_more : (a b : Bool) → cond a 1 0 ≤ cond (a || b) 1 0
 or_more true b = omega arith
 or_more false true = omega arith
 or_more false false = omega arith
 
--- all remainders above 0 come before one of 0
+-- all remainders above 0 come before a remainder of 0
 some_before : (rs : List ℕ) (place : ℕ) → count_by (λ r. nat_lt 0 r) rs ≤ rank rs (place, 0)
 some_before rs place =
     subst (λ n. n ≤ rank rs (place, 0)) (sum_by-enumerate (λ r. cond (nat_lt 0 r) 1 0) 0 rs)
     (sum_by-le-sum_by (λ (b : ℕ × ℕ). cond (nat_lt 0 b.1) 1 0) (λ b. cond (comes_before b (place, 0)) 1 0) (enumerate_from 0 rs) (λ b. or_more (nat_lt 0 b.1) ((0 == b.1) && nat_lt b.0 place)))
 
--- a number that is not 0 is above it
+-- a number other than 0 is above 0
 above_zero : (n : ℕ) → (n ≡ 0 → ⊥) → 0 < n
 above_zero zero h = absurd (h refl)
 above_zero (suc n) h = omega arith
 
--- a number over m is between its whole part and the next whole number
+-- a quotient by m is between its whole part and the next whole number
 near_below : (n m low over : ℕ) → m * low + over ≡ n → over < m → (n < (low + 0) * m + m) × ((low + 0) * m < n + m)
 near_below n m low over whole small =
     let e : (low + 0) * m ≡ low * m + 0 * m = add-mul low 0 m in
@@ -44,7 +44,7 @@ near_above n m low over whole small some =
     (omega arith, omega arith)
 
 module _ (size : ℕ) (ws : List ℕ) (positive : 0 < sum ws) where
-  -- a quota that is whole gets no penny more
+  -- a whole quota gets no penny more
   whole_gets_none : (place w : ℕ) → remainder size ws w ≡ 0 → gets_more size ws positive (place, w) ≡ false
   whole_gets_none place w whole =
       let rs : List ℕ = map (remainder size ws) ws in
@@ -53,7 +53,7 @@ module _ (size : ℕ) (ws : List ℕ) (positive : 0 < sum ws) where
       let before : count_by (λ r. nat_lt 0 r) rs ≤ rank rs (place, 0) = some_before rs place in
       ap (λ r. nat_lt (rank rs (place, r)) (leftover size ws)) whole ∙ le-ltb (rank rs (place, 0)) (leftover size ws) (omega arith)
 
-  -- a weight that gets a penny more has a remainder
+  -- a weight that gets a penny more has a remainder above 0
   more_is_over : (place w : ℕ) → gets_more size ws positive (place, w) ≡ true → 0 < remainder size ws w
   more_is_over place w more = above_zero (remainder size ws w) (λ whole. false_is_not_true (sym (whole_gets_none place w whole) ∙ more))
 
@@ -65,11 +65,11 @@ module _ (size : ℕ) (ws : List ℕ) (positive : 0 < sum ws) where
         | false ↦ λ more. near_below (size * w) (sum ws) (lower_quota size ws w) (remainder size ws w) (div-add-mod (size * w) (sum ws)) (mod-lt (size * w) positive)
       ] refl
 
--- distances of products, and that turning both signs leaves them
+-- two products that are less than m apart
 distance : (a w n m : ℕ) → a * w < n * m + m → n * m < a * w + m → unsigned_abs ((pos a *ℤ pos w) -ℤ (pos n *ℤ pos m)) < m
 distance a w n m below above = rw (unsigned_abs-sub (a * w) (n * m)) (omega arith)
 
--- both signs turned, the distance is the same
+-- changing both signs leaves the distance
 distance-neg : (a w n m : ℕ) → unsigned_abs ((negsuc a *ℤ pos w) -ℤ (neg_ℤ (pos n) *ℤ pos m)) ≡ unsigned_abs ((pos (suc a) *ℤ pos w) -ℤ (pos n *ℤ pos m))
 distance-neg a w n m =
     ap (λ z. unsigned_abs (z -ℤ (neg_ℤ (pos n) *ℤ pos m))) (negsuc-*ℤ-pos a w)
@@ -78,7 +78,7 @@ distance-neg a w n m =
     ∙ unsigned_abs-neg ((pos (suc a) *ℤ pos w) -ℤ (pos n *ℤ pos m))
 
 module _ (ws : List ℕ) (positive : 0 < sum ws) where
-  -- one share is its quota rounded
+  -- each share is its quota, rounded
   share_rounded : (amount : ℤ) (place w : ℕ) → IsQuotaRounded amount ws w (share_of amount ws (place, w))
   share_rounded (pos a) place w =
       let near = share_near a ws positive place w in
@@ -97,7 +97,7 @@ module _ (ws : List ℕ) (positive : 0 < sum ws) where
       (zip vs (map (share_of amount ws) (enumerate_from (place + 1) vs)))
       (share_rounded amount place v) (shares_rounded amount (place + 1) vs)
 
--- each share is the quota of its weight rounded, over the weights that count
+-- by the weights that count, each share is the quota of its weight, rounded
 pub quotas_rounded : (amount : ℤ) (ws : List ℕ) → AreQuotasRounded amount (effective ws) (shares amount ws)
 quotas_rounded amount [] = (refl, λ k d lt. absurd (omega arith))
 quotas_rounded amount (w ∷ ws) =

@@ -1,4 +1,4 @@
--- Ranks: in a list without a key twice just k have a rank below k, and so it is with remainders at their places.
+-- Ranks: in a list whose keys are distinct, exactly k keys have a rank below k. Remainders with their places are such keys.
 use Rattle.std.proofs.Common.{map, ◌+◌, ◌≡◌, ℕ, zero, suc, ◌<◌, ◌≤◌, List, [], ◌∷◌, length, refl, sym, ap, ◌∙◌, subst, Bool, true, false, cond, Some, None, Ordering, arith}
 use Rattle.std.specs.Prelude.{nat_lt, ◌==◌, ◌&&◌, ◌||◌, T, count_by}
 use Rattle.std.specs.List.{enumerate_from}
@@ -37,7 +37,7 @@ below_suc n m = both_ways (nat_lt (suc n) (suc m)) (nat_lt n m)
     (λ e. lt-ltb (suc n) (suc m) (let h : n < m = ltb-true n m e in omega arith))
 
 module _ {K : Type 0} {R : K → K → Ordering} (o : IsTotalOrder R) where
-  -- what comes after a key does not come before it
+  -- a key that comes after another does not come before it
   not_before : (x y : K) → T (is_lt (R x y)) → is_lt (R y x) ≡ false
   not_before x y h = ap is_lt (o.antisymm y x ∙ ap ordering_reverse (less_is (R x y) h))
 
@@ -65,7 +65,7 @@ module _ {K V : Type 0} {R : K → K → Ordering} (o : IsTotalOrder R) where
   count-in_key_order test (e ∷ es) d =
       count-put R test e.0 e.1 (in_key_order R es) (find-in_key_order o es e.0 ∙ d.0) ∙ ap (λ z. cond (test e) (suc z) z) (count-in_key_order test es d.1)
 
-  -- how many of a list come before a key
+  -- how many rows of a list come before a key
   abbrev pub rank_in : List (K × V) → K → ℕ
   rank_in es k = count (λ e. is_lt (R e.0 k)) es
 
@@ -81,7 +81,7 @@ module _ {K V : Type 0} {R : K → K → Ordering} (o : IsTotalOrder R) where
   count_none f [] = refl
   count_none f (e ∷ es) = ap (λ b. cond b (suc (count (λ a. nat_lt (f a) 0) es)) (count (λ a. nat_lt (f a) 0) es)) (below_none (f e)) ∙ count_none f es
 
-  -- behind a first key each rank is one more
+  -- behind a first key, each rank is one higher
   shifted : (e : K × V) (es rest : List (K × V)) (j : ℕ) → T (below_all R e.0 rest) → count (λ a. nat_lt (rank_in (e ∷ es) a.0) (suc j)) rest ≡ count (λ a. nat_lt (rank_in es a.0) j) rest
   shifted e es [] j h = refl
   shifted e es (x ∷ rest) j h =
@@ -90,7 +90,7 @@ module _ {K V : Type 0} {R : K → K → Ordering} (o : IsTotalOrder R) where
       one : nat_lt (cond (is_lt (R e.0 x.0)) (suc (rank_in es x.0)) (rank_in es x.0)) (suc j) ≡ nat_lt (rank_in es x.0) j
       one = ap (λ r. nat_lt (cond (is_lt r) (suc (rank_in es x.0)) (rank_in es x.0)) (suc j)) (less_is (R e.0 x.0) (first_part _ _ h)) ∙ below_suc (rank_in es x.0) j
 
-  -- in a list in order just k keys have a rank below k
+  -- in a sorted list, exactly k keys have a rank below k
   ranked_sorted : (es : List (K × V)) (k : ℕ) → T (is_sorted R es) → k ≤ length es → count (λ a. nat_lt (rank_in es a.0) k) es ≡ k
   ranked_sorted es zero sorted few = count_none (λ a. rank_in es a.0) es
   ranked_sorted [] (suc k) sorted few = absurd (omega arith)
@@ -103,7 +103,7 @@ module _ {K V : Type 0} {R : K → K → Ordering} (o : IsTotalOrder R) where
   count_all [] = refl
   count_all (e ∷ es) = ap suc (count_all es)
 
-  -- In any list without a key twice just k keys have a rank below k.
+  -- In any list whose keys are distinct, exactly k keys have a rank below k.
   pub ranked : (es : List (K × V)) (k : ℕ) → AreDistinct R es → k ≤ length es → count (λ a. nat_lt (rank_in es a.0) k) es ≡ k
   ranked es k distinct few =
       let ordered : List (K × V) = in_key_order R es in
@@ -112,7 +112,7 @@ module _ {K V : Type 0} {R : K → K → Ordering} (o : IsTotalOrder R) where
       ∙ sym (count-in_key_order (λ a. nat_lt (rank_in ordered a.0) k) es distinct)
       ∙ ranked_sorted ordered k (is_sorted-in_key_order o es) (subst (λ n. k ≤ n) (sym same_length) few)
 
--- an answer by two tests, the second where the first says equal
+-- an order by two tests: the second decides if the first says equal
 by_two : (p q r s : Bool) → is_lt (ordering_then (cond p Less (cond q Equal Greater)) (cond r Less (cond s Equal Greater))) ≡ (p || (q && r))
 by_two true q r s = refl
 by_two false true true s = refl
@@ -120,7 +120,7 @@ by_two false true false true = refl
 by_two false true false false = refl
 by_two false false r s = refl
 
--- two that differ in their places are not equal
+-- keys that differ in their places are not equal
 never_equal : (x : Ordering) → is_eq (ordering_then x Less) ≡ false
 never_equal Less = refl
 never_equal Equal = refl
@@ -134,7 +134,7 @@ order = then_cmp (flip_args (on (λ a. a.1) nat_cmp)) (on (λ a. a.0) nat_cmp)
 order_total : IsTotalOrder order
 order_total = then_total (back_total (on_total (λ (a : ℕ × ℕ). a.1) nat_cmp_total)) (on_total (λ a. a.0) nat_cmp_total)
 
--- to come before is to stand before in that order
+-- a remainder comes before another exactly if it does in this order
 before_is : (a b : ℕ × ℕ) → comes_before b a ≡ is_lt (order b a)
 before_is a b = sym (by_two (nat_lt a.1 b.1) (a.1 == b.1) (nat_lt b.0 a.0) (b.0 == a.0))
 
@@ -142,7 +142,7 @@ before_is a b = sym (by_two (nat_lt a.1 b.1) (a.1 == b.1) (nat_lt b.0 a.0) (b.0 
 abbrev claims : List (ℕ × ℕ) → List ((ℕ × ℕ) × Unit {0})
 claims cs = map (λ a. (a, tt)) cs
 
--- no place stands twice
+-- no place occurs twice
 none_later : (n r m : ℕ) (xs : List ℕ) → n < m → find order (n, r) (claims (enumerate_from m xs)) ≡ None
 none_later n r m [] h = refl
 none_later n r m (x ∷ xs) h =
@@ -150,7 +150,7 @@ none_later n r m (x ∷ xs) h =
     ∙ ap (λ b. cond b (Some tt) (find order (n, r) (claims (enumerate_from (m + 1) xs)))) (never_equal (nat_cmp x r))
     ∙ none_later n r (m + 1) xs (omega arith)
 
--- and so no key of the table
+-- so no key of the table does
 places_distinct : (m : ℕ) (xs : List ℕ) → AreDistinct order (claims (enumerate_from m xs))
 places_distinct m [] = tt
 places_distinct m (x ∷ xs) = (none_later m x (m + 1) xs (omega arith), places_distinct (m + 1) xs)
@@ -159,14 +159,14 @@ module _ (remainders : List ℕ) where
   abbrev all : List (ℕ × ℕ)
   all = enumerate_from 0 remainders
 
-  -- a rank is the one in that table
+  -- a rank is the rank in that table
   rank_is : (a : ℕ × ℕ) → rank remainders a ≡ rank_in order_total (claims all) a
   rank_is a =
       count_by-count (λ b. comes_before b a) all
       ∙ count-same (λ b. comes_before b a) (λ b. is_lt (order b a)) all (before_is a)
       ∙ sym (count-map (λ e. is_lt (order e.0 a)) (λ (b : ℕ × ℕ). (b, tt)) all)
 
-  -- of all remainders just k have a rank below k
+  -- exactly k of all remainders have a rank below k
   pub ranks_below : (k : ℕ) → k ≤ length remainders → count_by (λ a. nat_lt (rank remainders a) k) all ≡ k
   ranks_below k few =
       count_by-count (λ a. nat_lt (rank remainders a) k) all

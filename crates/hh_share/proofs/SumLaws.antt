@@ -1,4 +1,4 @@
--- The shares: their sizes sum to the size of the total.
+-- The sizes of the shares sum to the size of the total.
 use Rattle.std.proofs.Common.{get_or, ◌≡◌, ℕ, zero, suc, ◌+◌, ◌*◌, ◌<◌, ◌≤◌, List, [], ◌∷◌, map, length, refl, sym, ap, ◌∙◌, subst, Bool, true, false, cond, arith}
 use Rattle.std.specs.Prelude.{nat_lt, ◌==◌, sum, sum_by, count_by, All, ℤ, pos, negsuc, neg_ℤ, unsigned_abs, ◌+ℤ◌, int_lt, ◌≢◌}
 use Rattle.std.specs.List.{enumerate_from, list_all}
@@ -23,7 +23,7 @@ module _ (size : ℕ) (ws : List ℕ) (positive : 0 < sum ws) where
   abbrev over : ℕ → ℕ
   over = remainder size ws
 
-  -- how many have a remainder at all
+  -- how many weights have a remainder above 0
   abbrev pub some_over : List ℕ → ℕ
   some_over vs = count_by (λ v. nat_lt 0 (over v)) vs
 
@@ -65,7 +65,7 @@ module _ (size : ℕ) (ws : List ℕ) (positive : 0 < sum ws) where
       let t : sum_by low ws * sum ws ≤ size * sum ws = omega arith in
       le_of_mul-le-mul_right t positive
 
-  -- no more pence are left over than there are remainders above 0
+  -- there are no more leftover pence than remainders above 0
   pub leftover_few : leftover size ws ≤ some_over ws
   leftover_few =
       let h : sum_by low ws * sum ws + sum_by over ws ≡ size * sum ws = quotas_whole ws in
@@ -79,7 +79,7 @@ module _ (size : ℕ) (ws : List ℕ) (positive : 0 < sum ws) where
   abbrev pub gets_more : ℕ × ℕ → Bool
   gets_more a = nat_lt (rank (map (remainder size ws) ws) (a.0, remainder size ws a.1)) (leftover size ws)
 
-  -- just as many get one penny more as pence are left
+  -- as many weights get one penny more as pence are left over
   more_is_leftover : count_by gets_more (enumerate_from 0 ws) ≡ leftover size ws
   more_is_leftover =
       let rs : List ℕ = map (remainder size ws) ws in
@@ -105,7 +105,7 @@ module _ (size : ℕ) (ws : List ℕ) (positive : 0 < sum ws) where
       = get_or-le-sum_by (share_size size ws) claimants place (0, 0) (subst (λ n. place < n) (sym (length-enumerate_from 0 ws)) inside) in
       subst (λ a. share_size size ws a ≤ size) (claimant_is ws place inside) (subst (λ n. share_size size ws (get_or claimants place (0, 0)) ≤ n) share_sizes_sum h)
 
--- sums of naturals, taken as whole numbers of either sign
+-- sums of naturals, taken as integers
 total-pos : {X : Type 0} (f : X → ℕ) (xs : List X) → total (λ x. pos (f x)) xs ≡ pos (sum_by f xs)
 total-pos f [] = refl
 total-pos f (x ∷ xs) = ap (λ z. pos (f x) +ℤ z) (total-pos f xs) ∙ ap pos (sym (sum_by-cons f x xs))
@@ -117,12 +117,12 @@ total-signed z f xs = elim (int_lt z (pos 0)) as (λ b. total (λ x. cond b (neg
   | false ↦ total-pos f xs
 ]
 
--- a size with its number's sign is the number
+-- the size of a number with the number's sign is the number
 own_sign : (z : ℤ) → with_sign_of z (unsigned_abs z) ≡ z
 own_sign (pos n) = ap (λ b. cond b (neg_ℤ (pos n)) (pos n)) (le-ltb n 0 (omega arith))
 own_sign (negsuc n) = refl
 
--- where there is a weight, the weights that count are not all 0
+-- if there is a weight, the weights that count are not all 0
 pub effective_positive : (ws : List ℕ) → 0 < length ws → 0 < sum (effective ws)
 effective_positive [] h = absurd (omega arith)
 effective_positive (w ∷ ws) h =
@@ -131,12 +131,12 @@ effective_positive (w ∷ ws) h =
       | false ↦ λ e. (let h : (sum (w ∷ ws) == 0) ≡ false = sum_by-zero (λ v. v) (w ∷ ws) ∙ e in let n : sum (w ∷ ws) ≢ 0 = eqb-false (sum (w ∷ ws)) 0 h in omega arith)
     ] refl
 
--- as many weights count as there are
+-- there are as many weights that count as weights
 pub length-effective : (ws : List ℕ) → length (effective ws) ≡ length ws
 length-effective ws =
     elim (list_all (λ v. v == 0) ws) as (λ b. length (cond b (map (λ v. 1) ws) ws) ≡ length ws) [ true ↦ length-map ws (λ v. 1) | false ↦ refl ]
 
--- of weights that count, where there are any, not all are 0
+-- if there are weights that count, they are not all 0
 pub effective_some : (ws : List ℕ) → 0 < length (effective ws) → 0 < sum (effective ws)
 effective_some ws h = effective_positive ws (subst (λ n. 0 < n) (length-effective ws) h)
 
@@ -158,7 +158,7 @@ length-shares amount ws =
     ∙ length-enumerate_from 0 (effective ws)
     ∙ length-effective ws
 
--- a sign changes no size
+-- a sign leaves the size
 size-signed : (z : ℤ) (n : ℕ) → unsigned_abs (with_sign_of z n) ≡ n
 size-signed z zero = elim (int_lt z (pos 0)) as (λ b. unsigned_abs (cond b (neg_ℤ (pos zero)) (pos zero)) ≡ zero) [ true ↦ refl | false ↦ refl ]
 size-signed z (suc n) = elim (int_lt z (pos 0)) as (λ b. unsigned_abs (cond b (neg_ℤ (pos (suc n))) (pos (suc n))) ≡ suc n) [ true ↦ refl | false ↦ refl ]

@@ -3,11 +3,11 @@ use Rattle.std.specs.Prelude.{◌≡◌, ℕ, ◌+◌, ◌-◌, ◌*◌, ◌/◌
 use Rattle.std.specs.List.{enumerate_from, list_all, zip}
 use Rattle.hh_num.specs.Totals.{total}
 
--- the weights that count: each of them 1 where all are 0
+-- the weights that count: each counts as 1 if all are 0
 abbrev pub effective : List ℕ → List ℕ
 effective weights = if list_all (λ w. w == 0) weights then map (λ w. 1) weights else weights
 
--- Of two places with their remainders, b comes before a: its remainder is larger, or as large and its place earlier.
+-- Of two places with their remainders, b comes before a: its remainder is larger, or equal with an earlier place.
 abbrev pub comes_before : ℕ × ℕ → ℕ × ℕ → Bool
 comes_before b a = nat_lt a.1 b.1 || ((a.1 == b.1) && nat_lt b.0 a.0)
 
@@ -21,7 +21,7 @@ module _ (size : ℕ) (weights : List ℕ) where
   abbrev pub lower_quota : ℕ → ℕ
   lower_quota weight = (size * weight) / sum weights
 
-  -- what is over, in parts of a penny of which the sum of the weights makes one
+  -- the remainder, in parts of a penny; the sum of the weights is the number of parts in a penny
   abbrev pub remainder : ℕ → ℕ
   remainder weight = (size * weight) % sum weights
 
@@ -29,7 +29,7 @@ module _ (size : ℕ) (weights : List ℕ) where
   abbrev pub leftover : ℕ
   leftover = size - sum_by lower_quota weights
 
-  -- The share of an account, which is its place and its weight: the whole pence, and one more where fewer
+  -- The share of an account, given by its place and its weight: the whole pence, and one more if fewer
   -- remainders come before its own than pence are left over.
   abbrev pub share_size : ℕ × ℕ → ℕ
   share_size a = lower_quota a.1 + (if nat_lt (rank (map remainder weights) (a.0, remainder a.1)) leftover then 1 else 0)
@@ -50,15 +50,15 @@ shares_by amount weights = map (share_of amount weights) (enumerate_from 0 weigh
 abbrev pub shares : ℤ → List ℕ → List ℤ
 shares amount weights = shares_by amount (effective weights)
 
--- the pence of a split come to this amount
+-- the pence of a split sum to this amount
 abbrev pub SumsTo : ℤ → List ℤ → Type 0
 SumsTo amount split = total (λ share. share) split ≡ amount
 
--- A share is its quota, amount * weight / sum, rounded down or up in size: it lies less than a penny from it.
+-- A share is its quota, amount * weight / sum, rounded down or up in size: it differs from the quota by less than a penny.
 abbrev pub IsQuotaRounded : ℤ → List ℕ → ℕ → ℤ → Type 0
 IsQuotaRounded amount weights weight share = unsigned_abs ((amount *ℤ pos weight) -ℤ (share *ℤ pos (sum weights))) < sum weights
 
--- there is a share for each weight, and each is the quota of its own rounded so
+-- there is a share for each weight, and each share is the quota of its weight, rounded
 abbrev pub AreQuotasRounded : ℤ → List ℕ → List ℤ → Type 0
 AreQuotasRounded amount weights split =
     (length split ≡ length weights) × All (λ a. IsQuotaRounded amount weights a.0 a.1) (zip weights split)

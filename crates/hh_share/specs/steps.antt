@@ -1,4 +1,4 @@
--- What contracts of private functions alone cite: the steps of proofs. No public contract names any of it, through whatever definition.
+-- Definitions that only contracts of private functions use, for the steps of proofs. No public contract depends on them.
 pub mod Quotas
 pub mod Ranking
 pub mod Shares

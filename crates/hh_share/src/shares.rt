@@ -8,15 +8,15 @@ ghost use Rattle.hh_share.specs.Departure.{DepartsLeast};
 ghost use Rattle.hh_share.specs.steps.Quotas.{quota_for};
 ghost use Rattle.hh_share.specs.steps.Ranking.{HasPennies};
 
-use crate::ranking::ranked;
+use crate::ranking::first_places;
 use std::alloc::{AllocError, Global};
 
-/// The exact part that a weight has of the pence that are apportioned.
+/// The exact part that a weight has of the apportioned pence.
 #[derive(Clone, Copy)]
 struct Quota {
     /// Its whole pence.
     lower: u64,
-    /// What is over, in parts of a penny of which the sum of the weights makes one.
+    /// The rest, in parts of a penny. The sum of the weights is the number of parts in a penny.
     remainder: u128,
 }
 
@@ -27,7 +27,7 @@ fn are_all_zero(weights: &[u64]) -> bool
     weights.iter().all(|weight| *weight == 0)
 }
 
-/// The weights that count: each of them 1 where all are 0.
+/// The weights that count: each counts as 1 if all are 0.
 fn effective_weights(alloc: Global, weights: &[u64]) -> Result<Vec<u64>, AllocError>
     ensures { IfOk result (λ v. v.items ≡ effective weights.now) }
 {
@@ -88,7 +88,7 @@ fn quota_of(size: u64, weight: u64, sum: u128) -> Quota
     }
 }
 
-/// The pence that the whole parts leave.
+/// The pence that the whole parts leave over.
 fn pence_left(size: u64, quotas: &[Quota]) -> u64
     requires { sum_by (λ q. q.lower) quotas.now ≤ size }
     ensures { result ≡ size - sum_by (λ q. q.lower) quotas.now }
@@ -115,7 +115,7 @@ fn whole_pence(alloc: Global, quotas: &[Quota]) -> Result<Vec<u64>, AllocError>
     quotas.iter().map(|quota| quota.lower).collect(alloc)
 }
 
-/// These whole pence, and one penny more each time that their place is listed.
+/// These whole pence, and one penny more for each time that their place is listed.
 fn with_pennies(mut sizes: Vec<u64>, places: &[usize]) -> Vec<u64>
     requires inside { All (λ p. p < length sizes.items) places.now }
     requires few { length places.now ≤ length sizes.items }
@@ -128,8 +128,8 @@ fn with_pennies(mut sizes: Vec<u64>, places: &[usize]) -> Vec<u64>
     sizes
 }
 
-/// The sizes of the shares: their whole pence, and of the pence that are left over one each for those
-/// that come first by their remainders.
+/// The sizes of the shares: their whole pence, and one of the leftover pence for each that is among the
+/// first by remainder.
 fn sizes_of(alloc: Global, size: u64, weights: &[u64]) -> Result<Vec<u64>, AllocError>
     requires small { size ≤ 2 ^ 63 }
     requires few { length weights.now < 2 ^ 63 }
@@ -138,9 +138,9 @@ fn sizes_of(alloc: Global, size: u64, weights: &[u64]) -> Result<Vec<u64>, Alloc
     ensures { IfOk result (λ v. v.items ≡ sizes_by size weights.now) }
 {
     let quotas = quotas_of(alloc, size, weights)?;
-    let places = ranked(alloc, &rests_of(alloc, &quotas)?)?;
     let left = pence_left(size, &quotas);
-    Ok(with_pennies(whole_pence(alloc, &quotas)?, &places[..left as usize]))
+    let first = first_places(alloc, &rests_of(alloc, &quotas)?, left as usize)?;
+    Ok(with_pennies(whole_pence(alloc, &quotas)?, &first))
 }
 
 /// A size with the sign of a total.
@@ -164,10 +164,10 @@ fn with_sign(alloc: Global, total: i64, sizes: &[u64]) -> Result<Vec<i64>, Alloc
     Ok(shares)
 }
 
-/// Apportions a total of pence over accounts by their weights, by largest remainders: each account
-/// gets the whole pence of its quota, and of the pence that are left over one each goes to the
-/// accounts with the largest remainders, of equal ones to the earlier. Each share has the total's
-/// sign. Where all weights are 0, each counts as 1. No other split of the total into whole pence has a
+/// Apportions a total of pence over accounts by their weights, by largest remainders. Each account
+/// gets the whole pence of its quota. The pence that are left over go, one each, to the accounts with
+/// the largest remainders, and of equal remainders to the earlier accounts. Each share has the total's
+/// sign. If all weights are 0, each counts as 1. No other split of the total into whole pence has a
 /// smaller sum of the squares of its shares' distances from the quotas.
 pub fn apportion(alloc: Global, total: i64, weights: &[u64]) -> Result<Vec<i64>, AllocError>
     requires some { total ≢ pos 0 → 0 < length weights.now }

@@ -1,4 +1,4 @@
--- A reader that is read a number of times and no more.
+-- A reader that may be read only a limited number of times.
 use Rattle.std.specs.Prelude.{◌≡◌, ℕ, ◌+◌, ◌==◌, List, Result, Err, MatchBool}
 use Rattle.hh_devices.specs.declared.device.DeviceFailed.{DeviceFailed}
 use Rattle.hh_sockets.specs.declared.counted_reader.CountedReader.{CountedReader}
@@ -15,7 +15,7 @@ counted_reader r = r.reader
 abbrev pub reads_left_of : {T : Type 0} → CountedReader T → ℕ
 reads_left_of r = r.reads_left
 
--- a read is one read of the reader, and one fewer is left; where none is left it fails, and nothing changes
+-- a read is one read of the reader, and one fewer is left; if none is left, it fails and nothing changes
 abbrev pub ReadsCounted : {T : Type 0} → (T → ℕ → Result ℕ DeviceFailed → List ℕ → T → Type 0)
     → CountedReader T → ℕ → Result ℕ DeviceFailed → List ℕ → CountedReader T → Type 0
 ReadsCounted reads old room result buffer new =

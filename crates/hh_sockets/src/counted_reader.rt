@@ -1,11 +1,10 @@
-//! A reader that is read a number of times and no more.
+//! A reader that may be read only a limited number of times.
 
 ghost use Rattle.std.specs.Prelude.{◌≡◌};
 
 use hh_devices::{DeviceFailed, Reader};
 
-/// A reader, and how many more times it may be read. Each read beyond that fails, and leaves the
-/// reader alone.
+/// A reader, and how many more times it may be read. Any further read fails, and does not touch the reader.
 #[derive(Drop)]
 pub struct CountedReader<T> {
     reader: T,
@@ -15,7 +14,7 @@ pub struct CountedReader<T> {
 impl<T> CountedReader<T> {
     ghost use Rattle.hh_sockets.specs.CountedReader.{counted_reader, reads_left_of};
 
-    /// A reader that may be read so many times.
+    /// A reader that may be read `reads` times.
     pub fn new(reader: T, reads: u32) -> CountedReader<T>
         ensures reader { counted_reader result ≡ reader }
         ensures reads { reads_left_of result ≡ reads }
@@ -26,7 +25,7 @@ impl<T> CountedReader<T> {
         }
     }
 
-    /// The reader again.
+    /// The reader itself.
     pub fn into_inner(self) -> T
         ensures { result ≡ counted_reader self }
     {

@@ -1,4 +1,4 @@
-//! Connections that are awaited on ports of this machine's loopback.
+//! Connections that are awaited on ports of this machine's loopback interface.
 #![tactic(auto)]
 
 mod counted_reader;

@@ -1,4 +1,4 @@
-//! What listens on ports of the loopback, and what comes of it.
+//! Listening on ports of the loopback interface, and what comes of it.
 
 ghost use Rattle.std.specs.Prelude.{◌≡◌, ℕ, List, [], IfOk, OnErr};
 ghost use Rattle.hh_sockets.specs.Arrivals.{Arrival, AwaitsOne, TakesBack};
@@ -7,7 +7,7 @@ ghost use Rattle.hh_sockets.specs.Ports.{IsBroughtBy, IsPortFor, Ports};
 use hh_devices::{Sink, Source};
 use std::io;
 
-/// A port is not listened on, or no connection came of it.
+/// A port can't be listened on, or no connection came.
 #[derive(Clone, Copy, Debug, PartialEq, Eq)]
 pub struct SocketFailed;
 
@@ -24,24 +24,24 @@ pub struct Connection<S, K> {
     pub sink: K,
 }
 
-/// How much of what a client sends had been read when its connection is taken back.
+/// How much of what a client sends had been read when its connection was taken back.
 #[derive(Clone, Copy, Debug, PartialEq, Eq)]
 pub enum Received {
-    /// All that it has to say.
+    /// All that it sends.
     Whole,
     /// A beginning. The client may still be sending.
     Beginning,
 }
 
-/// What listens on ports of the loopback, 127.0.0.1.
+/// Listens on ports of the loopback interface, 127.0.0.1.
 pub trait Loopback {
     type Listener: Listener + Drop;
 
-    /// On which ports it may be that nothing is listened, and what may come on each.
+    /// Which ports it may be impossible to listen on, and what may come on each.
     ghost ports: { Self → Ports };
 
-    /// Listens on a port; for 0 the machine chooses a free one. Nothing has come yet, and what will
-    /// come is what the port may bring.
+    /// Listens on a port. For 0 the machine chooses a free one. Nothing has come yet, and what comes later
+    /// is what the port may bring.
     fn listen(&self, port: u16) -> Result<Self::Listener, SocketFailed>
         ensures port { IfOk result (λ listener. IsPortFor port (Self.Listener.port_of listener)) }
         ensures begins { IfOk result (λ listener. Self.Listener.leads listener [] listener) }
@@ -50,7 +50,7 @@ pub trait Loopback {
         ensures refused { OnErr result ((ports self.now).refuses port) };
 }
 
-/// What awaits connections on a port.
+/// Awaits connections on a port.
 pub trait Listener {
     type Source: Source + Drop;
 
@@ -59,8 +59,8 @@ pub trait Listener {
     /// The port.
     ghost port_of: { Self → ℕ };
 
-    /// What came of awaiting connections, one after the other, and so led from one state of the
-    /// listener to another. The last connection may still be in hand; it has done nothing then.
+    /// What came of awaiting connections, one after the other, led from one state of the listener to
+    /// another. The last connection may still be in use. Nothing was read from it or written to it yet.
     ghost leads: { Self → List Arrival → Self → Type 0 };
 
     /// The port.
@@ -72,8 +72,8 @@ pub trait Listener {
         ensures { AwaitsOne Self.Source.remaining Self.Source.failures Self.Sink.taken
             Self.Sink.failures leads self.old self.new result };
 
-    /// Takes back the connection that was handed over last, so that its client can read what went out
-    /// to it, whether it was read whole or not.
+    /// Takes back the connection that was handed over last, so that its client can read what was written to
+    /// it, whether all that it sends was read or not.
     fn close(&mut self, connection: Connection<Self::Source, Self::Sink>, received: Received)
         ensures { TakesBack Self.Source.remaining Self.Source.failures Self.Sink.taken
             Self.Sink.failures leads self.old self.new connection };

@@ -8,25 +8,25 @@ use hh_devices::{MemorySink, MemorySource};
 use std::alloc::Global;
 use std::cell::RefCell;
 
-/// A port, and the bytes that its clients send, a connection each, one after the other.
+/// A port, and the bytes that its clients send: one connection for each, one after the other.
 #[derive(Clone, Copy)]
 pub struct MemoryPort<'a> {
     pub port: u16,
     pub connections: &'a [&'a [u8]],
 }
 
-/// Ports in memory. To each come the same connections each time that it is listened on.
+/// Ports in memory. Each time that a port is listened on, the same connections come.
 #[derive(Clone, Copy)]
 pub struct MemoryLoopback<'a> {
     pub alloc: Global,
     pub ports: &'a [MemoryPort<'a>],
-    /// How many bytes each connection takes.
+    /// How many bytes are taken for the output of each connection.
     pub room: usize,
-    /// Where what went out is kept, a sink for each connection that was taken back.
+    /// What was written: a sink for each connection that was taken back.
     pub replies: &'a RefCell<Vec<MemorySink>>,
 }
 
-/// What listens on a port in memory.
+/// A listener on a port in memory.
 #[derive(Drop)]
 pub struct MemoryListener<'a> {
     alloc: Global,
@@ -76,8 +76,7 @@ impl<'a> Listener for MemoryListener<'a> {
         self.port
     }
 
-    /// Hands over the next connection; where there is none, or memory is refused for what it takes,
-    /// none is had.
+    /// Hands over the next connection. It fails if there is none, or if memory is refused for its output.
     fn accept(&mut self) -> Result<Connection<MemorySource<'a>, MemorySink>, SocketFailed> {
         let connections = self.connections;
         if connections.is_empty() {
@@ -93,7 +92,7 @@ impl<'a> Listener for MemoryListener<'a> {
         })
     }
 
-    /// Keeps what went out, if memory is had for it.
+    /// Keeps what was written, if there is memory for it.
     fn close(&mut self, connection: Connection<MemorySource<'a>, MemorySink>, _received: Received)
         ensures { TakesBack (λ source. Some (left_in source)) source_failures
             (λ sink. Some (taken_by sink)) sink_failures memory_leads self.old self.new

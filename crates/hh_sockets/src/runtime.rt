@@ -15,18 +15,18 @@ use hh_devices::{Reader, StreamSink, StreamSource};
 use std::net::{Ipv4Addr, Net, OpenListener, OpenStream, Shutdown, TcpListener};
 use std::time::Clock;
 
-/// How many times a client is read in all, with what is read of it once it has its reply (profile).
+/// How many times a client is read in all, including what is read after its reply (profile).
 const MOST_READS: u32 = 4_096;
 
-/// How many bytes of a client that has its reply are read in one call.
+/// How many bytes are read in one call from a client that has its reply.
 const PIECE: usize = 8_192;
 
-/// The loopback of the system. No clause of std ties a port to what is listened on, to whether it is, or to
-/// what comes on it, so none does here beside the port's number.
+/// The loopback interface of the system. No clause of std says what listening on a port does or what comes
+/// on it, so no clause here says more than the port's number.
 #[derive(Clone, Copy)]
 pub struct RuntimeLoopback<'a, R>(pub &'a R);
 
-/// What the system listens on, and the clock that tells how long its clients take.
+/// A listener of the system, and the clock that tells how long its clients take.
 #[derive(Drop)]
 pub struct RuntimeListener<'a, L, R> {
     listener: L,
@@ -74,9 +74,9 @@ where
         self.port
     }
 
-    /// A client that is silent or reads nothing for ten seconds has failed. So has one whose request is
-    /// not whole 30 seconds from here, or when it was read as often as a client may be, and one that has
-    /// not taken its reply 30 seconds after the first write of it.
+    /// A client that sends or takes nothing for ten seconds has failed. So has a client whose request is
+    /// not whole 30 seconds from now or after the greatest number of reads, and a client that has not taken
+    /// its reply 30 seconds after the first write of it.
     fn accept(&mut self) -> Result<Connection<Self::Source, Self::Sink>, SocketFailed>
         ensures reads { IfOk result
             (λ connection. reads_left_of (reader_of connection.source) ≡ most_reads) }
@@ -95,10 +95,10 @@ where
         })
     }
 
-    /// Says that no more goes out. A system that closes a socket with bytes unread may take back what went
-    /// out before: so a client that may still be sending, or has sent more than was read, is read on for
-    /// a while, as often as it may still be read, and for half a second more than what is left of its
-    /// 30 seconds.
+    /// Tells the client that no more is written. If a system closes a socket with unread bytes, the client
+    /// may lose what was written before. So a client that may still be sending, or has sent more than was
+    /// read, is read further: at most as often as it may still be read, and for half a second more than
+    /// what is left of its 30 seconds.
     fn close(&mut self, connection: Connection<Self::Source, Self::Sink>, received: Received)
         ensures { ⊤ }
     {
@@ -114,7 +114,7 @@ where
     }
 }
 
-/// The reader of a client behind its reply, with as many reads left.
+/// The reader of a client after its reply, with as many reads left.
 fn behind<'a, S, R: Clock>(
     reader: CountedReader<TimedStream<'a, S, R>>,
 ) -> CountedReader<TimedStream<'a, S, R>>
@@ -124,8 +124,8 @@ fn behind<'a, S, R: Clock>(
     CountedReader::new(reader.into_inner().behind(), reads_left)
 }
 
-/// Whether bytes of a client that was read whole are still unread. One of them is read then, and that
-/// is one of the reads of the client.
+/// Whether a client has sent bytes after those that were read. One of them is read for this, and counts as
+/// one of the reads of the client.
 fn has_sent_more<S: OpenStream, T: Reader>(stream: &S, reader: &mut T) -> bool {
     let mut byte = [0u8; 1];
     if stream.set_nonblocking(true).is_err() {
@@ -137,7 +137,7 @@ fn has_sent_more<S: OpenStream, T: Reader>(stream: &S, reader: &mut T) -> bool {
     }
 }
 
-/// Reads on until the end, a failure, or the last read that is left.
+/// Reads until the end, a failure, or the last read that is left.
 fn read_behind<T: Reader>(reader: &mut CountedReader<T>) {
     let mut piece = [0u8; PIECE];
     for _ in 0..reader.reads_left() {

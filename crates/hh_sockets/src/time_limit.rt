@@ -6,16 +6,17 @@ ghost use Rattle.hh_sockets.specs.TimeLimit.{IsLimit, IsLimitBehind, most_time, 
 
 use std::time::Duration;
 
-/// How long a client is awaited in all for its request, and as long again for its reply, in seconds.
+/// How long a client is awaited in all for its request, and then in all for its reply, in seconds.
 const MOST_SECONDS: u64 = 30;
 
 /// How long a client is awaited in one read or write, in seconds.
 const MOST_SECONDS_IN_ONE: u64 = 10;
 
-/// How long a client that has its reply is awaited in one read, and beyond its time, in milliseconds.
+/// How long a client that has its reply is awaited in one read, and how much longer than its time in all,
+/// in milliseconds.
 const MOST_MILLISECONDS_BEHIND: u64 = 500;
 
-/// How long calls may wait: all of them together, and each.
+/// How long calls may wait: all of them together, and each of them.
 #[derive(Clone, Copy, Debug, PartialEq, Eq)]
 pub struct TimeLimit {
     /// How long all calls together may wait.
@@ -35,8 +36,8 @@ impl TimeLimit {
         }
     }
 
-    /// How long the next call may wait when so much time has passed: as long as one call may, but no
-    /// longer than what is left. Nothing where nothing is left.
+    /// How long the next call may wait after `passed`: as long as one call may, but no longer than what is
+    /// left. It is `None` if nothing is left.
     pub fn wait_after(&self, passed: Duration) -> Option<Duration>
         ensures wait { IfSome result (λ wait. as_nanos wait
             ≡ min (as_nanos self.now.in_one) (as_nanos self.now.in_all - as_nanos passed)) }
@@ -49,8 +50,8 @@ impl TimeLimit {
         Some(left.min(self.in_one))
     }
 
-    /// The limit behind a reply, when so much time has passed: half a second more than what is left,
-    /// and half a second in one call.
+    /// The limit after a reply, when `passed` is over: half a second more than what is left, and half a
+    /// second in one call.
     pub fn behind(&self, passed: Duration) -> TimeLimit
         ensures { IsLimitBehind self.now (as_nanos passed) result }
     {

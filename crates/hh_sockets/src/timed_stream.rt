@@ -8,11 +8,11 @@ use hh_devices::{DeviceFailed, Reader, Writer};
 use std::net::OpenStream;
 use std::time::{Clock, Duration, Instant};
 
-/// A stream, and how long its calls may wait. Each call sets the time that the stream may wait in it. One
-/// for which no time is left fails, and leaves the stream alone.
+/// A stream, and how long its calls may wait. Each call sets the time that the stream may wait in it. If no
+/// time is left, a call fails, and does not touch the stream.
 ///
-/// The time begins with the first call, unless `begin` was called before. While the clock tells no
-/// moment, none passes, and each call may wait as long as one call may.
+/// The time begins with the first call, unless `begin` was called before. As long as the clock tells no
+/// moment, no time passes, and each call may wait as long as one call may.
 #[derive(Drop)]
 pub struct TimedStream<'a, S, R> {
     stream: S,
@@ -37,7 +37,7 @@ impl<'a, S, R: Clock> TimedStream<'a, S, R> {
         }
     }
 
-    /// The time begins now, unless it has begun.
+    /// The time begins now, unless it has begun already.
     pub fn begin(&mut self)
         ensures stream { timed_stream self.new ≡ timed_stream self.old }
         ensures limit { limit_of self.new ≡ limit_of self.old }
@@ -45,7 +45,8 @@ impl<'a, S, R: Clock> TimedStream<'a, S, R> {
         let _ = self.passed();
     }
 
-    /// The stream behind a reply: it has half a second more than what is left, and half a second a call.
+    /// The stream after a reply: it has half a second more than what is left, and half a second for each
+    /// call.
     pub fn behind(mut self) -> TimedStream<'a, S, R>
         ensures stream { timed_stream result ≡ timed_stream self.entry }
         ensures limit { (passed : ℕ)
@@ -56,14 +57,14 @@ impl<'a, S, R: Clock> TimedStream<'a, S, R> {
         self
     }
 
-    /// The stream again.
+    /// The stream itself.
     pub fn into_inner(self) -> S
         ensures { result ≡ timed_stream self.entry }
     {
         self.stream
     }
 
-    /// How long the next call may wait; nothing where no time is left.
+    /// How long the next call may wait. It is `None` if no time is left.
     fn wait(&mut self) -> Option<Duration>
         ensures stream { timed_stream self.new ≡ timed_stream self.old }
         ensures limit { limit_of self.new ≡ limit_of self.old }

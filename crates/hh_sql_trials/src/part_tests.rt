@@ -1,4 +1,4 @@
-//! What no clause says: that with ample memory parts of an office are selected.
+//! Tests of what no clause says: with ample memory, parts of an office are read.
 
 use crate::statement_tests::*;
 use hh_keyed_rows::RowFault;
@@ -20,7 +20,7 @@ fn with_volume(row: &ContractRow, kwh: i64) -> Option<Row> {
     }))
 }
 
-/// A contract's volume twice changed, with a price between, which moves nothing.
+/// A contract's volume is changed twice, with a price between, which changes no position.
 fn rows_of_a_load() -> Result<[Row; 3], RowFault> {
     let row = given(contract_row())?;
     Ok([

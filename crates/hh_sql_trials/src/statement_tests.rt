@@ -1,5 +1,5 @@
-//! What no clause says: that with ample memory a database runs each statement, and that what was written
-//! is read again.
+//! Tests of what no clause says: with ample memory a database runs each statement, and what was written is
+//! read again.
 
 use hh_calc::AccountRow;
 use hh_keyed_rows::{AccountAmounts, RowFault};
@@ -50,7 +50,7 @@ fn unit_row() -> Option<UnitRow> {
     })
 }
 
-/// What was registered of the same unit before.
+/// An earlier registration of the same unit.
 fn earlier_unit_row() -> Option<UnitRow> {
     Some(UnitRow {
         unit: UnitId::read(b"G1")?,
@@ -171,7 +171,7 @@ fn posting_key() -> Option<PostingKey> {
     })
 }
 
-/// A Settlement Period of the date after.
+/// A Settlement Period of the next date.
 fn next_third() -> Option<SettlementPeriod> {
     Some(SettlementPeriod {
         date: SettlementDate::new(19_906)?,
@@ -204,7 +204,7 @@ fn settings() -> Option<Settings> {
     })
 }
 
-/// What the office was given, where its texts name it.
+/// The value that an office was given, if its texts name it.
 pub(crate) fn given<T>(value: Option<T>) -> Result<T, RowFault> {
     value.ok_or(RowFault::Store)
 }
@@ -243,8 +243,8 @@ fn write_office<S: Alter>(tx: &mut Transaction<'_, S>, alloc: Global) -> Result<
     replace_file(tx, alloc, &given(file_key())?, &file)
 }
 
-/// Positions, one of which is put twice, touched Settlement Periods, of which those of one date are taken
-/// out again, and that positions are not kept.
+/// Writes positions, one of them twice, and touched Settlement Periods, of which those of one date are
+/// removed again, and that positions are not kept.
 fn write_beside<S: Alter>(tx: &mut Transaction<'_, S>, alloc: Global) -> Result<(), RowFault> {
     let (key, lost) = (given(position_key())?, given(lost_key())?);
     let rows = [(key, given(known(7))?), (lost, Position::Lost)];
@@ -256,7 +256,7 @@ fn write_beside<S: Alter>(tx: &mut Transaction<'_, S>, alloc: Global) -> Result<
     replace_mark(tx, alloc, false)
 }
 
-/// An office's tables in memory, with a row in each that has one in an office at work.
+/// An office's tables in memory, with a row in each table that has one in an office at work.
 pub(crate) fn filled(alloc: Global) -> Result<Connection<MemStore>, RowFault> {
     let mut conn = Connection::open_in_memory(alloc)?;
     let mut tx = conn.transaction();
@@ -368,6 +368,68 @@ fn what_a_run_wrote_is_read_again(rt: HostRuntime) -> Result<(), Fail> {
         select_postings(&mut conn, rt.alloc())?.as_slice(),
         [posting].as_slice()
     );
+    Ok(())
+}
+
+/// The credits of 19 periods: more than two statements of eight rows write.
+fn many_credits(alloc: Global) -> Result<Vec<(CreditKey, Ticks)>, RowFault> {
+    let key = given(credit_key())?;
+    let mut rows = Vec::new(alloc);
+    for number in 1..20u8 {
+        let period = given(PeriodNumber::new(number))?;
+        let energy = given(Ticks::new(-i64::from(number)))?;
+        rows.push((CreditKey { period, ..key }, energy))?;
+    }
+    Ok(rows)
+}
+
+/// The rows of an account in 19 periods.
+fn many_results(alloc: Global) -> Result<Vec<(ResultKey, AccountRow)>, RowFault> {
+    let key = given(result_key())?;
+    let row = given(account_row())?;
+    let mut rows = Vec::new(alloc);
+    for number in 1..20u8 {
+        let period = given(PeriodNumber::new(number))?;
+        let share = given(Pence::new(i64::from(number)))?;
+        rows.push((ResultKey { period, ..key }, AccountRow { share, ..row }))?;
+    }
+    Ok(rows)
+}
+
+/// An office's tables in memory, with only these rows.
+fn with_rows(
+    alloc: Global,
+    results: &[(ResultKey, AccountRow)],
+    credits: &[(CreditKey, Ticks)],
+) -> Result<Connection<MemStore>, RowFault> {
+    let mut conn = Connection::open_in_memory(alloc)?;
+    let mut tx = conn.transaction();
+    if make_tables(&mut tx).is_err() {
+        return Err(RowFault::Store);
+    }
+    insert_results(&mut tx, alloc, results)?;
+    insert_credits(&mut tx, alloc, credits)?;
+    if tx.commit().is_err() {
+        return Err(RowFault::Store);
+    }
+    Ok(conn)
+}
+
+#[test]
+fn rows_of_groups_and_rows_left_over_are_read_again(rt: HostRuntime) -> Result<(), Fail> {
+    let results = many_results(rt.alloc())?;
+    let credits = many_credits(rt.alloc())?;
+    let mut conn = with_rows(rt.alloc(), &results, &credits)?;
+    let run = given(run_key())?;
+    assert_eq!(rt;
+        select_credits_of(&mut conn, rt.alloc(), &run)?.as_slice(),
+        credits.as_slice()
+    );
+    let found = select_results_of(&mut conn, rt.alloc(), &run)?;
+    assert_eq!(rt; found.len(), results.len());
+    for (entry, row) in found.iter().zip(results.iter()) {
+        assert_eq!(rt; *entry, (row.0, AccountAmounts::of(&row.1)));
+    }
     Ok(())
 }
 

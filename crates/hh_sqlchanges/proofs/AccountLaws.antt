@@ -1,4 +1,4 @@
--- The rows of a run are of the accounts that their keys name.
+-- The rows of a run are for the accounts that their keys name.
 use Rattle.std.proofs.Common.{◌≡◌, List, [], ◌∷◌, map, refl, sym, subst}
 use Rattle.std.proofs.lemmas.List.Elements.{All-append, All-cons, All-nil}
 use Rattle.hh_rows.specs.declared.settlement_period.SettlementPeriod.{SettlementPeriod}

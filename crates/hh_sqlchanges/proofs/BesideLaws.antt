@@ -1,4 +1,4 @@
--- What the writing of positions and of touched Settlement Periods makes of what stands beside the content.
+-- What writing positions and touched Settlement Periods makes of what is kept beside the content.
 use Rattle.std.proofs.Common.{◌≡◌, ◌∙◌, List, [], ◌∷◌, ◌++◌, map, Bool, true, false, Result, OnOk, arith, refl, sym, ap, subst}
 use Rattle.std.specs.Prelude.{◌||◌, ◌==◌, filter, filter_map, not, ℕ}
 use Rattle.std.specs.FinMap.{find, put}
@@ -87,7 +87,7 @@ pub beside_made : {X E : Type 0} (changed : List (PositionKey × Position)) (per
     → PutsAll forms.positions changed old mid → OnOk result (PutsAll forms.touched (map forms.touched_entry periods) mid new) → OnOk result (WritesBeside changed periods old new)
 beside_made changed periods old mid new result first = on_ok_weaker result (beside_put changed periods old mid new first)
 
--- ---- beside a content that was kept alone
+-- ---- beside a content for which nothing was kept
 
 one_row_total : IsTotalOrder forms.one_row_cmp
 one_row_total = on_total (λ _. 0) nat_cmp_total
@@ -135,7 +135,7 @@ pub run_changed : {X E : Type 0} (w : RunWrites) (date : ℕ) → date ≡ w.key
 run_changed w date is old mid new result stored = on_ok_weaker result (λ removed. run_untouched w old mid new stored
     (subst (λ (d : ℕ). Removes forms.touched (λ at. at.date == d) mid new) is removed))
 
--- ---- what stands beside the content is as after the load or the run
+-- ---- what is kept beside the content is as it should be after the load or the run
 
 pub alike_after_load : (w : LoadWrites) (tables : Registered) (changed : List (PositionKey × Position)) (periods : List SettlementPeriod) (old new : Database) → ChangesByLoad w changed periods old new
     → put_all position_key_cmp changed (beside_in old.trees).positions ≡ positions_with w.rows tables.contracts (beside_in old.trees).positions → HaveTheSame periods (filter_map touched_by w.rows)

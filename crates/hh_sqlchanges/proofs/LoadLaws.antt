@@ -142,7 +142,7 @@ module _ (old new : Database) where
     reallocations = reallocations_kept 10 old.trees new.trees puts.others (λ e. omega (arith, e)) i;
   })
 
--- rows leave the references
+-- rows do not change the references
 references_stand : (rs : List Row) (tables : Registered) → (put_rows rs tables).references ≡ tables.references
 references_stand [] tables = refl
 references_stand (r ∷ rs) tables = references_stand rs (put_row r tables)

@@ -27,7 +27,7 @@ use Rattle.hh_sqlchanges.specs.OwnAccounts.{AreOfTheirAccounts}
 use Rattle.hh_sqlchanges.specs.steps.Becoming.{Becomes, StoresRunAlone}
 use Rattle.hh_sqlchanges.proofs.StayLaws.{beside_kept, credits_kept, files_kept, postings_kept, registered_kept, results_kept, runs_kept, stays_office, stays_then}
 
--- ---- values that a function makes of a key and of what stands there
+-- ---- values that a function makes from a key and its value
 
 module _ {K V W : Type 0} (R : K → K → Ordering) (exact : CmpEqualImpliesEq R) (f : K → V → W) where
   abbrev shown : K × V → K × W

@@ -1,4 +1,4 @@
--- What a change of one table leaves of an office, and how changes follow each other.
+-- What a change of one table leaves as it is, and how changes follow each other.
 use Rattle.std.proofs.Common.{true, ◌≡◌, ◌≢◌, ◌<◌, ◌∙◌, ℕ, arith, map, ap}
 use Rattle.sqlite_trees.specs.Tree.{Trees}
 use Rattle.sqlite.specs.Effect.{Database}
@@ -67,7 +67,7 @@ module _ (tree : ℕ) (old new : Trees) (others : KeepsOthers tree old new) wher
   marks_kept : 30 ≢ tree → rows_under_keys forms.marks new ≡ rows_under_keys forms.marks old
   marks_kept apart = rows_kept forms.marks old new (others.1.1.1.1.1.1.1.1.1.1.1.1.1.1.1.0 apart)
 
-  -- a change beside what is registered and in force leaves that
+  -- a change of a table beside what is registered and in force leaves that as it is
   pub registered_kept : 14 < tree → registered_of new ≡ registered_of old
   registered_kept beside = λ i. record {
     parties = parties_kept (λ e. omega (arith, e, beside)) i;
@@ -79,14 +79,14 @@ module _ (tree : ℕ) (old new : Trees) (others : KeepsOthers tree old new) wher
     reallocations = reallocations_kept (λ e. omega (arith, e, beside)) i;
   }
 
-  -- a change of the content leaves what stands beside it
+  -- a change of the content leaves what is kept beside it
   pub beside_kept : tree < 26 → beside_in new ≡ beside_in old
   beside_kept low = λ i. record {
     positions = positions_kept (λ e. omega (arith, e, low)) i;
     touched = ap (map (λ e. e.0)) (touched_kept (λ e. omega (arith, e, low))) i;
   }
 
-  -- a change beside the content leaves that
+  -- a change beside the content leaves the content
   pub content_kept : 24 < tree → (kept : Settings) → content_of kept new ≡ content_of kept old
   content_kept high kept = λ i. record {
     settings = kept;
@@ -100,7 +100,7 @@ module _ (tree : ℕ) (old new : Trees) (others : KeepsOthers tree old new) wher
   }
 
 module _ (tree : ℕ) (old new : Database) (is_office : IsOffice new) (others : KeepsOthers tree old.trees new.trees) where
-  -- a change of a table but those of the settings and of the mark
+  -- a change of any table but those of the settings and of the mark
   pub stays_office : 0 < tree → tree < 30 → StaysOffice old new
   stays_office low high = record {
     is_office = is_office;

@@ -39,7 +39,7 @@ or_last true false = refl
 or_last false true = refl
 or_last false false = refl
 
--- what one row more touches
+-- what one more row touches
 touched_next : (rows : List Row) (i : ℕ) (r : Row) → i < length rows → r ≡ get_or rows i r
     → filter_map touched_by (take (i + 1) rows) ≡ filter_map touched_by (take i rows) ++ cons_option (touched_by r) []
 touched_next rows i r inside is = ap (filter_map touched_by) (take_next rows i r inside is) ∙ filter_map-append touched_by (take i rows) (r ∷ [])

@@ -6,11 +6,11 @@ use Rattle.hh_states.specs.declared.run_keys.ResultKey.{ResultKey}
 use Rattle.hh_states.specs.Content.{Content}
 use Rattle.hh_states.specs.Changes.{IsRunFrom, RunWrites}
 
--- each row is of the account that its key names
+-- each row is for the account that its key names
 abbrev pub AreOfTheirAccounts : List (ResultKey × AccountRow) → Type 0
 AreOfTheirAccounts rows = All (λ e. e.1.account ≡ e.0.account) rows
 
--- in a run that the machine makes, each row is of the account that its key names
+-- in a run that the machine makes, each row is for the account that its key names
 abbrev pub RowsOfTheirAccounts : Type 0
 RowsOfTheirAccounts = (midnight : Midnights) (content : Content) (w : RunWrites)
     → IsRunFrom midnight content w → AreOfTheirAccounts w.results

@@ -1,4 +1,4 @@
--- What the writing of a load and of a run makes of an office's database.
+-- What writing a load or a run makes of an office's database.
 use Rattle.std.specs.Prelude.{◌≡◌, ◌==◌, List, ◌++◌, filter, not, true, Some}
 use Rattle.sqlite.specs.Effect.{Database}
 use Rattle.hh_tables.specs.Tables.{put_all}
@@ -15,39 +15,39 @@ use Rattle.hh_sqlrows.specs.Office.{IsOffice}
 use Rattle.hh_sqlrows.specs.OfficeTables as forms
 use Rattle.hh_sqlchanges.specs.OwnAccounts.{AreOfTheirAccounts}
 
--- The database stays an office's with its settings and its mark.
+-- The database is still an office's, with the same settings and the same mark.
 pub record StaysOffice (old new : Database) : Type 0 where
   pub is_office : IsOffice new
   pub settings : rows_under_keys forms.settings new.trees ≡ rows_under_keys forms.settings old.trees
   pub mark : rows_under_keys forms.marks new.trees ≡ rows_under_keys forms.marks old.trees
 
--- The load is written: the content is that after it.
+-- The load is written: the content is the content after the load.
 pub record StoresLoad (w : LoadWrites) (old new : Database) : Type 0 where
   pub stays : StaysOffice old new
   pub content : (kept : Settings) → content_of kept new.trees ≡ effect_of_load w (content_of kept old.trees)
 
--- The run is written: the content is that after it, where each of its rows is of the account that its key names.
+-- The run is written: the content is the content after the run, if each of the run's rows is for the account that its key names.
 pub record StoresRun (w : RunWrites) (old new : Database) : Type 0 where
   pub stays : StaysOffice old new
   pub content : AreOfTheirAccounts w.results
       → (kept : Settings) → content_of kept new.trees ≡ effect_of_run w (content_of kept old.trees)
 
--- The load is written. Beside the content these positions stand in the place of those under their keys, and these Settlement Periods
--- are touched with those that were.
+-- The load is written. Beside the content, these positions replace those with their keys, and these Settlement Periods are touched as well
+-- as those that were.
 pub record ChangesByLoad (w : LoadWrites) (changed : List (PositionKey × Position)) (periods : List SettlementPeriod)
     (old new : Database) : Type 0 where
   pub stores : StoresLoad w old new
   pub positions : (beside_in new.trees).positions ≡ put_all position_key_cmp changed (beside_in old.trees).positions
   pub touched : HaveTheSame (beside_in new.trees).touched (periods ++ (beside_in old.trees).touched)
 
--- The run is written. Beside the content the positions stand as they did, and no Settlement Period of its date is touched any more.
+-- The run is written. Beside the content, the positions are as they were, and no Settlement Period of the run's date is touched any more.
 pub record ChangesByRun (w : RunWrites) (old new : Database) : Type 0 where
   pub stores : StoresRun w old new
   pub positions : (beside_in new.trees).positions ≡ (beside_in old.trees).positions
   pub touched : (beside_in new.trees).touched ≡ filter (λ at. not (at.date == w.key.date)) (beside_in old.trees).touched
 
--- These positions and these touched Settlement Periods are written beside the content, which stays, and the mark says that they are
--- kept.
+-- These positions and these touched Settlement Periods are written beside the content. The content is as it was, and the mark says that
+-- they are kept.
 pub record WritesBesideAnew (changed : List (PositionKey × Position)) (periods : List SettlementPeriod) (old new : Database) : Type 0 where
   pub is_office : IsOffice new
   pub settings : rows_under_keys forms.settings new.trees ≡ rows_under_keys forms.settings old.trees

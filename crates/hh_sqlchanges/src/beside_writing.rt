@@ -14,8 +14,8 @@ use hh_sqlrows::{replace_mark, replace_positions, touch_periods};
 use sqlite::{Alter, Transaction};
 use std::alloc::Global;
 
-/// Writes positions and touched Settlement Periods beside a content that was kept alone so far, and marks that
-/// they are kept. After an `Err` a part of that may stand in the transaction, which is then to be undone.
+/// Writes positions and touched Settlement Periods into a database in which none were kept, and marks that
+/// they are kept. After an `Err` a part of that may be written in the transaction, so it must be undone.
 pub fn write_beside_anew<S: Alter>(
     tx: &mut Transaction<'_, S>,
     alloc: Global,
@@ -37,7 +37,7 @@ pub fn write_beside_anew<S: Alter>(
     replace_mark(tx, alloc, true)
 }
 
-/// Writes positions, and that Settlement Periods were touched.
+/// Writes positions, and which Settlement Periods were touched.
 pub(crate) fn write_beside<S: Alter>(
     tx: &mut Transaction<'_, S>,
     alloc: Global,

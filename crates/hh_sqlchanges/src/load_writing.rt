@@ -21,10 +21,10 @@ use hh_store::LoadChange;
 use sqlite::{Alter, Transaction};
 use std::alloc::Global;
 
-/// Writes what an accepted file changes: the file, its rows that are not late, and the references that
-/// it fixes; and beside them these positions, each in the place of the one of its key, and that these
-/// Settlement Periods were touched. After an `Err` a part of that may stand in the transaction, which is
-/// then to be undone.
+/// Writes what an accepted file changes: the file, its rows that are not late, and the references that it
+/// fixes. It also writes these positions, each of which replaces the one with its key, and marks these
+/// Settlement Periods as touched. After an `Err` a part of that may be written in the transaction, so it
+/// must be undone.
 pub fn write_load<S: Alter>(
     tx: &mut Transaction<'_, S>,
     alloc: Global,

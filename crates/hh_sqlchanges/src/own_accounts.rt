@@ -2,8 +2,8 @@
 
 ghost use Rattle.hh_sqlchanges.specs.OwnAccounts.{RowsOfTheirAccounts};
 
-/// That in a run which the machine makes each row is of the account that its key names. So the account
-/// needn't stand beside its amounts.
+/// In a run that the machine makes, each row is for the account that its key names. So the account is not
+/// stored beside the amounts.
 pub fn rows_of_their_accounts()
     ensures { RowsOfTheirAccounts }
 {}

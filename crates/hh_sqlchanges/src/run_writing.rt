@@ -13,9 +13,9 @@ use hh_store::RunChange;
 use sqlite::{Alter, Transaction};
 use std::alloc::Global;
 
-/// Writes what a new run changes: its summary, the rows of its accounts, its credits and its postings;
-/// and beside them that no Settlement Period of its date is touched any more. After an `Err` a part of
-/// that may stand in the transaction, which is then to be undone.
+/// Writes what a new run changes: its summary, the rows of its accounts, its credits and its postings. It
+/// also writes that no Settlement Period of its date is touched any more. After an `Err` a part of that may
+/// be written in the transaction, so it must be undone.
 pub fn write_run<S: Alter>(
     tx: &mut Transaction<'_, S>,
     alloc: Global,

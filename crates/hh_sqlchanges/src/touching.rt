@@ -10,7 +10,7 @@ use hh_rows::{Row, SettlementPeriod};
 use std::alloc::{AllocError, Global};
 use std::collections::BTreeSet;
 
-/// The Settlement Periods that rows in time touch, each once, in their order.
+/// The Settlement Periods that rows touch, if the rows are in time. Each is listed once, in order.
 pub fn periods_touched_by(alloc: Global, rows: &[Row]) -> Result<Vec<SettlementPeriod>, AllocError>
     ensures same { IfOk result (λ found.
         HaveTheSame found.items (filter_map touched_by rows.now)) }
@@ -36,7 +36,7 @@ fn periods_of(
     periods.into_iter().collect(alloc)
 }
 
-/// The Settlement Period that a row in time touches, if it touches one.
+/// The Settlement Period that a row touches if it is in time, if it touches one.
 fn period_of(row: &Row) -> Option<SettlementPeriod>
     ensures { result ≡ touched_by row.now }
 {

@@ -1,4 +1,4 @@
--- What is selected of what is kept beside the rows of a date is what is kept of the date.
+-- What is read of what is kept beside the rows of a date is all that is kept for the date.
 use Rattle.std.proofs.Common.{◌≡◌, ◌==◌, ◌∙◌, ℕ, List, [], ◌∷◌, length, Bool, true, false, cond, map, refl, sym, ap, subst, arith, Option, Some}
 use Rattle.std.specs.Prelude.{◌-◌, ◌||◌, filter, slice_get, Result, Ok, Err, IfOk}
 use Rattle.std.specs.Cmp.{Equal-is, tied_itself, unsigned_tied}
@@ -30,20 +30,20 @@ last_at : {X : Type 0} (x : X) (xs : List X) → last_of (x ∷ xs) ≡ slice_ge
 last_at x [] = refl
 last_at x (y ∷ xs) = last_at y xs
 
--- the last of a list stands at its last place
+-- the last item of a list is at its last place
 pub last_there : {X : Type 0} (xs : List X) → slice_get xs (length xs - 1) ≡ last_of xs
 last_there [] = refl
 last_there (x ∷ xs) =
     let less : length (x ∷ xs) - 1 ≡ length xs = omega arith in
     ap (slice_get (x ∷ xs)) less ∙ sym (last_at x xs)
 
--- the runs of a date, by equal dates
+-- the runs of a date, by either test for equal dates
 pub runs_on_date : (date : ℕ) (runs : List (RunKey × Summary)) → filter (λ e. is_eq (nat_cmp e.0.date date)) runs ≡ filter (λ e. e.0.date == date) runs
 runs_on_date date runs i = filter (λ e. unsigned_tied e.0.date date i) runs
 
 -- ---- the rows of a run
 
--- those of what is made of each that pass a test are made of those that pass it
+-- if a function is applied to each item, those results that pass a test are those of the items whose result passes
 pub kept_made : {X Y : Type 0} (test : Y → Bool) (f : X → Y) (xs : List X) → map f (filter (λ x. test (f x)) xs) ≡ filter test (map f xs)
 kept_made test f [] = refl
 kept_made test f (x ∷ xs) = elim (test (f x)) as (λ b. map f (cond b (x ∷ filter (λ y. test (f y)) xs) (filter (λ y. test (f y)) xs)) ≡ cond b (f x ∷ filter test (map f xs)) (filter test (map f xs))) [
@@ -51,7 +51,7 @@ kept_made test f (x ∷ xs) = elim (test (f x)) as (λ b. map f (cond b (x ∷ f
   | false ↦ kept_made test f xs
 ]
 
--- a table of the rows of a run has those of the run that is the latest
+-- a table of the rows of a run has the rows of the latest run
 pub of_run : {T E : Type 0} (wanted : RunKey → T) (latest : Option (RunKey × Summary)) (run : RunKey × Summary) → latest ≡ Some run → (rows : T) → rows ≡ wanted run.0
     → (result : Result T E) → IfOk result (λ table. table ≡ rows) → IfOk result (λ table. IfSome latest (λ r. table ≡ wanted r.0))
 of_run wanted latest run is rows are (Ok table) held = subst (λ o. IfSome o (λ r. table ≡ wanted r.0)) (sym is) (held ∙ are)
@@ -80,7 +80,7 @@ is_date a date on = sym (unsigned_tied a date) ∙ ap (λ d. is_eq (nat_cmp d da
 -- ---- all of it
 
 module _ (settings : Settings) (trees : Trees) (date : ℕ) (day : DayBeside) where
-  -- what was selected of the latest run is of the run that is the latest
+  -- what was read of the latest run is about the run that is the latest
   of_latest : {T : Type 0} (table : T) (rows : RunKey → T) → day.latest ≡ latest_on (content_of settings trees) date → IfSome day.latest (λ run. table ≡ rows run.0)
       → (e : RunKey × Summary) → latest_on (content_of settings trees) date ≡ Some e → table ≡ rows e.0
   of_latest table rows latest selected e is = subst (λ o. IfSome o (λ run. table ≡ rows run.0)) (latest ∙ is) selected

@@ -1,4 +1,4 @@
--- What is selected for a Settlement Day has the rows of its date.
+-- What is read for a Settlement Day has the rows of its date.
 use Rattle.std.proofs.Common.{◌≡◌, ◌∙◌, ℕ, ◌<◌, List, [], ◌∷◌, get_or, length, Bool, true, false, cond, map, refl, sym, ap}
 use Rattle.std.specs.Prelude.{◌&&◌, ◌||◌, ℤ, filter, T}
 use Rattle.std.specs.Cmp.{Equal-is, IsTotalOrder, eq_by_cmp_equiv, nat_cmp_total, on_total, then_total, tied_itself}
@@ -31,7 +31,7 @@ use Rattle.hh_sqlparts.specs.steps.Named.{entry_under, readings_of, reallocation
 use Rattle.hh_sqlparts.proofs.NamedRows.{entry_found, find_kept_by, same_tested, tested_kept}
 use Rattle.hh_sqlparts.proofs.NamedTables.{reading_found, reallocation_found, same_reallocated}
 
--- ---- what a test finds in the values of a list, and in what is kept of it
+-- ---- what a test finds in the values of a list, and in the filtered list
 
 any_mapped : {X Y : Type 0} (test : Y → Bool) (value : X → Y) (xs : List X) → list_any test (map value xs) ≡ list_any (λ x. test (value x)) xs
 any_mapped test value [] = refl
@@ -46,14 +46,14 @@ any_kept test keeps (x ∷ xs) = elim (keeps x) as (λ b. list_any test (cond b 
 
 -- ---- contracts
 
--- a date is itself
+-- a date equals itself
 is_on : (a date : ℕ) → a ≡ date → is_eq (nat_cmp a date) ≡ true
 is_on a date on = ap (λ d. is_eq (nat_cmp d date)) on ∙ ap is_eq (tied_itself nat_cmp_total date)
 
 same_period : (a b : SettlementPeriod) → eq_by_cmp settlement_period_cmp a b ≡ true → a ≡ b
 same_period a b same = exact_settlement_periods a b ((Equal-is (settlement_period_cmp a b)).0 same)
 
--- a reference that is among some is so once neighbours that are the same stand once
+-- if neighbours that are the same are listed once, a reference that was listed still is
 among_distinct : (references : List (List ℕ)) (reference : List ℕ) → list_any (eq_by_cmp bytes_cmp reference) references ≡ true → list_any (eq_by_cmp bytes_cmp reference) (dedup bytes_eq references) ≡ true
 among_distinct references reference among =
     list_any-from_Contains (eq_by_cmp_equiv bytes_total) reference (dedup bytes_eq references)
@@ -72,7 +72,7 @@ module _ (date : ℕ) (whole part : Registered) where
       ∙ list_any_at (λ (e : ContractKey × ℤ). is_eq (nat_cmp e.0.at.date date) && is_own e.0.reference) whole.contracts i d inside
       (ap (λ b. b && is_own (get_or whole.contracts i d).0.reference) (is_on (get_or whole.contracts i d).0.at.date date on) ∙ (eq_by_cmp_equiv bytes_total).refl (get_or whole.contracts i d).0.reference))
 
-  -- what was selected of a date's contracts has the contracts of the date
+  -- what was read of a date's contracts has the contracts of the date
   has_contracts : T (is_sorted contract_key_cmp whole.contracts) → part.contracts ≡ contracts_on date whole → part.references ≡ flat_map (entry_under bytes_cmp whole.references) (references_in (contracts_on date whole))
       → HasContractsOn date whole part
   has_contracts rises contracts references = record {
@@ -93,7 +93,7 @@ unit_date_total = then_total (on_total (λ p. p.0) bytes_total) (on_total (λ p.
 module _ (date : ℕ) (whole part : Registered) (meters : part.meters ≡ flat_map (readings_of whole.meters) (map (on_date date) (ids_on date whole.units)))
     (reallocations : part.reallocations ≡ flat_map (reallocations_of whole.reallocations) (ids_on date whole.units))
     (rises : T (is_sorted reallocation_key_cmp whole.reallocations)) (part_rises : T (is_sorted reallocation_key_cmp part.reallocations)) where
-  -- what was selected of the units that are effective on a date agrees on each of them
+  -- what was read of the units that are effective on a date agrees on each of them
   unit_agrees : (at : SettlementPeriod) → at.date ≡ date → (i : ℕ) (d : List ℕ × UnitRegistration) → i < length (units_on whole date) → AgreesOnUnitAt whole part (get_or (units_on whole date) i d).0 at
   unit_agrees at on i d inside =
       let unit = (get_or (units_on whole date) i d).0 in
@@ -113,16 +113,16 @@ module _ (date : ℕ) (whole part : Registered) (meters : part.meters ≡ flat_m
             ∙ list_any_at (λ (e : List ℕ × UnitRegistration). eq_by_cmp bytes_cmp unit e.0) (units_on whole date) i d inside ((eq_by_cmp_equiv bytes_total).refl unit)));
       }
 
--- the contracts that are selected of a date are those of the date
+-- the contracts that are read for a date are those of the date
 pub contracts_of_day_part : (date : ℕ) (whole : Registered) → T (is_sorted contract_key_cmp whole.contracts) → HasContractsOn date whole (with_day_contracts date whole nothing_registered)
 contracts_of_day_part date whole rises = has_contracts date whole (with_day_contracts date whole nothing_registered) rises refl refl
 
--- the part that a date is settled from
+-- the part from which a date is settled
 abbrev pub day_part : ℕ → Registered → Registered
 day_part date whole =
     with_rows_of_units date whole (with_registered date whole (with_day_contracts date whole nothing_registered))
 
--- the part that is selected for a date has the rows of the date
+-- the part that is read for a date has the rows of the date
 pub rows_of_day_part : (date : ℕ) (whole : Registered) → T (is_sorted contract_key_cmp whole.contracts) → T (is_sorted reallocation_key_cmp whole.reallocations)
     → T (is_sorted reallocation_key_cmp (day_part date whole).reallocations) → HasRowsOn date whole (day_part date whole)
 rows_of_day_part date whole contracts_rise rises part_rises = record {

@@ -1,5 +1,4 @@
--- The volumes and the positions that are selected for rows of contracts serve for the rows: they move the positions as the whole
--- tables do.
+-- The volumes and the positions that are read for contract rows suffice: the rows change these positions as they change the whole tables.
 use Rattle.std.proofs.Common.{◌≡◌, ◌∙◌, ℕ, ◌+◌, ◌<◌, ◌≤◌, List, [], ◌∷◌, ◌++◌, Ordering, Option, None, ap, get_or, length, refl, subst, sym, take, true}
 use Rattle.std.specs.Prelude.{ℤ, All, T, unwrap_or, pos, Result, Ok, Err, IfOk}
 use Rattle.std.specs.BTreeSet.{BTreeSet, Updates, contains}
@@ -38,9 +37,9 @@ put_one_more R rows i e inside at before after so_far is =
     ∙ sym (put_all-append R (take i rows) (e ∷ []) [])
     ∙ ap (λ l. put_all R l []) (ap (λ x. take i rows ++ x ∷ []) at ∙ sym (take_more rows i e inside))
 
--- ---- what is selected serves
+-- ---- what is read suffices
 
--- a part that has what the whole has under the keys of the seller and the buyer of a row agrees on it
+-- a part that has the same as the whole under the keys of the seller and the buyer of a row agrees on the row
 agrees_by_keys : (whole part : Table PositionKey Position) (r : Row) → IfSome (seller_of r) (λ k. find position_key_cmp k part ≡ find position_key_cmp k whole)
     → IfSome (buyer_of r) (λ k. find position_key_cmp k part ≡ find position_key_cmp k whole) → AgreesOnPositions whole part r
 agrees_by_keys whole part (row.Party r) seller buyer = tt
@@ -50,7 +49,7 @@ agrees_by_keys whole part (row.Price r) seller buyer = tt
 agrees_by_keys whole part (row.Contract r) seller buyer = (ap (λ o. unwrap_or o (Known (pos 0))) seller, ap (λ o. unwrap_or o (Known (pos 0))) buyer)
 agrees_by_keys whole part (row.Reallocation r) seller buyer = tt
 
--- the positions that are selected by the keys of the sellers and the buyers of rows serve for these
+-- the positions that are read by the keys of the sellers and the buyers of rows suffice for the rows
 pub serves_by_keys : (rows : List Row) (whole : Table PositionKey Position) (names : List PositionKey) → All (IsAmong position_key_cmp seller_of names) rows → All (IsAmong position_key_cmp buyer_of names) rows
     → (found part : Table PositionKey Position) → found ≡ flat_map (entry_under position_key_cmp whole) names → part ≡ put_all position_key_cmp found []
     → ServesPositions rows whole part
@@ -64,11 +63,11 @@ serves_by_keys rows whole names sellers buyers found part is became =
       agrees = λ k d below. agrees_by_keys whole part _ (sold k d below) (bought k d below);
     }
 
--- what is in force of these volumes alone
+-- what is registered and in force, with only these volumes
 in_force : Table ContractKey ℤ → Registered
 in_force volumes = record nothing_registered { contracts = volumes }
 
--- a part that has the volume in force under the key of a row agrees on it
+-- a part that has the volume in force under the key of a row agrees on the row
 agrees_by_volume : (whole part : Table ContractKey ℤ) (r : Row) → IfSome (volume_key_of r) (λ k. find contract_key_cmp k part ≡ find contract_key_cmp k whole) → AgreesOn (in_force whole) (in_force part) r
 unfolding in_force
 agrees_by_volume whole part (row.Party r) volume = refl
@@ -78,7 +77,7 @@ agrees_by_volume whole part (row.Price r) volume = refl
 agrees_by_volume whole part (row.Contract r) volume = (refl, refl, refl, volume)
 agrees_by_volume whole part (row.Reallocation r) volume = (refl, refl, refl)
 
--- what the rows make of a part that serves, by a part of the volumes that has theirs, makes of the whole what they make of it
+-- if what was read suffices for rows, the positions that they change, put into the whole table, make of it what the rows make of it
 pub moved_in_whole : (rows : List Row) (whole_volumes volumes : Table ContractKey ℤ) (whole part moved : Table PositionKey Position) → T (is_sorted position_key_cmp whole)
     → FindsNamed contract_key_cmp volume_key_of rows whole_volumes volumes → ServesPositions rows whole part → moved ≡ positions_with rows volumes part
     → put_all position_key_cmp moved whole ≡ positions_with rows whole_volumes whole
@@ -88,9 +87,9 @@ moved_in_whole rows whole_volumes volumes whole part moved rises finds serves is
     ∙ parts_serve rows volumes whole part (true_from _ rises) serves.rising serves.inside serves.agrees
     ∙ parts_give_positions rows (in_force whole_volumes) (in_force volumes) whole (λ k d below. agrees_by_volume whole_volumes volumes _ (finds k d below))
 
--- ---- the keys that are selected by
+-- ---- the keys by which positions are read
 
--- a key that is put into a set leaves those that it had, and is there
+-- if a key is added to a set, the set has it and all keys that it had
 pub has_both : (r : ContractRow) (old mid new : BTreeSet PositionKey) (seller buyer : PositionKey) → seller ≡ position_key r r.contract.counterparties.seller → buyer ≡ position_key r r.contract.counterparties.buyer
     → Updates position_key_cmp old mid seller true → Updates position_key_cmp mid new buyer true → HasBoth r old new
 has_both r old mid new seller buyer sells buys first last =
@@ -102,7 +101,7 @@ has_both r old mid new seller buyer sells buys first last =
     }
 
 module _ (rows : List Row) (i : ℕ) (r : Row) (inside : i < length rows) (is : r ≡ get_or rows i r) (old new : BTreeSet PositionKey) where
-  -- the keys of a contract row more
+  -- the keys of one more contract row
   pub sellers_more : (c : ContractRow) → r ≡ row.Contract c → HasBoth c old new → All (IsAmong position_key_cmp seller_of old.keys) (take i rows) → All (IsAmong position_key_cmp seller_of new.keys) (take (i + 1) rows)
   sellers_more c one has so_far =
       among_more position_key_cmp seller_of rows i r inside is old new so_far has.kept
@@ -113,7 +112,7 @@ module _ (rows : List Row) (i : ℕ) (r : Row) (inside : i < length rows) (is : 
       among_more position_key_cmp buyer_of rows i r inside is old new so_far has.kept
       (names_this position_key_cmp buyer_of r (position_key c c.contract.counterparties.buyer) new.keys (ap buyer_of one) has.buyer)
 
--- another row names none
+-- a row of another kind names none
 none_more : (name : Row → Option PositionKey) (rows : List Row) (i : ℕ) (r : Row) → i < length rows → r ≡ get_or rows i r → (keys : BTreeSet PositionKey) → name r ≡ None
     → All (IsAmong position_key_cmp name keys.keys) (take i rows) → All (IsAmong position_key_cmp name keys.keys) (take (i + 1) rows)
 none_more name rows i r inside is keys none so_far =
@@ -136,14 +135,14 @@ no_buyer (row.Price r) other = refl
 no_buyer (row.Reallocation r) other = refl
 
 module _ (rows : List Row) (i : ℕ) (r : Row) (inside : i < length rows) (is : r ≡ get_or rows i r) (old new : BTreeSet PositionKey) (same : new ≡ old) (other : (c : ContractRow) → r ≡ row.Contract c → ⊥) where
-  -- no key more
+  -- no new key
   pub no_seller_more : All (IsAmong position_key_cmp seller_of old.keys) (take i rows) → All (IsAmong position_key_cmp seller_of new.keys) (take (i + 1) rows)
   no_seller_more so_far = subst (λ (s : BTreeSet PositionKey). All (IsAmong position_key_cmp seller_of s.keys) (take (i + 1) rows)) (sym same) (none_more seller_of rows i r inside is old (no_seller r other) so_far)
 
   pub no_buyer_more : All (IsAmong position_key_cmp buyer_of old.keys) (take i rows) → All (IsAmong position_key_cmp buyer_of new.keys) (take (i + 1) rows)
   no_buyer_more so_far = subst (λ (s : BTreeSet PositionKey). All (IsAmong position_key_cmp buyer_of s.keys) (take (i + 1) rows)) (sym same) (none_more buyer_of rows i r inside is old (no_buyer r other) so_far)
 
--- what a set names, the list of its keys names
+-- what is in a set is in the list of its keys
 pub among_listed : {V E : Type 0} (items : V → List PositionKey) (name : Row → Option PositionKey) (rows : List Row) (i : ℕ) (keys : List PositionKey) → length rows ≤ i
     → All (IsAmong position_key_cmp name keys) (take i rows) → (result : Result V E) → IfOk result (λ list. items list ≡ keys) → IfOk result (λ list. All (IsAmong position_key_cmp name (items list)) rows)
 among_listed items name rows i keys all among (Ok list) is =

@@ -1,4 +1,4 @@
--- With all parties and units, and with what rows name of the other tables, a part judges the rows as the whole does.
+-- With all parties and units, and with what rows name in the other tables, a part judges the rows as the whole does.
 use Rattle.std.proofs.Common.{◌≡◌, List, ap, length, refl}
 use Rattle.std.specs.FinMap.{find}
 use Rattle.std.specs.Option.{IfSome}

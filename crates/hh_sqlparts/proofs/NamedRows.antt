@@ -1,4 +1,4 @@
--- What is found in rows of a table that were selected by names, one name after the other.
+-- What is found in rows of a table that were read by names, one name after the other.
 use Rattle.std.proofs.Common.{◌≡◌, List, [], ◌∷◌, ◌++◌, Bool, true, false, cond, refl, sym, ap, ◌∙◌, Option, Some, None, Ordering}
 use Rattle.std.specs.Prelude.{◌||◌, is_some, filter, T}
 use Rattle.std.specs.Cmp.{IsTotalOrder, Equal-is, eq_by_cmp_equiv}
@@ -12,7 +12,7 @@ use Rattle.hh_tables.specs.Tables.{Table, put_all}
 use Rattle.hh_tables.proofs.RowLaws.{first, less, second}
 use Rattle.hh_sqlparts.specs.steps.Named.{entry_under, found_entry}
 
--- what holds of lists holds of them joined
+-- what holds for all items of several lists holds for all items of the joined list
 all_flat : {N X : Type 0} (P : X → Type 0) (rows : N → List X) → ((n : N) → All P (rows n)) → (ns : List N) → All P (flat_map rows ns)
 all_flat P rows each [] = All-nil P
 all_flat P rows each (n ∷ ns) = All-append P (rows n) (flat_map rows ns) (each n) (all_flat P rows each ns)
@@ -36,11 +36,11 @@ module _ {K V : Type 0} (R : K → K → Ordering) where
     | false ↦ find_joined k xs ys
   ]
 
-  -- an entry is one of a table
+  -- an entry is in a table
   abbrev pub IsOf : Table K V → K × V → Type 0
   IsOf whole e = find R e.0 whole ≡ Some e.1
 
-  -- Rows that are selected by names: those of a name are the rows of a table under the keys that the name keeps.
+  -- Rows that are read by names. The rows of a name are the rows of a table whose keys the name keeps.
   module _ (whole : Table K V) {N : Type 0} (rows : N → Table K V) (keeps : N → K → Bool) (found : (n : N) (k : K) → find R k (rows n) ≡ cond (keeps n k) (find R k whole) None) where
     find_selected : (k : K) (ns : List N) → find R k (flat_map rows ns) ≡ cond (list_any (λ n. keeps n k) ns) (find R k whole) None
     find_selected k [] = refl
@@ -53,7 +53,7 @@ module _ {K V : Type 0} (R : K → K → Ordering) where
           | false ↦ refl
         ]
 
-    -- under a key that a name keeps they have what the table has
+    -- if a name keeps a key, what they have under the key is what the table has
     pub find_kept_by : (ns : List N) (k : K) → list_any (λ n. keeps n k) ns ≡ true → find R k (flat_map rows ns) ≡ find R k whole
     find_kept_by ns k named = find_selected k ns ∙ ap (λ b. cond b (find R k whole) None) named
 
@@ -66,14 +66,14 @@ module _ {K V : Type 0} (R : K → K → Ordering) where
     tested_kept passes = tested_found ∙ ap (λ b. cond b (find R k whole) None) passes
 
 module _ {K V : Type 0} (R : K → K → Ordering) (o : IsTotalOrder R) where
-  -- entries above one that is put before them are still found
+  -- if an entry is put before others, those after it are still found
   found_above : (e : K × V) (whole es : Table K V) → T (below_all R e.0 es) → AllByRecursion (IsOf R whole) es → AllByRecursion (IsOf R (e ∷ whole)) es
   found_above e whole [] above are = tt
   found_above e whole (x ∷ es) above are =
       let later : R x.0 e.0 ≡ Greater = o.antisymm x.0 e.0 ∙ ap ordering_reverse (less _ (first _ _ above)) in
       (ap (λ r. cond (is_eq r) (Some e.1) (find R x.0 whole)) later ∙ are.0, found_above e whole es (second _ _ above) are.1)
 
-  -- the entries of a table are its own
+  -- the entries of a table are in it
   own_entries : (es : Table K V) → T (is_sorted R es) → AllByRecursion (IsOf R es) es
   own_entries [] rising = tt
   own_entries (e ∷ es) rising = (
@@ -82,7 +82,7 @@ module _ {K V : Type 0} (R : K → K → Ordering) (o : IsTotalOrder R) where
   )
 
   module _ (whole : Table K V) where
-    -- of entries of a table that are put into another, those are found that the table has
+    -- if entries of a table are put into another table, what is found there under their keys is what the first table has
     find-put_all : (es table : Table K V) (k : K) → AllByRecursion (IsOf R whole) es
         → find R k (put_all R es table) ≡ cond (is_some (find R k es)) (find R k whole) (find R k table)
     find-put_all [] table k are = refl
@@ -98,7 +98,7 @@ module _ {K V : Type 0} (R : K → K → Ordering) (o : IsTotalOrder R) where
           | false ↦ λ apart. refl
         ] refl
 
-    -- under a key that a name keeps the table of the rows of names has what the whole has
+    -- if a name keeps a key, the table of the rows of names has under the key what the whole has
     pub find_named : {N : Type 0} (rows : N → Table K V) (keeps : N → K → Bool) → ((n : N) → All (IsOf R whole) (rows n)) → ((n : N) (k : K) → find R k (rows n) ≡ cond (keeps n k) (find R k whole) None)
         → (ns : List N) (k : K) → list_any (λ n. keeps n k) ns ≡ true → find R k (put_all R (flat_map rows ns) []) ≡ find R k whole
     find_named rows keeps are found ns k named =
@@ -137,7 +137,7 @@ module _ {K V : Type 0} (R : K → K → Ordering) (o : IsTotalOrder R) where
       pub tested_are : (test : K × V → Bool) → All (IsOf R whole) (filter test whole)
       tested_are test = All-filter test (IsOf R whole) whole (All-from_recursion (IsOf R whole) whole (own_entries whole rising))
 
-      -- Two tables that have the same under all keys that pass a test have the same rows of them.
+      -- If two tables have the same under all keys that pass a test, they have the same rows with such keys.
       pub same_tested : ((x y : K) → R x y ≡ Equal → x ≡ y) → (test : K → Bool) (es : Table K V) → T (is_sorted R es) → ((k : K) → test k ≡ true → find R k es ≡ find R k whole)
           → filter (λ e. test e.0) es ≡ filter (λ e. test e.0) whole
       same_tested exact test es ordered alike =

@@ -1,4 +1,4 @@
--- Rows that are selected by one name after the other.
+-- Rows that are read by one name after the other.
 use Rattle.std.proofs.Common.{◌≡◌, ℕ, ◌+◌, ◌<◌, List, [], ◌∷◌, ◌++◌, length, take, get_or, sym, ap, ◌∙◌}
 use Rattle.std.specs.List.{flat_map}
 use Rattle.std.proofs.lemmas.List.{flat_map_more, take_more}
@@ -22,7 +22,7 @@ module _ {N E : Type 0} (rows : Database → N → List E) (old mid new : State)
       ++ found_last_of_office old mid new first last (λ db. more ≡ rows db name) found stands office settled j)
       ∙ flat_more old.now
 
--- what one reading finds and what the next finds stand for both
+-- what one reading finds and what the next finds hold for both readings
 pub found_both : (old mid new : State) → SelectsOnly old mid → SelectsOnly mid new → (P Q : Database → Type 0) → OfSettled old mid (P old.now) → OfSettled mid new (Q mid.now)
     → OfSettled old new (P old.now × Q old.now)
 found_both old mid new first last P Q one two stands office settled =

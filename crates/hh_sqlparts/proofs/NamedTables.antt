@@ -1,5 +1,5 @@
--- Tables of rows that names select of a whole one: they have what the whole has under the keys of the rows of a file that the
--- names are of.
+-- Tables of rows that are read by names from a whole table. Under the keys of the rows of a file, from which the names come, they have what
+-- the whole has.
 use Rattle.std.proofs.Common.{◌≡◌, ℕ, List, [], true, cond, refl, sym, ap, subst, ◌∙◌, Option, Some, None, Ordering}
 use Rattle.std.specs.Prelude.{ℤ, option_map, T}
 use Rattle.std.specs.BTreeMap.{is_at}
@@ -32,11 +32,11 @@ use Rattle.hh_sqlparts.specs.declared.named_names.UnitDay.{UnitDay}
 use Rattle.hh_sqlparts.specs.steps.Named.{FindsNamed, HasReallocated, IsAmong, date_of, entry_under, price_key_of, prices_of, reading_key_of, readings_of, reallocated_at, reallocated_of, reallocations_of, reference_of, unit_day, unit_day_of, unit_of, volume_key_of}
 use Rattle.hh_sqlparts.proofs.NamedRows.{IsOf, entry_found, entry_is, find_named, same_tested, tested_are, tested_found}
 
--- the unit decides, then the date
+-- order by unit, then by date
 abbrev pub unit_day_cmp : UnitDay → UnitDay → Ordering
 unit_day_cmp = then_cmp (on (λ n. n.unit) bytes_cmp) (on (λ n. n.date) nat_cmp)
 
--- what follows of a row's key, by the name of that
+-- what follows from a row's key, given the name of that key
 by_name : {K N : Type 0} (name : K → N) (P : N → Type 0) (Q : K → Type 0) → ((k : K) → P (name k) → Q k) → (o : Option K) → IfSome (option_map name o) P → IfSome o Q
 by_name name P Q follows None h = h
 by_name name P Q follows (Some k) h = follows k h
@@ -54,16 +54,16 @@ pub reallocation_found : (whole : Table ReallocationKey Reallocation) (unit : Li
     → find reallocation_key_cmp k (reallocations_of whole unit) ≡ cond (is_eq (bytes_cmp k.unit_period.unit unit)) (find reallocation_key_cmp k whole) None
 reallocation_found whole unit = tested_found reallocation_key_cmp exact_reallocation_keys whole (λ k. is_eq (bytes_cmp k.unit_period.unit unit))
 
--- Two tables that have the same under the keys of a unit in a Settlement Period have the same reallocations of it.
+-- If two tables have the same under the keys of a unit in a Settlement Period, they have the same reallocations of it.
 pub same_reallocated : (whole part : Table ReallocationKey Reallocation) → T (is_sorted reallocation_key_cmp whole) → T (is_sorted reallocation_key_cmp part) → (at : UnitPeriod)
     → ((k : ReallocationKey) → k.unit_period ≡ at → find reallocation_key_cmp k part ≡ find reallocation_key_cmp k whole) → reallocated_at at part ≡ reallocated_at at whole
 same_reallocated whole part rising ordered at alike =
     same_tested reallocation_key_cmp reallocation_key_total whole rising exact_reallocation_keys (λ k. eq_by_cmp unit_period_cmp k.unit_period at) part ordered
     (λ k here. alike k (exact_unit_periods k.unit_period at ((Equal-is (unit_period_cmp k.unit_period at)).0 here)))
 
--- ---- tables of what is selected by the names of rows
+-- ---- tables that are read by the names of rows
 
--- with the rows of the names of rows a table has what the whole has under the keys of the rows
+-- with the rows that the names of rows select, a table has what the whole has under the keys of the rows
 module _ {K V N : Type 0} (R : K → K → Ordering) (o : IsTotalOrder R) (whole : Table K V) (C : N → N → Ordering) (name : K → N) (selects : N → Table K V)
     (are : (n : N) → All (IsOf R whole) (selects n)) (finds : (n : N) (k : K) → find R k (selects n) ≡ cond (is_eq (C (name k) n)) (find R k whole) None) where
   finds_by_names : (names : List N) (k : K) → list_any (is_at (C (name k))) names ≡ true → find R k (put_all R (flat_map selects names) []) ≡ find R k whole

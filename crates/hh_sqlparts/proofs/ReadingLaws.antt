@@ -1,4 +1,4 @@
--- One reading of an office after the other: they leave together what each leaves, and what one finds stands for both.
+-- One reading of an office after the other: what both leave together, and what holds for both if one of them finds it.
 use Rattle.std.proofs.Common.{◌≡◌, ◌∙◌, ◌⊎◌, inl, inr, IsTrue, sym, subst}
 use Rattle.sqlite.specs.Effect.{Database}
 use Rattle.sqlite.specs.State.{HasCleanDisk, State}
@@ -15,7 +15,7 @@ or_never : {A : Type 0} → A ⊎ ⊥ → A
 or_never (inl a) = a
 or_never (inr none) = absurd none
 
--- one more statement that was answered, after readings that were
+-- one more statement that was answered, after readings that were answered
 pub safely_more : (old mid new : State) → SelectsOnly old mid → HaveReadSafely old mid → (HasCleanDisk new → IsTrue new.is_open) → IsHonest mid new → CommitsNothingOf mid new → HaveReadSafely old new
 safely_more old mid new reading first opened honest nothing = record {
   honest = λ clean. first.honest (honest clean);
@@ -28,7 +28,7 @@ safely_more old mid new reading first opened honest nothing = record {
 
 module _ (old mid new : State) (first : SelectsOnly old mid) (last : SelectsOnly mid new) where
   module _ (stands : IsTrue new.is_open) (is : IsOffice old.now) (settled : old.now ≡ old.committed) where
-    -- what stands between the two is what stood before
+    -- what the database is between the two is what it was before
     pub between : (mid.now ≡ old.now) × (mid.committed ≡ old.committed)
     between = first.left (last.stood stands) is settled
 
@@ -47,16 +47,16 @@ module _ (old mid new : State) (first : SelectsOnly old mid) (last : SelectsOnly
         (kept.0 ∙ here.0, kept.1 ∙ here.1);
   }
 
-  -- what the first finds stands for both
+  -- what the first finds holds for both
   pub found_first : (P : Type 0) → OfSettled old mid P → OfSettled old new P
   found_first P found stands is settled = found (last.stood stands) is settled
 
-  -- what the last finds in the database is found in the one before the first
+  -- what the last finds in the database was in the database before the first
   pub found_last : (P : Database → Type 0) → OfSettled mid new (P mid.now) → OfSettled old new (P old.now)
   found_last P found stands is settled =
       subst P (between stands is settled).0 (found stands (is_office_between stands is settled) (settled_between stands is settled))
 
-  -- so is what it finds whether or not all was committed
+  -- the same for what it finds even if not everything was committed
   pub found_last_of_office : (P : Database → Type 0) → OfOffice mid new (P mid.now) → OfSettled old new (P old.now)
   found_last_of_office P found stands is settled =
       subst P (between stands is settled).0 (found stands (is_office_between stands is settled))

@@ -1,4 +1,4 @@
--- What is to be kept beside an office's tables in which nothing of it is kept yet.
+-- What must be kept beside an office's tables if nothing is kept beside them yet.
 use Rattle.std.specs.Prelude.{◌≡◌, []}
 use Rattle.sqlite_trees.specs.Tree.{Trees}
 use Rattle.hh_beside.specs.Keeping.{periods_of_runs, positions_by}
@@ -12,8 +12,8 @@ pub record HasNothingBeside (trees : Trees) : Type 0 where
   pub positions : rows_under_keys positions trees ≡ []
   pub touched : touched_periods trees ≡ []
 
--- Nothing is kept beside the tables, and this is to be: the positions by all contracts in force, and each Settlement Period of
--- each run.
+-- Nothing is kept beside the tables, and `found` must be: the positions from all contracts in force, and each Settlement Period of each
+-- run.
 pub record IsBesideAnew (trees : Trees) (found : BesideAnew) : Type 0 where
   pub nothing : HasNothingBeside trees
   pub positions : found.positions.items ≡ positions_by (registered_of trees)

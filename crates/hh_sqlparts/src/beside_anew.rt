@@ -1,4 +1,4 @@
-//! What is to be kept beside an office's tables in which nothing of it is kept yet.
+//! What must be kept beside an office's tables if nothing is kept beside them yet.
 
 ghost use Rattle.std.specs.Prelude.{◌≡◌, ◌++◌, [], false, filter_map, IfOk, OnOk};
 ghost use Rattle.sqlite.specs.Held.{state};
@@ -27,7 +27,7 @@ use hh_time::SettlementDate;
 use sqlite::{Alter, Connection};
 use std::alloc::{AllocError, Global};
 
-/// What is to be kept beside an office's tables.
+/// What must be kept beside an office's tables.
 #[derive(Drop)]
 pub struct BesideAnew {
     /// The positions of accounts, in the order of their keys.
@@ -36,10 +36,10 @@ pub struct BesideAnew {
     pub touched: Vec<SettlementPeriod>,
 }
 
-/// What is to be kept beside an office's tables in which nothing of it is kept yet: the positions by all
-/// contracts in force, and each Settlement Period of each run. `Memory` where memory is refused, `Store`
-/// where something is kept beside them already, and where the database refuses or holds what no office
-/// wrote; either leaves the office as it was.
+/// What must be kept beside an office's tables if nothing is kept beside them yet: the positions from all
+/// contracts in force, and each Settlement Period of each run. `Memory`: memory is refused. `Store`:
+/// something is kept beside the tables already, or the database refuses, or it contains what no office
+/// wrote. After either fault the office is as it was.
 pub fn select_beside_anew<S: Alter>(
     conn: &mut Connection<S>,
     alloc: Global,
@@ -61,7 +61,7 @@ pub fn select_beside_anew<S: Alter>(
     Ok(BesideAnew { positions, touched })
 }
 
-/// `Store` where something is kept beside the tables.
+/// `Store` if something is kept beside the tables.
 fn select_nothing_beside<S: Alter>(conn: &mut Connection<S>, alloc: Global) -> Result<(), RowFault>
     ensures value { let old = state S.Store conn.old in
         let new = state S.Store conn.new in
@@ -78,7 +78,7 @@ fn select_nothing_beside<S: Alter>(conn: &mut Connection<S>, alloc: Global) -> R
     none_of(select_touched(conn, alloc)?)
 }
 
-/// `Store` where there is a row.
+/// `Store` if there is a row.
 fn none_of<T: Drop>(rows: Vec<T>) -> Result<(), RowFault>
     ensures { OnOk result (rows.items ≡ []) }
 {
@@ -89,7 +89,7 @@ fn none_of<T: Drop>(rows: Vec<T>) -> Result<(), RowFault>
     }
 }
 
-/// The positions by all contracts in force.
+/// The positions from all contracts in force.
 fn select_positions_anew<S: Alter>(
     conn: &mut Connection<S>,
     alloc: Global,
@@ -110,7 +110,7 @@ fn select_positions_anew<S: Alter>(
     Ok(positions_by(alloc, &tables)?)
 }
 
-/// The positions by all contracts in force of these tables.
+/// The positions from all contracts in force in these tables.
 fn positions_by(
     alloc: Global,
     tables: &KeptRegister,
@@ -121,7 +121,8 @@ fn positions_by(
     positions_of(alloc, &rows)?.rows(alloc)
 }
 
-/// All contracts in force with the sellers and buyers of all references. Nothing else is in the register.
+/// All contracts in force with the sellers and buyers of all references. The register contains nothing
+/// else.
 fn select_all_contracts<S: Alter>(
     conn: &mut Connection<S>,
     alloc: Global,
@@ -159,7 +160,7 @@ fn rows_in_force(alloc: Global, tables: &KeptRegister) -> Result<Vec<ContractRow
     Ok(rows)
 }
 
-/// The row of a contract in force; none where its reference has no seller and buyer.
+/// The row of a contract in force. It is `None` if its reference has no seller and buyer.
 fn row_in_force(tables: &KeptRegister, key: ContractKey, volume: Kwh) -> Option<ContractRow>
     ensures { result ≡ row_in_force tables.now (key, volume) }
 {
@@ -171,7 +172,7 @@ fn row_in_force(tables: &KeptRegister, key: ContractKey, volume: Kwh) -> Option<
     Some(ContractRow { key, contract })
 }
 
-/// The positions by these contracts, one after the other.
+/// The positions from these contracts, one after the other.
 fn positions_of(alloc: Global, rows: &[ContractRow]) -> Result<Positions, AllocError>
     ensures { IfOk result (λ positions. positions ≡ positions_of rows.now []) }
 {
@@ -205,7 +206,7 @@ fn select_periods_of_runs<S: Alter>(
     }
 }
 
-/// The Settlement Periods of these runs. `Store` where a run has more than any date has.
+/// The Settlement Periods of these runs. `Store` if a run has more than any date has.
 fn periods_of_runs(
     alloc: Global,
     made: &[(RunKey, Summary)],
@@ -219,7 +220,7 @@ fn periods_of_runs(
     Ok(periods)
 }
 
-/// Adds so many Settlement Periods of a date, from the first on. `Store` where no date has as many.
+/// Adds the first `count` Settlement Periods of a date. `Store` if no date has as many.
 fn push_periods(
     periods: &mut Vec<SettlementPeriod>,
     date: SettlementDate,

@@ -1,4 +1,4 @@
-//! The positions that rows of a load move.
+//! The positions that rows of a load change.
 
 ghost use Rattle.std.specs.Prelude.{◌≡◌, false, IfOk, OnOk};
 ghost use Rattle.std.specs.FinMap.{put};
@@ -21,8 +21,8 @@ use hh_tables::TreeTable;
 use sqlite::{Alter, Connection};
 use std::alloc::{AllocError, Global};
 
-/// The positions that rows of contracts move, as they are once these rows come one after the other.
-/// Rows of other kinds move none.
+/// The positions that contract rows change, as they are after these rows, taken one after the other. Rows
+/// of other kinds change none.
 pub fn select_positions_after<S: Alter>(
     conn: &mut Connection<S>,
     alloc: Global,
@@ -44,8 +44,7 @@ pub fn select_positions_after<S: Alter>(
     Ok(positions.rows(alloc)?)
 }
 
-/// Moves positions by rows that come one after the other, where these volumes are in force before
-/// them.
+/// Changes positions by rows that come one after the other. `volumes` are in force before them.
 fn move_by_rows(
     rows: &[Row],
     volumes: &mut TreeTable<ContractKey, Kwh>,
@@ -61,7 +60,7 @@ fn move_by_rows(
     Ok(())
 }
 
-/// Moves the positions of a contract row's seller and buyer. The row's volume is then in force.
+/// Changes the positions of a contract row's seller and buyer. The row's volume is in force afterwards.
 fn move_by_row(
     row: &ContractRow,
     volumes: &mut TreeTable<ContractKey, Kwh>,
@@ -77,7 +76,7 @@ fn move_by_row(
     volumes.put(row.key, row.contract.volume)
 }
 
-/// The contract row that this one takes the place of, by the volume in force under its key.
+/// The contract row that this row replaces, given the volume in force under its key.
 fn replaced_by(row: &ContractRow, volumes: &TreeTable<ContractKey, Kwh>) -> Option<ContractRow>
     ensures { result ≡ replaced_by row.now volumes.now }
 {

@@ -28,8 +28,8 @@ use hh_time::SettlementDate;
 use sqlite::{Alter, Connection};
 use std::alloc::{AllocError, Global};
 
-/// What is kept beside the rows of a date: its latest run with the rows of that, its touched
-/// Settlement Periods, and its positions.
+/// What is kept beside the rows of a date: its latest run with that run's rows, its touched Settlement
+/// Periods, and its positions.
 pub fn select_day_beside<S: Alter>(
     conn: &mut Connection<S>,
     alloc: Global,
@@ -75,7 +75,7 @@ fn latest_on<S: Alter>(
     Ok(runs.last().copied())
 }
 
-/// The rows of the accounts in a run. Without a run there are none.
+/// The rows of the accounts in a run. If there is no run, there are none.
 fn results_of_latest<S: Alter>(
     conn: &mut Connection<S>,
     alloc: Global,
@@ -99,7 +99,7 @@ fn results_of_latest<S: Alter>(
     }
 }
 
-/// Rows of accounts under their keys.
+/// Rows of accounts with their keys.
 fn account_rows(
     alloc: Global,
     amounts: &[(ResultKey, AccountAmounts)],
@@ -112,7 +112,7 @@ fn account_rows(
         .collect(alloc)
 }
 
-/// The credits of a run. Without a run there are none.
+/// The credits of a run. If there is no run, there are none.
 fn credits_of_latest<S: Alter>(
     conn: &mut Connection<S>,
     alloc: Global,

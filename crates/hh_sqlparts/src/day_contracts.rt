@@ -21,8 +21,8 @@ use hh_time::SettlementDate;
 use sqlite::{Alter, Connection};
 use std::alloc::{AllocError, Global};
 
-/// The contracts of a date, with the sellers and buyers of their references. Nothing else is in the
-/// register.
+/// The contracts of a date, with the sellers and buyers of their references. The register contains nothing
+/// else.
 pub fn select_contracts_of_day<S: Alter>(
     conn: &mut Connection<S>,
     alloc: Global,
@@ -41,7 +41,7 @@ pub fn select_contracts_of_day<S: Alter>(
     Ok(part)
 }
 
-/// Puts the contracts of a date into a part, with the sellers and buyers of their references.
+/// Adds the contracts of a date to a part, with the sellers and buyers of their references.
 pub(crate) fn select_contracts<S: Alter>(
     conn: &mut Connection<S>,
     alloc: Global,
@@ -82,7 +82,7 @@ fn volumes_on<S: Alter>(
     }
 }
 
-/// The references of contracts. One that neighbours share stands once.
+/// The references of contracts. If neighbours have the same reference, it is listed once.
 fn references_in(
     alloc: Global,
     contracts: &[(ContractKey, Kwh)],

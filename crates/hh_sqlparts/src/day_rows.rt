@@ -1,4 +1,4 @@
-//! What a Settlement Day is settled from.
+//! Everything from which a Settlement Day is settled.
 
 ghost use Rattle.std.specs.Prelude.{◌≡◌, false, IfOk, OnOk};
 ghost use Rattle.sqlite.specs.Held.{state};
@@ -20,9 +20,9 @@ use hh_time::SettlementDate;
 use sqlite::{Alter, Connection};
 use std::alloc::Global;
 
-/// What a Settlement Day is settled from: all parties and units, and of the date the prices, the
-/// contracts with the sellers and buyers of their references, and the readings and reallocations of
-/// the units that are effective on it.
+/// Everything from which a Settlement Day is settled: all parties and units; the prices of the date; its
+/// contracts with the sellers and buyers of their references; and the readings and reallocations of the
+/// units that are effective on it.
 pub fn select_day<S: Alter>(
     conn: &mut Connection<S>,
     alloc: Global,
@@ -43,7 +43,7 @@ pub fn select_day<S: Alter>(
     Ok(part)
 }
 
-/// Puts all parties and units and the prices of a date into a part.
+/// Adds all parties and units, and the prices of a date, to a part.
 fn select_registered<S: Alter>(
     conn: &mut Connection<S>,
     alloc: Global,
@@ -64,8 +64,7 @@ fn select_registered<S: Alter>(
     Ok(())
 }
 
-/// Puts into a part the readings of a date and the reallocations of those of its units that are
-/// effective on it.
+/// Adds to a part the readings of a date and the reallocations, of the units that are effective on it.
 fn select_of_units<S: Alter>(
     conn: &mut Connection<S>,
     alloc: Global,

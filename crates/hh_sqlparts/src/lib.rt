@@ -1,5 +1,5 @@
-//! What is selected of what is registered and in force: the part that a Settlement Day is settled
-//! from, and the part that rows of a file are judged by.
+//! Reading a part of what is registered and in force: the part from which a Settlement Day is settled, and
+//! the part by which the rows of a file are judged.
 #![tactic(auto)]
 
 mod beside_anew;

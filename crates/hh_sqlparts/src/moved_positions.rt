@@ -1,4 +1,4 @@
-//! The volumes and the positions that rows of contracts change, as they stand before these rows.
+//! The volumes and the positions that contract rows change, as they are before these rows.
 
 ghost use Rattle.std.specs.Prelude.{◌≡◌, [], false, All, IfOk, OnOk};
 ghost use Rattle.hh_tables.specs.Tables.{put_all};
@@ -23,7 +23,7 @@ use sqlite::{Alter, Connection};
 use std::alloc::{AllocError, Global};
 use std::collections::BTreeSet;
 
-/// The volumes in force under the keys of rows of contracts.
+/// The volumes in force under the keys of contract rows.
 pub(crate) fn select_volumes_named<S: Alter>(
     conn: &mut Connection<S>,
     alloc: Global,
@@ -42,7 +42,7 @@ pub(crate) fn select_volumes_named<S: Alter>(
     Ok(volumes_of(alloc, &found)?)
 }
 
-/// The positions of the sellers and the buyers of rows of contracts.
+/// The positions of the sellers and the buyers of contract rows.
 pub(crate) fn select_positions_named<S: Alter>(
     conn: &mut Connection<S>,
     alloc: Global,
@@ -61,7 +61,7 @@ pub(crate) fn select_positions_named<S: Alter>(
     Ok(positions_of(alloc, &found)?)
 }
 
-/// The keys of the positions of the sellers and the buyers of rows of contracts, each once.
+/// The keys of the positions of the sellers and the buyers of contract rows, each once.
 fn position_keys_in(alloc: Global, rows: &[Row]) -> Result<Vec<PositionKey>, AllocError>
     ensures sellers { IfOk result (λ keys.
         All (IsAmong position_key_cmp seller_of keys.items) rows.now) }
@@ -77,7 +77,7 @@ fn position_keys_in(alloc: Global, rows: &[Row]) -> Result<Vec<PositionKey>, All
     names_of(alloc, keys)
 }
 
-/// Puts the keys of the positions of a contract row's seller and buyer into a set.
+/// Adds the keys of the positions of a contract row's seller and buyer to a set.
 fn insert_both(keys: &mut BTreeSet<PositionKey>, row: &ContractRow) -> Result<(), AllocError>
     ensures { OnOk result (HasBoth row.now keys.old keys.new) }
 {
@@ -87,7 +87,7 @@ fn insert_both(keys: &mut BTreeSet<PositionKey>, row: &ContractRow) -> Result<()
     Ok(())
 }
 
-/// Where the position of an account that a contract row names stands.
+/// The key of the position of an account that a contract row names.
 fn key_of(row: &ContractRow, account: Account) -> PositionKey
     ensures { result ≡ position_key row.now account }
 {

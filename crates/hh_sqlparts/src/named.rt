@@ -1,4 +1,4 @@
-//! The part of what is registered and in force that rows are judged by.
+//! The part of what is registered and in force by which rows are judged.
 
 ghost use Rattle.std.specs.Prelude.{◌≡◌, false, IfOk};
 ghost use Rattle.sqlite.specs.Held.{state};
@@ -17,9 +17,9 @@ use hh_rows::Row;
 use sqlite::{Alter, Connection};
 use std::alloc::Global;
 
-/// The part of what is registered and in force that judges these rows as all of it would: all parties
-/// and units, and of the other tables what the rows name. `Memory` where memory is refused, `Store`
-/// where the database refuses or holds what no office wrote; either leaves the office as it was.
+/// The part of what is registered and in force that judges these rows as all of it would: all parties and
+/// units, and what the rows name in the other tables. `Memory`: memory is refused. `Store`: the database
+/// refuses, or contains what no office wrote. After either fault the office is as it was.
 pub fn select_named<S: Alter>(
     conn: &mut Connection<S>,
     alloc: Global,

@@ -1,4 +1,4 @@
-//! The rows of the tables that names select.
+//! The rows of the tables that are selected by names.
 
 ghost use Rattle.std.specs.Prelude.{◌≡◌, false, IfOk};
 ghost use Rattle.std.specs.List.{flat_map};
@@ -48,7 +48,7 @@ pub(crate) fn references_under<S: Alter>(
     Ok(found)
 }
 
-/// The volumes of the contracts under keys.
+/// The volumes of the contracts with these keys.
 pub(crate) fn contracts_under<S: Alter>(
     conn: &mut Connection<S>,
     alloc: Global,
@@ -72,7 +72,7 @@ pub(crate) fn contracts_under<S: Alter>(
     Ok(found)
 }
 
-/// The positions under keys.
+/// The positions with these keys.
 pub(crate) fn positions_under<S: Alter>(
     conn: &mut Connection<S>,
     alloc: Global,

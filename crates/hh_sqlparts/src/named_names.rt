@@ -1,4 +1,4 @@
-//! What rows name, by which rows of the tables are selected.
+//! What rows name, and by which the rows of the tables are selected.
 
 ghost use Rattle.std.specs.Prelude.{◌≡◌, All, IfOk, Option};
 ghost use Rattle.hh_rows.specs.declared.rows.Row.{Row};
@@ -17,17 +17,17 @@ pub struct UnitDay {
     pub date: SettlementDate,
 }
 
-/// What a row can name.
+/// Something that a row can name.
 pub(crate) trait Name: Ord + Copy {
-    /// What a row names, if it does.
+    /// What a row names, if it names anything of this kind.
     ghost name_of: { Row → Option Self };
 
-    /// What a row names, if it does.
+    /// What a row names, if it names anything of this kind.
     fn of_row(row: &Row) -> Option<Self>
         ensures { result ≡ name_of row.now };
 }
 
-/// The reference of a row of a contract.
+/// The reference of a contract row.
 impl Name for Reference {
     ghost name_of = { reference_of };
 
@@ -39,7 +39,7 @@ impl Name for Reference {
     }
 }
 
-/// The key of a row of a contract.
+/// The key of a contract row.
 impl Name for ContractKey {
     ghost name_of = { volume_key_of };
 

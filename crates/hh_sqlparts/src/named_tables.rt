@@ -1,4 +1,4 @@
-//! Of each table what rows are judged by.
+//! What rows are judged by, table by table.
 
 ghost use Rattle.std.specs.Prelude.{◌≡◌, false, IfOk};
 ghost use Rattle.hh_names.specs.Accounts.{bytes_cmp};
@@ -21,7 +21,7 @@ use hh_tables::ListTable;
 use sqlite::{Alter, Connection};
 use std::alloc::Global;
 
-/// The sellers and the buyers of the references of rows of contracts.
+/// The sellers and the buyers of the references of contract rows.
 pub(crate) fn select_references_named<S: Alter>(
     conn: &mut Connection<S>,
     alloc: Global,
@@ -40,7 +40,7 @@ pub(crate) fn select_references_named<S: Alter>(
     Ok(ListTable::new(alloc).with_rows(alloc, found)?)
 }
 
-/// The volumes in force under the keys of rows of contracts.
+/// The volumes in force under the keys of contract rows.
 pub(crate) fn select_contracts_named<S: Alter>(
     conn: &mut Connection<S>,
     alloc: Global,
@@ -59,7 +59,7 @@ pub(crate) fn select_contracts_named<S: Alter>(
     Ok(ListTable::new(alloc).with_rows(alloc, found)?)
 }
 
-/// The readings of the units of rows of readings, on the dates of these.
+/// The readings of the units of meter rows, on the dates of these rows.
 pub(crate) fn select_meters_named<S: Alter>(
     conn: &mut Connection<S>,
     alloc: Global,
@@ -78,7 +78,7 @@ pub(crate) fn select_meters_named<S: Alter>(
     Ok(ListTable::new(alloc).with_rows(alloc, found)?)
 }
 
-/// The prices of the dates of rows of prices.
+/// The prices of the dates of price rows.
 pub(crate) fn select_prices_named<S: Alter>(
     conn: &mut Connection<S>,
     alloc: Global,
@@ -97,7 +97,7 @@ pub(crate) fn select_prices_named<S: Alter>(
     Ok(ListTable::new(alloc).with_rows(alloc, found)?)
 }
 
-/// The reallocations of the units of rows of reallocations.
+/// The reallocations of the units of reallocation rows.
 pub(crate) fn select_reallocations_named<S: Alter>(
     conn: &mut Connection<S>,
     alloc: Global,

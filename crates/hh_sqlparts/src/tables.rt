@@ -16,7 +16,7 @@ use hh_tables::ListTable;
 use sqlite::{Alter, Connection};
 use std::alloc::Global;
 
-/// The table of these rows, handed on without a copy. `Store` where their keys don't rise.
+/// The table of these rows, without a copy. `Store` if their keys don't rise.
 pub(crate) fn table_of<K: Ord + Copy, V: Drop>(
     rows: Vec<(K, V)>,
 ) -> Result<ListTable<K, V>, RowFault>

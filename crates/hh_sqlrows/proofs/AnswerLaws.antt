@@ -37,7 +37,7 @@ module _ (sql : List _) (params : Row) (old new : State) where
   read_result key value rows (Ok found) h read = (rows, h, read)
   read_result key value rows (Err e) h read = tt
 
--- what answers, whatever it answers, of a connection that is open
+-- a connection that is open, whatever was answered
 pub open_result : {X E : Type 0} (new : State) (r : Result X E) → IsTrue new.is_open → OnOk r (IsTrue new.is_open)
 open_result new (Ok x) stands = stands
 open_result new (Err e) stands = tt
@@ -46,20 +46,20 @@ pub left_by : (old new : State) → IsUnchanged old new ⊎ IsRolledBack old new
 left_by old new (inl same) stands settled = (same.0.now_is, same.0.committed_is)
 left_by old new (inr back) stands settled = let u = back.undone stands in (u.0 ∙ sym settled, u.1)
 
--- rows that a taker was given until it stopped for a fault, which is told on
+-- rows that were given to a taker until it stopped for a fault, which is passed on
 module _ {R : Type 0} (Has : List R → Type 0) (Stopped : OutputFault → List R → Type 0) (AreAll AreSome : List R → Type 0) where
   pub gives_stopped : {A : Type 0} (r : Result A OutputFault) (fault : OutputFault) → IsErrAnd r (λ e. e ≡ fault) → (taken : List R) → Stopped fault taken → AreSome taken
       → GivesSo Has Stopped AreAll AreSome r
   gives_stopped (Ok x) fault is taken stopped some = absurd is
   gives_stopped (Err e) fault is taken stopped some = (taken, subst (λ f. Stopped f taken) (sym is) stopped, some)
 
-  -- it stopped behind a row or before it
+  -- it stopped after a row or before it
   pub gives_stopped_at : {A : Type 0} (r : Result A OutputFault) (fault : OutputFault) → IsErrAnd r (λ e. e ≡ fault) → (taken : List R) (row : R)
       → Stopped fault taken ⊎ Stopped fault (taken ++ row ∷ []) → AreSome taken → AreSome (taken ++ row ∷ []) → GivesSo Has Stopped AreAll AreSome r
   gives_stopped_at r fault is taken row (inl before) some more = gives_stopped r fault is taken before some
   gives_stopped_at r fault is taken row (inr behind) some more = gives_stopped r fault is (taken ++ row ∷ []) behind more
 
--- a row is not taken, and what went out is told with it
+-- a row is not taken, and what was written is told with it
 pub takes_stopped : {R A : Type 0} (Has : List R → Type 0) (Stopped : OutputFault → List R → Type 0) (rows : List R) (row : R) (r : Result A OutputFault) (fault : OutputFault)
     → IsErrAnd r (λ e. e ≡ fault) → Stopped fault (rows ++ row ∷ []) → TakesRow Has Stopped rows row r
 takes_stopped Has Stopped rows row (Ok x) fault is stopped = absurd is

@@ -65,7 +65,7 @@ unit_period_ordered a b = both_ordered unit_column settlement_period_columns byt
 pub contract_key_ordered : IsOrdered contract_key_columns contract_key_cmp
 contract_key_ordered a b = both_ordered reference_column settlement_period_columns bytes_cmp settlement_period_cmp (word_codec _ _ _) text_ordered settlement_period_ordered (a.reference, a.at) (b.reference, b.at)
 
--- the columns of the key of a reallocation in the order in which keys compare: unit, date, period, party, side
+-- the columns of the key of a reallocation, in the order by which keys compare: unit, date, period, party, side
 abbrev pub reallocation_order : Codec ReallocationKey
 reallocation_order = via (λ p. record { unit_period = p.0; account = p.1 }) (λ k. (k.unit_period, k.account)) (both unit_period_columns account_columns)
 

@@ -1,4 +1,4 @@
--- What a statement makes of an office that takes rows out of one table, for a table of any form.
+-- What a statement that removes rows from one table makes of an office, for a table of any form.
 use Rattle.std.proofs.Common.{◌≡◌, ◌≢◌, ℕ, ℤ, List, [], ◌∷◌, map, filter, cond, slice_get, Bool, true, false, not, ◌&&◌, ◌||◌, Option, Some, None, Ok, Err, Result, OnOk, Ordering, Equal, is_eq, inl, inr, refl, sym, ap, subst, ◌∙◌}
 use Rattle.std.specs.Prelude.{filter_map}
 use Rattle.std.specs.List.{AllByRecursion, cons_option, flat_map, list_all, list_any}
@@ -57,7 +57,7 @@ use Rattle.hh_sqlrows.proofs.WhereLaws.{same_test}
 
 -- ---- what the statement makes of the trees
 
--- the rows that the query picks are taken out, and each other table is as it was
+-- the rows that the query selects are removed, and each other table is as it was
 pub record TakesRows (schema : Schema) (table : Table) (q : Program) (params : Row) (old new : Trees) : Type 0 where
   pub picked : List Row
   pub answers : Answers (record { schema = schema; trees = old }) q params picked
@@ -107,7 +107,7 @@ module _ (schema : Schema) (at : ℕ) (table : Table) (listed : slice_get schema
 
 -- ---- the rows that are left
 
--- two tests that agree on the items of a list leave the same of them
+-- two tests that agree on the items of a list keep the same items
 filter_same : {X : Type 0} (p q : X → Bool) (xs : List X) → ((x : X) → Has xs x → p x ≡ q x) → filter p xs ≡ filter q xs
 filter_same p q [] same = refl
 filter_same p q (x ∷ xs) same =
@@ -124,7 +124,7 @@ filter_twice p q (x ∷ xs) = go (q x) (filter_twice p q xs)
     go true more = ap (λ ys. cond (p x) (x ∷ ys) ys) more
     go false more = more
 
--- rows without those of some rowids
+-- rows without those that have some rowids
 lost_rows : (ids : List ℤ) (rows : List Row) → without_all rows ids ≡ filter (λ r. not (list_any (λ id. has_rowid id r) ids)) rows
 lost_rows [] rows = all_kept rows
   where
@@ -171,7 +171,7 @@ module _ {K V : Type 0} (R : K → K → Ordering) (total : IsTotalOrder R) (exa
       same_entries R total exact _ _ (is_sorted-in_key_order total (filter (λ e. p e.0) es)) (sorted-filter R (λ e. p e.0) (in_key_order R es) (is_sorted-in_key_order total es))
       (λ q. find-in_key_order total (filter (λ e. p e.0) es) q ∙ find-filter es q ∙ sym (find-filter (in_key_order R es) q ∙ ap (λ o. cond (p q) o None) (find-in_key_order total es q)))
 
--- the entries of the rows that pass a test are those whose keys do
+-- the entries of the rows that pass a test are those whose keys pass it
 entries-filter : {E : Type 0} (entry : Row → Option E) (test : Row → Bool) (p : E → Bool) (rows : List Row) → ((r : Row) (e : E) → entry r ≡ Some e → test r ≡ p e)
     → filter_map entry (filter test rows) ≡ filter p (filter_map entry rows)
 entries-filter entry test p [] each = refl
@@ -186,7 +186,7 @@ entries-filter {E} entry test p (r ∷ rows) each = go (test r) refl (entry r) r
     go false at None is more = more
     go false at (Some e) is more = more ∙ sym (ap (λ b. cond b (e ∷ filter p (filter_map entry rows)) (filter p (filter_map entry rows))) (sym (each r e is) ∙ at))
 
--- ---- the rows that the query picks
+-- ---- the rows that the query selects
 
 module _ {K V : Type 0} (form : TableForm K V) (is_form : IsForm form) (places : List ℕ) (params : Row) (old new : Trees) (shaped : IsShaped shape.Table (old form.table.tree))
     (taken : TakesRows office form.table (delete_program form places) params old new) where
@@ -216,7 +216,7 @@ module _ {K V : Type 0} (form : TableForm K V) (is_form : IsForm form) (places :
   int_of : (r : Row) → Has rows r → rowid r ≡ Int (id_in (rowid r))
   int_of r h = int_is (rowid r) (let b : is_int (rowid r) ≡ true = all_has _ rows r shaped.1 h in b)
 
-  -- a row whose rowid is picked passes the test
+  -- a row whose rowid is selected passes the test
   sound : (r : Row) → Has rows r → list_any (λ id. has_rowid id r) (ids_of taken.picked) ≡ true → test r ≡ true
   sound r h lost =
       let some = some_has (λ id. has_rowid id r) (ids_of taken.picked) lost in
@@ -230,7 +230,7 @@ module _ {K V : Type 0} (form : TableForm K V) (is_form : IsForm form) (places :
       ap (value_cmp (rowid r)) (int_of source.0 passed.0 ∙ ap Int (sym id_is)) ∙ is_Equal _ some.2 in
       ap test (tied_same rows r source.0 shaped.0 h passed.0 tie) ∙ passed.1
 
-  -- the rowid of a row that passes the test is picked
+  -- the rowid of a row that passes the test is selected
   complete : (r : Row) → Has rows r → test r ≡ true → list_any (λ id. has_rowid id r) (ids_of taken.picked) ≡ true
   complete r h passes =
       let kept : Has answer.kept (out r) = subst (λ (l : List Output). Has l (out r)) (sym kept_is) (mapped_has out (filter test rows) r (has_kept test rows r h passes)) in

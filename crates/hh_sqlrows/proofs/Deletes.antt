@@ -1,4 +1,4 @@
--- Statements that take rows of one table out by the values of some columns.
+-- Statements that remove rows from one table, selected by the values of some columns.
 use Rattle.std.specs.Prelude.{◌≡◌, ℕ, pos, negsuc, false, List, [], ◌∷◌, None}
 use Rattle.sqlite_value.specs.declared.value.Value.TheVariants.{Int}
 use Rattle.sqlite_sql.specs.Term.{lit, col}
@@ -28,6 +28,6 @@ delete_by form places = record {
 abbrev pub delete_program : {K V : Type 0} → TableForm K V → List ℕ → Program
 delete_program form places = record { lets = []; body = delete_by form places }
 
--- the text takes out the rows that have the parameters at these places
+-- the statement removes the rows that have the parameters at these places
 abbrev pub IsDelete : {K V : Type 0} → TableForm K V → List ℕ → List ℕ → Type 0
 IsDelete form places sql = (command_of (understood office sql) ≡ Delete form.at (delete_program form places)) × IsPlain (understood office sql)

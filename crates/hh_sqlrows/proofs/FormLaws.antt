@@ -1,6 +1,6 @@
--- What the statements that put a row make of an office, for a table of any form.
-use Rattle.std.proofs.Common.{◌≡◌, ◌≢◌, ℕ, zero, suc, ◌+◌, ◌==◌, List, [], ◌∷◌, ◌++◌, length, drop, slice_get, Bool, true, false, not, ◌&&◌, ◌||◌, Option, Some, None, Ok, Err, Result, OnOk, arith, inl, inr, refl, sym, ap, subst, ◌∙◌, ◌/◌}
-use Rattle.std.specs.List.{AllByRecursion, list_all, list_any}
+-- What the statements that write a row make of an office, for a table of any form.
+use Rattle.std.proofs.Common.{◌≡◌, ◌≢◌, ℕ, zero, suc, ◌+◌, ◌==◌, List, [], ◌∷◌, ◌++◌, append-nil, length, drop, slice_get, Bool, true, false, not, ◌&&◌, ◌||◌, Option, Some, None, Ok, Err, Result, OnOk, arith, inl, inr, refl, sym, ap, subst, ◌∙◌, ◌/◌}
+use Rattle.std.specs.List.{AllByRecursion, flat_map, list_all, list_any}
 use Rattle.std.specs.Cmp.{IsTotalOrder}
 use Rattle.std.proofs.lemmas.Bool.{cases_Bool, and_parts, not-true, true≢false}
 use Rattle.std.proofs.lemmas.Bool.Decides.{nat_tests}
@@ -14,7 +14,7 @@ use Rattle.sqlite_trees.specs.View.{IsShaped}
 use Rattle.sqlite_trees.specs.declared.store.Shape.TheVariants as shape
 use Rattle.sqlite_sql.specs.Ops.{is_null}
 use Rattle.sqlite_sql.specs.Program.{overlay}
-use Rattle.sqlite_sql.specs.Term.{Term, lit, col}
+use Rattle.sqlite_sql.specs.Term.{Term, lit}
 use Rattle.sqlite_schema.specs.Names.{is_key}
 use Rattle.sqlite_schema.specs.Rules.{agree, are_present, are_typed, clashes, has_computed, passes, Obeys}
 use Rattle.sqlite_schema.specs.declared.schema.Column.{Column}
@@ -35,28 +35,28 @@ use Rattle.sqlite.specs.Rows.{mended_from, stamped}
 use Rattle.sqlite.specs.Listing.{understood}
 use Rattle.sqlite.specs.State.{State, Executes, ExecutesInside}
 use Rattle.sqlite.proofs.Callers.{IsPlain, command_of}
+use Rattle.hh_tables.specs.Tables as tables
 use Rattle.hh_keyed_rows.specs.Codecs.{IsCodec, is_discrete, places_from}
+use Rattle.hh_keyed_rows.specs.KeyedRows.{columns_of, stored_entry, table_in}
+use Rattle.hh_keyed_rows.specs.Laws.{Fits}
 use Rattle.hh_keyed_rows.proofs.CodecLaws.{all_append}
-use Rattle.hh_keyed_rows.proofs.PutLaws.{put_by}
+use Rattle.hh_keyed_rows.proofs.PutLaws.{put_by, PutsEach}
 use Rattle.hh_keyed_rows.proofs.ReplaceLaws.{put_in_table, shaped_put}
 use Rattle.hh_keyed_rows.proofs.RuleLaws.{typed_length}
-use Rattle.sqlite_trees.proofs.TreeLemmas.{IsShaped-put_row}
 use Rattle.hh_sqlrows.specs.OfficeSchema.{office}
-use Rattle.hh_sqlrows.specs.Office.{IsOffice}
-use Rattle.hh_sqlrows.specs.Forms.{TableForm, Puts}
-use Rattle.hh_sqlrows.proofs.InsertLaws.{insert_by, insert_in_table}
+use Rattle.hh_sqlrows.specs.Office.{IsOffice, RowidsRise}
+use Rattle.hh_sqlrows.specs.Forms.{TableForm, KeepsOthers, Puts, PutsAll, rows_under_keys}
+use Rattle.hh_sqlrows.proofs.GroupLaws.{group_terms, group_values, parameters}
+use Rattle.hh_sqlrows.proofs.ManyLaws.{kept_again}
+use Rattle.hh_sqlrows.proofs.InsertLaws.{insert_by, insert_each_in_table, shaped_each}
 
 -- ---- a form of a table of the schema
 
--- the terms of the values of a row: a rowid that is chosen, and so many parameters from one on
-abbrev pub parameters : ℕ → ℕ → List Term
-parameters from zero = []
-parameters from (suc count) = col 0 from ∷ parameters (suc from) count
-
+-- the terms of the values of a row: a rowid that is chosen, and the first `count` parameters
 abbrev pub row_terms : ℕ → List Term
 row_terms count = lit Null ∷ parameters 0 count
 
--- the values fit the kinds of these columns, so that none is changed
+-- the values are of the kinds of these columns, so that none is converted
 abbrev pub AreOfKinds : List Column → Row → Type 0
 AreOfKinds [] vs = vs ≡ []
 AreOfKinds (c ∷ cs) [] = ⊥
@@ -79,6 +79,7 @@ module _ {K V : Type 0} (form : TableForm K V) where
     pub own : (db : Trees) → overlay db [] form.table.tree ≡ db form.table.tree
     pub unkeyed : form.table.key ≡ None
     pub uncounted : form.table.is_counted ≡ false
+    pub unstamped : form.table.stamps.terms ≡ []
     pub free : (olds news : List Row) → works office Enforced 0 form.table.tree olds news ≡ []
     pub indexed : (r new : Row) → list_any (shares None form.table new r) office.indexes ≡ agree plain (places_from 1 form.key.width) r (places_from 1 form.key.width) new
     pub unique : (db : Trees) (r : Row) → passes Unique office db form.table r ≡ true → clashes plain (places_from 1 form.key.width) (db form.table.tree) r ≡ false
@@ -87,7 +88,7 @@ module _ {K V : Type 0} (form : TableForm K V) where
     pub kinds : (k : K) (v : V) → AreOfKinds form.table.columns (columns_in k v)
     pub values : (k : K) (v : V) → value_rows (stamped form.table (columns_in k v)) (suc width_of) (length (row_terms width_of) / suc width_of) (row_terms width_of) ≡ (Null ∷ columns_in k v) ∷ []
 
--- what each form's facts come to by computing
+-- the facts of each form, by computing
 pub or_false : (b : Bool) → (b || false) ≡ b
 or_false true = refl
 or_false false = refl
@@ -125,7 +126,7 @@ mends key at (c ∷ cs) (v ∷ vs) all long =
 
 -- ---- rowids
 
--- a table in one tree has rows in order, and each other is as it was
+-- the rowids of the table in one tree rise, and each other table is as it was
 pub risen : (tables : List Table) (tree : ℕ) (old new : Trees) → AllByRecursion (λ t. IsShaped shape.Table (old t.tree)) tables → IsShaped shape.Table (new tree)
     → AllByRecursion (λ t. t.tree ≢ tree → new t.tree ≡ old t.tree) tables → AllByRecursion (λ t. IsShaped shape.Table (new t.tree)) tables
 risen [] tree old new were is others = tt
@@ -135,6 +136,11 @@ risen (t ∷ tables) tree old new were is others =
       | inr apart ↦ subst (IsShaped shape.Table) (sym (others.0 (λ e. let at : (t.tree == tree) ≡ true = grind (arith, nat_tests) in true≢false (sym at ∙ apart)))) were.0
     ] in
     (first, risen tables tree old new were.1 is others.1)
+
+-- equal trees have the same tables
+all_same : (tables : List Table) (tree : ℕ) (old new : Trees) → new ≡ old → AllByRecursion (λ t. t.tree ≢ tree → new t.tree ≡ old t.tree) tables
+all_same [] tree old new same = tt
+all_same (t ∷ tables) tree old new same = ((λ apart. ap (λ (db : Trees). db t.tree) same), all_same tables tree old new same)
 
 -- ---- the rules of a form's rows
 
@@ -169,70 +175,114 @@ module _ {K V : Type 0} (form : TableForm K V) (is_form : IsForm form) (db : Dat
 -- ---- the statements
 
 module _ {K V : Type 0} (form : TableForm K V) (sql : List ℕ) where
-  -- the text puts a row in the place of the one of its key
+  -- the statement writes `count` rows, each of which replaces the one with its key
+  abbrev pub IsReplaceOf : ℕ → Type 0
+  IsReplaceOf count = (command_of (understood office sql) ≡ InsertOr form.at Replace (Values (group_terms (width_of form) 0 count) (suc (width_of form))) []) × IsPlain (understood office sql)
+
+  -- the statement writes a row, which replaces the one with its key
   abbrev pub IsReplace : Type 0
-  IsReplace = (command_of (understood office sql) ≡ InsertOr form.at Replace (Values (row_terms (width_of form)) (suc (width_of form))) []) × IsPlain (understood office sql)
+  IsReplace = IsReplaceOf 1
 
-  -- the text puts a row whose key is new
+  -- the statement writes `count` rows whose keys are new
+  abbrev pub IsInsertOf : ℕ → Type 0
+  IsInsertOf count = (command_of (understood office sql) ≡ Insert form.at (Values (group_terms (width_of form) 0 count) (suc (width_of form)))) × IsPlain (understood office sql)
+
+  -- the statement writes a row whose key is new
   abbrev pub IsInsert : Type 0
-  IsInsert = (command_of (understood office sql) ≡ Insert form.at (Values (row_terms (width_of form)) (suc (width_of form)))) × IsPlain (understood office sql)
+  IsInsert = IsInsertOf 1
 
-module _ {K V : Type 0} (form : TableForm K V) (is_form : IsForm form) (k : K) (v : V) (fits_k : form.key.fits k ≡ true) (fits_v : form.value.fits v ≡ true) (old new : State) (is : IsOffice old.now) where
-  columns : Row
-  columns = columns_in form k v
+module _ {K V : Type 0} (form : TableForm K V) (is_form : IsForm form) where
+  abbrev entry_columns : K × V → Row
+  entry_columns = columns_of form.key form.value
 
-  wide : length (columns_in form k v) ≡ length form.table.columns
-  wide = Rattle.std.proofs.Common.length-append (form.key.write k) (form.value.write v) ∙ (λ i. is_form.is_key.wide k i + is_form.is_value.wide v i) ∙ sym is_form.long
+  wide : (e : K × V) → length (entry_columns e) ≡ width_of form
+  wide e = Rattle.std.proofs.Common.length-append (form.key.write e.0) (form.value.write e.1) ∙ (λ i. is_form.is_key.wide e.0 i + is_form.is_value.wide e.1 i)
 
-  mended : mended_from form.table.key 0 form.table.columns (columns_in form k v) ≡ columns_in form k v
-  mended = mends form.table.key 0 form.table.columns (columns_in form k v) (all_append is_discrete (form.key.write k) (form.value.write v) (is_form.is_key.plain k) (is_form.is_value.plain v)) wide
+  kept : (e : K × V) → cast_all form.table.columns (entry_columns e) ≡ entry_columns e
+  kept e = of_kinds _ _ (is_form.kinds e.0 e.1)
 
-  module _ (sql : List ℕ) where
-    replaces : IsReplace form sql → (count : ℕ) → Executes sql (columns_in form k v) old new (Ok count) → Puts form k v old.now new.now
-    replaces text count h =
-        let w = columns_in form k v in
-        let puts = put_by office form.at form.table is_form.listed is_form.uncounted is_form.free (row_terms (width_of form)) (suc (width_of form)) sql text.0 text.1 w w (is_form.values k v) (of_kinds _ _ (is_form.kinds k v)) mended old new count is.schema h in
-        let shaped = shaped_rows form is_form old.now is in
+  mended : (e : K × V) → mended_from form.table.key 0 form.table.columns (entry_columns e) ≡ entry_columns e
+  mended e =
+      mends form.table.key 0 form.table.columns (entry_columns e) (all_append is_discrete (form.key.write e.0) (form.value.write e.1) (is_form.is_key.plain e.0) (is_form.is_value.plain e.1)) (wide e ∙ sym is_form.long)
+
+  -- what rows that are written one after the other make of the trees
+  record HasPut (es : List (K × V)) (old new : Trees) : Type 0 where
+    rising : RowidsRise office new
+    rows : rows_under_keys form new ≡ tables.put_all form.order es (rows_under_keys form old)
+    others : KeepsOthers form.table.tree old new
+
+  put_each : (es : List (K × V)) → AllByRecursion (Fits form.key form.value) es → (old new : Trees) → RowidsRise office old → PutsEach office form.table entry_columns es old new → HasPut es old new
+  put_each [] fits old new rises h = record {
+    rising = subst (RowidsRise office) (sym h) rises;
+    rows = ap (rows_under_keys form) h;
+    others = all_same office.tables form.table.tree old new h;
+  }
+  put_each (e ∷ es) fits old new rises h =
+      let mid = h.0 in
+      let shaped : IsShaped shape.Table (old form.table.tree) = all_has (λ t. IsShaped shape.Table (old t.tree)) office.tables form.table rises is_form.there in
+      let shaped_mid = shaped_put office form.table old mid (entry_columns e) shaped h.1 in
+      let first = put_in_table office form.table form.order is_form.total is_form.exact form.key form.value is_form.is_key is_form.is_value is_form.indexed old mid e.0 e.1 fits.0.0 fits.0.1 shaped h.1 in
+      let rest = put_each es fits.1 mid new (risen office.tables form.table.tree old mid rises shaped_mid h.1.others) h.2 in
+      record {
+        rising = rest.rising;
+        rows = rest.rows ∙ ap (tables.put_all form.order es) first;
+        others = kept_again office.tables form.table.tree old mid new h.1.others rest.others;
+      }
+
+  module _ (es : List (K × V)) (old new : State) (is : IsOffice old.now) (sql : List ℕ) where
+    replaces : AllByRecursion (Fits form.key form.value) es → (n : ℕ) → length es ≡ n → IsReplaceOf form sql n → (count : ℕ)
+        → Executes sql (flat_map entry_columns es) old new (Ok count) → PutsAll form es old.now new.now
+    replaces fits n long text count h =
+        let values = group_values entry_columns (width_of form) wide form.table is_form.unstamped n es long in
+        let puts = put_by office form.at form.table is_form.listed is_form.uncounted is_form.free (group_terms (width_of form) 0 n) (suc (width_of form)) sql text.0 text.1 entry_columns es (flat_map entry_columns es) values kept mended old new count is.schema h in
+        let made = put_each es fits old.now.trees new.now.trees is.rising puts.each in
         record {
-          is_office = record {
-            schema = puts.schema;
-            sound = puts.sound;
-            rising = risen office.tables form.table.tree old.now.trees new.now.trees is.rising (shaped_put office form.table old.now.trees new.now.trees w shaped puts.row) puts.row.others;
-          };
-          rows = put_in_table office form.table form.order is_form.total is_form.exact form.key form.value is_form.is_key is_form.is_value is_form.indexed old.now.trees new.now.trees k v fits_k fits_v shaped puts.row;
-          others = puts.row.others;
+          is_office = record { schema = puts.schema; sound = puts.sound; rising = made.rising };
+          rows = made.rows;
+          others = made.others;
         }
 
-    inserts : IsInsert form sql → (count : ℕ) → Executes sql (columns_in form k v) old new (Ok count) → Puts form k v old.now new.now
-    inserts text count h =
-        let w = columns_in form k v in
-        let puts = insert_by office form.at form.table is_form.listed is_form.uncounted is_form.free (row_terms (width_of form)) (suc (width_of form)) sql text.0 text.1 w w (is_form.values k v) (of_kinds _ _ (is_form.kinds k v)) old new count is.schema h in
+    inserts : AllByRecursion (Fits form.key form.value) es → (n : ℕ) → length es ≡ n → IsInsertOf form sql n → (count : ℕ)
+        → Executes sql (flat_map entry_columns es) old new (Ok count) → PutsAll form es old.now new.now
+    inserts fits n long text count h =
+        let values = group_values entry_columns (width_of form) wide form.table is_form.unstamped n es long in
+        let puts = insert_by entry_columns es office form.at form.table is_form.listed is_form.uncounted is_form.free (group_terms (width_of form) 0 n) (suc (width_of form)) sql text.0 text.1 (flat_map entry_columns es) values kept old new count is.schema h in
         let shaped = shaped_rows form is_form old.now is in
         let office_is : IsOffice new.now = record {
           schema = puts.schema_is;
           sound = puts.sound;
-          rising = risen office.tables form.table.tree old.now.trees new.now.trees is.rising (subst (IsShaped shape.Table) (sym puts.rows) (IsShaped-put_row _ _ refl shaped)) puts.others;
+          rising = risen office.tables form.table.tree old.now.trees new.now.trees is.rising (subst (IsShaped shape.Table) (sym puts.rows) (shaped_each entry_columns es _ shaped)) puts.others;
         } in
+        let unique = subst (λ (rows : List Row). (r : Row) → Has rows r → clashes plain (places_from 1 form.key.width) rows r ≡ false) puts.rows (unique_rows form is_form new.now office_is) in
         record {
           is_office = office_is;
-          rows = insert_in_table office form.table form.order is_form.total is_form.exact form.key form.value is_form.is_key is_form.is_value is_form.indexed old.now.trees new.now.trees k v fits_k fits_v shaped puts.rows (unique_rows form is_form new.now office_is);
+          rows = ap (table_in form.order (stored_entry form.key form.value)) puts.rows ∙ insert_each_in_table office form.table form.order is_form.total is_form.exact form.key form.value is_form.is_key is_form.is_value is_form.indexed es (old.now.trees form.table.tree) fits shaped unique;
           others = puts.others;
         }
 
-    pub replaces_row : {E : Type 0} → IsReplace form sql → (r : Result Unit E) → OnOk r ((count : ℕ) × ExecutesInside 0 sql (columns_in form k v) old new (Ok count)) → OnOk r (Puts form k v old.now new.now)
-    replaces_row text (Ok done) h = replaces text h.0 h.1.0
-    replaces_row text (Err e) h = tt
+    -- rows that one statement writes, and whose values fit if it is executed
+    pub puts_all_by : {E : Type 0} (n : ℕ) → length es ≡ n → IsReplaceOf form sql n → (r : Result Unit E) → OnOk r (AllByRecursion (Fits form.key form.value) es)
+        → OnOk r ((count : ℕ) × ExecutesInside 0 sql (flat_map entry_columns es) old new (Ok count)) → OnOk r (PutsAll form es old.now new.now)
+    puts_all_by n long text (Ok done) fits h = replaces fits n long text h.0 h.1.0
+    puts_all_by n long text (Err e) fits h = tt
 
-    pub inserts_row : {E : Type 0} → IsInsert form sql → (r : Result Unit E) → OnOk r ((count : ℕ) × ExecutesInside 0 sql (columns_in form k v) old new (Ok count)) → OnOk r (Puts form k v old.now new.now)
-    inserts_row text (Ok done) h = inserts text h.0 h.1.0
-    inserts_row text (Err e) h = tt
+    pub inserts_all_by : {E : Type 0} (n : ℕ) → length es ≡ n → IsInsertOf form sql n → (r : Result Unit E) → OnOk r (AllByRecursion (Fits form.key form.value) es)
+        → OnOk r ((count : ℕ) × ExecutesInside 0 sql (flat_map entry_columns es) old new (Ok count)) → OnOk r (PutsAll form es old.now new.now)
+    inserts_all_by n long text (Ok done) fits h = inserts fits n long text h.0 h.1.0
+    inserts_all_by n long text (Err e) fits h = tt
 
--- the values fit once the statement is executed
+-- one row whose values fit if the statement is executed
 module _ {K V : Type 0} (form : TableForm K V) (is_form : IsForm form) (k : K) (v : V) (old new : State) (is : IsOffice old.now) (sql : List ℕ) where
+  as_one : (count : ℕ) → Executes sql (columns_in form k v) old new (Ok count) → Executes sql (flat_map (columns_of form.key form.value) ((k, v) ∷ [])) old new (Ok count)
+  as_one count h = subst (λ ps. Executes sql ps old new (Ok count)) (sym (append-nil (columns_in form k v))) h
+
+  of_one : PutsAll form ((k, v) ∷ []) old.now new.now → Puts form k v old.now new.now
+  of_one all = record { is_office = all.is_office; rows = all.rows; others = all.others }
+
   pub puts_by : {E : Type 0} → IsReplace form sql → (r : Result Unit E) → OnOk r ((form.key.fits k ≡ true) × (form.value.fits v ≡ true)) → OnOk r ((count : ℕ) × ExecutesInside 0 sql (columns_in form k v) old new (Ok count)) → OnOk r (Puts form k v old.now new.now)
-  puts_by {E} text (Ok done) fits h = replaces_row form is_form k v fits.0 fits.1 old new is sql {E = E} text (Ok done) h
-  puts_by {E} text (Err e) fits h = tt
+  puts_by text (Ok done) fits h = of_one (replaces form is_form ((k, v) ∷ []) old new is sql (fits, tt) 1 refl text h.0 (as_one h.0 h.1.0))
+  puts_by text (Err e) fits h = tt
 
   pub inserts_by : {E : Type 0} → IsInsert form sql → (r : Result Unit E) → OnOk r ((form.key.fits k ≡ true) × (form.value.fits v ≡ true)) → OnOk r ((count : ℕ) × ExecutesInside 0 sql (columns_in form k v) old new (Ok count)) → OnOk r (Puts form k v old.now new.now)
-  inserts_by {E} text (Ok done) fits h = inserts_row form is_form k v fits.0 fits.1 old new is sql {E = E} text (Ok done) h
-  inserts_by {E} text (Err e) fits h = tt
+  inserts_by text (Ok done) fits h = of_one (inserts form is_form ((k, v) ∷ []) old new is sql (fits, tt) 1 refl text h.0 (as_one h.0 h.1.0))
+  inserts_by text (Err e) fits h = tt

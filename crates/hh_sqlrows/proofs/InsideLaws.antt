@@ -1,4 +1,4 @@
--- What a statement leaves of the transaction that it stands in.
+-- What a statement leaves of its transaction.
 use Rattle.std.proofs.Common.{◌≡◌, ℕ, List, Ok, Err, Result, IsTrue, OnOk, inl, inr}
 use Rattle.sqlite_value.specs.Order.{Row}
 use Rattle.sqlite.specs.State.{State, ExecutesInside}

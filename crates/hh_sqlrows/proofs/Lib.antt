@@ -4,6 +4,7 @@ pub mod DeleteLaws
 pub mod Deletes
 pub mod FormFacts
 pub mod FormLaws
+pub mod GroupLaws
 pub mod InsertLaws
 pub mod InsideLaws
 pub mod MakeLaws

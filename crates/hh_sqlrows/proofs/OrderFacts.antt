@@ -1,4 +1,4 @@
--- That the columns by which the rows of a table are ordered are in the order of its keys.
+-- The columns by which the rows of a table are ordered have the order of its keys.
 use Rattle.std.proofs.Common.{[], ◌∷◌, refl}
 use Rattle.hh_keyed_rows.specs.Fields.{party_column, reference_column, settlement_period_columns, unit_column}
 use Rattle.hh_keyed_rows.specs.Keys.{contract_key_columns, credit_key_columns, file_key_columns, one_row_column, position_key_columns, posting_key_columns, result_key_columns, run_key_columns, unit_period_columns}

@@ -1,4 +1,4 @@
--- The rows of a run come in the order of their Settlement Periods.
+-- The rows of a run are in the order of their Settlement Periods.
 use Rattle.std.proofs.Common.{◌≡◌, ◌∙◌, ℕ, zero, suc, ◌<◌, ◌≤◌, List, [], ◌∷◌, map, filter, Bool, true, false, cond, Ordering, Less, Equal, Greater, is_eq, arith, refl, sym, ap, subst}
 use Rattle.std.specs.Prelude.{filter_map}
 use Rattle.std.specs.List.{AllByRecursion}
@@ -24,7 +24,7 @@ use Rattle.hh_sqlrows.specs.Forms.{rows_under_keys}
 use Rattle.hh_sqlrows.specs.OfficeTables.{results}
 use Rattle.hh_sqlrows.proofs.FormFacts.{results_form}
 
--- numbers that rise along a list do not fall between two places of it
+-- numbers that rise along a list do not fall between two of its places
 not_falling : {X : Type 0} (n : X → ℕ) (xs : List X) → IsAscending (λ a b. n a ≤ n b) xs → IsNonDecreasingBy n xs
 not_falling n [] up i j d le inside = absurd (omega arith)
 not_falling n (x ∷ xs) up zero zero d le inside = omega arith
@@ -32,7 +32,7 @@ not_falling n (x ∷ xs) up zero (suc j) d le inside = All-from_recursion (λ y.
 not_falling n (x ∷ xs) up (suc i) zero d le inside = absurd (omega arith)
 not_falling n (x ∷ xs) up (suc i) (suc j) d le inside = not_falling n xs up.1 i j d (omega arith) (omega arith)
 
--- what is left of a list passes the test
+-- the filtered items of a list pass the test
 all_pass : {X : Type 0} (test : X → Bool) (xs : List X) → AllByRecursion (λ x. test x ≡ true) (filter test xs)
 all_pass test [] = tt
 all_pass test (x ∷ xs) = go (test x) refl (all_pass test xs)
@@ -53,7 +53,7 @@ module _ (run : RunKey) where
   abbrev Up : ResultKey × AccountAmounts → ResultKey × AccountAmounts → Type 0
   Up a b = a.0.period ≤ b.0.period
 
-  -- of two rows of the run the one behind is of no earlier period
+  -- of two rows of the run, the later one is of no earlier period
   one_up : (a b : ResultKey × AccountAmounts) → of_run a ≡ true → of_run b ≡ true → result_key_cmp a.0 b.0 ≡ Less → Up a b
   one_up a b first second less =
       let of_a = exact_run_keys a.0.run run (is_Equal _ first) in

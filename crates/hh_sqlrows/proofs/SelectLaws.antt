@@ -1,4 +1,4 @@
--- What a statement answers that selects rows of one table, for a table of any form.
+-- What a statement that selects rows of one table answers, for a table of any form.
 use Rattle.std.proofs.Common.{◌≡◌, inl, inr, ◌+◌, ℕ, suc, List, [], ◌∷◌, ◌++◌, length, map, filter, Bool, true, false, cond, Option, Some, Ordering, Less, is_eq, Ok, Err, Result, IfOk, IsTrue, Vec, refl, sym, ap, subst, ◌∙◌}
 use Rattle.std.specs.Prelude.{filter_map, option_map, slice_get}
 use Rattle.std.specs.List.{flat_map, list_all}
@@ -39,23 +39,23 @@ use Rattle.hh_sqlrows.proofs.WhereLaws.{IsOrdered, follows_by, same_test, shown_
 
 -- ---- a statement
 
--- The text selects all columns of the rows that have the parameters at these places, in the order of the columns at those.
+-- The query selects all columns of the rows that have the parameters at `places`, in the order of the columns at `order`.
 pub record IsSelect {K V : Type 0} (form : TableForm K V) (places order : List ℕ) (sql : List ℕ) : Type 0 where
   pub names : List (List ℕ)
   pub command : command_of (understood office sql) ≡ Select (record { lets = []; body = select_by form places order }) names
   pub unlisted : reads_listing office sql ≡ false
   pub plain : IsPlain (understood office sql)
 
--- a text that is plain under the schema of an office is so in an office
+-- a statement that is plain under the schema of an office is plain in an office
 pub plain_under : (sql : List ℕ) → IsPlain (understood office sql) → (old : State) → IsOffice old.now → IsPlain (understood old.now.schema sql)
 plain_under sql plain old is = subst (λ s. IsPlain (understood s sql)) (sym is.schema) plain
 
 module _ {K V : Type 0} (form : TableForm K V) where
-  -- the columns that stand at these places of a row are written by a codec, for a part of the row's key
+  -- the columns at these places of a row are those that a codec writes for a part of the row's key
   abbrev pub StandAt : {A : Type 0} → Codec A → (K → A) → List ℕ → Type 0
   StandAt c part places = (id : Value) (k : K) (v : V) → map (column (id ∷ columns_in form k v)) places ≡ c.write (part k)
 
--- The columns at these places are in the order of the form's keys.
+-- The columns at these places have the order of the form's keys.
 pub record IsOrderBy {K V : Type 0} (form : TableForm K V) (order : List ℕ) : Type 0 where
   pub codec : Codec K
   pub is_codec : IsCodec codec
@@ -84,7 +84,7 @@ module _ {K V : Type 0} (form : TableForm K V) (is_form : IsForm form) (places o
   follows : (a b : K × V) → form.order a.0 b.0 ≡ Less → output_cmp query (by.codec.write a.0, columns_in form a.0 a.1) (by.codec.write b.0, columns_in form b.0 b.1) ≡ Less
   follows a b h = follows_by by.codec form.order by.is_codec by.ordered order by.wide a.0 b.0 ∙ h
 
-  -- what is read of the rows that are answered are the rows that pass the test
+  -- what is read from the answer is the rows that pass the test
   answered_by : (old new : State) (rows : List Row) → IsOffice old.now → Shown sql params old new rows
       → filter_map (entry_in form.key form.value) rows ≡ filter (λ e. p e.0) (rows_under_keys form old.now.trees)
   answered_by old new rows is h =
@@ -105,7 +105,7 @@ module _ {K V : Type 0} (form : TableForm K V) (is_form : IsForm form) (places o
       → found ≡ filter (λ e. p e.0) (rows_under_keys form old.now.trees)
   found_by old new rows found is h read = sym (all_read (entry_in form.key form.value) rows found read) ∙ answered_by old new rows is h
 
-  -- rows with which the answer begins are the first of the rows that pass the test
+  -- if the answer begins with some rows, these are the first of the rows that pass the test
   begun_by : (now : State) (found : List (K × V)) → IsOffice now.now → IsTrue now.is_open → IsBegun form.key form.value sql params now found
       → (rest : List (K × V)) × (filter (λ e. p e.0) (rows_under_keys form now.now.trees) ≡ found ++ rest)
   begun_by now found is opened (inl none) =
@@ -130,20 +130,20 @@ module _ {K V A : Type 0} (form : TableForm K V) (is_form : IsForm form) (places
       found_by form is_form places order sql text by (c.write a) (λ k. is_eq (R (part k) a))
       (λ id k v. tested_by R total exact c is_c places (id ∷ columns_in form k v) (part k) a narrow (picked id k v))
 
-  -- the rows that are read are those of the value that is asked for
+  -- the rows that are read are those with the value that is asked for
   pub lists_by : {E : Type 0} (a : A) (old new : State) (r : Result (Vec (K × V) Global) E) → IsOffice old.now → IfOk r (λ found. IsRead form.key form.value sql (c.write a) old new found.items)
       → IfOk r (λ found. found.items ≡ filter (λ e. is_eq (R (part e.0) a)) (rows_under_keys form old.now.trees))
   lists_by a old new (Ok found) is h = selects_by a old new h.0 found.items is h.1 h.2
   lists_by a old new (Err e) is h = tt
 
-  -- the rows that are read so far are the first of those of the value that is asked for
+  -- the rows that are read so far are the first of those with the value that is asked for
   pub begins_by : (a : A) (now : State) (found : List (K × V)) → IsOffice now.now → IsTrue now.is_open → IsBegun form.key form.value sql (c.write a) now found
       → (rest : List (K × V)) × (filter (λ e. is_eq (R (part e.0) a)) (rows_under_keys form now.now.trees) ≡ found ++ rest)
   begins_by a =
       begun_by form is_form places order sql text by (c.write a) (λ k. is_eq (R (part k) a))
       (λ id k v. tested_by R total exact c is_c places (id ∷ columns_in form k v) (part k) a narrow (picked id k v))
 
-  -- the rows that are given are those of the value that is asked for
+  -- the rows that are given are those with the value that is asked for
   pub gives_by : {B : Type 0} (Has : List (K × V) → Type 0) (Stopped : OutputFault → List (K × V) → Type 0) (a : A) (old new : State) (r : Result B OutputFault) → Stood old new
       → GivesSo Has Stopped (λ taken. OfPlain old new sql (IsRead form.key form.value sql (c.write a) old new taken)) (λ taken. OfPlain old new sql (IsBegun form.key form.value sql (c.write a) old taken)) r
       → GivesEach Has Stopped (OfOffice old new) (filter (λ e. is_eq (R (part e.0) a)) (rows_under_keys form old.now.trees)) r
@@ -159,7 +159,7 @@ all_of [] = refl
 all_of (x ∷ xs) = ap (λ ys. x ∷ ys) (all_of xs)
 
 module _ {K V : Type 0} (form : TableForm K V) (is_form : IsForm form) (order : List ℕ) (sql : List ℕ) (text : IsSelect form [] order sql) (by : IsOrderBy form order) where
-  -- the rows that are read are all
+  -- all rows are read
   pub lists_all : {E : Type 0} (old new : State) (r : Result (Vec (K × V) Global) E) → IsOffice old.now → IfOk r (λ found. IsRead form.key form.value sql [] old new found.items)
       → IfOk r (λ found. found.items ≡ rows_under_keys form old.now.trees)
   lists_all old new (Ok found) is h = found_by form is_form [] order sql text by [] (λ k. true) (λ id k v. refl) old new h.0 found.items is h.1 h.2 ∙ all_of (rows_under_keys form old.now.trees)
@@ -193,7 +193,7 @@ module _ {K : Type 0} (R : K → K → Ordering) (total : IsTotalOrder R) (exact
   is_eq_back : (k : K) → is_eq (R k q) ≡ is_eq (R q k)
   is_eq_back k = same_test _ _ (back k q) (back q k)
 
-  -- the value of the first of the rows of a key is what is found under it
+  -- the value of the first of the rows with a key is what is found under the key
   pub first_found : {V : Type 0} (es : List (K × V)) → option_map (λ (e : K × V). e.1) (slice_get (filter (λ e. is_eq (R e.0 q)) es) 0) ≡ find R q es
   first_found {V} [] = refl
   first_found {V} (e ∷ es) = go (is_eq (R e.0 q)) (is_eq_back e.0) (first_found es)

@@ -10,12 +10,12 @@ use Rattle.sqlite_sql.specs.declared.ops.CompareOp.TheVariants.{Eq}
 use Rattle.hh_keyed_rows.specs.Codecs.{places_from}
 use Rattle.hh_sqlrows.specs.Forms.{TableForm}
 
--- the columns at these places are the parameters from one on
+-- the columns at these places are the parameters from number `from` on
 abbrev pub where_terms : List ℕ → ℕ → List Term
 where_terms [] from = []
 where_terms (at ∷ places) from = op2 (Compare Eq Binary) (col 1 at) (col 0 from) ∷ where_terms places (suc from)
 
--- all columns of the rows that have the parameters at these places, in the order of the columns at those
+-- all columns of the rows that have the parameters at `places`, in the order of the columns at `order`
 abbrev pub select_by : {K V : Type 0} → TableForm K V → List ℕ → List ℕ → Query
 select_by form places order = record {
   from = inner form.table.tree end;

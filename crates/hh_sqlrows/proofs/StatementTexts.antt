@@ -4,7 +4,7 @@ use Rattle.sqlite_tied.specs.Compute.{everything}
 use Rattle.sqlite.specs.Listing.{understood}
 use Rattle.hh_sqlrows.specs.OfficeTables.{contracts, credits, files, marks, meters, parties, period_prices, positions, postings, reallocations, references, results, runs, settings, touched, units}
 use Rattle.hh_sqlrows.proofs.Deletes.{IsDelete}
-use Rattle.hh_sqlrows.proofs.FormLaws.{IsInsert, IsReplace}
+use Rattle.hh_sqlrows.proofs.FormLaws.{IsInsert, IsInsertOf, IsReplace}
 use Rattle.hh_sqlrows.proofs.SelectLaws.{IsSelect}
 use Rattle.hh_sqlrows.proofs.UpdateFormLaws.{IsUpdate}
 
@@ -105,12 +105,35 @@ pub insert_result_is : IsInsert results insert_result_text
 unfolding understood everything
 insert_result_is = (refl, (refl, refl))
 
+abbrev pub insert_result_group_text : List ℕ
+insert_result_group_text =
+    codes "INSERT INTO results (day, kind, period, party, side, credited, balancing, contracts, "
+    ++ codes "imbalance, charge, share) VALUES "
+    ++ codes "(?, ?, ?, ?, ?, ?, ?, ?, ?, ?, ?), (?, ?, ?, ?, ?, ?, ?, ?, ?, ?, ?), "
+    ++ codes "(?, ?, ?, ?, ?, ?, ?, ?, ?, ?, ?), (?, ?, ?, ?, ?, ?, ?, ?, ?, ?, ?), "
+    ++ codes "(?, ?, ?, ?, ?, ?, ?, ?, ?, ?, ?), (?, ?, ?, ?, ?, ?, ?, ?, ?, ?, ?), "
+    ++ codes "(?, ?, ?, ?, ?, ?, ?, ?, ?, ?, ?), (?, ?, ?, ?, ?, ?, ?, ?, ?, ?, ?)"
+
+pub insert_result_group_is : IsInsertOf results insert_result_group_text 8
+unfolding understood everything
+insert_result_group_is = (refl, (refl, refl))
+
 abbrev pub insert_credit_text : List ℕ
 insert_credit_text = codes "INSERT INTO credits (day, kind, period, unit, party, side, credited) VALUES (?1, ?2, ?3, ?4, ?5, ?6, ?7)"
 
 pub insert_credit_is : IsInsert credits insert_credit_text
 unfolding understood everything
 insert_credit_is = (refl, (refl, refl))
+
+abbrev pub insert_credit_group_text : List ℕ
+insert_credit_group_text =
+    codes "INSERT INTO credits (day, kind, period, unit, party, side, credited) VALUES "
+    ++ codes "(?, ?, ?, ?, ?, ?, ?), (?, ?, ?, ?, ?, ?, ?), (?, ?, ?, ?, ?, ?, ?), (?, ?, ?, ?, ?, ?, ?), "
+    ++ codes "(?, ?, ?, ?, ?, ?, ?), (?, ?, ?, ?, ?, ?, ?), (?, ?, ?, ?, ?, ?, ?), (?, ?, ?, ?, ?, ?, ?)"
+
+pub insert_credit_group_is : IsInsertOf credits insert_credit_group_text 8
+unfolding understood everything
+insert_credit_group_is = (refl, (refl, refl))
 
 abbrev pub insert_posting_text : List ℕ
 insert_posting_text = codes "INSERT INTO postings (day, kind, party, side, pence) VALUES (?1, ?2, ?3, ?4, ?5)"
@@ -140,7 +163,7 @@ pub touch_period_is : IsReplace touched touch_period_text
 unfolding understood everything
 touch_period_is = (refl, (refl, refl))
 
--- ---- rows that are taken out
+-- ---- rows that are removed
 
 abbrev pub untouch_on_text : List ℕ
 untouch_on_text = codes "DELETE FROM touched WHERE day = ?1"

@@ -1,4 +1,4 @@
--- A connection that reads the rows of a statement one after the other, and the state in which it began.
+-- A connection that reads the rows of a query one after the other, and the state in which it began.
 use Rattle.std.proofs.Common.{◌≡◌, false, ◌⊎◌, inl, inr, ◌∙◌, ◌++◌, List, [], ◌∷◌, ℕ, IsTrue, IfOk, Option, Some, None, Result, Ok, Err, arith, refl, sym, subst}
 use Rattle.std.specs.Prelude.{option_map}
 use Rattle.sqlite_trees.specs.declared.store.Store.{Ghosts}
@@ -24,7 +24,7 @@ use Rattle.hh_sqlrows.proofs.AnswerLaws.{left_by}
 use Rattle.hh_sqlrows.proofs.ManyLaws.{map_last}
 use Rattle.hh_keyed_rows.proofs.QueryLaws.{clean_by, commits_nothing, shown_open}
 
--- an open connection is as it is
+-- an open connection is unchanged from itself
 pub unchanged_itself : (now : State) → IsTrue now.is_open → IsUnchanged now now
 unchanged_itself now opened = (
   record { was_open = opened; is_open = opened; now_is = refl; committed_is = refl; mode = refl },
@@ -44,12 +44,12 @@ module _ (sql : List ℕ) (params : Row) (start mid : State) (same : IsUnchanged
   source_before : (db : Database) → IsSourceOf (reads_listing mid.now.schema sql) mid.now db → IsSourceOf (reads_listing start.now.schema sql) start.now db
   source_before db source = subst (λ (d : Database). IsSourceOf (reads_listing d.schema sql) d db) same.0.now_is source
 
-  -- what begins an answer now began one then
+  -- what begins the answer now began it at the start
   pub begins_before : (rows : List Row) → Begins sql params mid rows → Begins sql params start rows
   unfolding Begins
   begins_before rows h = (h.0, statement_before h.0 h.1, h.2, h.3, source_before h.3 h.4, h.5)
 
-  -- what is answered now was to be answered then
+  -- what is answered now was to be answered at the start
   pub shown_before : (new : State) (rows : List Row) → IsPlain (understood mid.now.schema sql) → Shown sql params mid new rows → Shown sql params start new rows
   unfolding Shown
   shown_before new rows plain h =
@@ -58,7 +58,7 @@ module _ (sql : List ℕ) (params : Row) (start mid : State) (same : IsUnchanged
       let it = subst (ShowsRows mid new sql h.0 full rows) none h.2 in
       (h.0, statement_before h.0 h.1, subst (ShowsRows start new sql h.0 full rows) (sym none) (it.0, source_before it.0 it.1, it.2, unchanged_then start mid new same it.3))
 
--- a connection that was as at the start, and is then left so or rolled back
+-- a connection that was unchanged since the start, and is then unchanged or rolled back
 pub left_since : (start mid new : State) → IsUnchanged start mid → IsUnchanged mid new ⊎ IsRolledBack mid new → IsUnchanged start new ⊎ IsRolledBack start new
 left_since start mid new same (inl kept) = inl (unchanged_then start mid new same kept)
 left_since start mid new same (inr back) = inr (record {
@@ -69,7 +69,7 @@ left_since start mid new same (inr back) = inr (record {
   counts = record { changes = back.counts.changes ∙ same.1.changes; last_rowid = back.counts.last_rowid ∙ same.1.last_rowid };
 })
 
--- a disk that has returned what was written did so before
+-- a disk that has returned what was written had done so before
 pub cleaner_before : (old new : State) (Commits : Trees → Type 0) → Survives old new Commits → HasCleanDisk new → HasCleanDisk old
 cleaner_before old new Commits survived clean = omega (arith, survived.clean)
 
@@ -104,7 +104,7 @@ module _ {S : Type 0} (g : Ghosts S) {K V : Type 0} (key : Codec K) (value : Cod
   next_taken row (Err fault) on same is = λ plain clean.
       let was = before plain (cleaner clean) in (some_taken plain clean, inl (unchanged_then _ _ _ was.3 (same clean)))
 
-  -- no row is read any more
+  -- no more rows are read
   pub none_taken : (HasCleanDisk (state g new) → IsUnchanged (state g mid) (state g new) ⊎ IsRolledBack (state g mid) (state g new))
       → IsPlainOf (state g start) sql → HasCleanDisk (state g new)
       → IsBegun key value sql params (state g start) taken × (IsUnchanged (state g start) (state g new) ⊎ IsRolledBack (state g start) (state g new))
@@ -119,7 +119,7 @@ kept_or_back old new too_big e (inr same) = inl same
 -- ---- rows that are given to a taker
 
 module _ {S : Type 0} (g : Ghosts S) {K V : Type 0} (key : Codec K) (value : Codec V) (sql : List ℕ) (params : Row) (start : Held S) where
-  -- the statement is being answered, and what it gave so far was taken
+  -- the query is being answered, and what it gave so far was taken
   pub record IsGiving (now : Held S) (IsTaken : List (K × V) → Type 0) : Type 0 where
     pub mode : start.in_transaction ≡ false → now.in_transaction ≡ false
     pub stood : IsTrue (state g now).is_open → IsTrue (state g start).is_open
@@ -132,7 +132,7 @@ module _ {S : Type 0} (g : Ghosts S) (shut : (s : S) → (g.view s).is_clean ≡
   pub clean_if : (last : Held S) → IsTrue (state g last).is_open → HasCleanDisk (state g last)
   clean_if last stands = clean_by _ _ (shut last.store) stands
 
-  -- what is to be shown of the connection as it is left
+  -- what is to be shown about the connection in the end
   abbrev pub Leaves : Held S → Type 0
   Leaves last =
       OfPlain (state g start) (state g last) sql ((state g start).now ≡ (state g start).committed → ((state g last).now ≡ (state g start).now) × ((state g last).committed ≡ (state g start).committed))
@@ -146,7 +146,7 @@ module _ {S : Type 0} (g : Ghosts S) (shut : (s : S) → (g.view s).is_clean ≡
   abbrev pub AreSome : Held S → List (K × V) → Type 0
   AreSome last taken = OfPlain (state g start) (state g last) sql (IsBegun key value sql params (state g start) taken)
 
-  -- by how the connection is left
+  -- the same, given what is known about the connection in the end
   pub left_by_last : (last : Held S) → (IsPlainOf (state g start) sql → HasCleanDisk (state g last) → IsUnchanged (state g start) (state g last) ⊎ IsRolledBack (state g start) (state g last))
       → Leaves last
   left_by_last last left stands plain settled = left_by (state g start) (state g last) (left plain (clean_if last stands)) stands settled
@@ -158,7 +158,7 @@ module _ {S : Type 0} (g : Ghosts S) (shut : (s : S) → (g.view s).is_clean ≡
       → Survives (state g start) (state g last) (CommitsShowing sql params (state g start))
   survives_on mid last first later = survives_then (state g start) (state g mid) (state g last) _ _ _ (λ _ db may. may) (λ _ db none. absurd none) first later
 
-  -- the statement is answered from the start
+  -- the query is answered from the start
   pub giving_begun : (now : Held S) (IsTaken : List (K × V) → Type 0) → (start.in_transaction ≡ false → now.in_transaction ≡ false)
       → (HasCleanDisk (state g now) → HasBegun g sql params start now) → Survives (state g start) (state g now) (CommitsShowing sql params (state g start)) → IsTaken []
       → IsGiving g key value sql params start now IsTaken
@@ -176,7 +176,7 @@ module _ {S : Type 0} (g : Ghosts S) (shut : (s : S) → (g.view s).is_clean ≡
 
   module _ (mid : Held S) (IsTaken : List (K × V) → Type 0) (giving : IsGiving g key value sql params start mid IsTaken) (last : Held S)
       (mode : mid.in_transaction ≡ false → last.in_transaction ≡ false) (stood : IsTrue (state g last).is_open → IsTrue (state g mid).is_open) (later : Survives (state g mid) (state g last) (λ _. ⊥)) where
-    -- one row more was taken
+    -- one more row was taken
     pub giving_more : (entry : K × V) (IsTakenThen : List (K × V) → Type 0) → HasTaken g key value sql params start last (giving.taken ++ entry ∷ [])
         → IsTakenThen (giving.taken ++ entry ∷ []) → IsGiving g key value sql params start last IsTakenThen
     giving_more entry IsTakenThen read has = record {

@@ -1,4 +1,4 @@
--- What each text that makes a table means after those before it.
+-- What each statement that makes a table means after those before it.
 use Rattle.std.proofs.Common.{◌≡◌, ◌++◌, ◌+◌, ◌<◌, ℕ, zero, suc, List, [], ◌∷◌, slice_index_or, Ok, false, arith, refl}
 use Rattle.sqlite_schema.specs.declared.schema.Table.{Table}
 use Rattle.sqlite_schema.specs.declared.command.Command.TheVariants.{CreateTable}
@@ -12,7 +12,7 @@ use Rattle.hh_sqlrows.specs.OfficeSchema.{office, settings_table, parties_table,
 use Rattle.hh_sqlrows.specs.Making.{schema_up_to}
 use Rattle.hh_sqlrows.specs.steps.MakingTexts.{texts, settings_creation, parties_creation, units_creation, meters_creation, prices_creation, refs_creation, contracts_creation, reallocations_creation, files_creation, runs_creation, results_creation, credits_creation, postings_creation, positions_creation, touched_creation, marks_creation}
 
--- the text makes a table after so many others
+-- the statement makes a table after `at` other tables
 pub record Defines (at : ℕ) (sql : List ℕ) : Type 0 where
   pub table : Table
   pub command : command_of (understood (schema_up_to at) sql) ≡ CreateTable
@@ -87,7 +87,7 @@ marks_is : Defines 15 marks_creation
 unfolding understood everything
 marks_is = record { table = record marks_table { tree = 0 }; command = refl; whole = refl; plain = (refl, refl); defined = refl; makes = refl; extends = refl; uncounted = refl }
 
--- each text makes its table after those before it
+-- each statement makes its table after those before it
 pub defines : (at : ℕ) → at < 16 → Defines at (slice_index_or texts at [])
 defines zero h = settings_is
 defines (suc zero) h = parties_is
@@ -107,7 +107,7 @@ defines (suc (suc (suc (suc (suc (suc (suc (suc (suc (suc (suc (suc (suc (suc ze
 defines (suc (suc (suc (suc (suc (suc (suc (suc (suc (suc (suc (suc (suc (suc (suc zero))))))))))))))) h = marks_is
 defines (suc (suc (suc (suc (suc (suc (suc (suc (suc (suc (suc (suc (suc (suc (suc (suc at)))))))))))))))) h = absurd (omega (arith, h))
 
--- the tables made in turn are those of an office
+-- the tables that are made one after the other are those of an office
 pub all_made : schema_up_to 16 ≡ office
 unfolding everything
 all_made = refl

@@ -1,4 +1,4 @@
--- The Settlement Periods that were touched, as the keys of rows that have nothing else.
+-- The Settlement Periods that were touched, as the keys of rows without other columns.
 use Rattle.std.proofs.Common.{◌≡◌, ◌==◌, ℕ, List, [], ◌∷◌, map, filter, cond, Bool, true, false, is_eq, Ok, Err, Result, IfOk, Vec, refl, ap, ◌∙◌}
 use Rattle.std.specs.Cmp.{unsigned_tied}
 use Rattle.std.specs.Ordering.{nat_cmp}
@@ -6,7 +6,7 @@ use Rattle.std.specs.declared.alloc.Global.{Global}
 use Rattle.hh_rows.specs.declared.settlement_period.SettlementPeriod.{SettlementPeriod}
 use Rattle.hh_keyed_rows.specs.declared.no_columns.NoColumns.{NoColumns}
 
--- the keys of the entries whose keys pass a test are the keys that do
+-- the keys of the entries whose keys pass a test are the keys that pass it
 keys_kept : {K V : Type 0} (p : K → Bool) (es : List (K × V)) → map (λ e. e.0) (filter (λ e. p e.0) es) ≡ filter p (map (λ e. e.0) es)
 keys_kept p [] = refl
 keys_kept p (e ∷ es) = go (p e.0) (keys_kept p es)

@@ -1,4 +1,4 @@
--- What a statement makes of an office that changes the row of a key, or puts it where there is none, for a table of any form.
+-- What a statement makes of an office that changes the row of a key, or writes it if there is none, for a table of any form.
 use Rattle.std.proofs.Common.{◌≡◌, ℕ, suc, ℤ, List, [], ◌∷◌, ◌++◌, length, map, filter, drop, cond, Bool, true, false, not, ◌&&◌, Option, Some, Ok, Err, Result, OnOk, Equal, is_eq, inl, inr, refl, sym, ap, subst, ◌∙◌}
 use Rattle.std.specs.List.{flat_map, list_all}
 use Rattle.std.specs.List.Sorted.{IsPermutation}
@@ -57,13 +57,13 @@ use Rattle.hh_sqlrows.proofs.Updates.{update_by, update_clause, update_program}
 -- ---- a form whose rows may be changed
 
 module _ {K V : Type 0} (form : TableForm K V) where
-  -- the text puts a row, or changes that of its key
+  -- the statement writes a row, or changes the one with its key
   abbrev pub IsUpdate : List ℕ → Type 0
   IsUpdate sql =
       (command_of (understood office sql) ≡ InsertOr form.at Abort (Values (row_terms (width_of form)) (suc (width_of form))) (update_clause form ∷ []))
       × IsPlain (understood office sql)
 
-  -- The columns of the key are texts or blobs, the rows of the key are those that conflict, and the query picks by the rowid.
+  -- The columns of the key are texts or blobs, the rows that conflict are those with the key, and the query selects by the rowid.
   pub record IsChangeable : Type 0 where
     pub lettered : (k : K) → list_all is_lettered (form.key.write k) ≡ true
     pub aimed : (r new : Row) → conflicts (Some (places_from 1 form.key.width)) office.indexes form.table new r ≡ agree plain (places_from 1 form.key.width) r (places_from 1 form.key.width) new
@@ -71,7 +71,7 @@ module _ {K V : Type 0} (form : TableForm K V) where
     pub outputs : (k : K) (v : V) (more r : Row)
         → output (update_by form) ((columns_in form k v ++ more) ∷ r ∷ []) ≡ ([], rowid r ∷ rowid r ∷ (map (column r) (places_from 1 form.key.width) ++ form.value.write v))
 
--- what a form's test comes to by computing
+-- the test of a form, by computing
 pub and_true : (b : Bool) → (b && true) ≡ b
 and_true true = refl
 and_true false = refl
@@ -99,7 +99,7 @@ module _ {K V : Type 0} (form : TableForm K V) (is_form : IsForm form) (is_chang
   int_of : (r : Row) → Has rows r → rowid r ≡ Int (id_in (rowid r))
   int_of r h = int_is (rowid r) (let b : is_int (rowid r) ≡ true = all_has _ rows r shaped.1 h in b)
 
-  -- a row of that rowid
+  -- a row with that rowid is the row that is changed
   told : (r : Row) → Has rows r → has_rowid n r ≡ true → r ≡ from.0
   told r h has = tied_same rows r from.0 shaped.0 h from.1 (ap (value_cmp (rowid r)) (int_of from.0 from.1) ∙ is_Equal _ has)
 
@@ -128,7 +128,7 @@ module _ {K V : Type 0} (form : TableForm K V) (is_form : IsForm form) (is_chang
       let written : form.key.write m.2.0 ≡ form.key.write k = sym there ∙ ap (λ w. map (column from.0) (places_from 1 w)) (is_form.is_key.wide m.2.0) ∙ key_is in
       m.5 ∙ is_form.is_key.apart m.2.0 k written
 
-  -- ---- what the query picks
+  -- ---- what the query selects
 
   abbrev tail : Row
   tail = shown form.table (stored_in rows columns)
@@ -226,9 +226,10 @@ module _ {K V : Type 0} (form : TableForm K V) (is_form : IsForm form) (is_chang
         sound = sound;
         rising = risen office.tables form.table.tree old.now.trees new.now.trees is.rising (subst (IsShaped shape.Table) (sym adds.rows) (IsShaped-put_row _ _ refl shaped)) adds.others;
       } in
+      let unique = subst (λ (rows : List Row). (r : Row) → Has rows r → clashes plain (places_from 1 form.key.width) rows r ≡ false) adds.rows (unique_rows form is_form new.now office_is) in
       record {
         is_office = office_is;
-        rows = insert_in_table office form.table form.order is_form.total is_form.exact form.key form.value is_form.is_key is_form.is_value is_form.indexed old.now.trees new.now.trees k v fits_k fits_v shaped adds.rows (unique_rows form is_form new.now office_is);
+        rows = ap (table_in form.order (stored_entry form.key form.value)) adds.rows ∙ insert_in_table office form.table form.order is_form.total is_form.exact form.key form.value is_form.is_key is_form.is_value is_form.indexed (old.now.trees form.table.tree) k v fits_k fits_v shaped unique;
         others = adds.others;
       }
 
@@ -253,7 +254,7 @@ module _ {K V : Type 0} (form : TableForm K V) (is_form : IsForm form) (is_chang
       let it = upsert_by office form.at form.table is_form.listed is_form.uncounted is_form.free (row_terms (width_of form)) (suc (width_of form)) (places_from 1 form.key.width) (update_program form) sql text.0 text.1 w w (is_form.values k v) (of_kinds _ _ (is_form.kinds k v)) old new count is.schema h in
       elim it.left [ inl adds ↦ added it.schema_is it.sound adds | inr changes ↦ changed it.schema_is it.sound changes ]
 
--- the values fit once the statement is executed
+-- the values fit if the statement is executed
 module _ {K V : Type 0} (form : TableForm K V) (is_form : IsForm form) (is_changeable : IsChangeable form) (k : K) (v : V) (old new : State) (is : IsOffice old.now) (sql : List ℕ) where
   pub updates_by : {E : Type 0} → IsUpdate form sql → (r : Result Unit E) → OnOk r ((form.key.fits k ≡ true) × (form.value.fits v ≡ true)) → OnOk r ((count : ℕ) × ExecutesInside 0 sql (columns_in form k v) old new (Ok count))
       → OnOk r (Puts form k v old.now new.now)

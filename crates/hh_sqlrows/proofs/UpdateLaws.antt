@@ -16,16 +16,17 @@ use Rattle.sqlite_schema.specs.Rules.{agree, equal}
 use Rattle.sqlite_schema.specs.declared.schema.Schema.{Schema}
 use Rattle.sqlite_schema.specs.declared.schema.Table.{Table}
 use Rattle.sqlite_schema.specs.declared.schema.Keys.TheVariants.{Enforced}
+use Rattle.sqlite_schema.specs.declared.schema.Kind.TheVariants.{Integer}
 use Rattle.sqlite_schema.specs.declared.program.Program.{Program}
 use Rattle.sqlite_schema.specs.declared.command.Source.TheVariants.{Values}
 use Rattle.sqlite_schema.specs.declared.command.Command.TheVariants.{InsertOr}
 use Rattle.sqlite_schema.specs.declared.command.Conflict.TheVariants.{Abort}
 use Rattle.sqlite_schema.specs.declared.command.Upsert.{Upsert}
-use Rattle.sqlite_rules.specs.declared.error.Rowids.TheVariants.{Given}
+use Rattle.sqlite_rules.specs.declared.error.Rowids.TheVariants.{Above, Chosen, Given}
 use Rattle.sqlite_rules.specs.Action.{works}
 use Rattle.sqlite_rules.specs.Calls.{ids_of}
-use Rattle.sqlite_rules.specs.Cast.{cast_all, cast_row}
-use Rattle.sqlite_rules.specs.Edit.{are_fresh, edit_of, edited, left_by, next_rowid, put_all, taken_by}
+use Rattle.sqlite_rules.specs.Cast.{cast, cast_all, cast_row}
+use Rattle.sqlite_rules.specs.Edit.{are_fresh, edit_of, edited, left_by, next_rowid, put_all, taken_by, with_rowid}
 use Rattle.sqlite_rules.specs.Keys.{AreConflicts}
 use Rattle.sqlite_rules.specs.Lists.{Has}
 use Rattle.sqlite_rules.proofs.ListLemmas.{all_has}
@@ -33,7 +34,7 @@ use Rattle.sqlite_rules.proofs.PlaceLemmas.{given}
 use Rattle.sqlite.specs.declared.error.Error.{Error}
 use Rattle.sqlite.specs.declared.run.Mode.{Mode}
 use Rattle.sqlite.specs.Effect.{Answers, Database, IsDatabase, edit_error, value_rows}
-use Rattle.sqlite.specs.Rows.{Clears, Counts, InsertsOr, Meets, Puts, Task, Tries, TriesEach, Updates, Upserts, Written, count_of, nothing, shown, stamped}
+use Rattle.sqlite.specs.Rows.{Clears, Counts, InsertsOr, Meets, Puts, Task, Tries, TriesEach, Updates, Upserts, Written, count_of, nothing, rowids_for, shown, stamped}
 use Rattle.sqlite.specs.Does.{AtPlace, Does, OnRows, Tally}
 use Rattle.sqlite.specs.State.{Executes, State}
 use Rattle.sqlite.specs.Listing.{understood}
@@ -41,8 +42,7 @@ use Rattle.sqlite.proofs.Callers.{IsPlain, command_of, one_step, runs_as, statem
 use Rattle.hh_keyed_rows.specs.Codecs.{places_from}
 use Rattle.hh_keyed_rows.specs.Puts.{stored_in}
 use Rattle.hh_keyed_rows.proofs.PlaceLaws.{column_at, drop_next, equal_same}
-use Rattle.hh_keyed_rows.proofs.PutLaws.{cast_int, same_value, went}
-use Rattle.hh_sqlrows.proofs.InsertLaws.{new_is}
+use Rattle.hh_keyed_rows.proofs.PutLaws.{cast_int, cast_null, same_value, went}
 
 -- ---- what the statement makes of the trees
 
@@ -50,12 +50,12 @@ module _ (schema : Schema) (table : Table) (columns : Row) (old new : Trees) whe
   abbrev AreKept : Type 0
   AreKept = AllByRecursion (λ t. t.tree ≢ table.tree → new t.tree ≡ old t.tree) schema.tables
 
-  -- the row is put beside those that are there
+  -- the row is added to those that are there
   pub record AddsRow : Type 0 where
     pub rows : new table.tree ≡ put_row (stored_in (old table.tree) columns) (old table.tree)
     pub others : AllByRecursion (λ t. t.tree ≢ table.tree → new t.tree ≡ old t.tree) schema.tables
 
-  -- The row has the key of one that is there, and the rows that the query picks take the places of those with their rowids.
+  -- A row with this key is there, and the rows that the query selects replace those with their rowids.
   pub record ChangesRows (target : List ℕ) (q : Program) (params : Row) : Type 0 where
     pub there : Row
     pub more : List Row
@@ -124,11 +124,17 @@ module _ (task : Task) (free : (olds news : List Row) → works task.schema task
   tries w (inr (None, judged, it)) = meets it.0 it.1 w it.2
   tries w (inr (Some why, judged, it)) = absurd (let e : ◌≡◌ {A = Result Written (Option Error)} (Ok w) (Err (Some (edit_error why))) = it in cc)
 
+  new_is : (top : ℤ) → with_rowid (rowids_for task.table top) rows (cast_row task.table (Null ∷ columns)) ≡ new
+  new_is top =
+      ap (λ b. with_rowid (Rattle.std.specs.Prelude.if◌then◌else◌ b (Above top) Chosen) rows (cast_row task.table (Null ∷ columns))) uncounted
+      ∙ ap (λ vs. with_rowid Chosen rows (cast Integer Null ∷ vs)) kept
+      ∙ ap (λ v. with_rowid Chosen rows (v ∷ columns)) cast_null
+
   each : (top : ℤ) (d : Written × ℤ) → TriesEach task Abort (clause ∷ []) ((Null ∷ columns) ∷ []) top (nothing old) (Ok d) → Left d.0.trees
   each top d h =
       let one = went h in
       let trees : d.0.trees ≡ one.0.trees = ap (λ (x : Written × ℤ). x.0.trees) (same_value one.2) in
-      subst Left (sym trees) (tries one.0 (subst (λ (r : Row). Tries task Abort (clause ∷ []) r old (Ok one.0)) (new_is task free uncounted old columns kept terms width values top) one.1))
+      subst Left (sym trees) (tries one.0 (subst (λ (r : Row). Tries task Abort (clause ∷ []) r old (Ok one.0)) (new_is top) one.1))
 
   counts : (trees : Trees) (counter : Option Row) (top : ℤ) (next : Trees) → Counts task trees counter top (Ok next) → next ≡ trees
   counts trees counter top next h = same_value (rw uncounted at h)
@@ -185,7 +191,7 @@ module _ (schema : Schema) (at : ℕ) (table : Table) (listed : slice_get schema
 
 -- ---- the row of a rowid
 
--- a test that one row of a table passes picks that row
+-- a test that exactly one row of a table passes selects that row
 pub only_row : (test : Row → Bool) (rows : List Row) (r : Row) → IsTable rows → ((s : Row) → Has rows s → test s ≡ true → s ≡ r) → test r ≡ true → Has rows r → filter test rows ≡ r ∷ []
 only_row test [] r table one passes h = absurd h
 only_row test (x ∷ rows) r table one passes (inl same) =
@@ -208,7 +214,7 @@ only_row test (x ∷ rows) r table one passes (inr h) =
 
 -- ---- texts and blobs
 
--- a value of SQL that is equal to itself alone, whatever the other is
+-- a value of SQL that is equal only to itself
 abbrev pub is_lettered : Value → Bool
 is_lettered Null = false
 is_lettered (Int n) = false
@@ -232,7 +238,7 @@ equal_lettered (Real x) (Blob t) p e = absurd (true≢false (sym e))
 equal_lettered (Text s) (Blob t) p e = absurd (true≢false (sym e))
 equal_lettered (Blob s) (Blob t) p e = equal_same (Blob s) (Blob t) refl refl e
 
--- a row that agrees with texts and blobs has them
+-- a row whose columns agree with texts and blobs has them
 pub agree_lettered : (at : ℕ) (xs a b more : Row) → drop at b ≡ xs ++ more → list_all is_lettered xs ≡ true → agree plain (places_from at (length xs)) a (places_from at (length xs)) b ≡ true
     → map (column a) (places_from at (length xs)) ≡ xs
 unfolding first_key
@@ -244,7 +250,7 @@ agree_lettered at (x ∷ xs) a b more p k h =
     let es = agree_lettered (suc at) xs a b more (drop_next b at x (xs ++ more) p) kx.1 both.1 in
     λ i. e i ∷ es i
 
--- a row has the columns that it begins with at their places
+-- a row has the columns with which it begins, at their places
 pub front_columns : (at : ℕ) (xs a more : Row) → drop at a ≡ xs ++ more → map (column a) (places_from at (length xs)) ≡ xs
 front_columns at [] a more p = refl
 front_columns at (x ∷ xs) a more p =

@@ -1,4 +1,4 @@
--- The clause of a statement by which a row whose key is there changes the row that has it.
+-- The clause of a statement that changes a row if its key is there already.
 use Rattle.std.specs.Prelude.{◌+◌, pos, negsuc, false, [], ◌∷◌, ◌++◌, map, None, Some}
 use Rattle.sqlite_value.specs.declared.value.Value.TheVariants.{Int}
 use Rattle.sqlite_value.specs.declared.keys.Collation.TheVariants.{Binary}
@@ -11,8 +11,8 @@ use Rattle.sqlite_schema.specs.declared.command.Upsert.{Upsert}
 use Rattle.hh_keyed_rows.specs.Codecs.{places_from}
 use Rattle.hh_sqlrows.specs.Forms.{TableForm}
 
--- Of the row that has the rowid after the parameters: this rowid, and the new row, which has the rowid and the columns of the
--- key as they are, and the parameters for those of the value.
+-- For the row whose rowid is the parameter after the others: that rowid, and the new row. The new row has the rowid and the columns of the
+-- key as they are, and the parameters as the columns of the value.
 abbrev pub update_by : {K V : Type 0} → TableForm K V → Query
 update_by form = record {
   from = inner form.table.tree end;

@@ -50,7 +50,7 @@ equal_selves : (xs : Row) → list_all is_discrete xs ≡ true → all_equal xs 
 equal_selves [] p = refl
 equal_selves (x ∷ xs) p = let px = and_parts (is_discrete x) (list_all is_discrete xs) p in and_from _ _ (equal_itself x px.0) (equal_selves xs px.1)
 
--- two tests that pass together are one
+-- two tests that imply each other are the same
 pub same_test : (a b : Bool) → (a ≡ true → b ≡ true) → (b ≡ true → a ≡ true) → a ≡ b
 same_test true b there back = sym (there refl)
 same_test false true there back = back refl
@@ -63,7 +63,7 @@ module _ {A : Type 0} (R : A → A → Ordering) (total : IsTotalOrder R) (exact
       (λ h. let same = is_c.apart a b (equal_written (c.write a) (c.write b) (is_c.plain a) (is_c.plain b) (is_c.wide a ∙ sym (is_c.wide b)) h) in ap (λ x. is_eq (R x b)) same ∙ ap is_eq (tied_itself total b))
       (λ h. let same = exact a b (is_Equal _ h) in ap (λ x. all_equal (c.write x) (c.write b)) same ∙ equal_selves (c.write b) (is_c.plain b))
 
-  -- the columns at these places are those of a value that is asked for
+  -- the columns at these places are those of the value that is asked for
   pub tested_by : (places : List ℕ) (row : Row) (a b : A) → length places ≡ c.width → map (column row) places ≡ c.write a
       → list_all (holds (c.write b ∷ row ∷ [])) (where_terms places 0) ≡ is_eq (R a b)
   tested_by places row a b wide is = where_is places row (c.write b) 0 (c.write b) refl (is_c.wide b ∙ sym wide) ∙ ap (λ xs. all_equal xs (c.write b)) is ∙ equal_is a b
@@ -113,7 +113,7 @@ keys_compare (at ∷ places) from xs ys (a ∷ cs) (b ∷ ds) p q l m =
     let rest = keys_compare places (suc from) xs ys cs ds (drop_next xs from a cs p) (drop_next ys from b ds q) (cc l) (cc m) in
     λ i. ordering_then (value_cmp (first i) (second i)) (rest i)
 
--- ORDER BY these places compares the columns of a codec that stand there cs its values compare
+-- ORDER BY these places compares the columns of a codec there as its values compare
 pub follows_by : {A : Type 0} (c : Codec A) (R : A → A → Ordering) → IsCodec c → IsOrdered c R → (places : List ℕ) → length places ≡ c.width → (a b : A)
     → key_cmp 0 (map (λ (k : Term × Key). k.1) (map (λ at. (col 1 at, ascending Binary)) places)) (c.write a) (c.write b) ≡ R a b
 follows_by c R is_c ordered places wide a b = keys_compare places 0 (c.write a) (c.write b) (c.write a) (c.write b) refl refl (is_c.wide a ∙ sym wide) (is_c.wide b ∙ sym wide) ∙ ordered a b

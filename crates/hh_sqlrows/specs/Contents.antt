@@ -19,7 +19,7 @@ use Rattle.hh_keyed_rows.specs.Values.{account_row_of}
 use Rattle.hh_sqlrows.specs.Forms.{rows_under_keys}
 use Rattle.hh_sqlrows.specs.OfficeTables.{contracts, credits, files, marks, meters, one_row_cmp, parties, period_prices, positions, postings, reallocations, references, results, runs, touched, units}
 
--- an account's row of a run under its key, from the amounts that stand there
+-- an account's row of a run with its key, from the amounts that are stored under the key
 abbrev pub result_of : ResultKey × AccountAmounts → ResultKey × AccountRow
 result_of e = (e.0, account_row_of e.0.account e.1)
 
@@ -51,7 +51,7 @@ registered_of trees = record {
   reallocations = rows_under_keys reallocations trees;
 }
 
--- the content with these settings, as if what is kept beside it agreed with it
+-- the content with these settings, said to be in step with what is kept beside it
 abbrev pub content_of : Settings → Trees → Content
 content_of settings trees = record {
   settings = settings;
@@ -73,7 +73,7 @@ abbrev pub mark_in : Trees → Option Bool
 mark_in trees = find one_row_cmp (record {}) (rows_under_keys marks trees)
 
 module _ (settings : Settings) (trees : Trees) where
-  -- What is kept beside the content agrees with it. Where the mark doesn't say that anything is kept, nothing differs.
+  -- What is kept beside the content agrees with it. This is also so if the mark doesn't say that anything is kept.
   unfoldable pub is_in_step_in : Bool
   is_in_step_in = not (unwrap_or (mark_in trees) false) || agrees (content_of settings trees) (beside_in trees)
 

@@ -2,18 +2,18 @@
 use Rattle.std.specs.Prelude.{◌≡◌, ◌⊎◌, List, [], ◌∷◌, ◌++◌, Result, Ok, Err}
 use Rattle.hh_store.specs.declared.output_fault.OutputFault.{OutputFault}
 
--- What a taker is once it was given rows, and what it left of the output where it stopped for a fault behind some rows.
+-- `Has` says what a taker is after it was given rows. `Stopped` says how it stopped for a fault after some rows, and what it wrote.
 module _ {R : Type 0} (Has : List R → Type 0) (Stopped : OutputFault → List R → Type 0) where
-  -- it took one row more; or it stopped for a fault, behind that row or before it
+  -- it took one more row; or it stopped for a fault, after that row or before it
   abbrev pub TakesRow : {A : Type 0} → List R → R → Result A OutputFault → Type 0
   TakesRow rows row (Ok x) = Has (rows ++ row ∷ [])
   TakesRow rows row (Err fault) = Stopped fault rows ⊎ Stopped fault (rows ++ row ∷ [])
 
-  -- it took rows, which are all; or it stopped for a fault behind rows, which are some
+  -- it took rows, for which `AreAll` holds; or it stopped for a fault after rows, for which `AreSome` holds
   abbrev pub GivesSo : {A : Type 0} → (AreAll AreSome : List R → Type 0) → Result A OutputFault → Type 0
   GivesSo AreAll AreSome (Ok x) = (taken : List R) × Has taken × AreAll taken
   GivesSo AreAll AreSome (Err fault) = (taken : List R) × Stopped fault taken × AreSome taken
 
-  -- it took rows, which surely are these; or it stopped for a fault behind rows, with which these surely begin
+  -- it took rows, which surely are all; or it stopped for a fault after rows, which surely are the first of all
   abbrev pub GivesEach : {A : Type 0} → (Type 0 → Type 0) → List R → Result A OutputFault → Type 0
   GivesEach Surely all = GivesSo (λ taken. Surely (taken ≡ all)) (λ taken. Surely ((rest : List R) × (all ≡ taken ++ rest)))

@@ -1,4 +1,4 @@
--- Making the tables of an office, one after the other: the database after so many of them.
+-- Making the tables of an office, one after the other: the database after some of them.
 use Rattle.std.specs.Prelude.{◌≡◌, ℕ, List, [], map, take, fold}
 use Rattle.std.specs.List.{AllByRecursion}
 use Rattle.sqlite_schema.specs.declared.schema.Schema.{Schema}
@@ -8,11 +8,11 @@ use Rattle.sqlite_trees.specs.Tree.{Trees}
 use Rattle.sqlite.specs.Effect.{Database, IsDatabase}
 use Rattle.hh_sqlrows.specs.OfficeSchema.{office_tables}
 
--- the schema of a database that has nothing
+-- the schema of an empty database
 abbrev pub nothing : Schema
 nothing = record { tables = []; indexes = []; views = [] }
 
--- the schema after so many tables are made; a text names no tree
+-- the schema after `count` tables are made; a statement names no tree
 abbrev pub schema_up_to : ℕ → Schema
 schema_up_to count = fold created nothing (take count (map (λ (t : Table). record t { tree = 0 }) office_tables))
 
@@ -20,7 +20,7 @@ schema_up_to count = fold created nothing (take count (map (λ (t : Table). reco
 abbrev pub AreEmpty : List Table → Trees → Type 0
 AreEmpty tables trees = AllByRecursion (λ t. trees t.tree ≡ []) tables
 
--- so many tables of an office are made, and have no rows
+-- the first `count` tables of an office are made, and have no rows
 pub record IsMadeUpTo (count : ℕ) (db : Database) : Type 0 where
   pub schema : db.schema ≡ schema_up_to count
   pub sound : IsDatabase db

@@ -14,7 +14,7 @@ abbrev pub present : List ℕ → Kind → Column
 present name kind =
     record { name = name; kind = kind; is_strict = true; not_null = true; default = Null; collation = Binary }
 
--- a table of such columns, kept in this tree, whose key stands at these places
+-- a table of such columns, kept in this tree, whose key has the columns at these places
 abbrev pub keyed : List ℕ → ℕ → List Column → List ℕ → Table
 keyed name tree columns places = record {
   name = name;
@@ -31,7 +31,7 @@ keyed name tree columns places = record {
   is_counted = false;
 }
 
--- the unique index on a table's key, which stands in the tree behind the table's
+-- the unique index on a table's key, which is kept in the tree after the table's
 abbrev pub key_index : Table → Index
 key_index table = record {
   name = codes "sqlite_autoindex_" ++ table.name ++ codes "_1";

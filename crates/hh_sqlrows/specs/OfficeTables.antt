@@ -1,4 +1,4 @@
--- The tables of an office, as they stand in its database.
+-- The tables of an office, as they are in its database.
 use Rattle.std.specs.Prelude.{ℕ, ℤ, Bool, List}
 use Rattle.std.specs.Ordering.{is_eq, nat_cmp, on, then_cmp}
 use Rattle.std.specs.declared.cmp.Ordering.{Ordering}
@@ -93,7 +93,7 @@ files = record { at = 8; table = files_table; order = file_key_cmp; key = file_k
 abbrev pub runs : TableForm RunKey Summary
 runs = record { at = 9; table = runs_table; order = run_key_cmp; key = run_key_columns; value = summary_columns }
 
--- an account's row of a run under its key, which has the account
+-- an account's row of a run as it is stored under its key, which has the account
 abbrev pub amount_entry : ResultKey × AccountRow → ResultKey × AccountAmounts
 amount_entry e = (e.0, amounts_of e.1)
 
@@ -126,7 +126,7 @@ positions = record { at = 13; table = positions_table; order = position_key_cmp;
 abbrev pub touched : TableForm SettlementPeriod NoColumns
 touched = record { at = 14; table = touched_table; order = settlement_period_cmp; key = settlement_period_columns; value = no_columns }
 
--- a Settlement Period as a row that has it alone
+-- a Settlement Period as a row without other columns
 abbrev pub touched_entry : SettlementPeriod → SettlementPeriod × NoColumns
 touched_entry at = (at, record {})
 

@@ -1,4 +1,4 @@
--- The writers of reports leave a beginning of their text wherever their rows end.
+-- Wherever their rows end, the writers of reports have written a beginning of their text.
 use Rattle.std.specs.Prelude.{ℕ, ◌≤◌, List, [], All, refl}
 use Rattle.hh_devices.specs.DeviceChanges.{DeviceChange, IsWell}
 use Rattle.hh_devices.specs.Devices.{AppendsFront}

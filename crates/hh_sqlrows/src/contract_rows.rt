@@ -19,12 +19,12 @@ use hh_time::SettlementDate;
 use sqlite::{Alter, Connection, Transaction};
 use std::alloc::Global;
 
-/// What selects the row of a contract.
+/// The query for the row of a contract.
 const CONTRACT: &str =
     "SELECT reference, day, period, kwh FROM contracts WHERE reference = ?1 AND day = ?2 AND period = ?3 ORDER BY reference, day, period";
 
-/// Puts the volume of a contract in the place of the one of its reference and Settlement Period. Its
-/// seller and buyer stand under its reference.
+/// Writes the volume of a contract, and replaces the one with its reference and Settlement Period if there
+/// is one. The contract's seller and buyer are in the row of its reference.
 pub fn replace_contract<S: Alter>(
     tx: &mut Transaction<'_, S>,
     alloc: Global,

@@ -10,13 +10,23 @@ ghost use Rattle.hh_sqlrows.specs.OfficeTables.{credits};
 ghost use Rattle.hh_sqlrows.specs.Reads.{CommitsNothingOf, IsHonest, LeavesOffice, OfOffice, StaysOpen, Stood};
 ghost use Rattle.hh_sqlrows.specs.Statements.{CommitsNothing, Inside, KeepsCommit, StaysInside};
 
-use crate::statement::{select_by, write_entry};
+use crate::statement::{select_by, write_entries, write_entry};
 use hh_keyed_rows::RowFault;
 use hh_num::Ticks;
 use hh_runs::RunKey;
 use hh_states::CreditKey;
 use sqlite::{Alter, Connection, Transaction};
 use std::alloc::Global;
+
+/// How many credits one statement writes.
+const GROUP: usize = 8;
+
+/// The statement that writes a group of credits.
+const INSERT_GROUP: &str = concat!(
+    "INSERT INTO credits (day, kind, period, unit, party, side, credited) VALUES ",
+    "(?, ?, ?, ?, ?, ?, ?), (?, ?, ?, ?, ?, ?, ?), (?, ?, ?, ?, ?, ?, ?), (?, ?, ?, ?, ?, ?, ?), ",
+    "(?, ?, ?, ?, ?, ?, ?), (?, ?, ?, ?, ?, ?, ?), (?, ?, ?, ?, ?, ?, ?), (?, ?, ?, ?, ?, ?, ?)"
+);
 
 /// Writes a credit of a new run.
 pub fn insert_credit<S: Alter>(
@@ -47,6 +57,51 @@ pub fn insert_credit<S: Alter>(
 
 /// Writes the credits of a new run.
 pub fn insert_credits<S: Alter>(
+    tx: &mut Transaction<'_, S>,
+    alloc: Global,
+    rows: &[(CreditKey, Ticks)],
+) -> Result<(), RowFault>
+    ensures same_reference { tx.new.conn.ghost_name ≡ tx.old.conn.ghost_name }
+    ensures puts { let old = state S.Store tx.old.conn.now in
+        let new = state S.Store tx.new.conn.now in
+        Inside old new (IsOffice old.now → OnOk result (PutsAll credits rows.now old.now new.now)) }
+    ensures inside { StaysInside (state S.Store tx.old.conn.now)
+        (state S.Store tx.new.conn.now) result }
+    ensures left { KeepsCommit (state S.Store tx.old.conn.now) (state S.Store tx.new.conn.now) }
+    ensures survives { CommitsNothing (state S.Store tx.old.conn.now)
+        (state S.Store tx.new.conn.now) }
+{
+    'groups: for group in rows.chunks(GROUP) {
+        insert_credit_group(tx, alloc, group)?;
+    }
+    Ok(())
+}
+
+/// Writes credits of a new run: a whole group by one statement, and fewer one after the other.
+fn insert_credit_group<S: Alter>(
+    tx: &mut Transaction<'_, S>,
+    alloc: Global,
+    rows: &[(CreditKey, Ticks)],
+) -> Result<(), RowFault>
+    ensures same_reference { tx.new.conn.ghost_name ≡ tx.old.conn.ghost_name }
+    ensures puts { let old = state S.Store tx.old.conn.now in
+        let new = state S.Store tx.new.conn.now in
+        Inside old new (IsOffice old.now → OnOk result (PutsAll credits rows.now old.now new.now)) }
+    ensures inside { StaysInside (state S.Store tx.old.conn.now)
+        (state S.Store tx.new.conn.now) result }
+    ensures left { KeepsCommit (state S.Store tx.old.conn.now) (state S.Store tx.new.conn.now) }
+    ensures survives { CommitsNothing (state S.Store tx.old.conn.now)
+        (state S.Store tx.new.conn.now) }
+{
+    if rows.len() == GROUP {
+        write_entries(tx, alloc, INSERT_GROUP, rows)
+    } else {
+        insert_each_credit(tx, alloc, rows)
+    }
+}
+
+/// Writes credits of a new run one after the other.
+fn insert_each_credit<S: Alter>(
     tx: &mut Transaction<'_, S>,
     alloc: Global,
     rows: &[(CreditKey, Ticks)],

@@ -17,7 +17,7 @@ use hh_store::KeptFile;
 use sqlite::{Alter, Connection, Transaction};
 use std::alloc::Global;
 
-/// Puts an accepted file in the place of the one of its kind and name.
+/// Writes an accepted file, and replaces the one of its kind and name if there is one.
 pub fn replace_file<S: Alter>(
     tx: &mut Transaction<'_, S>,
     alloc: Global,

@@ -1,4 +1,4 @@
-//! Rows that a statement selects, given to a taker one after the other.
+//! Rows that a statement selects, and that are given to a taker one after the other.
 
 ghost use Rattle.std.specs.Prelude.{◌≡◌, false, ℕ, List, [], option_copied, option_map, Some, IfOk};
 ghost use Rattle.sqlite_value.specs.Order.{Row as SqlRow};
@@ -21,7 +21,7 @@ use sqlite::types::ValueRef;
 use sqlite::{Alter, Connection, Row, Rows};
 use std::alloc::Global;
 
-/// The key and the value of the next row that a statement selects, if there is one more.
+/// The key and the value of the next row that a statement selects, if there is another row.
 fn next_entry<S: Alter, K: Columned + Drop, V: Columned + Drop>(
     rows: &mut Rows<'_, S>,
     alloc: Global,
@@ -58,8 +58,7 @@ fn entry_of<K: Columned + Drop, V: Columned + Drop>(
     }
 }
 
-/// Gives a taker the keys and the values that a text selects by parameters. Each is taken before the next row
-/// is asked for.
+/// Gives a taker the keys and the values that a query selects. Each is taken before the next row is read.
 pub(crate) fn give_entries<
     S: Alter,
     K: Columned + Drop,
@@ -106,11 +105,11 @@ pub(crate) fn give_entries<
         };
         taker.take_row(&key, &value, out)?;
     }
-    // No table has so many rows.
+    // No table has that many rows.
     Err(OutputFault::Store)
 }
 
-/// Gives a taker the keys and the values that a text selects by the columns of one value.
+/// Gives a taker the keys and the values that a query selects by the columns of one value.
 pub(crate) fn give_by<
     S: Alter,
     A: Columned,

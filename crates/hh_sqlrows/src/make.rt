@@ -12,7 +12,7 @@ use sqlite::{Alter, Error, Transaction};
 /// How many tables an office has.
 const TABLES: usize = 16;
 
-/// The text that makes the table with this number.
+/// The statement that makes the table with this number.
 fn text_of(at: usize) -> &'static str
     requires { at < 16 }
     ensures { result.now ≡ slice_index_or texts at [] }
@@ -53,7 +53,7 @@ fn text_of(at: usize) -> &'static str
     }
 }
 
-/// Makes the table with this number, in a database that has those before it.
+/// Makes the table with this number, in a database that has the tables before it.
 pub fn make_table<S: Alter>(tx: &mut Transaction<'_, S>, at: usize) -> Result<usize, Error>
     requires { at < 16 }
     ensures same_reference { tx.new.conn.ghost_name ≡ tx.old.conn.ghost_name }

@@ -18,7 +18,7 @@ use hh_time::SettlementDate;
 use sqlite::{Alter, Connection, Transaction};
 use std::alloc::Global;
 
-/// Puts a reading in the place of the one of its unit and Settlement Period.
+/// Writes a reading, and replaces the one of its unit and Settlement Period if there is one.
 pub fn replace_meter<S: Alter>(
     tx: &mut Transaction<'_, S>,
     alloc: Global,

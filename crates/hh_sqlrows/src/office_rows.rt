@@ -1,4 +1,4 @@
-//! The settings, and whether positions of accounts are kept.
+//! The settings, and whether the positions of accounts are kept.
 
 ghost use Rattle.std.specs.Prelude.{◌≡◌, false, IsTrue, OnOk, IfOk};
 ghost use Rattle.std.specs.FinMap.{find};
@@ -15,7 +15,7 @@ use hh_rows::Settings;
 use sqlite::{Alter, Connection, Transaction};
 use std::alloc::Global;
 
-/// Writes the settings, which no row has yet.
+/// Writes the settings. No row has them yet.
 pub fn insert_settings<S: Alter>(
     tx: &mut Transaction<'_, S>,
     alloc: Global,
@@ -41,7 +41,7 @@ pub fn insert_settings<S: Alter>(
     )
 }
 
-/// Writes whether positions are kept, which no row says yet.
+/// Writes whether positions are kept. No row says it yet.
 pub fn insert_mark<S: Alter>(
     tx: &mut Transaction<'_, S>,
     alloc: Global,
@@ -67,7 +67,7 @@ pub fn insert_mark<S: Alter>(
     )
 }
 
-/// Puts whether positions are kept in the place of what was said of it.
+/// Writes whether positions are kept, and replaces what was written about it.
 pub fn replace_mark<S: Alter>(
     tx: &mut Transaction<'_, S>,
     alloc: Global,

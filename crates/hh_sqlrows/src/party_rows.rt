@@ -23,10 +23,10 @@ use hh_store::OutputFault;
 use sqlite::{Alter, Connection, Transaction};
 use std::alloc::Global;
 
-/// What selects all parties.
+/// The query for all parties.
 const ALL_PARTIES: &str = "SELECT party, day_from, day_to, access_key FROM parties ORDER BY party";
 
-/// Puts what is registered of a party in the place of what was.
+/// Writes the registration of a party, and replaces the one that it had.
 pub fn replace_party<S: Alter>(
     tx: &mut Transaction<'_, S>,
     alloc: Global,
@@ -52,7 +52,7 @@ pub fn replace_party<S: Alter>(
     )
 }
 
-/// What is registered of a party.
+/// The registration of a party.
 pub fn select_party<S: Alter>(
     conn: &mut Connection<S>,
     alloc: Global,

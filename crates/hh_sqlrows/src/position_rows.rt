@@ -18,11 +18,11 @@ use hh_time::SettlementDate;
 use sqlite::{Alter, Connection, Transaction};
 use std::alloc::Global;
 
-/// What selects the row of a position.
+/// The query for the row of a position.
 const POSITION: &str =
     "SELECT day, period, party, side, kwh, lost FROM positions WHERE day = ?1 AND period = ?2 AND party = ?3 AND side = ?4 ORDER BY day, period, party, side";
 
-/// Puts the position of an account in a Settlement Period in the place of the one there.
+/// Writes the position of an account in a Settlement Period, and replaces the one there if there is one.
 pub fn replace_position<S: Alter>(
     tx: &mut Transaction<'_, S>,
     alloc: Global,
@@ -49,7 +49,7 @@ pub fn replace_position<S: Alter>(
     )
 }
 
-/// Puts positions, one after the other.
+/// Writes positions as `replace_position` does, one after the other.
 pub fn replace_positions<S: Alter>(
     tx: &mut Transaction<'_, S>,
     alloc: Global,

@@ -21,7 +21,7 @@ use hh_store::OutputFault;
 use sqlite::{Alter, Connection, Transaction};
 use std::alloc::Global;
 
-/// What selects all postings.
+/// The query for all postings.
 const ALL_POSTINGS: &str =
     "SELECT day, kind, party, side, pence FROM postings ORDER BY day, kind, party, side";
 

@@ -19,7 +19,7 @@ use hh_time::SettlementDate;
 use sqlite::{Alter, Connection, Transaction};
 use std::alloc::Global;
 
-/// Puts a price in the place of the one of its Settlement Period.
+/// Writes a price, and replaces the one of its Settlement Period if there is one.
 pub fn replace_price<S: Alter>(
     tx: &mut Transaction<'_, S>,
     alloc: Global,

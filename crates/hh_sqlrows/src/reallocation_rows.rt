@@ -17,7 +17,7 @@ use hh_rows::{ReallocationKey, ReallocationRow};
 use sqlite::{Alter, Connection, Transaction};
 use std::alloc::Global;
 
-/// Puts a reallocation in the place of the one of its key.
+/// Writes a reallocation, and replaces the one with its key if there is one.
 pub fn replace_reallocation<S: Alter>(
     tx: &mut Transaction<'_, S>,
     alloc: Global,

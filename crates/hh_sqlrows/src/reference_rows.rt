@@ -16,7 +16,7 @@ use hh_names::{Counterparties, Reference};
 use sqlite::{Alter, Connection, Transaction};
 use std::alloc::Global;
 
-/// Puts the seller and the buyer of a reference in the place of those that it had.
+/// Writes the seller and the buyer of a reference, and replaces those that it had.
 pub fn replace_reference<S: Alter>(
     tx: &mut Transaction<'_, S>,
     alloc: Global,
@@ -68,7 +68,7 @@ pub fn select_reference<S: Alter>(
     )
 }
 
-/// Puts the sellers and the buyers of references, one after the other.
+/// Writes the sellers and the buyers of references as `replace_reference` does, one after the other.
 pub fn replace_references<S: Alter>(
     tx: &mut Transaction<'_, S>,
     alloc: Global,
@@ -91,7 +91,7 @@ pub fn replace_references<S: Alter>(
     Ok(())
 }
 
-/// All references with their sellers and buyers, by their bytes.
+/// All references with their sellers and buyers, by the bytes of the references.
 pub fn select_references<S: Alter>(
     conn: &mut Connection<S>,
     alloc: Global,

@@ -1,4 +1,4 @@
-//! The writers of reports, given the rows of the tables that they are written from.
+//! The writers of reports as takers of the rows from which they write.
 
 ghost use Rattle.std.specs.Prelude.{◌≤◌, List, [], ◌∷◌, Err, map, All};
 ghost use Rattle.std.specs.Io.KnownBytes.{Appends};
@@ -45,7 +45,8 @@ impl RowTaker<ResultKey, AccountAmounts> for ResultsWriter {
         results_left device fault writer run (map period_row rows) has };
 }
 
-/// Writes the day report of a run. A row whose Settlement Period falls, which no office has, is refused.
+/// Writes the day report of a run. A row of an earlier Settlement Period than the row before it is refused.
+/// No office has such rows.
 impl RowTaker<ResultKey, AccountAmounts> for DayReportWriter {
     ghost Report = { ReportedRun };
 
@@ -70,7 +71,7 @@ impl RowTaker<ResultKey, AccountAmounts> for DayReportWriter {
         day_left device fault writer run (map period_row rows) has };
 }
 
-/// Writes the balances of parties by what was posted.
+/// Writes the balances of parties, from the sums of what was posted.
 impl RowTaker<PartyId, PartyRegistration> for BalancesWriter {
     ghost Report = { Amounts };
 

@@ -14,7 +14,7 @@ ghost use Rattle.hh_sqlrows.specs.Reads.{CommitsNothingOf, IsHonest, LeavesOffic
 ghost use Rattle.hh_sqlrows.specs.Statements.{CommitsNothing, Inside, KeepsCommit, StaysInside};
 
 use crate::giving::give_by;
-use crate::statement::{select_by, write_entry};
+use crate::statement::{select_by, write_entries, write_entry};
 use crate::taker::RowTaker;
 use hh_calc::AccountRow;
 use hh_devices::Sink;
@@ -23,9 +23,22 @@ use hh_runs::RunKey;
 use hh_states::ResultKey;
 use hh_store::OutputFault;
 use sqlite::{Alter, Connection, Transaction};
-use std::alloc::Global;
+use std::alloc::{AllocError, Global};
 
-/// What selects the rows of a run.
+/// How many rows one statement writes.
+const GROUP: usize = 8;
+
+/// The statement that writes a group of rows.
+const INSERT_GROUP: &str = concat!(
+    "INSERT INTO results (day, kind, period, party, side, credited, balancing, contracts, ",
+    "imbalance, charge, share) VALUES ",
+    "(?, ?, ?, ?, ?, ?, ?, ?, ?, ?, ?), (?, ?, ?, ?, ?, ?, ?, ?, ?, ?, ?), ",
+    "(?, ?, ?, ?, ?, ?, ?, ?, ?, ?, ?), (?, ?, ?, ?, ?, ?, ?, ?, ?, ?, ?), ",
+    "(?, ?, ?, ?, ?, ?, ?, ?, ?, ?, ?), (?, ?, ?, ?, ?, ?, ?, ?, ?, ?, ?), ",
+    "(?, ?, ?, ?, ?, ?, ?, ?, ?, ?, ?), (?, ?, ?, ?, ?, ?, ?, ?, ?, ?, ?)"
+);
+
+/// The query for the rows of a run.
 const RESULTS_OF: &str =
     "SELECT day, kind, period, party, side, credited, balancing, contracts, imbalance, charge, share FROM results WHERE day = ?1 AND kind = ?2 ORDER BY day, kind, period, party, side";
 
@@ -106,6 +119,68 @@ pub fn give_results_of<S: Alter, T: RowTaker<ResultKey, AccountAmounts>, O: Sink
 
 /// Writes the rows of accounts of a new run. The account of each is that of its key.
 pub fn insert_results<S: Alter>(
+    tx: &mut Transaction<'_, S>,
+    alloc: Global,
+    rows: &[(ResultKey, AccountRow)],
+) -> Result<(), RowFault>
+    ensures same_reference { tx.new.conn.ghost_name ≡ tx.old.conn.ghost_name }
+    ensures puts { let old = state S.Store tx.old.conn.now in
+        let new = state S.Store tx.new.conn.now in
+        Inside old new (IsOffice old.now
+        → OnOk result (PutsAll results (map amount_entry rows.now) old.now new.now)) }
+    ensures inside { StaysInside (state S.Store tx.old.conn.now)
+        (state S.Store tx.new.conn.now) result }
+    ensures left { KeepsCommit (state S.Store tx.old.conn.now) (state S.Store tx.new.conn.now) }
+    ensures survives { CommitsNothing (state S.Store tx.old.conn.now)
+        (state S.Store tx.new.conn.now) }
+{
+    'groups: for group in rows.chunks(GROUP) {
+        insert_result_group(tx, alloc, group)?;
+    }
+    Ok(())
+}
+
+/// Writes rows of accounts of a new run: a whole group by one statement, and fewer one after the other.
+fn insert_result_group<S: Alter>(
+    tx: &mut Transaction<'_, S>,
+    alloc: Global,
+    rows: &[(ResultKey, AccountRow)],
+) -> Result<(), RowFault>
+    ensures same_reference { tx.new.conn.ghost_name ≡ tx.old.conn.ghost_name }
+    ensures puts { let old = state S.Store tx.old.conn.now in
+        let new = state S.Store tx.new.conn.now in
+        Inside old new (IsOffice old.now
+        → OnOk result (PutsAll results (map amount_entry rows.now) old.now new.now)) }
+    ensures inside { StaysInside (state S.Store tx.old.conn.now)
+        (state S.Store tx.new.conn.now) result }
+    ensures left { KeepsCommit (state S.Store tx.old.conn.now) (state S.Store tx.new.conn.now) }
+    ensures survives { CommitsNothing (state S.Store tx.old.conn.now)
+        (state S.Store tx.new.conn.now) }
+{
+    if rows.len() == GROUP {
+        let entries = amounts_under_keys(alloc, rows)?;
+        write_entries(tx, alloc, INSERT_GROUP, entries.as_slice())
+    } else {
+        insert_each_result(tx, alloc, rows)
+    }
+}
+
+/// The rows of accounts without their accounts, which are in the keys. `Err` only if memory is refused.
+fn amounts_under_keys(
+    alloc: Global,
+    rows: &[(ResultKey, AccountRow)],
+) -> Result<Vec<(ResultKey, AccountAmounts)>, AllocError>
+    ensures { IfOk result (λ entries. entries.items ≡ map amount_entry rows.now) }
+{
+    let mut entries = Vec::with_capacity(alloc, rows.len())?;
+    'rows: for row in rows {
+        entries.push((row.0, AccountAmounts::of(&row.1)))?;
+    }
+    Ok(entries)
+}
+
+/// Writes rows of accounts of a new run one after the other.
+fn insert_each_result<S: Alter>(
     tx: &mut Transaction<'_, S>,
     alloc: Global,
     rows: &[(ResultKey, AccountRow)],

@@ -1,9 +1,12 @@
-//! Statements on one table: a row that is written, and rows that are selected.
+//! Statements on one table: they write a row, or select rows.
 
 ghost use Rattle.std.specs.Prelude.{◌≡◌, ◌++◌, [], false, ℕ, List, option_map, slice_get, IfOk, IsTrue, OnOk, Ok, true};
+ghost use Rattle.std.specs.List.{AllByRecursion, flat_map};
 ghost use Rattle.sqlite.specs.Held.{state};
 ghost use Rattle.sqlite.specs.State.{ExecutesInside};
 ghost use Rattle.sqlite.specs.Values.{bound};
+ghost use Rattle.hh_keyed_rows.specs.KeyedRows.{columns_of as columns_by};
+ghost use Rattle.hh_keyed_rows.specs.Laws.{Fits};
 ghost use Rattle.hh_sqlrows.specs.Reads.{IsHonest, StaysOpen, Stood};
 ghost use Rattle.hh_sqlrows.specs.Statements.{CommitsNothing, Inside, KeepsCommit, StaysInside};
 ghost use Rattle.hh_sqlrows.specs.steps.Answers.{IsFirst, IsPlainOf, IsRead};
@@ -11,9 +14,9 @@ ghost use Rattle.hh_sqlrows.specs.steps.Answers.{IsFirst, IsPlainOf, IsRead};
 use hh_keyed_rows::{Columned, RowFault, columns_of, read_entries};
 use sqlite::types::ValueRef;
 use sqlite::{Alter, Connection, Transaction};
-use std::alloc::Global;
+use std::alloc::{AllocError, Global};
 
-/// Executes a text whose parameters are the columns of a key and of its value.
+/// Executes a statement whose parameters are the columns of a key and of its value.
 pub(crate) fn write_entry<S: Alter, K: Columned, V: Columned>(
     tx: &mut Transaction<'_, S>,
     alloc: Global,
@@ -41,7 +44,51 @@ pub(crate) fn write_entry<S: Alter, K: Columned, V: Columned>(
     }
 }
 
-/// Executes a text whose parameters are the columns of one value.
+/// Executes a statement whose parameters are the columns of keys and of their values, entry by entry.
+pub(crate) fn write_entries<S: Alter, K: Columned, V: Columned>(
+    tx: &mut Transaction<'_, S>,
+    alloc: Global,
+    text: &str,
+    entries: &[(K, V)],
+) -> Result<(), RowFault>
+    ensures same_reference { tx.new.conn.ghost_name ≡ tx.old.conn.ghost_name }
+    ensures fit { OnOk result (AllByRecursion (Fits K.codec V.codec) entries.now) }
+    ensures writes { let old = state S.Store tx.old.conn.now in
+        let new = state S.Store tx.new.conn.now in
+        let columns = flat_map (columns_by K.codec V.codec) entries.now in
+        Inside old new (OnOk result ((count : ℕ)
+        × ExecutesInside 0 text.now columns old new (Ok count))) }
+    ensures inside { StaysInside (state S.Store tx.old.conn.now)
+        (state S.Store tx.new.conn.now) result }
+    ensures left { KeepsCommit (state S.Store tx.old.conn.now) (state S.Store tx.new.conn.now) }
+    ensures survives { CommitsNothing (state S.Store tx.old.conn.now)
+        (state S.Store tx.new.conn.now) }
+{
+    let columns = columns_of_all(alloc, entries)?;
+    match tx.execute(text, columns.as_slice()) {
+        Ok(_) => Ok(()),
+        Err(error) => Err(RowFault::from(error)),
+    }
+}
+
+/// The columns of keys and of their values, entry by entry. `Err` only if memory is refused.
+fn columns_of_all<'a, K: Columned, V: Columned>(
+    alloc: Global,
+    entries: &'a [(K, V)],
+) -> Result<Vec<ValueRef<'a>>, AllocError>
+    ensures written { IfOk result (λ columns.
+        bound columns.items ≡ flat_map (columns_by K.codec V.codec) entries.now) }
+    ensures fit { OnOk result (AllByRecursion (Fits K.codec V.codec) entries.now) }
+{
+    let mut columns = Vec::new(alloc);
+    'entries: for entry in entries {
+        entry.0.to_columns(&mut columns)?;
+        entry.1.to_columns(&mut columns)?;
+    }
+    Ok(columns)
+}
+
+/// Executes a statement whose parameters are the columns of one value.
 pub(crate) fn execute_by<S: Alter, A: Columned>(
     tx: &mut Transaction<'_, S>,
     alloc: Global,
@@ -67,7 +114,7 @@ pub(crate) fn execute_by<S: Alter, A: Columned>(
     }
 }
 
-/// The keys and the values that a text selects by parameters.
+/// The keys and the values that a query selects by parameters.
 pub(crate) fn select_entries<S: Alter, K: Columned + Drop, V: Columned + Drop>(
     conn: &mut Connection<S>,
     alloc: Global,
@@ -96,7 +143,7 @@ pub(crate) fn select_entries<S: Alter, K: Columned + Drop, V: Columned + Drop>(
     }
 }
 
-/// The keys and the values that a text selects by the columns of one value.
+/// The keys and the values that a query selects by the columns of one value.
 pub(crate) fn select_by<S: Alter, A: Columned, K: Columned + Drop, V: Columned + Drop>(
     conn: &mut Connection<S>,
     alloc: Global,
@@ -124,7 +171,7 @@ pub(crate) fn select_by<S: Alter, A: Columned, K: Columned + Drop, V: Columned +
     select_entries(conn, alloc, text, params.as_slice())
 }
 
-/// The keys and the values that a text selects by the columns of two values.
+/// The keys and the values that a query selects by the columns of two values.
 pub(crate) fn select_by_two<
     S: Alter,
     A: Columned,
@@ -159,7 +206,7 @@ pub(crate) fn select_by_two<
     select_entries(conn, alloc, text, params.as_slice())
 }
 
-/// The value of the first row that a text selects by its key.
+/// The value of the first row that a query selects by its key.
 pub(crate) fn select_first<S: Alter, K: Columned + Drop, V: Columned + Drop>(
     conn: &mut Connection<S>,
     alloc: Global,

@@ -1,4 +1,4 @@
-//! What is given rows of the database, one after the other.
+//! Takers of rows from the database, one after the other.
 
 ghost use Rattle.std.specs.Prelude.{List, []};
 ghost use Rattle.hh_devices.specs.DeviceChanges.{change, DeviceChange};
@@ -10,23 +10,23 @@ ghost use Rattle.hh_sqlrows.specs.Giving.{TakesRow};
 use hh_devices::Sink;
 use hh_store::OutputFault;
 
-/// What is given the rows of a table, each with its key, one after the other, and writes what they come to.
+/// A taker of the rows of a table, each with its key, one after the other. It writes what the rows come to.
 pub trait RowTaker<K, V> {
-    /// What the rows come to.
+    /// What the rows are written as.
     ghost Report: { Type 0 };
 
-    /// Since it was begun it was given these rows and no others, and the output changed so.
+    /// Since it began, it was given exactly these rows, and this is how the output changed.
     ghost has: { DeviceChange → Self → Report → List (K × V) → Type 0 };
 
-    /// It stopped for a fault behind these rows, and the output changed so.
+    /// It stopped for a fault after these rows, and this is how the output changed.
     ghost stopped: { DeviceChange → Report → OutputFault → List (K × V) → Type 0 };
 
-    /// Takes a row.
+    /// Takes a row. After an error no more rows are taken.
     ///
     /// # Errors
     ///
-    /// `Memory` where memory was refused, `Store` where no office has such a row behind those before it, `Write`
-    /// only where the output failed or took nothing in this call. No more rows are taken then.
+    /// `Memory`: memory was refused. `Store`: no office has such a row after those before it. `Write`: the
+    /// output failed or took nothing in this call.
     fn take_row<O: Sink>(&mut self, key: &K, value: &V, out: &mut O) -> Result<(), OutputFault>
         ensures { (begun : O) (report : Report) (rows : List (K × V))
             → has (change O.taken O.failures begun out.old) self.old report rows
@@ -34,7 +34,7 @@ pub trait RowTaker<K, V> {
             (stopped (change O.taken O.failures begun out.new) report)
             rows (key.now, value.now) result };
 
-    /// The rows may end, for a fault of the database.
+    /// The rows may end early, for a fault of the database.
     ghost ends: { (device : DeviceChange) (taker : Self) (report : Report) (rows : List (K × V))
         (fault : RowFault) → has device taker report rows
         → stopped device report (output_refused fault) rows };

@@ -16,7 +16,7 @@ use hh_time::SettlementDate;
 use sqlite::{Alter, Connection, Transaction};
 use std::alloc::Global;
 
-/// Writes that a Settlement Period was touched, whether or not a row says so already.
+/// Writes that a Settlement Period was touched. A row may say so already.
 pub fn touch_period<S: Alter>(
     tx: &mut Transaction<'_, S>,
     alloc: Global,
@@ -91,7 +91,7 @@ pub fn select_touched_on<S: Alter>(
     periods_of(alloc, found.as_slice())
 }
 
-/// The Settlement Periods of rows that have nothing else.
+/// The Settlement Periods of rows that have no other columns.
 fn periods_of(
     alloc: Global,
     rows: &[(SettlementPeriod, NoColumns)],
@@ -105,7 +105,7 @@ fn periods_of(
     Ok(periods)
 }
 
-/// Takes out the Settlement Periods of a date, so that none of them counts as touched.
+/// Removes the Settlement Periods of a date, so that none of them counts as touched.
 pub fn untouch_on<S: Alter>(
     tx: &mut Transaction<'_, S>,
     alloc: Global,
@@ -125,7 +125,7 @@ pub fn untouch_on<S: Alter>(
     execute_by(tx, alloc, "DELETE FROM touched WHERE day = ?1", date)
 }
 
-/// All Settlement Periods that were touched, in their order; their rows have nothing else.
+/// All Settlement Periods that were touched, in their order. Their rows have no other columns.
 pub fn select_touched<S: Alter>(
     conn: &mut Connection<S>,
     alloc: Global,

@@ -17,7 +17,7 @@ use hh_rows::{UnitRegistration, UnitRow};
 use sqlite::{Alter, Connection, Transaction};
 use std::alloc::Global;
 
-/// Puts what is registered of a unit in the place of what was.
+/// Writes the registration of a unit, and replaces the one that it had.
 pub fn replace_unit<S: Alter>(
     tx: &mut Transaction<'_, S>,
     alloc: Global,
@@ -43,7 +43,7 @@ pub fn replace_unit<S: Alter>(
     )
 }
 
-/// What is registered of a unit.
+/// The registration of a unit.
 pub fn select_unit<S: Alter>(
     conn: &mut Connection<S>,
     alloc: Global,

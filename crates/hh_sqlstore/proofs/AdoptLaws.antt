@@ -1,4 +1,4 @@
--- The database of an office that is taken over has the settings and the content that it had.
+-- An office's database that is taken over has the settings and the content that it had.
 use Rattle.std.proofs.Common.{◌≡◌, ◌∙◌, inl, inr, true, IsTrue, Option, Some, refl, ap, subst, sym}
 use Rattle.std.specs.FinMap.{find}
 use Rattle.sqlite.specs.Effect.{Database}
@@ -30,7 +30,7 @@ module _ (old new : Database) where
   taken_office (inl same) is = subst IsOffice (sym same) is
   taken_office (inr keeps) is = keeps.is_office
 
--- an office's database holds the content that it has with its settings
+-- an office's database contains the content given by its settings
 holds_content : (kept : Settings) (db : Database) → IsOffice db → HasSettings kept db.trees → Holds version (stored_content kept db.trees) db
 holds_content kept db is has = record {
   of_version = refl;
@@ -59,13 +59,13 @@ module _ (kept : Settings) (old new : State) (adopted : IsAdoptedFrom kept old) 
       holds_content kept new.committed (taken_office old.committed new.committed committed_taken office_committed)
       (taken_settings old.committed new.committed committed_taken kept settings_committed)
 
-  -- it held that content before
+  -- it contained that content before
   pub held_before : Holds version (stored_content kept new.committed.trees) old.committed
   held_before =
       subst (λ (content : Content). Holds version content old.committed) (sym (taken_content old.committed new.committed committed_taken kept))
       (holds_content kept old.committed office_committed settings_committed)
 
-  -- and no other
+  -- and no other content
   pub content_before : (content : Content) → Holds version content old.committed → stored_content kept new.committed.trees ≡ content
   content_before content holds =
       let same : ◌≡◌ {A = Option Settings} (Some kept) (Some content.settings) = sym settings_committed ∙ holds.settings in
@@ -74,14 +74,14 @@ module _ (kept : Settings) (old new : State) (adopted : IsAdoptedFrom kept old) 
       ∙ ap (λ k. stored_content k old.committed.trees) is
       ∙ sym (content_is content old.committed holds)
 
--- where positions are kept from now on, a database holds the content that it held
+-- if positions are kept from now on, a database contains the content that it contained
 beside_holds : (content : Content) (old new : Database) → Holds version content old → KeepsBeside old new → Holds version content new
 beside_holds content old new holds keeps =
     let same : content ≡ stored_content content.settings new.trees = content_is content old holds ∙ sym (keeps.content content.settings) in
     subst (λ (c : Content). Holds version c new) (sym same)
     (holds_content content.settings new keeps.is_office (ap (find one_row_cmp (record {})) keeps.settings ∙ holds.settings))
 
--- what a crash leaves of a database that is taken over, or was to be, holds the content that it held
+-- whatever a crash leaves of a database that is taken over, or was to be, contains the content that the database had
 pub keeps_held : (old new : State) → ((trees : Trees) → IsTrue old.is_open → old.may_leave trees → trees ≡ old.committed.trees) → (HasCleanDisk new → HasCleanDisk old)
     → MayKeepBeside old new → KeepsHeld old new
 keeps_held old new settled honest may clean = (

@@ -1,4 +1,4 @@
--- The content after what a transaction has written: what is kept beside it goes on agreeing with it, or does so from now on.
+-- The content after what a transaction has written: what is kept beside it still agrees with it, or agrees from now on.
 use Rattle.std.proofs.Common.{◌≡◌, ◌∙◌, ◌++◌, true, false, filter_map, Some, IsTrue, refl, ap, subst, sym}
 use Rattle.std.specs.Prelude.{◌||◌, not, unwrap_or}
 use Rattle.std.proofs.lemmas.List.{append-nil}
@@ -24,24 +24,24 @@ use Rattle.hh_sqlchanges.specs.Writes.{WritesBesideAnew}
 use Rattle.hh_sqlstore.specs.Leaving.{KeepsBeside}
 use Rattle.hh_sqlstore.specs.steps.Changed.{KeepsLoad, KeepsRun}
 
--- where positions are kept, what is kept is in step exactly where it agrees
+-- if positions are kept, what is kept is in step exactly if it agrees
 pub step_is : (kept : Settings) (trees : Trees) → mark_in trees ≡ Some true → is_in_step_in kept trees ≡ agrees (content_of kept trees) (beside_in trees)
 unfolding is_in_step_in
 step_is kept trees marked = ap (λ m. not (unwrap_or m false) || agrees (content_of kept trees) (beside_in trees)) marked
 
--- a content that is in step is the same as if it were said to be
+-- content that is in step is the same as the content said to be in step
 pub as_if : (kept : Settings) (trees : Trees) → is_in_step_in kept trees ≡ true → content_of kept trees ≡ stored_content kept trees
 as_if kept trees step = ap (λ b. record (content_of kept trees) { is_in_step = b }) (sym step)
 
 module _ (kept : Settings) (old new : Database) (marked : mark_in old.trees ≡ Some true) (same_mark : mark_in new.trees ≡ mark_in old.trees) where
-  -- the tables of a state are in step, and so they agree as if that were said
+  -- the tables of a state are in step, so what is kept beside them agrees with them
   in_state : (t : Content) → t.is_in_step ≡ true → stored_content kept old.trees ≡ t → (content_of kept old.trees ≡ t) × IsTrue (agrees t (beside_in old.trees))
   in_state t step is =
       let old_step : is_in_step_in kept old.trees ≡ true = ap (λ (c : Content). c.is_in_step) is ∙ step in
       let same : content_of kept old.trees ≡ t = as_if kept old.trees old_step ∙ is in
       (same, subst (λ (c : Content). IsTrue (agrees c (beside_in old.trees))) same (sym (step_is kept old.trees marked) ∙ old_step))
 
-  -- a content that agrees is stored as it is
+  -- content with which everything agrees is stored as it is
   stored_as : (t : Content) → content_of kept new.trees ≡ t → IsTrue (agrees t (beside_in new.trees)) → t.is_in_step ≡ true → stored_content kept new.trees ≡ t
   stored_as t same agreeing step =
       let new_step : is_in_step_in kept new.trees ≡ true = step_is kept new.trees (same_mark ∙ marked) ∙ ap (λ (c : Content). agrees c (beside_in new.trees)) same ∙ agreeing in
@@ -73,12 +73,12 @@ module _ (kept : Settings) (old new : Database) (marked : mark_in old.trees ≡ 
       stored_as (effect_of_run w (tables_of midnight s)) made (subst (λ (c : Content). IsTrue (agrees c (beside_in new.trees))) (sym is_after) agreeing) refl
       ∙ ap (effect_of_run w) (sym stands.1)
 
--- where no positions are kept, nothing is out of step
+-- if no positions are kept, nothing is out of step
 step_unmarked : (kept : Settings) (trees : Trees) → mark_in trees ≡ Some false → is_in_step_in kept trees ≡ true
 unfolding is_in_step_in
 step_unmarked kept trees unmarked = ap (λ m. not (unwrap_or m false) || agrees (content_of kept trees) (beside_in trees)) unmarked
 
--- what is made anew and written where nothing was kept is in step, and the content stays
+-- if nothing was kept, and what is made anew is written, it is in step, and the content is as it was
 module _ (anew : MadeAnewAgrees) (written : MadeAnewAreWritten) (old new : Database) (found : BesideAnew) (is : IsBesideAnew old.trees found)
     (writes : WritesBesideAnew found.positions.items found.touched.items old new) (unmarked : mark_in old.trees ≡ Some false) where
   positions_written : (kept : Settings) → (beside_in new.trees).positions ≡ (beside_of (content_of kept old.trees)).positions

@@ -24,21 +24,21 @@ use Rattle.hh_sqlstore.specs.Stores.{IsIdle, Stored, content_in}
 use Rattle.hh_sqlstore.specs.steps.Changed.{ChangesNothing, IsChangedBy, MayChange}
 use Rattle.hh_sqlstore.specs.steps.Made.{IsUndone}
 
--- what is undone was but read
+-- a transaction that was undone has only read
 pub reading_of_undone : (old new : State) → (IsTrue new.is_open → HasCleanDisk new) → IsUndone old new → SelectsOnly old new
 reading_of_undone old new clean undone = record {
   stood = λ stands. (undone (clean stands) stands).0;
   left = λ stands office settled. let kept = undone (clean stands) stands in (kept.1, kept.2);
 }
 
--- what changed nothing was but read
+-- a call that changed nothing has only read
 pub reading_of_nothing : (old new : State) → (IsTrue new.is_open → HasCleanDisk new) → ChangesNothing old new → SelectsOnly old new
 reading_of_nothing old new clean nothing = record {
   stood = λ stands. (nothing (clean stands)).stood stands;
   left = λ stands. (nothing (clean stands)).left stands;
 }
 
--- the tables of an office that stays one, with its settings, hold their content
+-- the tables of an office that is still one, with its settings, contain their content
 pub still_holds : (kept : Settings) (old new : Database) → StaysOffice old new → Holds version (stored_content kept old.trees) old → Holds version (stored_content kept new.trees) new
 still_holds kept old new stays holds = record {
   of_version = refl;
@@ -66,13 +66,13 @@ module _ {S : Type 0} (g : Ghosts S) (t : Stored S) {posted : Option (Vec (Posti
       let office = subst IsOffice (sym settled) (idle.holds (changed stands).was_open).is_office in
       subst (λ (db : Database). Change db is.committed) settled (subst (Change was.now) (changed stands).settled ((changed stands).changed office))
 
-  -- the content is the one that the change makes
+  -- the content is what the change makes
   pub content_changed : IsTrue is.is_open → (f : Content → Content)
       → (mark_in was.committed.trees ≡ Some true → Change was.committed is.committed → stored_content t.settings is.committed.trees ≡ f (stored_content t.settings was.committed.trees))
       → content_in g after ≡ f (content_in g t)
   content_changed stands f makes = makes (idle.marked (changed stands).was_open) (committed stands)
 
-  -- they are idle as before, with no postings at hand
+  -- no transaction is under way afterwards, as before, and no postings are in memory
   pub idle_changed : ((old new : Database) → Change old new → StaysOffice old new) → connection.in_transaction ≡ false → IsIdle g after None
   idle_changed stays mode = record {
     autocommit = mode;
@@ -84,7 +84,7 @@ module _ {S : Type 0} (g : Ghosts S) (t : Stored S) {posted : Option (Vec (Posti
 
 -- ---- one change and what it makes of what is kept beside the content
 
--- a change is the same as one that follows of it
+-- a change is also any change that follows from it
 pub changed_so : {Change Other : Database → Database → Type 0} (old new : State) → (IsOffice old.now → Change old.now new.now → Other old.now new.now) → IsChangedBy Change old new → IsChangedBy Other old new
 changed_so old new follows changed = record {
   was_open = changed.was_open;
@@ -97,24 +97,24 @@ changed_so old new follows changed = record {
 pub nothing_of_undone : (old new : State) → IsUndone old new → ChangesNothing old new
 nothing_of_undone old new undone clean = reading_of_undone old new (λ stands. clean) undone
 
--- nor does it after a reading, by a disk that has returned what was written
+-- nor does a transaction that was undone after a reading, if the disk has returned what was written
 pub nothing_after : (old mid new : State) → SelectsOnly old mid → IsUndone mid new → ChangesNothing old new
 nothing_after old mid new reading undone clean = reading_then old mid new reading (reading_of_undone mid new (λ stands. clean) undone)
 
 -- ---- what a crash may leave of a change
 
--- where such a database may stand, so may one that follows of it
+-- if the trees may be those of a database of the one kind, they may be those of a database of the other kind
 stand_so : {A : Type 0} (P Q : Database → Type 0) → ((db : Database) → P db → Q db) → (trees : Trees) → A ⊎ MayStand P trees → A ⊎ MayStand Q trees
 stand_so P Q follows trees (inl before) = inl before
 stand_so P Q follows trees (inr (db, p, is)) = inr (db, follows db p, is)
 
--- a change may be one that follows of it
+-- if a change may have been made, so may any change that follows from it
 pub may_change_so : (Change Other : Database → Database → Type 0) (old new : State) → (IsOffice old.now → Survives old new (MayStand (Change old.now)))
     → ((db : Database) → Change old.now db → Other old.now db) → MayChange Other old new
 may_change_so Change Other old new survives follows stands is settled clean trees may =
     stand_so (Change old.now) (Other old.now) follows trees ((survives is).crash clean trees may)
 
--- a change after a reading that was answered, by which it is one that follows of it
+-- the same after a reading that was answered, from which it follows
 pub may_change_after : {X E : Type 0} (Change Other : Database → Database → Type 0) (old mid new : State) (x : X) → SelectsOnly old mid → ReadsSafely {X = X} {E = E} old mid (Ok x) → IsHonest mid new
     → (IsOffice mid.now → Survives mid new (MayStand (Change mid.now)))
     → (IsTrue mid.is_open → OfCommitted old ((db : Database) → Change old.now db → Other old.now db)) → MayChange Other old new

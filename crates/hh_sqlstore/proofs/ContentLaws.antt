@@ -1,4 +1,4 @@
--- The content that a database holds is the one that its tables have.
+-- A database contains exactly the content that its tables have.
 use Rattle.std.proofs.Common.{◌≡◌, Bool, true, false, IsTrue, refl}
 use Rattle.sqlite_trees.specs.declared.store.Store.{Ghosts}
 use Rattle.sqlite_trees.specs.View.{doubt}
@@ -17,7 +17,7 @@ unshut is_open true shut stands = refl
 unshut true false shut stands = absurd (let e = shut refl in cc)
 unshut false false shut stands = absurd (let e : ◌≡◌ {A = Bool} false true = stands in cc)
 
--- the disk of an open connection has returned what was written
+-- if a connection is open, its disk has returned what was written
 pub clean_while_open : {S : Type 0} (g : Ghosts S) (h : Held S) → ((s : S) → (g.view s).is_clean ≡ false → (g.view s).is_open ≡ false) → IsTrue (state g h).is_open → HasCleanDisk (state g h)
 clean_while_open g h shut stands = unshut _ _ (shut h.store) stands
 
@@ -36,7 +36,7 @@ module _ (content : Content) (db : Database) (holds : Holds version content db) 
       let registered = same_registered content.registered (registered_of db.trees) alike.parties alike.units alike.references alike.meters holds.prices alike.contracts alike.reallocations in
       same_content content (stored_content content.settings db.trees) refl registered alike.files alike.runs alike.results alike.credits alike.postings holds.in_step
 
-  -- it holds the content that it has with the settings that stand in it
+  -- it contains the content given by the settings in it
   pub holds_its_own : Holds version (stored_content content.settings db.trees) db
   holds_its_own = record {
     of_version = refl;

@@ -1,4 +1,4 @@
--- What a crash may leave of tables whose connection has read something, or was to change something.
+-- What a crash may leave of tables whose connection has read something, or was asked to change something.
 use Rattle.std.proofs.Common.{◌≡◌, ◌⊎◌, inl, inr, ℕ, ℤ, true, IsTrue, Option, Some, ap, subst, sym}
 use Rattle.std.specs.Global.{Vec}
 use Rattle.sqlite_schema.specs.declared.schema.Schema.{Schema}
@@ -26,25 +26,25 @@ or_never : {A : Type 0} → A ⊎ ⊥ → A
 or_never (inl a) = a
 or_never (inr none) = absurd none
 
--- of an office that is open a statement that selects rows leaves no more to a crash
+-- if an office is open, a statement that selects rows adds nothing to what a crash may leave
 pub statement_leaves : (old new : State) → CommitsNothingOf old new → IsTrue old.is_open → OfCommitted old (LeavesNoMore old new)
 statement_leaves old new nothing stands is settled clean trees may = or_never ((nothing is).crash clean trees may)
 
--- the trees of a database that holds a content hold it
+-- if a database contains some content, so do its trees
 pub trees_hold : (content : Content) (db : Database) (trees : Trees) → trees ≡ db.trees → Holds version content db → TreesHold trees content
 trees_hold content db trees same holds =
     let is : db ≡ record { schema = office; trees = db.trees } = ap (λ (s : Schema). record { schema = s; trees = db.trees }) holds.is_office.schema in
     subst (λ (ts : Trees). TreesHold ts content) (sym same) (subst (λ (d : Database). Holds version content d) is holds)
 
--- what a crash may leave of tables behind a call that changes nothing
+-- what a crash may leave of tables after a call that changes nothing
 abbrev pub TablesAddNothing : {S : Type 0} → Ghosts S → Stored S → Stored S → (Type 0 → Type 0) → Type 0
 TablesAddNothing {S} g = AddsNothing (IsHonestDisk g) (λ (s : Stored S). (state g s.connection).is_open) (λ (s : Stored S) trees. (state g s.connection).may_leave trees)
 
--- and behind one that may make this
+-- and after a call that may make this content
 abbrev pub TablesAddOnly : {S : Type 0} → Ghosts S → Stored S → Stored S → (Type 0 → Type 0) → (Content → Type 0) → Type 0
 TablesAddOnly {S} g = AddsOnly (IsHonestDisk g) (λ (s : Stored S). (state g s.connection).is_open) (λ (s : Stored S) trees. (state g s.connection).may_leave trees) TreesHold
 
--- while tables stand, what a crash leaves of them holds their content
+-- while tables are open, what a crash leaves of them contains their content
 pub left_holds : {S : Type 0} (g : Ghosts S) (t : Stored S) {posted : Option (Vec (PostingKey × ℤ))} → IsIdle g t posted
     → ((trees : Trees) → IsTrue (state g t.connection).is_open → (state g t.connection).may_leave trees → trees ≡ (state g t.connection).committed.trees)
     → LeavesContent (λ (s : Stored S). (state g s.connection).is_open) (λ (s : Stored S) trees. (state g s.connection).may_leave trees) TreesHold t (content_in g t)
@@ -63,13 +63,13 @@ module _ {S : Type 0} (g : Ghosts S) (t : Stored S) {posted : Option (Vec (Posti
   is_office : IsTrue was.is_open → IsOffice was.now
   is_office stands = subst IsOffice (sym (idle.settled stands)) (idle.holds stands).is_office
 
-  -- after a reading a crash leaves nothing that it might not have left before
+  -- a reading adds nothing to what a crash may leave
   pub reading_adds_nothing : (If : Type 0 → Type 0) → (HasCleanDisk is → IsTrue was.is_open → If (IsTrue is.is_open)) → IsHonest was is → (IsTrue was.is_open → OfCommitted was (LeavesNoMore was is))
       → (seen : Stored S) → t ≡ seen → TablesAddNothing g seen after If
   reading_adds_nothing If opened honest leaves seen is_seen = subst (λ (s : Stored S). TablesAddNothing g s after If) is_seen (λ clean.
       (honest clean, λ stands. (opened clean stands, λ left may. leaves stands (is_office stands) (idle.settled stands) clean left may)))
 
-  -- a crash leaves what holds a content that a change would make, if the database may have been changed so
+  -- a crash leaves the content that a change would make, if the database may have been changed like this
   made_by : (Change : Database → Database → Type 0) (Made : Content → Type 0) (stands : IsTrue was.is_open) → ((old new : Database) → Change old new → StaysOffice old new)
       → ((db : Database) → mark_in was.committed.trees ≡ Some true → Change was.committed db → Made (stored_content t.settings db.trees))
       → (trees : Trees) → (db : Database) × Change was.now db × (trees ≡ db.trees) → (content : Content) × TreesHold trees content × Made content

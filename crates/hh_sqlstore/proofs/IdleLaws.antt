@@ -33,23 +33,23 @@ module _ {S : Type 0} (g : Ghosts S) (t : Stored S) {posted : Option (Vec (Posti
   left : IsTrue is.is_open → (is.now ≡ was.now) × (is.committed ≡ was.committed)
   left stands = reading.left stands (office stands) (idle.settled (reading.stood stands))
 
-  -- the content is what it was
+  -- the content is as it was
   pub same_content : IsTrue is.is_open → content_in g after ≡ content_in g t
   same_content stands = ap (λ (db : Database). stored_content t.settings db.trees) (left stands).1
 
-  -- what holds of what there was holds of what was committed
+  -- what held for the database as it was holds for the last commit
   pub of_committed : (P : Trees → Type 0) → OfSettled was is (P was.now.trees) → IsTrue is.is_open → P was.committed.trees
   of_committed P answer stands =
       let settled = idle.settled (reading.stood stands) in
       subst (λ (db : Database). P db.trees) settled (answer stands (office stands) settled)
 
-  -- what is all that there was of the postings is all that there is
+  -- if the postings in memory were all of them, they still are
   same_posted : (kept : Option (Vec (PostingKey × ℤ))) → OfSettled was is (ArePosted was kept) → ArePosted is kept
   same_posted kept all stands =
       let stood = reading.stood stands in
       subst (λ (db : Database). IfSome kept (λ rows. rows.items ≡ rows_under_keys postings db.trees)) (sym (left stands).0) (all stands (office stands) (idle.settled stood) stood)
 
-  -- they are idle as before, with these postings at hand
+  -- no transaction is under way afterwards, as before, and these postings are in memory
   pub idle_with : (kept : Option (Vec (PostingKey × ℤ))) → OfSettled was is (ArePosted was kept) → connection.in_transaction ≡ false → IsIdle g after kept
   idle_with kept all mode = record {
     autocommit = mode;

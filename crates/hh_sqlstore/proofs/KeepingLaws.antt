@@ -1,4 +1,4 @@
--- Positions that are kept in an office's database from now on: what a reading before leaves, and what a crash.
+-- Positions that are kept in an office's database from now on: what a reading before that leaves, and what a crash leaves.
 use Rattle.std.proofs.Common.{◌≡◌, ◌⊎◌, inl, inr, IsTrue, subst}
 use Rattle.sqlite.specs.Effect.{Database}
 use Rattle.sqlite.specs.State.{HasCleanDisk, State, Survives}
@@ -14,7 +14,7 @@ pub no_more : (old new : State) → (IsTrue old.is_open → Survives old new (λ
 no_more old new survives stands clean trees may = or_never ((survives stands).crash clean trees may)
 
 module _ (old mid new : State) (first : IsTrue old.is_open → LeavesNoMore old mid) (same : IsTrue old.is_open → HasCleanDisk mid → IsTrue mid.is_open × (mid.committed ≡ old.committed)) (honest : HasCleanDisk new → HasCleanDisk mid) where
-  -- they may be after what leaves no more
+  -- positions may be kept after a call that leaves no more
   pub may_keep_after : MayKeepBeside mid new → MayKeepBeside old new
   may_keep_after last stands clean trees may =
       let here = same stands (honest clean) in
@@ -24,7 +24,7 @@ module _ (old mid new : State) (first : IsTrue old.is_open → LeavesNoMore old 
       either (inl before) = inl (first stands (honest clean) trees before)
       either (inr (db, keeps, is)) = inr (db, subst (λ (d : Database). KeepsBeside d db) (same stands (honest clean)).1 keeps, is)
 
-  -- and where such a database may be committed, they may be
+  -- if such a database may be committed, positions may be kept
   pub may_keep_made : (P : Database → Type 0) → (IsTrue mid.is_open → Survives mid new (MayStand P)) → (IsTrue mid.is_open → (db : Database) → P db → KeepsBeside mid.committed db) → MayKeepBeside old new
   may_keep_made P survives makes = may_keep_after (λ stands clean trees may. either stands trees ((survives stands).crash clean trees may))
     where

@@ -1,4 +1,4 @@
--- The tables of an office that was just made hold nothing but its settings, and that positions are kept.
+-- The tables of an office that was just made contain only its settings and the mark that positions are kept.
 use Rattle.std.specs.Prelude.{◌||◌, not, unwrap_or}
 use Rattle.std.proofs.Common.{◌≡◌, ◌≢◌, ◌∙◌, ℕ, List, [], ◌∷◌, true, false, map, Some, refl, sym, ap, subst, arith}
 use Rattle.std.specs.List.{AllByRecursion}
@@ -25,11 +25,11 @@ use Rattle.hh_sqlrows.specs.Contents.{beside_in, content_of, is_in_step_in, mark
 use Rattle.hh_sqlstore.specs.Holds.{IsNewOffice}
 use Rattle.hh_sqlstore.specs.Leaving.{MayStand}
 
--- no table is made where there is nothing
+-- in an empty database no table is made yet
 pub none_made : (db : Database) → db.schema ≡ nothing → IsDatabase db → IsMadeUpTo 0 db
 none_made db is sound = record { schema = is; sound = sound; empty = subst (λ (s : Schema). AreEmpty s.tables db.trees) (sym is) tt }
 
--- by a transaction, a crash leaves the database as it was, or the one that the commit brings
+-- after a crash in a transaction, the database is as it was, or as the commit makes it
 pub survives_making : {S : Type 0} (g : Ghosts S) (P : Database → Type 0) (old : Held S) (mid new : State) → Survives (state g (record old { in_transaction = true })) mid (λ _. ⊥) → (HasCleanDisk mid → P mid.now) → Survives mid new (λ trees. trees ≡ mid.now.trees)
     → Survives (state g old) new (MayStand P)
 survives_making g P old mid new inside made last =
@@ -39,7 +39,7 @@ survives_making g P old mid new inside made last =
 no_rows : {K V : Type 0} (form : TableForm K V) (trees : Trees) → trees form.table.tree ≡ [] → rows_under_keys form trees ≡ []
 no_rows form trees none = ap (λ rows. table_in form.order (stored_entry form.key form.value) rows) none
 
--- a tree that neither of two changes writes stays empty
+-- a tree that neither of two changes writes is still empty
 still_empty : (one other : ℕ) (tables : List Table) (first second last : Trees) → AllByRecursion (λ t. t.tree ≢ one → second t.tree ≡ first t.tree) tables → AllByRecursion (λ t. t.tree ≢ other → last t.tree ≡ second t.tree) tables → AreEmpty tables first → AllByRecursion (λ t. t.tree ≢ one → t.tree ≢ other → last t.tree ≡ []) tables
 still_empty one other [] first second last kept kept_too none = tt
 still_empty one other (t ∷ tables) first second last kept kept_too none =

@@ -1,4 +1,4 @@
--- What is read of the rows that a statement has picked is what is read of all.
+-- What is read from the rows that a statement selects is the same as what would be read from all rows.
 use Rattle.std.proofs.Common.{◌≡◌, ◌∙◌, ℕ, List, [], ◌∷◌, Bool, true, false, cond, map, None, Option, Some, refl, sym, ap, arith}
 use Rattle.std.specs.Prelude.{◌==◌, All, filter, filter_map}
 use Rattle.std.specs.List.{AllByRecursion, cons_option}
@@ -33,26 +33,26 @@ module _ {A B C : Type 0} (p : A → Bool) (g : A → C) (h : A → B) (f : B �
       go true rest = ap (λ cs. g x ∷ cs) rest
       go false rest = rest
 
--- numbers are the same by either test
+-- both tests for equal numbers agree
 same_number : (a b : ℕ) → is_eq (nat_cmp a b) ≡ (a == b)
 same_number a b = grind (arith, nat_tests)
 
--- a test that fails has nothing
+-- a test that fails gives nothing
 none_by : {B : Type 0} (b : Bool) (x : B) → b ≡ false → cond b (Some x) None ≡ None
 none_by true x is = absurd (let e : ◌≡◌ {A = Bool} true false = is in cc)
 none_by false x is = refl
 
--- the runs of a date, of those of the date
+-- the runs of a date, read from the rows of the date
 pub runs_picked : (date : ℕ) (rows : List (RunKey × Summary))
     → filter_map (summary_on date) (filter (λ e. is_eq (nat_cmp e.0.date date)) rows) ≡ filter_map (summary_on date) rows
 runs_picked date rows =
     read_of_picked (λ e. is_eq (nat_cmp e.0.date date)) (summary_on date) (λ e other. none_by (e.0.date == date) _ (sym (same_number e.0.date date) ∙ other)) rows
 
--- the rows of a run's accounts with their periods, of those of the run
+-- the rows of a run's accounts with their periods, read from the rows of the run
 pub results_picked : (run : RunKey) (trees : Trees) → map period_row (rows_of_run run trees) ≡ filter_map (result_in run) (map result_of (rows_under_keys results trees))
 results_picked run trees = read_of_mapped (λ e. is_eq (run_key_cmp e.0.run run)) period_row result_of (result_in run) (λ e. refl) (rows_under_keys results trees)
 
--- the Settlement Periods of a date are all of it
+-- all Settlement Periods of a date are on that date
 pub all_on_date : (date count : ℕ) → All (λ at. at.date ≡ date) (periods_on date count)
 all_on_date date count = All-map (λ at. at.date ≡ date) (λ p. record { date = date; period = p }) (from_one_to count) (All-from_recursion (λ p. date ≡ date) (from_one_to count) (each_of (from_one_to count)))
   where

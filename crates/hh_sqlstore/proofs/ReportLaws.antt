@@ -1,4 +1,4 @@
--- Reports that are written of what the tables of a database have.
+-- Reports that are written from the tables of a database.
 use Rattle.std.proofs.Common.{◌≡◌, ◌∙◌, ◌++◌, ℕ, List, [], ◌∷◌, Option, None, Some, Result, Ok, Err, map, append_assoc, refl, sym, ap, subst}
 use Rattle.std.specs.Prelude.{ℤ, IfSome, IsErrAnd, filter_map, option_map}
 use Rattle.std.specs.Io.KnownBytes.{Appends}
@@ -29,14 +29,14 @@ use Rattle.hh_store.specs.declared.output_fault.OutputFault.{OutputFault}
 use Rattle.hh_store.specs.declared.output_fault.OutputFault.TheVariants as output
 use Rattle.hh_sqlrows.specs.Contents.{posted_amount}
 
--- ---- what went out where a report stops
+-- ---- what was written if a report stops
 
--- nothing went out
+-- nothing was written
 pub appends_none : (known : Option (List ℕ)) → Appends known known []
 appends_none None = tt
 appends_none (Some bytes) = sym (append-nil bytes)
 
--- a beginning of a text is one of a text that goes on from it
+-- a beginning of a text is also a beginning of any longer text
 pub front_of_more : (device : DeviceChange) (begun text : List ℕ) → GoesOnFrom begun text → AppendsFront device.old device.new begun → AppendsFront device.old device.new text
 front_of_more device begun text on sent =
     (sent.0, sent.1 ++ on.0, on.1 ∙ ap (λ t. t ++ on.0) sent.2 ∙ append_assoc sent.0 sent.1 on.0, sent.3)
@@ -45,7 +45,7 @@ map_both : {X Y : Type 0} (f : X → Y) (xs ys : List X) → map f (xs ++ ys) �
 map_both f [] ys = refl
 map_both f (x ∷ xs) ys = ap (λ zs. f x ∷ zs) (map_both f xs ys)
 
--- the rows that were taken begin those of a report, whose text then goes on from theirs
+-- if the rows taken are the first of a report's rows, their text is a beginning of the report's text
 pub goes_on_by : {X Y : Type 0} (row : X → Y) (text_of whole_of : List Y → List ℕ) (taken all : List X) → ((rest : List X) × (all ≡ taken ++ rest))
     → ((later : List Y) → map row taken ++ later ≡ map row all → GoesOnFrom (text_of (map row taken)) (whole_of (map row taken ++ later)))
     → GoesOnFrom (text_of (map row taken)) (whole_of (map row all))
@@ -53,7 +53,7 @@ goes_on_by row text_of whole_of taken all more on =
     let is = sym (ap (map row) more.1 ∙ map_both row taken more.0) in
     subst (λ rows. GoesOnFrom (text_of (map row taken)) (whole_of rows)) is (on (map row more.0) is)
 
--- what went out behind nothing
+-- a text that was written after nothing
 appends_behind : (first mid last : Option (List ℕ)) (text : List ℕ) → Appends first mid [] → Appends mid last text → Appends first last text
 appends_behind None mid last text none went = tt
 appends_behind (Some x) None last text none went = absurd none
@@ -79,38 +79,38 @@ counted_alike : (device : DeviceChange) (fault : ReportFault) → CountsFault de
 counted_alike device report.Memory counts = counts
 counted_alike device report.Write counts = counts
 
--- the fault of a writer is told on
+-- the fault of a writer is told
 pub told_as_output : {A : Type 0} (device : DeviceChange) (text : List ℕ) (fault : ReportFault) (r : Result A OutputFault)
     → IsErrAnd r (λ e. e ≡ output_fault fault) → AppendsFront device.old device.new text × CountsFault device fault → Outputs device text r
 told_as_output device text fault (Ok x) is sent = absurd is
 told_as_output device text fault (Err e) is sent = (sent.0, subst (CountsOutput device) (sym is) (counted_alike device fault sent.1))
 
--- so is one of the tables
+-- so is a fault of the tables
 pub told_on : {A : Type 0} (device : DeviceChange) (text : List ℕ) (fault : OutputFault) (r : Result A OutputFault)
     → IsErrAnd r (λ e. e ≡ fault) → AppendsFront device.old device.new text × CountsOutput device fault → Outputs device text r
 told_on device text fault (Ok x) is sent = absurd is
 told_on device text fault (Err e) is sent = (sent.0, subst (CountsOutput device) (sym is) sent.1)
 
--- what went out counts
+-- what was written counts
 pub counted_by : {A : Type 0} (device : DeviceChange) (text : List ℕ) (r : Result A OutputFault) → Outputs device text r → CountsOutcome device r
 counted_by device text (Ok x) went = went.1
 counted_by device text (Err fault) went = went.1
 
--- ---- what went out is the report
+-- ---- what was written is the report
 
 module _ {A : Type 0} (device : DeviceChange) (r : Result A OutputFault) where
-  -- of a run, if it is there
+  -- of a run, if it exists
   pub reported_so : (text_of : ReportedRun → List (ℕ × AccountRow) → List ℕ) (run : RunKey) (found : Option Summary) (rows listed : List (ℕ × AccountRow)) → rows ≡ listed
       → IfSome found (λ summary. Outputs device (text_of (reported_as run summary) rows) r)
       → IfSome (option_map (λ q. text_of q listed) (option_map (reported_as run) found)) (λ text. Outputs device text r)
   reported_so text_of run None rows listed same went = tt
   reported_so text_of run (Some summary) rows listed same went = subst (λ es. Outputs device (text_of (reported_as run summary) es) r) same went
 
-  -- what amounts come to is what is read of the postings of an account
+  -- the sum of amounts is what is read from the postings of an account
   sum_read : (a : Account) (postings : Table PostingKey ℤ) → sum_for a (map posted_amount postings) ≡ total (λ e. e.1) (filter_map (posting_to a) postings)
   sum_read a postings = total-map (λ (e : Account × ℤ). of_account a e.0 e.1) posted_amount postings ∙ sym (postings_read a postings)
 
-  -- of balances
+  -- the balances
   pub balanced : (parties : List (List ℕ)) (postings : Table PostingKey ℤ) → Outputs device (balances_text parties (λ a. sum_for a (map posted_amount postings))) r
       → Outputs device (balances_text parties (λ a. total (λ e. e.1) (filter_map (posting_to a) postings))) r
   balanced parties postings went = subst (λ text. Outputs device text r) (λ i. balances_text parties (λ a. sum_read a postings i)) went

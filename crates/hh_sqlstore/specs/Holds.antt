@@ -1,4 +1,4 @@
--- What a database of an office holds, by the version of its tables.
+-- What an office's database contains, by the version of its tables.
 use Rattle.std.specs.Prelude.{◌≡◌, ℕ, [], ◌∷◌, true, map, Some}
 use Rattle.std.specs.FinMap.{find}
 use Rattle.sqlite_trees.specs.Tree.{Trees}
@@ -13,11 +13,11 @@ use Rattle.hh_sqlrows.specs.OfficeSchema.{office, positions_table, touched_table
 use Rattle.hh_sqlrows.specs.OfficeTables.{contracts, credits, files, meters, one_row_cmp, parties, period_prices, postings, reallocations, references, results, runs, settings, units}
 use Rattle.hh_sqlrows.specs.Contents.{is_in_step_in, mark_in, result_of}
 
--- the settings stand in their table
+-- the settings are in their table
 abbrev pub HasSettings : Settings → Trees → Type 0
 HasSettings kept trees = find one_row_cmp (record {}) (rows_under_keys settings trees) ≡ Some kept
 
--- The tables that are alike in all versions hold the content.
+-- The tables that are the same in all versions contain the content.
 pub record HoldsAlike (content : Content) (trees : Trees) : Type 0 where
   pub parties : content.registered.parties ≡ rows_under_keys parties trees
   pub units : content.registered.units ≡ rows_under_keys units trees
@@ -31,8 +31,8 @@ pub record HoldsAlike (content : Content) (trees : Trees) : Type 0 where
   pub credits : content.credits ≡ rows_under_keys credits trees
   pub postings : content.postings ≡ rows_under_keys postings trees
 
--- The tables of this version hold the content, and what is kept beside them agrees with them if the content says so. There is one
--- version so far: versions may differ in their tables, in the row of the settings, which names the version, and in how prices are kept.
+-- The tables of this version contain the content, and what is kept beside them agrees with them if the content says so. There is one
+-- version so far. Versions may differ in their tables, in the row of the settings, which names the version, and in how prices are kept.
 pub record Holds (number : ℕ) (content : Content) (db : Database) : Type 0 where
   pub of_version : number ≡ version
   pub is_office : IsOffice db
@@ -41,12 +41,11 @@ pub record Holds (number : ℕ) (content : Content) (db : Database) : Type 0 whe
   pub alike : HoldsAlike content db.trees
   pub in_step : content.is_in_step ≡ is_in_step_in content.settings db.trees
 
--- the trees are those of an office's database of this version, which holds the content
+-- the trees are those of an office's database of this version, which contains the content
 abbrev pub TreesHold : Trees → Content → Type 0
 TreesHold trees content = Holds version content (record { schema = office; trees = trees })
 
--- The database was just made: nothing has been accepted; positions are kept, of which there are none, and no Settlement Period was
--- touched.
+-- The database was just made: nothing has been accepted, positions are kept but there are none, and no Settlement Period was touched.
 pub record IsNewOffice (kept : Settings) (db : Database) : Type 0 where
   pub holds : Holds version (empty_content kept) db
   pub mark : mark_in db.trees ≡ Some true

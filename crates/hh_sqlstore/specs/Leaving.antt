@@ -12,13 +12,13 @@ use Rattle.hh_sqlrows.specs.Office.{IsOffice}
 use Rattle.hh_sqlrows.specs.OfficeTables.{settings}
 use Rattle.hh_sqlstore.specs.Holds.{Holds, TreesHold}
 
--- a connection that is open afterwards was so before, and has what it had
+-- a connection that is open afterwards was open before, and its database is as it was
 abbrev pub LeavesDatabase : State → State → Type 0
 LeavesDatabase old new =
     IsTrue new.is_open → IsTrue old.is_open × (new.now ≡ old.now) × (new.committed ≡ old.committed)
 
--- Positions and touched Settlement Periods are kept in an office's database in which none were; its settings and its content are
--- what they were.
+-- Positions and touched Settlement Periods are kept in an office's database in which none were kept. Its settings and its content are as
+-- they were.
 pub record KeepsBeside (old new : Database) : Type 0 where
   pub unmarked : mark_in old.trees ≡ Some false
   pub marked : mark_in new.trees ≡ Some true
@@ -26,28 +26,28 @@ pub record KeepsBeside (old new : Database) : Type 0 where
   pub settings : rows_under_keys settings new.trees ≡ rows_under_keys settings old.trees
   pub content : (kept : Settings) → stored_content kept new.trees ≡ stored_content kept old.trees
 
--- the database is what it was, or positions are kept in it from now on
+-- the database is as it was, or positions are kept in it from now on
 abbrev pub IsTakenOver : Database → Database → Type 0
 IsTakenOver old new = (new ≡ old) ⊎ KeepsBeside old new
 
--- a connection that is open afterwards was so before, and has what it had, or positions are kept there from now on
+-- a connection that is open afterwards was open before, and its database is as it was, or positions are kept in it from now on
 abbrev pub TakesOver : State → State → Type 0
 TakesOver old new =
     IsTrue new.is_open → IsTrue old.is_open × IsTakenOver old.now new.now × IsTakenOver old.committed new.committed
 
--- these trees are a database's of which this holds
+-- these trees are those of a database for which `P` holds
 abbrev pub MayStand : (Database → Type 0) → Trees → Type 0
 MayStand P trees = (db : Database) × P db × (trees ≡ db.trees)
 
--- by a disk that has returned what was written, a crash leaves what it would have left of the open connection before, or the last
--- commit with positions that are kept
+-- if the disk has returned what was written, a crash leaves what it would have left before of the open connection, or the last commit with
+-- positions that are kept
 abbrev pub MayKeepBeside : State → State → Type 0
 MayKeepBeside old new =
     IsTrue old.is_open → HasCleanDisk new → (trees : Trees) → new.may_leave trees
     → old.may_leave trees ⊎ MayStand (KeepsBeside old.committed) trees
 
--- A disk that has returned what was written did so before, and whatever a crash leaves holds the content that the last commit of the
--- open connection held.
+-- A disk that has returned what was written had done so before. Whatever a crash leaves contains the content of the last commit of the open
+-- connection.
 abbrev pub KeepsHeld : State → State → Type 0
 KeepsHeld old new = HasCleanDisk new → HasCleanDisk old
     × (IsTrue old.is_open → (content : Content) → Holds version content old.committed

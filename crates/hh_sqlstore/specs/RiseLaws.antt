@@ -1,4 +1,4 @@
--- The last commit of an open store over files: what its own fields keep of the pages says that the rowids of each table rise.
+-- In the last commit of an open store over files, the rowids of each table rise, as the store's own fields about the pages say.
 use Rattle.std.proofs.Common.{◌≡◌, ◌∙◌, IsTrue, refl, sym, subst, ap}
 use Rattle.std.proofs.Math.Logic.{∥∥₁_elim}
 use Rattle.sqlite_disk.specs.declared.Disk.{Ghosts}

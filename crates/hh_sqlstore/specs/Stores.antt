@@ -1,4 +1,4 @@
--- The tables of an office in a database: a connection, the settings that it holds, and how often it has refused.
+-- The tables of an office in a database: a connection, the settings that it contains, and how often it has refused.
 use Rattle.std.specs.Prelude.{◌≡◌, ℕ, ℤ, true, false, List, Option, Some, IfSome, IsTrue, refl}
 use Rattle.std.specs.Coded.{Coded, code_by, coded×, coded_ℕ, coded_list}
 use Rattle.std.specs.Global.{Vec}
@@ -26,12 +26,12 @@ stored_code {S} store =
     (λ p. record { connection = p.0; settings = record { lead_minutes = p.1.1.0; operator_key = p.1.1.1 }; refusals = p.1.0 })
     (λ _. refl)
 
--- what is at hand of the postings, if they are, is all that there is of them
+-- if postings are in memory, they are all the postings that there are
 abbrev pub ArePosted : State → Option (Vec (PostingKey × ℤ)) → Type 0
 ArePosted now posted = IsTrue now.is_open → IfSome posted (λ rows. rows.items ≡ rows_under_keys postings now.now.trees)
 
 module _ {S : Type 0} (g : Ghosts S) (t : Stored S) where
-  -- what the last commit left, and whether what is kept beside it agrees with it
+  -- the content of the last commit, and whether what is kept beside it agrees with it
   abbrev pub content_in : Content
   content_in = stored_content t.settings (state g t.connection).committed.trees
 
@@ -39,8 +39,8 @@ module _ {S : Type 0} (g : Ghosts S) (t : Stored S) where
   abbrev pub IsHonestDisk : Type 0
   IsHonestDisk = HasCleanDisk (state g t.connection)
 
-  -- No transaction is under way, and while they stand, what there is now is what was committed, it holds their content, and its mark
-  -- says that positions are kept. These postings are at hand.
+  -- No transaction is under way. While the tables are open, everything is committed, the database contains their content, and its mark says
+  -- that positions are kept. `posted` are the postings in memory, if they are.
   pub record IsIdle (posted : Option (Vec (PostingKey × ℤ))) : Type 0 where
     pub autocommit : t.connection.in_transaction ≡ false
     pub settled : IsTrue (state g t.connection).is_open → (state g t.connection).now ≡ (state g t.connection).committed

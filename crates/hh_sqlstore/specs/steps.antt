@@ -1,4 +1,4 @@
--- What contracts of private functions alone cite: the steps of proofs. No public contract names any of it, through whatever definition.
+-- Definitions that only contracts of private functions use. No public contract reaches them, not even through other definitions.
 pub mod Adopted
 pub mod Changed
 pub mod Kept

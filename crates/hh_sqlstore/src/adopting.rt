@@ -18,7 +18,7 @@ use hh_sqlrows::select_settings;
 use sqlite::Connection;
 use std::alloc::Global;
 
-/// The settings of the office whose database this is.
+/// The settings of the office in this database.
 pub(crate) fn settings_of_office<S: Rising>(
     connection: &mut Connection<S>,
     alloc: Global,
@@ -47,8 +47,8 @@ pub(crate) fn settings_of_office<S: Rising>(
     }
 }
 
-/// Takes over the office's database whose connection this is: its settings, and positions that are kept there,
-/// which are made where none were.
+/// Takes over the office in this database: reads its settings, and makes the positions that are kept there,
+/// if none were.
 pub(crate) fn take_over<S: Rising>(
     connection: &mut Connection<S>,
     alloc: Global,

@@ -19,7 +19,7 @@ use hh_store::{LoadChange, RunChange};
 use sqlite::{Alter, Connection};
 use std::alloc::Global;
 
-/// Writes what an accepted file changes, whole or not at all: the positions that it moves are read first.
+/// Writes what an accepted file changes, whole or not at all. The positions that it changes are read first.
 pub(crate) fn keep_load<S: Alter>(
     connection: &mut Connection<S>,
     alloc: Global,
@@ -47,8 +47,7 @@ pub(crate) fn keep_load<S: Alter>(
     commit_load(connection, alloc, change, &positions, &touched)
 }
 
-/// Writes an accepted file, and beside it these positions and touched Settlement Periods, whole or not at
-/// all.
+/// Writes an accepted file with these positions and touched Settlement Periods, whole or not at all.
 fn commit_load<S: Alter>(
     connection: &mut Connection<S>,
     alloc: Global,

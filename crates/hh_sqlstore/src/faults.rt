@@ -5,7 +5,7 @@ ghost use Rattle.hh_store.specs.StoreFaults.{CountsOneMore, CountsRefusal, Count
 
 use hh_store::{OutputFault, StoreFault};
 
-/// Counts a refusal, if the fault is one, and hands the fault on.
+/// Counts a refusal, if the fault is one, and returns the fault.
 pub(crate) fn refuse(refusals: &mut u64, fault: StoreFault) -> StoreFault
     ensures same { result ≡ fault }
     ensures counts { CountsRefusal {A = Unit {0}} (Err fault) refusals.old refusals.new }
@@ -16,7 +16,7 @@ pub(crate) fn refuse(refusals: &mut u64, fault: StoreFault) -> StoreFault
     fault
 }
 
-/// Counts a refusal, if the fault of a report is one, and hands the fault on.
+/// Counts a refusal, if the fault of a report is one, and returns the fault.
 pub(crate) fn refuse_report(refusals: &mut u64, fault: OutputFault) -> OutputFault
     ensures same { result ≡ fault }
     ensures counts { CountsReportRefusal {A = Unit {0}} (Err fault) refusals.old refusals.new }
@@ -27,7 +27,7 @@ pub(crate) fn refuse_report(refusals: &mut u64, fault: OutputFault) -> OutputFau
     fault
 }
 
-/// Counts one refusal more. At the greatest count it stays there.
+/// Counts one more refusal. The greatest count stays as it is.
 fn count_refusal(refusals: &mut u64)
     ensures { CountsOneMore refusals.old refusals.new }
 {

@@ -1,4 +1,4 @@
-//! Positions and touched Settlement Periods in an office's database in which none are kept.
+//! Positions and touched Settlement Periods for an office's database in which none are kept.
 
 ghost use Rattle.std.specs.Prelude.{◌≡◌, false, OnErr, OnOk, IsTrue, Some};
 ghost use Rattle.sqlite.specs.Held.{state};
@@ -20,9 +20,9 @@ use hh_sqlrows::select_mark;
 use sqlite::{Alter, Connection};
 use std::alloc::Global;
 
-/// Sees that positions are kept in an office's database. Where its mark says that none are, they are made
-/// from the contracts in force, and each Settlement Period of each run counts as touched, in one
-/// transaction. `Store` where the database has no mark, or has positions or touched periods already.
+/// Makes sure that positions are kept in an office's database. If its mark says that none are, they are
+/// made from the contracts in force, and each Settlement Period of each run counts as touched. This is one
+/// transaction. `Store` if the database has no mark, or already has positions or touched periods.
 pub(crate) fn see_positions_kept<S: Alter>(
     connection: &mut Connection<S>,
     alloc: Global,
@@ -51,8 +51,8 @@ pub(crate) fn see_positions_kept<S: Alter>(
     }
 }
 
-/// Keeps positions from now on, which are made from the contracts in force, and counts each Settlement
-/// Period of each run as touched.
+/// Starts to keep positions. They are made from the contracts in force, and each Settlement Period of each
+/// run counts as touched.
 fn keep_positions<S: Alter>(connection: &mut Connection<S>, alloc: Global) -> Result<(), RowFault>
     requires autocommit { connection.old.in_transaction ≡ false }
     requires settled { let old = state S.Store connection.old in
@@ -73,7 +73,7 @@ fn keep_positions<S: Alter>(connection: &mut Connection<S>, alloc: Global) -> Re
     ensures honest { IsHonest (state S.Store connection.old) (state S.Store connection.new) }
     ensures autocommit { connection.new.in_transaction ≡ false }
 {
-    // Do nothing, but carry laws for the proof: what is made anew agrees with the tables, and so it is
+    // Do nothing, but carry laws for the proof: what is made anew agrees with the tables, and can be
     // written.
     made_anew_agrees();
     made_anew_are_written();
@@ -81,7 +81,7 @@ fn keep_positions<S: Alter>(connection: &mut Connection<S>, alloc: Global) -> Re
     commit_beside(connection, alloc, &beside)
 }
 
-/// Writes positions and touched Settlement Periods, and that they are kept, whole or not at all.
+/// Writes positions and touched Settlement Periods, and that positions are kept, whole or not at all.
 fn commit_beside<S: Alter>(
     connection: &mut Connection<S>,
     alloc: Global,

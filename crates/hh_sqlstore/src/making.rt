@@ -17,7 +17,7 @@ use hh_sqlrows::{insert_mark, insert_settings, make_tables};
 use sqlite::{Alter, Connection, Transaction};
 use std::alloc::Global;
 
-/// Makes the tables of an office, and writes its settings and that positions are kept.
+/// Makes the tables of an office, writes its settings, and marks that positions are kept.
 fn write_new_office<S: Alter>(
     tx: &mut Transaction<'_, S>,
     alloc: Global,
@@ -43,7 +43,7 @@ fn write_new_office<S: Alter>(
     Ok(())
 }
 
-/// Makes the database of an office that has these settings, where there is none, in one transaction.
+/// Makes the database of an office with these settings in an empty database, in one transaction.
 pub(crate) fn make_office<S: Alter>(
     connection: &mut Connection<S>,
     alloc: Global,

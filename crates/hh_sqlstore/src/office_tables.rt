@@ -1,4 +1,4 @@
-//! The tables of an office's schema, each told apart from every other.
+//! The tables of an office's schema, each distinguished from every other table.
 
 ghost use Rattle.std.specs.Prelude.{◌≡◌, ◌<◌, IsTrue, Some, slice_get};
 ghost use Rattle.hh_sqlrows.specs.OfficeSchema.{contracts_table, credits_table, files_table, marks_table, meters_table, office_tables, parties_table, positions_table, postings_table, prices_table, reallocations_table, refs_table, results_table, runs_table, settings_table, touched_table, units_table};
@@ -233,7 +233,7 @@ fn is_marks(table: &Table) -> bool
     is_keyed(table, b"marks", 30, &columns, &[1])
 }
 
-/// Whether a table is the one with this number.
+/// Whether a table is the office's table with this number.
 pub(crate) fn is_office_table(table: &Table, at: usize) -> bool
     requires { at < 16 }
     ensures only { IsTrue result → slice_get office_tables at ≡ Some table.now }

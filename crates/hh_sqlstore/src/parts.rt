@@ -1,4 +1,4 @@
-//! What is read of a part of what is registered and in force.
+//! Reading a part of what is registered and in force.
 
 ghost use Rattle.std.specs.Prelude.{◌≡◌, false, IfOk, IsTrue};
 ghost use Rattle.sqlite.specs.Held.{state};
@@ -23,8 +23,8 @@ use hh_time::{Day, SettlementDate};
 use sqlite::{Alter, Connection};
 use std::alloc::Global;
 
-/// A register that judges these rows, and is changed by them, as one of everything that is registered and
-/// in force would.
+/// A register that judges these rows, and is changed by them, in the same way as a register of everything
+/// that is registered and in force.
 pub(crate) fn register_of<S: Alter>(
     conn: &mut Connection<S>,
     alloc: Global,
@@ -39,13 +39,13 @@ pub(crate) fn register_of<S: Alter>(
     ensures safe { ReadsSafely (state S.Store conn.old) (state S.Store conn.new) result }
     ensures mode { conn.old.in_transaction ≡ false → conn.new.in_transaction ≡ false }
 {
-    // Does nothing, but carries a law for the proof: a part of a part serves.
+    // Does nothing, but carries a law for the proof: a part of a part suffices.
     parts_of_parts();
     let part = select_named(conn, alloc, rows)?;
     part.register_for(alloc, lead_minutes, rows)
 }
 
-/// The rows of contracts that are in force on a date and name an account, by Settlement Period, then by the
+/// The contract rows that are in force on a date and name an account, by Settlement Period, then by the
 /// bytes of their references.
 pub(crate) fn contracts_of_account<S: Alter>(
     conn: &mut Connection<S>,
@@ -61,14 +61,14 @@ pub(crate) fn contracts_of_account<S: Alter>(
     ensures safe { ReadsSafely (state S.Store conn.old) (state S.Store conn.new) result }
     ensures mode { conn.old.in_transaction ≡ false → conn.new.in_transaction ≡ false }
 {
-    // Does nothing, but carries a law for the proof: the rows of the date are enough.
+    // Does nothing, but carries a law for the proof: the rows of the date suffice.
     contracts_by_their_rows();
     let part = select_contracts_of_day(conn, alloc, date)?;
     Ok(part.contracts(alloc, account, date)?)
 }
 
-/// What the Settlement Periods of a day are settled from, or to where they are as the latest run of the date
-/// settled them; and what is missing for it.
+/// What the Settlement Periods of a day are settled from, or their results if they are as the latest run of
+/// the date settled them. It also tells what is missing.
 pub(crate) fn data_of_day<S: Alter>(
     conn: &mut Connection<S>,
     alloc: Global,
@@ -84,8 +84,8 @@ pub(crate) fn data_of_day<S: Alter>(
     ensures safe { ReadsSafely (state S.Store conn.old) (state S.Store conn.new) result }
     ensures mode { conn.old.in_transaction ≡ false → conn.new.in_transaction ≡ false }
 {
-    // Does nothing, but carries a law for the proof: the rows of the date and what is kept beside them are
-    // enough.
+    // Does nothing, but carries a law for the proof: the rows of the date and what is kept beside them
+    // suffice.
     read_by_what_is_beside();
     let part = select_day(conn, alloc, day.date)?;
     let beside = select_day_beside(conn, alloc, day.date)?;

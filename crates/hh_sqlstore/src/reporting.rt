@@ -1,4 +1,4 @@
-//! Reports that are written while their rows come out of the database, one after the other.
+//! Reports that are written while their rows are read from the database, one after the other.
 
 ghost use Rattle.std.specs.Prelude.{◌≡◌, [], false, map, IfOk, IfSome};
 ghost use Rattle.std.specs.FinMap.{find};
@@ -36,7 +36,7 @@ fn reported_as(run: &RunKey, summary: &Summary) -> ReportedRun
     }
 }
 
-/// Writes the results of a run, if the run is there.
+/// Writes the results of a run, if the run exists.
 pub(crate) fn write_export<S: Alter, O: Sink>(
     conn: &mut Connection<S>,
     alloc: Global,
@@ -61,7 +61,7 @@ pub(crate) fn write_export<S: Alter, O: Sink>(
     write_results(conn, alloc, run, &reported_as(run, &summary), out)
 }
 
-/// Writes the results of a run, whose rows are selected.
+/// Writes the results of a run, whose rows are selected here.
 fn write_results<S: Alter, O: Sink>(
     conn: &mut Connection<S>,
     alloc: Global,
@@ -78,14 +78,14 @@ fn write_results<S: Alter, O: Sink>(
     ensures safe { ReadsSafely (state S.Store conn.old) (state S.Store conn.new) result }
     ensures mode { conn.old.in_transaction ≡ false → conn.new.in_transaction ≡ false }
 {
-    // Does nothing, but carries a law for the proof: what some rows give begins what all give.
+    // Does nothing, but carries a law for the proof: the text of the first rows begins the text of all.
     reports_go_on();
     let mut writer = ResultsWriter::begin(alloc, reported, out)?;
     give_results_of(conn, alloc, run, &mut writer, out)?;
     Ok(writer.finish(out)?)
 }
 
-/// Writes the day report of a run, if the run is there.
+/// Writes the day report of a run, if the run exists.
 pub(crate) fn write_day_report<S: Alter, O: Sink>(
     conn: &mut Connection<S>,
     alloc: Global,
@@ -110,7 +110,7 @@ pub(crate) fn write_day_report<S: Alter, O: Sink>(
     write_day(conn, alloc, run, &reported_as(run, &summary), out)
 }
 
-/// Writes the day report of a run, whose rows are selected.
+/// Writes the day report of a run, whose rows are selected here.
 fn write_day<S: Alter, O: Sink>(
     conn: &mut Connection<S>,
     alloc: Global,
@@ -127,7 +127,7 @@ fn write_day<S: Alter, O: Sink>(
     ensures safe { ReadsSafely (state S.Store conn.old) (state S.Store conn.new) result }
     ensures mode { conn.old.in_transaction ≡ false → conn.new.in_transaction ≡ false }
 {
-    // Does nothing, but carries a law for the proof: what some rows give begins what all give.
+    // Does nothing, but carries a law for the proof: the text of the first rows begins the text of all.
     reports_go_on();
     let mut writer = DayReportWriter::begin(alloc, reported, out)?;
     give_results_of(conn, alloc, run, &mut writer, out)?;
@@ -154,7 +154,7 @@ pub(crate) fn write_balances<S: Alter, O: Sink>(
     write_parties(conn, alloc, sums, out)
 }
 
-/// What was posted to each account in all. Nothing is written.
+/// The sum of what was posted to each account. Nothing is written.
 fn sums_posted<S: Alter, O: Sink>(
     conn: &mut Connection<S>,
     alloc: Global,
@@ -174,7 +174,7 @@ fn sums_posted<S: Alter, O: Sink>(
     Ok(sums)
 }
 
-/// Writes the balances of both accounts of each registered party, by what was posted to each account.
+/// Writes the balances of both accounts of each registered party, from the sum posted to each account.
 fn write_parties<S: Alter, O: Sink>(
     conn: &mut Connection<S>,
     alloc: Global,
@@ -193,7 +193,7 @@ fn write_parties<S: Alter, O: Sink>(
     ensures safe { ReadsSafely (state S.Store conn.old) (state S.Store conn.new) result }
     ensures mode { conn.old.in_transaction ≡ false → conn.new.in_transaction ≡ false }
 {
-    // Does nothing, but carries a law for the proof: what some parties give begins what all give.
+    // Does nothing, but carries a law for the proof: the text of the first parties begins the text of all.
     reports_go_on();
     let mut writer = BalancesWriter::begin(alloc, sums, out)?;
     give_parties(conn, alloc, &mut writer, out)?;

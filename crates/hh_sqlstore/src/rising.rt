@@ -1,4 +1,4 @@
-//! Stores whose rowids rise, and which of their databases are an office's.
+//! Stores whose rowids rise. Whether one of their databases is an office's.
 
 ghost use Rattle.std.specs.Prelude.{◌≡◌, false, IsTrue};
 ghost use Rattle.sqlite.specs.Held.{state};
@@ -12,7 +12,7 @@ use crate::schema::is_office;
 use sqlite::{Alter, Connection, FileStore};
 use sqlite_disk::Disk;
 
-/// A store in whose last commit the rowids of each table rise, while it is open.
+/// A store in whose last commit the rowids of each table rise, as long as it is open.
 pub trait Rising: Alter {
     ghost rises: { (s : Self) (schema : Schema) → IsTrue (Self.Store.view s).is_open
         → IsSound schema (Self.Store.view s).committed → RowidsRise schema (Self.Store.view s).committed };
@@ -22,7 +22,7 @@ impl<D: Disk> Rising for FileStore<D> {
     ghost rises = { λ s schema is_open sound. file_rowids_rise s schema is_open sound };
 }
 
-/// Whether a connection has the tables of an office, with no transaction under way.
+/// Whether the database of a connection has the tables of an office, and no transaction is under way.
 pub(crate) fn has_office<S: Rising>(connection: &Connection<S>) -> bool
     ensures autocommit { IsTrue result → connection.now.in_transaction ≡ false }
     ensures settled { let s = state S.Store connection.now in

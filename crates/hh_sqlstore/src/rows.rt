@@ -1,4 +1,4 @@
-//! What is read of parties, of runs and of their rows.
+//! Reading parties, runs and the rows of runs.
 
 ghost use Rattle.std.specs.Prelude.{◌≡◌, bytes_eq, false, filter_map, map, IfOk};
 ghost use Rattle.std.specs.List.{list_any};
@@ -84,7 +84,7 @@ pub(crate) fn results_of_run<S: Alter>(
     Ok(rows_by_period(alloc, &rows)?)
 }
 
-/// Rows of accounts by their periods. `Err` only where memory is refused.
+/// Rows of accounts with their periods. `Err` only if memory is refused.
 fn rows_by_period(
     alloc: Global,
     rows: &[(ResultKey, AccountAmounts)],
@@ -98,7 +98,7 @@ fn rows_by_period(
 }
 
 /// What the runs have posted to an account, by the dates of the runs, then by their kinds. All postings are
-/// read if they aren't at hand, and are at hand then.
+/// read if they aren't in memory yet, and then kept in memory.
 pub(crate) fn postings_to_account<S: Alter>(
     conn: &mut Connection<S>,
     alloc: Global,
@@ -122,7 +122,7 @@ pub(crate) fn postings_to_account<S: Alter>(
     Ok(found)
 }
 
-/// All postings: those at hand, or else those that are read.
+/// All postings: those in memory, or otherwise those that are read now.
 fn all_postings<S: Alter>(
     conn: &mut Connection<S>,
     alloc: Global,

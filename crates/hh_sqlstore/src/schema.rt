@@ -1,4 +1,4 @@
-//! The schema of an office's database, told apart from every other.
+//! The schema of an office's database, distinguished from every other schema.
 
 ghost use Rattle.std.specs.Prelude.{◌≡◌, ◌≢◌, ◌++◌, [], ◌∷◌, ℕ, List, codes, false, map, IsTrue, MatchOption, None};
 ghost use Rattle.hh_sqlrows.specs.Making.{nothing};
@@ -91,7 +91,7 @@ fn is_unstamped(stamps: &Stamps) -> bool
     stamps.places.is_empty() && is_none(&stamps.terms) && stamps.formats.is_empty()
 }
 
-/// Whether the places are the key of a table, its only one, with a plain index.
+/// Whether the columns at these places are the only key of a table, with a plain index.
 fn has_key(table: &Table, places: &[usize]) -> bool
     ensures primary { IsTrue result → table.now.primary ≡ places.now }
     ensures uniques { IsTrue result → table.now.uniques ≡ places.now ∷ [] }
@@ -104,7 +104,7 @@ fn has_key(table: &Table, places: &[usize]) -> bool
         && has_plain_order(table.orders.as_slice())
 }
 
-/// Whether a table has no rule but its key and those of its columns.
+/// Whether a table has no rules other than its key and those of its columns.
 fn is_plain(table: &Table) -> bool
     ensures key { IsTrue result → table.now.key ≡ None }
     ensures checks { IsTrue result → table.now.checks ≡ [] }
@@ -126,7 +126,7 @@ fn is_plain(table: &Table) -> bool
         && !table.is_counted
 }
 
-/// Whether a table has this name, tree, columns and key, and no other rule.
+/// Whether a table has this name, tree, columns and key, and no other rules.
 pub(crate) fn is_keyed(
     table: &Table,
     name: &[u8],
@@ -151,7 +151,7 @@ pub(crate) fn is_keyed(
     are_columns(table.columns.as_slice(), named)
 }
 
-/// Whether the tables are an office's, in their order.
+/// Whether the tables are those of an office, in their order.
 fn are_tables(tables: &[Table]) -> bool
     ensures only { IsTrue result → tables.now ≡ office_tables }
     ensures known { tables.now ≡ office_tables → IsTrue result }
@@ -167,7 +167,7 @@ fn are_tables(tables: &[Table]) -> bool
     true
 }
 
-/// What follows these bytes at the front of a name, if it begins with them.
+/// The rest of a name after `front`, if it begins with that.
 fn after<'a>(name: &'a [u8], front: &[u8]) -> Option<&'a [u8]>
     ensures { MatchOption result ((rest : List ℕ) → name.now ≢ front.now ++ rest)
         (λ rest. name.now ≡ front.now ++ rest.now) }
@@ -191,7 +191,7 @@ fn names_key_index(name: &[u8], table: &[u8]) -> bool
     end == b"_1".as_slice()
 }
 
-/// Whether an index is the one on the key of a table.
+/// Whether an index is the one for the key of a table.
 fn is_key_index(index: &Index, table: &Table) -> bool
     ensures only { IsTrue result → index.now ≡ key_index table.now }
     ensures known { index.now ≡ key_index table.now → IsTrue result }
@@ -207,7 +207,7 @@ fn is_key_index(index: &Index, table: &Table) -> bool
         && index.is_unique
 }
 
-/// Whether the indexes are those on the keys of the tables, in their order.
+/// Whether the indexes are those for the keys of the tables, in their order.
 fn are_key_indexes(indexes: &[Index], tables: &[Table]) -> bool
     ensures only { IsTrue result → indexes.now ≡ map key_index tables.now }
     ensures known { indexes.now ≡ map key_index tables.now → IsTrue result }
@@ -233,7 +233,7 @@ pub(crate) fn is_office(schema: &Schema) -> bool
         && schema.views.is_empty()
 }
 
-/// Whether a schema has nothing in it.
+/// Whether a schema is empty.
 pub(crate) fn is_nothing(schema: &Schema) -> bool
     ensures only { IsTrue result → schema.now ≡ nothing }
     ensures known { schema.now ≡ nothing → IsTrue result }

@@ -26,13 +26,13 @@ use sqlite::{Alter, Connection};
 use std::alloc::Global;
 use std::marker::Model;
 
-/// The tables of an office, kept in a database of SQL.
+/// The tables of an office, kept in an SQL database.
 pub struct SqlTables<S: Alter> {
     pub(crate) alloc: Global,
     pub(crate) connection: Connection<S>,
     pub(crate) settings: Settings,
     pub(crate) refusals: u64,
-    /// All postings, if they were read since the last change.
+    /// All postings, if they were read after the last change.
     pub(crate) posted: Option<Vec<(PostingKey, Pence)>>,
 }
 
@@ -57,13 +57,13 @@ impl<S: Alter> Model for SqlTables<S> {
 }
 
 impl<S: Alter> SqlTables<S> {
-    /// Makes the tables of an office with these settings, in which nothing has been accepted, in a database
-    /// that has none. That is one transaction.
+    /// Makes the tables of an office with these settings, in which nothing has been accepted, in an empty
+    /// database. That is one transaction.
     ///
     /// # Errors
     ///
-    /// `Memory` where memory was refused, `Store` where the database has a table or refuses for another
-    /// cause. The connection comes back, and what it had stays.
+    /// `Memory`: memory was refused. `Store`: the database has a table, or refuses for another reason. The
+    /// connection is returned, and the database is as it was.
     pub fn create(
         alloc: Global,
         mut connection: Connection<S>,
@@ -99,14 +99,14 @@ impl<S: Alter> SqlTables<S> {
         }
     }
 
-    /// How often the database has refused a call for another cause than memory.
+    /// How often the database has refused a call for another reason than memory.
     pub fn refusals(&self) -> u64
         ensures { result ≡ self.now.refusals }
     {
         self.refusals
     }
 
-    /// The connection, which may be closed then.
+    /// The connection. It may be closed then.
     pub fn into_connection(self) -> Connection<S>
         ensures same { result ≡ self.connection }
         ensures holds { IsTrue (state S.Store result).is_open
@@ -124,16 +124,16 @@ impl<S: Alter> SqlTables<S> {
 }
 
 impl<S: Rising> SqlTables<S> {
-    /// The tables of the office whose database this is. What it holds stays. Where no positions are kept in
-    /// it, they are from now on: they are made from the contracts in force, and each Settlement Period of each
-    /// run counts as touched, in one transaction.
+    /// The tables of the office in this database. Its content stays as it is. If no positions are kept in
+    /// it, they are kept from now on: they are made from the contracts in force, and each Settlement Period
+    /// of each run counts as touched. That is one transaction.
     ///
     /// # Errors
     ///
-    /// `Memory` where memory was refused, `Store` where a transaction is under way, where the database
-    /// has other tables than an office, tables of another version, settings off their grammar, no mark that
-    /// says whether positions are kept, or positions although none are kept, or where it refuses for another
-    /// cause. The connection comes back, and what it had stays.
+    /// `Memory`: memory was refused. `Store`: a transaction is under way; or the database has tables other
+    /// than an office's, or tables of another version; or its settings are off their grammar; or it has no
+    /// mark that says whether positions are kept; or it has positions although the mark says that none are
+    /// kept; or it refuses for another reason. The connection is returned, and the database is as it was.
     pub fn adopt(
         alloc: Global,
         mut connection: Connection<S>,

@@ -1,4 +1,4 @@
-//! The calls of the tables that are kept in a database.
+//! The calls of tables that are kept in a database.
 
 ghost use Rattle.sqlite_trees.specs.Tree.{Trees};
 ghost use Rattle.sqlite.specs.Held.{state};
@@ -156,7 +156,7 @@ impl<S: Alter> Tables for SqlTables<S> {
 
     fn apply_load(&mut self, change: LoadChange) -> Result<(), StoreFault> {
         // Do nothing, but carry laws for the proof: the load makes the machine's tables, and what is kept
-        // beside them agrees with these.
+        // beside them agrees with them.
         load_effect();
         loads_agree();
         self.posted = None;
@@ -167,8 +167,8 @@ impl<S: Alter> Tables for SqlTables<S> {
     }
 
     fn apply_run(&mut self, change: RunChange) -> Result<(), StoreFault> {
-        // Do nothing, but carry laws for the proof: each row of a run is of the account of its key, the run
-        // makes the machine's tables, and what is kept beside them agrees with these.
+        // Do nothing, but carry laws for the proof: each row of a run is for the account of its key, the
+        // run makes the machine's tables, and what is kept beside them agrees with them.
         rows_of_their_accounts();
         run_effect();
         runs_agree();

@@ -1,5 +1,5 @@
--- Entries whose keys all differ: in the order of the keys they are the same entries, and their amounts under a key are what is
--- found there.
+-- Entries whose keys all differ: sorted by their keys they are the same entries, and the sum of their amounts under a key is the
+-- amount found there.
 use Rattle.std.proofs.Common.{◌≡◌, List, [], ◌∷◌, ◌++◌, refl, sym, ap, ◌∙◌, Bool, true, false, cond, Option, Some, None, Ordering}
 use Rattle.std.specs.Prelude.{ℤ, pos, ◌+ℤ◌, ◌≢◌, filter, unwrap_or}
 use Rattle.std.specs.Cmp.{IsTotalOrder, eq_by_cmp_equiv}
@@ -16,7 +16,7 @@ use Rattle.hh_tables.proofs.RowLaws.{equal}
 use Rattle.hh_tables.proofs.TableLaws.{false_is_not_true, find-in_key_order}
 use Rattle.hh_state_laws.proofs.ApartLaws.{Lacks, NoneAlike, have_one_key, lacks, not_found}
 
--- an exact order tells each two keys apart
+-- if an order finds only equal keys equal, it tells different keys apart
 pub told_apart : {K : Type 0} {R : K → K → Ordering} → ((x y : K) → R x y ≡ Equal → x ≡ y) → (x y : K) → x ≢ y → eq_by_cmp R x y ≡ false
 told_apart {R = R} exact x y apart = elim (R x y) as (λ o. R x y ≡ o → is_eq o ≡ false) [
   | Less ↦ λ is. refl
@@ -24,7 +24,7 @@ told_apart {R = R} exact x y apart = elim (R x y) as (λ o. R x y ≡ o → is_e
   | Greater ↦ λ is. refl
 ] refl
 
--- what is not found in two lists together is found in neither
+-- a key that is not found in two lists together is found in neither
 pub absent : {K V : Type 0} (R : K → K → Ordering) (q : K) (es fs : List (K × V)) → find R q (es ++ fs) ≡ None → (find R q es ≡ None) × (find R q fs ≡ None)
 absent R q [] fs none = (refl, none)
 absent R q (e ∷ es) fs none = elim (eq_by_cmp R q e.0) as (λ b. cond b (Some e.1) (find R q (es ++ fs)) ≡ None → (cond b (Some e.1) (find R q es) ≡ None) × (find R q fs ≡ None)) [
@@ -38,11 +38,11 @@ if_passing passes None = None
 if_passing passes (Some v) = cond (passes v) (Some v) None
 
 module _ {K V : Type 0} {R : K → K → Ordering} (o : IsTotalOrder R) where
-  -- a key that ties with one that is lacking is not found
+  -- a key that is equal in the order to a missing key is not found
   pub tied_absent : (q k : K) (es : List (K × V)) → eq_by_cmp R q k ≡ true → Lacks R k es → find R q es ≡ None
   tied_absent q k es same lacking = sym (find_tied R o q k (equal (R q k) same) es) ∙ not_found R k es lacking
 
-  -- an entry under a new key is put among the entries
+  -- putting an entry with a new key adds it to the entries
   put_moves : (k : K) (v : V) (es : List (K × V)) → Lacks R k es → IsPermutation ((k, v) ∷ es) (put R k v es)
   put_moves k v [] new = IsPermutation-refl ((k, v) ∷ [])
   put_moves k v (e ∷ es) new =
@@ -54,7 +54,7 @@ module _ {K V : Type 0} {R : K → K → Ordering} (o : IsTotalOrder R) where
             (IsPermutation-cons e ((k, v) ∷ es) (put R k v es) (put_moves k v es new.1))
       ] refl
 
-  -- entries whose keys all differ are only moved by being put in the order of their keys
+  -- sorting entries whose keys all differ only moves them
   pub in_key_order_moves : (es : List (K × V)) → NoneAlike (have_one_key R) es → IsPermutation es (in_key_order R es)
   in_key_order_moves [] distinct = IsPermutation-refl []
   in_key_order_moves (e ∷ es) distinct =
@@ -62,7 +62,7 @@ module _ {K V : Type 0} {R : K → K → Ordering} (o : IsTotalOrder R) where
       (IsPermutation-cons e es (in_key_order R es) (in_key_order_moves es distinct.1))
       (put_moves e.0 e.1 (in_key_order R es) (lacks R e.0 (in_key_order R es) (find-in_key_order o es e.0 ∙ not_found R e.0 es distinct.0)))
 
-  -- what is found among the entries that pass is what is found among all, if it passes
+  -- among the entries that pass, a key finds what it finds among all, if that passes
   pub find-filter : (passes : V → Bool) (q : K) (es : List (K × V)) → NoneAlike (have_one_key R) es → find R q (filter (λ e. passes e.1) es) ≡ if_passing passes (find R q es)
   find-filter passes q [] distinct = refl
   find-filter passes q (e ∷ es) distinct =
@@ -80,7 +80,7 @@ module _ {K V : Type 0} {R : K → K → Ordering} (o : IsTotalOrder R) where
       ] refl
 
 module _ {K : Type 0} {R : K → K → Ordering} (o : IsTotalOrder R) where
-  -- of amounts whose keys all differ, those under a key come to what is found there
+  -- if all keys differ, the sum of the amounts under a key is the amount found there
   pub total_at : (q : K) (es : List (K × ℤ)) → NoneAlike (have_one_key R) es → total (λ e. cond (eq_by_cmp R e.0 q) e.1 (pos 0)) es ≡ unwrap_or (find R q es) (pos 0)
   total_at q [] distinct = refl
   total_at q (e ∷ es) distinct =

@@ -1,4 +1,4 @@
--- Lists no two of whose elements are alike, and tables that get such lists of entries.
+-- Lists no two of whose elements are alike, and tables into which such lists of entries are put.
 use Rattle.std.proofs.Common.{◌≡◌, List, [], ◌∷◌, ◌++◌, map, refl, sym, ap, subst, ◌∙◌, Bool, true, false, cond, Some, None, Ordering, append_assoc}
 use Rattle.std.specs.Prelude.{◌&&◌, filter, T}
 use Rattle.std.specs.Cmp.{IsTotalOrder, eq_by_cmp_equiv}
@@ -60,10 +60,10 @@ pub distinct-map : {X Y : Type 0} (alike : Y → Y → Bool) (f : X → Y) (xs :
 distinct-map alike f [] h = tt
 distinct-map alike f (x ∷ xs) h = (all-map (λ y. alike (f x) y ≡ false) f xs h.0, distinct-map alike f xs h.1)
 
--- blocks of elements: those of different blocks have different marks, and the elements of a block have the block's mark
+-- blocks of elements: the elements of a block have the block's mark, and elements with different marks are not alike
 module _ {X Y M : Type 0} (same : M → M → Bool) (alike : Y → Y → Bool) (mark : X → M) (mark_of : Y → M) (unlike : (a b : Y) → same (mark_of a) (mark_of b) ≡ false → alike a b ≡ false)
     (block : X → List Y) (marked : (x : X) → AllByRecursion (λ y. mark_of y ≡ mark x) (block x)) where
-  -- an element of another mark than the blocks' is in none of them
+  -- an element whose mark differs from those of the blocks is like none of their elements
   pub apart_from_blocks : (y : Y) (xs : List X) → AllByRecursion (λ x. same (mark_of y) (mark x) ≡ false) xs → AllByRecursion (λ z. alike y z ≡ false) (flat_map block xs)
   apart_from_blocks y [] h = tt
   apart_from_blocks y (x ∷ xs) h =
@@ -71,7 +71,7 @@ module _ {X Y M : Type 0} (same : M → M → Bool) (alike : Y → Y → Bool) (
       (all-weaken (λ z. mark_of z ≡ mark x) (λ z. alike y z ≡ false) (λ z is. unlike y z (ap (same (mark_of y)) is ∙ h.0)) (block x) (marked x))
       (apart_from_blocks y xs h.1)
 
-  -- blocks of different marks, each without two alike, have no two alike together
+  -- if the blocks' marks differ and no block has two alike, the blocks together have no two alike
   pub distinct_blocks : (xs : List X) → AllByRecursion (λ x. NoneAlike alike (block x)) xs → NoneAlike (λ x y. same (mark x) (mark y)) xs → NoneAlike alike (flat_map block xs)
   distinct_blocks [] own h = tt
   distinct_blocks (x ∷ xs) own h =
@@ -79,7 +79,7 @@ module _ {X Y M : Type 0} (same : M → M → Bool) (alike : Y → Y → Bool) (
       (all-weaken (λ y. mark_of y ≡ mark x) (λ y. AllByRecursion (λ z. alike y z ≡ false) (flat_map block xs))
       (λ y is. apart_from_blocks y xs (subst (λ m. AllByRecursion (λ z. same m (mark z) ≡ false) xs) (sym is) h.0)) (block x) (marked x))
 
--- an order by two parts tells apart what one of them tells apart
+-- an order by two parts tells apart keys that one part tells apart
 pub first_part : (o p : Ordering) → is_eq o ≡ false → is_eq (ordering_then o p) ≡ false
 first_part Less p h = refl
 first_part Equal p h = cc
@@ -125,7 +125,7 @@ module _ {K V : Type 0} (R : K → K → Ordering) where
       let parts = both_parts (is_lt (R k e.0)) (below_all R k es) h in
       (less_is_apart (R k e.0) parts.0, below_lacks k es parts.1)
 
-  -- in a table no key stands twice
+  -- in a table no key occurs twice
   pub sorted_distinct : (es : List (K × V)) → T (is_sorted R es) → NoneAlike have_one_key es
   sorted_distinct [] h = tt
   sorted_distinct (e ∷ es) h =
@@ -133,7 +133,7 @@ module _ {K V : Type 0} (R : K → K → Ordering) where
       (below_lacks e.0 es parts.0, sorted_distinct es parts.1)
 
 module _ {K V : Type 0} {R : K → K → Ordering} (o : IsTotalOrder R) where
-  -- entries whose keys differ from one more's still lack them with it
+  -- entries that lack new keys still lack them after one more entry with another key
   still_lack : (es fs : List (K × V)) (f : K × V) → AllByRecursion (λ g. Lacks R g.0 es) fs → Lacks R f.0 fs → AllByRecursion (λ g. Lacks R g.0 (es ++ f ∷ [])) fs
   still_lack es [] f new apart = tt
   still_lack es (g ∷ fs) f new apart = (
@@ -141,7 +141,7 @@ module _ {K V : Type 0} {R : K → K → Ordering} (o : IsTotalOrder R) where
     still_lack es fs f new.1 apart.1,
   )
 
-  -- entries under new keys, none of them twice, are put into the table
+  -- entries with new keys that all differ: sorting them in is putting them into the table
   pub in_key_order-append_all : ((x y : K) → R x y ≡ Equal → x ≡ y) → (fs es : List (K × V)) → AllByRecursion (λ f. Lacks R f.0 es) fs → NoneAlike (have_one_key R) fs
       → in_key_order R (es ++ fs) ≡ put_all R fs (in_key_order R es)
   in_key_order-append_all exact [] es new distinct = ap (in_key_order R) (append-nil es)

@@ -1,4 +1,4 @@
--- What each run posts comes to zero, since charges and shares together do in each Settlement Period.
+-- The postings of each run sum to zero, because charges and shares together do in each Settlement Period.
 use Rattle.std.proofs.Common.{◌≡◌, ℕ, List, [], ◌∷◌, ◌++◌, length, map, refl, sym, ap, ◌∙◌, Bool, true, false, cond, Option, Some, None, Ordering, arith}
 use Rattle.std.specs.Prelude.{ℤ, pos, neg_ℤ, ◌+ℤ◌, ◌-ℤ◌, is_some, take, unwrap_or}
 use Rattle.std.specs.Cmp.{IsTotalOrder, eq_by_cmp_equiv}
@@ -40,13 +40,13 @@ use Rattle.hh_state_laws.proofs.PostingLaws.{all_postings_distinct, changes, cha
 use Rattle.hh_state_laws.proofs.RunRowLaws.{accounts_distinct, rows_all, rows_distinct}
 use Rattle.hh_state_laws.proofs.SettledLaws.{a_share_each, period_balances}
 
--- where a test holds of none, nothing counts
+-- if a test holds for no element, the sum of what it counts is 0
 pub none_counts : {X : Type 0} (test : X → Bool) (f : X → ℤ) (xs : List X) → AllByRecursion (λ x. test x ≡ false) xs → total (λ x. cond (test x) (f x) (pos 0)) xs ≡ pos 0
 none_counts test f [] never = refl
 none_counts test f (x ∷ xs) never = λ i. cond (never.0 i) (f x) (pos 0) +ℤ none_counts test f xs never.1 i
 
 module _ {X : Type 0} (same : X → X → Bool) (itself : (x : X) → same x x ≡ true) (turned : (x y : X) → same x y ≡ same y x) (f : X → ℤ) where
-  -- where no two are the same, each counts once
+  -- if no two elements are the same, each counts once
   each_counts_once : (xs : List X) → NoneAlike same xs → total (λ y. total (λ x. cond (same x y) (f x) (pos 0)) xs) xs ≡ total f xs
   each_counts_once [] distinct = refl
   each_counts_once (x ∷ xs) distinct =
@@ -64,7 +64,7 @@ accounts_shown p [] shares same = refl
 accounts_shown p (a ∷ accounts) [] same = absurd (omega arith)
 accounts_shown p (a ∷ accounts) (x ∷ shares) same = ap (λ t. a ∷ t) (accounts_shown p accounts shares (omega arith))
 
--- what the accounts of a settled period pay is what its rows come to
+-- the sum of what the accounts of a settled period pay is that of its rows
 period_nets_sum : (p : PeriodTerms) → NoneAlike is_same_account p.accounts → total (λ a. period_net a (settled p)) p.accounts ≡ total paid_by (settled p).accounts
 period_nets_sum p distinct =
     let rows : List AccountRow = (settled p).accounts in
@@ -89,7 +89,7 @@ module _ (timetable : Timetable) (history : History) where
     settled_once : NoneAlike is_same_account (accounts_of timetable history run)
     settled_once = accounts_distinct timetable (take run.row_count history) run.key.date
 
-    -- all accounts together pay nothing over periods
+    -- the sum of what all accounts pay over periods is 0
     periods_sum : (numbers : List ℕ) → total (λ q. total (λ a. period_net a q.1) (accounts_of timetable history run)) (settled_day seen (map period_at numbers)) ≡ pos 0
     periods_sum [] = refl
     periods_sum (n ∷ numbers) =
@@ -103,7 +103,7 @@ module _ (timetable : Timetable) (history : History) where
         λ i. none_counts (λ r. is_same_account r.account a) paid_by (settled p).accounts (rows_all (figures p) (λ b. refl) (λ b. is_same_account b a ≡ false) p.accounts (residual_shares p) others) i
         +ℤ pays_nothing a others numbers i
 
-    -- what is found for an account is what it pays, if the others that are not there pay nothing
+    -- what is found for an account is what it pays, if accounts that are not listed pay nothing
     net_found : (f : Account → ℤ) (a : Account) (accounts : List Account) → (AllByRecursion (λ b. is_same_account b a ≡ false) accounts → f a ≡ pos 0)
         → day_net_of (map (λ b. (b, f b)) accounts) a ≡ f a
     net_found f a [] nothing = sym (nothing tt)
@@ -124,7 +124,7 @@ module _ (timetable : Timetable) (history : History) where
   nets_distinct None = tt
   nets_distinct (Some run) = distinct-map (have_one_key account_cmp) (λ a. (a, day_net (settled_by timetable history run) a)) (accounts_of timetable history run) (settled_once run)
 
-  -- the day nets of a run come to zero
+  -- the day nets of a run sum to zero
   nets_sum : (o : Option Run) → total (λ e. e.1) (nets_of timetable history o) ≡ pos 0
   nets_sum None = refl
   nets_sum (Some run) =
@@ -135,7 +135,7 @@ module _ (timetable : Timetable) (history : History) where
       ∙ periods_sum run (from_one_to (period_count timetable.midnight run.key.date))
 
 module _ {K : Type 0} {R : K → K → Ordering} (o : IsTotalOrder R) where
-  -- an amount that counts under one key counts once among entries that have the key
+  -- an amount under one key counts once among entries that have the key
   counts_at : (q : K) (z : ℤ) (es : List (K × ℤ)) → NoneAlike (have_one_key R) es → total (λ e. cond (eq_by_cmp R q e.0) z (pos 0)) es ≡ cond (is_some (find R q es)) z (pos 0)
   counts_at q z [] distinct = refl
   counts_at q z (e ∷ es) distinct =
@@ -145,14 +145,14 @@ module _ {K : Type 0} {R : K → K → Ordering} (o : IsTotalOrder R) where
         | false ↦ λ apart. +ℤ_idl (cond (is_some (find R q es)) z (pos 0))
       ] refl
 
-  -- so do amounts whose keys are all there
+  -- so do amounts whose keys are all found
   all_count : (es fs : List (K × ℤ)) → NoneAlike (have_one_key R) fs → AllByRecursion (λ e. is_some (find R e.0 fs) ≡ true) es
       → total (λ e. total (λ f. cond (eq_by_cmp R e.0 f.0) e.1 (pos 0)) fs) es ≡ total (λ e. e.1) es
   all_count [] fs distinct among = refl
   all_count (e ∷ es) fs distinct among =
       λ i. (counts_at e.0 e.1 fs distinct ∙ ap (λ b. cond b e.1 (pos 0)) among.0) i +ℤ all_count es fs distinct among.1 i
 
-  -- amounts may be taken over any entries that have their keys
+  -- the sum of amounts may be taken over any entries that have their keys
   taken_over : (es fs : List (K × ℤ)) → NoneAlike (have_one_key R) es → NoneAlike (have_one_key R) fs → AllByRecursion (λ e. is_some (find R e.0 fs) ≡ true) es
       → total (λ f. unwrap_or (find R f.0 es) (pos 0)) fs ≡ total (λ e. e.1) es
   taken_over es fs distinct other_distinct among =
@@ -160,7 +160,7 @@ module _ {K : Type 0} {R : K → K → Ordering} (o : IsTotalOrder R) where
       ∙ total-swap (λ (f e : K × ℤ). cond (eq_by_cmp R e.0 f.0) e.1 (pos 0)) fs es
       ∙ all_count es fs other_distinct among
 
-  -- a key that is found is found with one more entry in front
+  -- a key that is found is still found with one more entry in front
   found-cons : (q : K) (e : K × ℤ) (es : List (K × ℤ)) → is_some (find R q es) ≡ true → is_some (find R q (e ∷ es)) ≡ true
   found-cons q e es there = elim (eq_by_cmp R q e.0) as (λ b. is_some (cond b (Some e.1) (find R q es)) ≡ true) [ true ↦ refl | false ↦ there ]
 
@@ -172,7 +172,7 @@ module _ {K : Type 0} {R : K → K → Ordering} (o : IsTotalOrder R) where
     all-weaken (λ f. is_some (find R f.0 es) ≡ true) (λ f. is_some (find R f.0 (e ∷ es)) ≡ true) (λ f. found-cons f.0 e es) es (keys_found es),
   )
 
--- what holds of each of two lists together holds of each of both
+-- if all elements of two lists have a property, so do all elements of each list
 all-split : {X : Type 0} (P : X → Type 0) (xs ys : List X) → AllByRecursion P (xs ++ ys) → AllByRecursion P xs × AllByRecursion P ys
 all-split P [] ys h = (tt, h)
 all-split P (x ∷ xs) ys h = let rest = all-split P xs ys h.1 in ((h.0, rest.0), rest.1)
@@ -188,13 +188,13 @@ module _ (old new : DayNets) (old_distinct : NoneAlike (have_one_key account_cmp
       ap is_some (find-in_key_order account_total (changes old new) a ∙ found_change old new a (new ++ old))
       ∙ ap (λ b. is_some (cond b (Some (net_change old new a)) None)) there
 
-  -- so have all of them
+  -- so all accounts of either day have one
   have_changes : AllByRecursion (λ e. is_some (find account_cmp e.0 every) ≡ true) (new ++ old)
   have_changes =
       all-weaken (λ e. is_some (find account_cmp e.0 (new ++ old)) ≡ true) (λ e. is_some (find account_cmp e.0 every) ≡ true) (λ e. has_change e.0)
       (new ++ old) (keys_found account_total (new ++ old))
 
-  -- differences come to what the new nets have more than the old
+  -- the sum of the differences is the sum of the new nets less that of the old
   differences_sum : total (λ e. e.1) (differences old new) ≡ total (λ e. e.1) new -ℤ total (λ e. e.1) old
   differences_sum =
       let found = all-split (λ e. is_some (find account_cmp e.0 every) ≡ true) new old have_changes in
@@ -206,11 +206,11 @@ module _ (old new : DayNets) (old_distinct : NoneAlike (have_one_key account_cmp
       +ℤ (total-neg (λ e. day_net_of old e.0) every ∙ ap neg_ℤ (taken_over account_total old every old_distinct (changes_distinct old new) found.1)) i)
 
 module _ (timetable : Timetable) (s : State) (key : RunKey) where
-  -- a posting, where it is the run's
+  -- a posting, if it is the run's, or 0
   abbrev amount : PostingKey × ℤ → ℤ
   amount e = cond (eq_by_cmp run_key_cmp e.0.run key) e.1 (pos 0)
 
-  -- what a run posts comes to zero, and so do postings of which none counts
+  -- the sum of the run's postings is 0, and so is that of another run's, which don't count
   one_run_balances : (r : Option Run × Run) → total amount (posting_entries r.1.key (postings_after timetable s.history r.0 r.1)) ≡ pos 0
   one_run_balances r =
       let nets : DayNets = postings_after timetable s.history r.0 r.1 in
@@ -221,12 +221,12 @@ module _ (timetable : Timetable) (s : State) (key : RunKey) where
         | false ↦ total-zero nets
       ]
 
-  -- so does what all runs post
+  -- so is the sum over all runs
   all_runs_balance : (pairs : List (Option Run × Run)) → total (λ r. total amount (posting_entries r.1.key (postings_after timetable s.history r.0 r.1))) pairs ≡ pos 0
   all_runs_balance [] = refl
   all_runs_balance (r ∷ pairs) = λ i. one_run_balances r i +ℤ all_runs_balance pairs i
 
--- the postings of each run come to zero
+-- the postings of each run sum to zero
 pub run_postings_sum_to_zero : RunPostingsSumToZero
 run_postings_sum_to_zero midnight s key reached =
     let timetable : Timetable = timetable_at midnight s in

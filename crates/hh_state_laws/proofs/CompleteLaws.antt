@@ -1,4 +1,4 @@
--- No run lacked anything when it was ordered, so that each unit is credited by its reading.
+-- No run lacked anything when it was ordered, so each unit is credited by its reading.
 use Rattle.std.proofs.Common.{◌≡◌, ℕ, List, [], ◌∷◌, ◌++◌, length, refl, sym, subst, Bool, true, false, cond, Option, Some, None, take_all, arith}
 use Rattle.std.specs.Prelude.{All, ℤ, filter_map, if◌then◌else◌, find, is_none, option_map}
 use Rattle.std.specs.List.{AllByRecursion, cons_option, flat_map}
@@ -35,7 +35,7 @@ use Rattle.hh_state_laws.proofs.CreditSumLaws.{credits_sum_exactly}
 use Rattle.hh_state_laws.proofs.ReachLaws.{AreWithin, reached_within, seen_same}
 use Rattle.hh_state_laws.proofs.ReadyLaws.{all_both}
 
--- where none is the first that there is, none is there
+-- if there is no first value, there is no value
 none_there : {X : Type 0} (os : List (Option X)) → first_there os ≡ None → AllByRecursion (λ o. o ≡ None) os
 none_there [] none = tt
 none_there (o ∷ os) none = elim o as (λ x. option_or x (first_there os) ≡ None → (x ≡ None) × AllByRecursion (λ y. y ≡ None) os) [
@@ -43,12 +43,12 @@ none_there (o ∷ os) none = elim o as (λ x. option_or x (first_there os) ≡ N
   | None ↦ λ e. (refl, none_there os e)
 ] none
 
--- where nothing is made of a value, no value is there
+-- if a map gives no value, there was no value
 nothing_made : {X Y : Type 0} (make : X → Y) (o : Option X) → option_map make o ≡ None → o ≡ None
 nothing_made make None none = refl
 nothing_made make (Some x) none = cc
 
--- where a search finds nothing, no element passes its test
+-- if a search finds nothing, no element passes its test
 pub none_passes : {X : Type 0} (test : X → Bool) (xs : List X) → find test xs ≡ None → AllByRecursion (λ x. test x ≡ false) xs
 none_passes test [] none = tt
 none_passes test (x ∷ xs) none = elim (test x) as (λ b. cond b (Some x) (find test xs) ≡ None → (b ≡ false) × AllByRecursion (λ y. test y ≡ false) xs) [
@@ -56,23 +56,23 @@ none_passes test (x ∷ xs) none = elim (test x) as (λ b. cond b (Some x) (find
   | false ↦ λ e. (refl, none_passes test xs e)
 ] none
 
--- a value that is not absent is there
+-- an option that is not None has a value
 value_there : {X : Type 0} (o : Option X) → is_none o ≡ false → (x : X) × (o ≡ Some x)
 value_there None there = absurd (false_is_not_true (sym there))
 value_there (Some x) there = (x, refl)
 
 module _ {X : Type 0} (P : X → Type 0) where
-  -- what holds of each element of two lists together holds of each of both
+  -- if all elements of two lists have a property, so do all elements of each list
   all_parts : (xs ys : List X) → AllByRecursion P (xs ++ ys) → AllByRecursion P xs × AllByRecursion P ys
   all_parts [] ys h = (tt, h)
   all_parts (x ∷ xs) ys h = let rest = all_parts xs ys h.1 in ((h.0, rest.0), rest.1)
 
-  -- what holds of each element of all blocks holds of each of every block
+  -- if the elements of all blocks have a property, so do the elements of each block
   all_blocks : {Y : Type 0} (block : Y → List X) (ys : List Y) → AllByRecursion P (flat_map block ys) → AllByRecursion (λ y. AllByRecursion P (block y)) ys
   all_blocks block [] h = tt
   all_blocks block (y ∷ ys) h = let parts = all_parts (block y) (flat_map block ys) h in (parts.0, all_blocks block ys parts.1)
 
--- what holds of each that is made, where something is found, holds of what is made of each element for which it is
+-- if all values made by a filter_map have a property, so has the value made of each element for which something is found
 each_made : {X Y Z : Type 0} (see : X → Option Z) (make : X → Z → Y) (P : Y → Type 0) (xs : List X)
     → AllByRecursion P (filter_map (λ x. option_map (make x) (see x)) xs) → AllByRecursion (λ x. (z : Z) → see x ≡ Some z → P (make x z)) xs
 each_made see make P [] h = tt
@@ -84,7 +84,7 @@ each_made {Y = Y} {Z = Z} see make P (x ∷ xs) h =
       | Some w ↦ λ all. (λ z is. subst (λ v. P (make x v)) (same_Some w z is) all.0, each_made see make P xs all.1)
     ] h
 
--- a run that can be ordered lacks nothing by what is registered and in force
+-- if a run can be ordered, what is registered and in force lacks nothing for it
 ordered_complete : (midnight : Midnights) (s : State) (moment : ℤ) (key : RunKey) → run_fault midnight s moment key ≡ None
     → IsComplete (registered_at midnight s) (periods_on key.date (period_count midnight key.date))
 ordered_complete midnight s moment key none =
@@ -104,7 +104,7 @@ ordered_complete midnight s moment key none =
       limits = nothing_made (period_fault TooLarge) (too_large tables periods) all.1.1.1.1.0;
     }
 
--- later rows take nothing from what runs saw
+-- later rows don't change what runs saw
 still_complete : (midnight : Midnights) (timetable : Timetable) (history more : History) (runs : List Run) → AreWithin (length history) runs
     → AllByRecursion (λ r. IsComplete (seen_by timetable history r) (periods_of midnight r)) runs → AllByRecursion (λ r. IsComplete (seen_by timetable (history ++ more) r) (periods_of midnight r)) runs
 still_complete midnight timetable history more [] within all = tt
@@ -132,7 +132,7 @@ module _ (tables : Registered) (credits : Table CreditKey ℤ) (run : RunKey) wh
   abbrev its_reading : SettlementPeriod → List ℕ × UnitRegistration → Option Reading
   its_reading at e = reading_of tables (record { unit = e.0; at = at })
 
-  -- a unit is credited by its reading, where it has one and the credits are exact for each reading that it has
+  -- a unit with a reading is credited by it, if the credits are exact for each reading that the unit has
   one_unit : (at : SettlementPeriod) (e : List ℕ × UnitRegistration)
       → (is_none (its_reading at e) ≡ false) × ((reading : Reading) → its_reading at e ≡ Some reading → IsExact at (unit_with tables at e reading))
       → IsCreditedByReading tables credits run at e.0
@@ -140,7 +140,7 @@ module _ (tables : Registered) (credits : Table CreditKey ℤ) (run : RunKey) wh
       let found = value_there (its_reading at e) there in
       record { reading = found.0; counting = found.1; exact = exact found.0 found.1 }
 
-  -- so is each unit of a Settlement Period
+  -- this holds for each unit of a Settlement Period
   one_period : (at : SettlementPeriod)
       → AllByRecursion (λ key. is_none (reading_of tables key) ≡ false) (unit_periods_at tables at) × All (IsExact at) (terms_at tables at).units
       → AllByRecursion (λ e. IsCreditedByReading tables credits run at e.0) (units_on tables at.date)
@@ -152,7 +152,7 @@ module _ (tables : Registered) (credits : Table CreditKey ℤ) (run : RunKey) wh
       (all-before-map (λ (key : UnitPeriod). is_none (reading_of tables key) ≡ false) (λ (e : List ℕ × UnitRegistration). record { unit = e.0; at = at }) es there)
       (each_made (its_reading at) (unit_with tables at) (IsExact at) es (recursion_from_All (IsExact at) (terms_at tables at).units exact)))
 
-  -- and each unit of each of the Settlement Periods
+  -- and for each unit in each of the Settlement Periods
   each_period : (periods : List SettlementPeriod) → missing_meter tables periods ≡ None → AllByRecursion (λ at. All (IsExact at) (terms_at tables at).units) periods
       → AllByRecursion (λ at. AllByRecursion (λ e. IsCreditedByReading tables credits run at e.0) (units_on tables at.date)) periods
   each_period periods none exact =

@@ -1,4 +1,4 @@
--- That what is registered and in force is consistent in each state that the machine reaches, and was when each run was ordered.
+-- What is registered and in force is consistent in each state that the machine reaches, and was when each run was ordered.
 use Rattle.std.proofs.Common.{◌≡◌, ℕ, ◌+◌, List, [], ◌∷◌, ◌++◌, refl, sym, subst, ◌∙◌, Bool, true, false, cond, Some, None, arith}
 use Rattle.std.specs.Prelude.{ℤ, pos, ◌+ℤ◌, ◌≤ℤ◌, ◌&&◌, not, int_lt, is_none}
 use Rattle.std.specs.FinMap.{find}
@@ -39,12 +39,12 @@ use Rattle.hh_state_laws.proofs.AcceptedLaws.{reached_holds, runs_hold}
 use Rattle.hh_state_laws.proofs.EffectiveLaws.{Keeps, KeepsParty, KeepsUnit, counterparties_stay, fixed_by_row, inside_itself, inside_lead, lead_stays, not_passed, one_account, party_effective, party_stays, same_parties, same_units, subsidiary_stays, two_accounts, unit_effective, unit_stays}
 use Rattle.hh_state_laws.proofs.PutLaws.{keys-put, keys-put_in_time, length-put_within, percents-put_in_time, stays-put, stays-put_new, table-put_entry, table-put_in_time, table-put_new, values-put}
 
--- none of the conditions of a list is met
+-- no condition of a list is met
 abbrev pub NoneMet : List (Refusal × Bool) → Type 0
 NoneMet [] = Unit {0}
 NoneMet (r ∷ rs) = (r.1 ≡ false) × NoneMet rs
 
--- where no refusal is the first that is met, none is met
+-- if there is no first refusal whose condition is met, no condition is met
 pub none_met : (rs : List (Refusal × Bool)) → first_met rs ≡ None → NoneMet rs
 none_met [] none = tt
 none_met (r ∷ rs) none = elim r.1 as (λ b. cond b (Some r.0) (first_met rs) ≡ None → (b ≡ false) × NoneMet rs) [
@@ -52,18 +52,18 @@ none_met (r ∷ rs) none = elim r.1 as (λ b. cond b (Some r.0) (first_met rs) �
   | false ↦ λ e. (refl, none_met rs e)
 ] none
 
--- the sum of percentages in time stays within the limit that it is tested by
+-- the sum of percentages of a row in time is within the limit that it is tested for
 within_limit : (in_time : Bool) (most sum : ℤ) → (in_time && int_lt most sum) ≡ false → in_time ≡ true → sum ≤ℤ most
 within_limit true most sum e t = grind (arith, ints)
 within_limit false most sum e t = cc
 
--- where the date has the period, the timing tells whether the row comes in time
+-- if the date has the period, the timing tells whether the row comes in time
 in_time_by : (has_period in_time : Bool) → lacks_period (timing_by has_period in_time) ≡ false → comes_in_time (timing_by has_period in_time) ≡ in_time
 in_time_by true true e = refl
 in_time_by true false e = refl
 in_time_by false in_time e = cc
 
--- an accepted row leaves consistent what is registered and in force
+-- after an accepted row, what is registered and in force is still consistent
 module _ (tables : Registered) (before : AreConsistent tables) (in_time : Bool) where
   -- the keys of each table still rise
   still_rising : (r : Row) → AreTables (with_row in_time r tables)
@@ -77,7 +77,7 @@ module _ (tables : Registered) (before : AreConsistent tables) (in_time : Bool) 
     reallocations = table-put_in_time reallocation_key_total in_time (reallocation_entry r) tables.reallocations before.rising.reallocations;
   }
 
-  -- a party's row, which shrinks no range and has room
+  -- a party's row that shrinks no range and has room
   with_party : (r : PartyRow) → first_met (party_refusals (whole_standing tables) r) ≡ None → AreConsistent (with_row in_time (row.Party r) tables)
   with_party r accepted =
       let new : Registered = with_row in_time (row.Party r) tables in
@@ -99,7 +99,7 @@ module _ (tables : Registered) (before : AreConsistent tables) (in_time : Bool) 
         meters = λ key there. unit_stays tables new keeps key.unit key.at.date (before.meters key there);
       }
 
-  -- a unit's row, which lies inside its lead party, shrinks no range, moves no unit and has room
+  -- a unit's row that lies inside its lead party's range, shrinks no range, moves no unit and has room
   with_unit : (r : UnitRow) → first_met (unit_refusals (whole_standing tables) r) ≡ None → AreConsistent (with_row in_time (row.Unit r) tables)
   with_unit r accepted =
       let new : Registered = with_row in_time (row.Unit r) tables in
@@ -164,7 +164,7 @@ module _ (tables : Registered) (before : AreConsistent tables) (in_time : Bool) 
         meters = λ key there. unit_stays tables new keeps key.unit key.at.date (before.meters key there);
       }
 
-  -- a contract's row, whose counterparties are effective, differ, and are those of its reference
+  -- a contract's row with effective counterparties that differ and are those of its reference
   with_contract : (timing : Timing) (r : ContractRow) → first_met (contract_refusals (whole_standing tables) timing r) ≡ None → AreConsistent (with_row in_time (row.Contract r) tables)
   with_contract timing r accepted =
       let new : Registered = with_row in_time (row.Contract r) tables in
@@ -192,7 +192,7 @@ module _ (tables : Registered) (before : AreConsistent tables) (in_time : Bool) 
         meters = λ key there. unit_stays tables new keeps key.unit key.at.date (before.meters key there);
       }
 
-  -- a reallocation's row, whose unit and party are effective, which is to a subsidiary and has room where it is in time
+  -- a reallocation's row to a subsidiary, with effective unit and party, that has room if it is in time
   with_reallocation : (timing : Timing) (r : ReallocationRow) → first_met (reallocation_refusals (whole_standing tables) timing r) ≡ None
       → (lacks_period timing ≡ false → comes_in_time timing ≡ in_time) → AreConsistent (with_row in_time (row.Reallocation r) tables)
   with_reallocation timing r accepted timed =
@@ -224,7 +224,7 @@ module _ (tables : Registered) (before : AreConsistent tables) (in_time : Bool) 
         meters = λ key there. unit_stays tables new keeps key.unit key.at.date (before.meters key there);
       }
 
--- a row of any kind that is accepted leaves consistent what is registered and in force
+-- an accepted row of any kind leaves what is registered and in force consistent
 with_accepted : (timetable : Timetable) (moment : ℤ) (r : Row) (tables : Registered) → AreConsistent tables
     → first_met (refusals_of (whole_standing tables) (timing_of timetable (accepted_at moment r)) r) ≡ None
     → AreConsistent (with_row (is_in_time timetable (accepted_at moment r)) r tables)
@@ -239,7 +239,7 @@ with_accepted timetable moment (row.Reallocation r) tables before accepted =
     with_reallocation tables before (is_before_deadline timetable moment r.key.unit_period.at) (timing_of timetable (accepted_at moment (row.Reallocation r))) r accepted
     (in_time_by (is_there timetable.midnight r.key.unit_period.at) (is_before_deadline timetable moment r.key.unit_period.at))
 
--- where nothing is registered or in force, that is consistent
+-- the empty tables are consistent
 nothing_consistent : AreConsistent nothing_registered
 nothing_consistent = record {
   rising = record { parties = refl; units = refl; references = refl; meters = refl; prices = refl; contracts = refl; reallocations = refl };
@@ -252,16 +252,16 @@ nothing_consistent = record {
   meters = λ key there. absurd (false_is_not_true there);
 }
 
--- a row that is accepted after a history leaves consistent what is registered and in force
+-- a row that is accepted after a history leaves what is registered and in force consistent
 pub consistent_with : (timetable : Timetable) (history : History) (a : Accepted) → AreConsistent (registered_in timetable history) → IsRow a.row → refusal_after timetable history a ≡ None
     → AreConsistent (registered_in timetable (history ++ a ∷ []))
 consistent_with timetable history a before valued accepted =
     subst AreConsistent (sym (looks_back timetable history a)) (with_accepted timetable a.moment a.row (registered_in timetable history) before accepted)
 
--- in each reached state what is registered and in force is consistent
+-- in each reached state, what is registered and in force is consistent
 pub reached_consistent : ConsistentStates
 reached_consistent = reached_holds (λ timetable history. AreConsistent (registered_in timetable history)) (λ timetable. nothing_consistent) consistent_with
 
--- and so it was when each run was ordered
+-- and it was when each run was ordered
 pub runs_consistent : ConsistentRuns
 runs_consistent = runs_hold (λ timetable history. AreConsistent (registered_in timetable history)) (λ timetable. nothing_consistent) consistent_with

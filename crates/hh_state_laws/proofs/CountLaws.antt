@@ -1,4 +1,4 @@
--- How many accounts a run settles and posts to at most, and that the summary of each run is within its limits.
+-- How many accounts a run settles and posts to at most; and the summary of each run is within its limits.
 use Rattle.std.proofs.Common.{◌≡◌, ℕ, zero, suc, ◌*◌, ◌≤◌, List, [], ◌∷◌, ◌++◌, length, map, refl, sym, ap, subst, ◌∙◌, Bool, true, false, cond, Option, Some, None, Ordering, arith}
 use Rattle.std.specs.Prelude.{ℤ, ◌≢◌, Contains, drop, filter, is_some, take, unsigned_abs}
 use Rattle.std.specs.Cmp.{IsTotalOrder, eq_by_cmp_equiv}
@@ -45,13 +45,13 @@ use Rattle.hh_state_laws.proofs.PostingLaws.{all-with_former, differences_distin
 use Rattle.hh_state_laws.proofs.ReadyLaws.{Differ, all_both, differs, no_more, one_of_both, two_each}
 use Rattle.hh_state_laws.proofs.TurnoverLaws.{all_within, day_residual, few_periods, periods_counted, total_by_most}
 
--- what is told apart pair by pair differs
+-- elements that are pairwise told apart differ
 apart_differ : {X : Type 0} (alike : X → X → Bool) (D : X → X → Type 0) → ((x y : X) → alike x y ≡ false → D x y) → (xs : List X) → NoneAlike alike xs → Differ D xs
 apart_differ alike D told [] h = tt
 apart_differ alike D told (x ∷ xs) h = (all-weaken (λ y. alike x y ≡ false) (D x) (told x) xs h.0, apart_differ alike D told xs h.1)
 
 module _ {K V : Type 0} (R : K → K → Ordering) where
-  -- what is found in a list is found where more entries stand behind it
+  -- a key that is found is still found with more entries behind
   found_with_more : (q : K) (es fs : List (K × V)) → is_some (find R q es) ≡ true → is_some (find R q (es ++ fs)) ≡ true
   found_with_more q [] fs there = absurd (false_is_not_true there)
   found_with_more q (e ∷ es) fs there =
@@ -73,7 +73,7 @@ module _ {K V : Type 0} (R : K → K → Ordering) where
       behind q v false there = there
 
   module _ (P : K → Type 0) where
-    -- what holds of the keys of entries holds with one more key of which it holds
+    -- if the keys of entries have a property, and one more key has it, so have the keys after that one is put
     keys_with : (k : K) (v : V) (es : List (K × V)) → P k → AllByRecursion (λ e. P e.0) es → AllByRecursion (λ e. P e.0) (put R k v es)
     keys_with k v [] one all = (one, tt)
     keys_with k v (e ∷ es) one all =
@@ -83,7 +83,7 @@ module _ {K V : Type 0} (R : K → K → Ordering) where
           | Greater ↦ (all.0, keys_with k v es one all.1)
         ]
 
-    -- so it holds of them in their order
+    -- so the keys have it after sorting
     keys_in_order : (es : List (K × V)) → AllByRecursion (λ e. P e.0) es → AllByRecursion (λ e. P e.0) (in_key_order R es)
     keys_in_order [] all = tt
     keys_in_order (e ∷ es) all = keys_with e.0 e.1 (in_key_order R es) all.0 (keys_in_order es all.1)
@@ -94,9 +94,9 @@ taken_and_left zero xs = refl
 taken_and_left (suc n) [] = refl
 taken_and_left (suc n) (x ∷ xs) = ap (λ ys. x ∷ ys) (taken_and_left n xs)
 
--- a party that was registered stays so
+-- a registered party stays registered
 module _ (timetable : Timetable) (history : History) (n : ℕ) where
-  -- among the rows of parties
+  -- a party is found exactly if it is among the rows of parties
   found_among : (rows : History) (party : List ℕ) → is_some (find bytes_cmp party (registered_in timetable rows).parties) ≡ is_some (find bytes_cmp party (entries_of party_entry rows))
   found_among rows party =
       ap is_some (find-in_key_order bytes_total (latest bytes_cmp (entries_of party_entry rows)) party)
@@ -108,16 +108,16 @@ module _ (timetable : Timetable) (history : History) (n : ℕ) where
       ∙ ap (λ rows. is_some (find bytes_cmp party rows)) (ap (entries_of party_entry) (sym (taken_and_left n history)) ∙ filter_map-append (λ a. party_entry a.row) (take n history) (drop n history))
       ∙ found_with_more bytes_cmp party (entries_of party_entry (take n history)) (entries_of party_entry (drop n history)) (sym (found_among (take n history) party) ∙ there)
 
--- all accounts of parties
+-- both accounts of each party
 abbrev everyone : Table (List ℕ) PartyRegistration → List Account
 everyone parties = flat_map (λ e. both_accounts e.0) parties
 
--- are two of each
+-- there are twice as many as parties
 two_of_each : (parties : Table (List ℕ) PartyRegistration) → length (everyone parties) ≡ 2 * length parties
 two_of_each [] = omega arith
 two_of_each (e ∷ parties) = let rest = two_of_each parties in omega arith
 
--- the accounts of registered parties are some of them
+-- the accounts of registered parties are among them
 account_known : (parties : Table (List ℕ) PartyRegistration) (a : Account) → is_some (find bytes_cmp a.party parties) ≡ true → Contains (everyone parties) a
 account_known [] a there = absurd (false_is_not_true there)
 account_known (e ∷ parties) a there =
@@ -126,7 +126,7 @@ account_known (e ∷ parties) a there =
       | false ↦ λ other is. Contains-append_right (both_accounts e.0) (everyone parties) a (account_known parties a is)
     ] refl there
 
--- what holds of both accounts of each party that passes holds of all accounts of a date
+-- if both accounts of each party that passes have a property, so have all accounts of a date
 both_of_each : (P : List ℕ → Type 0) (test : List ℕ × PartyRegistration → Bool) (parties : Table (List ℕ) PartyRegistration) → AllByRecursion (λ e. P e.0) parties
     → AllByRecursion (λ a. P a.party) (flat_map (λ e. both_accounts e.0) (filter test parties))
 both_of_each P test [] all = tt
@@ -136,11 +136,11 @@ both_of_each P test (e ∷ parties) all = elim (test e) as (λ b. AllByRecursion
 ]
 
 module _ (timetable : Timetable) (history : History) where
-  -- all accounts of parties that are registered
+  -- both accounts of each registered party
   abbrev known : List Account
   known = everyone (registered_in timetable history).parties
 
-  -- the accounts that a run settles are some of them
+  -- the accounts that a run settles are among them
   settled_known : (run : Run) → AllByRecursion (λ a. Contains known a) (accounts_of timetable history run)
   settled_known run =
       let saw : Registered = seen_by timetable history run in
@@ -150,13 +150,13 @@ module _ (timetable : Timetable) (history : History) where
       (all-weaken (λ e. is_some (find bytes_cmp e.0 saw.parties) ≡ true) (λ e. is_some (find bytes_cmp e.0 (registered_in timetable history).parties) ≡ true)
       (λ e. party_kept timetable history run.row_count e.0) saw.parties (own_found bytes_cmp bytes_total saw.parties)))
 
-  -- so are those that have day nets in it
+  -- so are the accounts that have day nets in it
   nets_known : (o : Option Run) → AllByRecursion (λ e. Contains known e.0) (nets_of timetable history o)
   nets_known None = tt
   nets_known (Some run) =
       all-map (λ (e : Account × ℤ). Contains known e.0) (λ a. (a, day_net (settled_by timetable history run) a)) (accounts_of timetable history run) (settled_known run)
 
-  -- and those to which it posts
+  -- and the accounts to which it posts
   postings_known : (former : Option Run) (run : Run) → AllByRecursion (λ e. Contains known e.0) (postings_after timetable history former run)
   postings_known former run =
       let old : DayNets = nets_of timetable history former in
@@ -175,7 +175,7 @@ module _ (timetable : Timetable) (history : History) where
       (apart_differ (have_one_key account_cmp) (λ x y. x.0 ≢ y.0) (λ x y. differs account_total x.0 y.0) posts (differences_distinct (nets_of timetable history former) (nets_of timetable history (Some run))))
       (postings_known former run))
 
--- a run that lacked nothing, in a state that is consistent and was so then, has a summary within its limits
+-- if a run lacked nothing, and the state is consistent and was so when it was ordered, the run's summary is within its limits
 module _ (midnight : Midnights) (s : State) (consistent : AreConsistent (registered_at midnight s)) (run : Run) (former : Option Run) where
   -- what the run saw
   abbrev saw : Registered

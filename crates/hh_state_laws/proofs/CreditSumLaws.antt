@@ -1,4 +1,4 @@
--- The credits in the tables of a reached state come to what each unit has in each Settlement Period of each run.
+-- The credits in the tables of a reached state sum to each unit's loss-adjusted volume in each Settlement Period of each run.
 use Rattle.std.proofs.Common.{◌≡◌, ℕ, List, [], ◌∷◌, map, refl, sym, ap, ◌∙◌, Bool, true, false, cond, eq-eqb, ne_eqb}
 use Rattle.std.specs.Prelude.{ℤ, pos, ◌+ℤ◌, ◌==◌, ◌&&◌, All, take}
 use Rattle.std.specs.Cmp.{eq_by_cmp_equiv, nat_cmp_total}
@@ -42,12 +42,12 @@ use Rattle.hh_state_laws.proofs.ReadyLaws.{all_both, terms_ready}
 use Rattle.hh_state_laws.proofs.RunRowLaws.{all_of, credits_own, is_same_number, periods_distinct, run_credits_distinct}
 use Rattle.hh_state_laws.proofs.RunSumLaws.{period_adds_up}
 
--- of those of a list that are like an element, only the element counts
+-- of the elements of a list that are like one element, only that one counts
 abbrev CountsAlone : {X : Type 0} → (X → X → Bool) → List X → X → Type 0
 CountsAlone {X} alike xs x = (f : X → ℤ) → total (λ y. cond (alike y x) (f y) (pos 0)) xs ≡ f x
 
 module _ {X : Type 0} (alike : X → X → Bool) (itself : (x : X) → alike x x ≡ true) (turned : (x y : X) → alike x y ≡ alike y x) where
-  -- so it is for each where no two are alike
+  -- this holds for each element if no two are alike
   each_alone : (xs : List X) → NoneAlike alike xs → AllByRecursion (CountsAlone alike xs) xs
   each_alone [] apart = tt
   each_alone (x ∷ xs) apart = (
@@ -60,25 +60,25 @@ module _ {X : Type 0} (alike : X → X → Bool) (itself : (x : X) → alike x x
       others : AllByRecursion (λ y. alike y x ≡ false) xs
       others = all-weaken (λ y. alike x y ≡ false) (λ y. alike y x ≡ false) (λ y differ. turned y x ∙ differ) xs apart.0
 
--- whether two Settlement Periods have one number
+-- whether two Settlement Periods have the same number
 abbrev pub have_one_number : SettlementPeriod → SettlementPeriod → Bool
 have_one_number x y = x.period == y.period
 
--- no two Settlement Periods of a date have one number
+-- no two Settlement Periods of a date have the same number
 pub numbers_differ : (date count : ℕ) → NoneAlike have_one_number (periods_on date count)
 numbers_differ date count =
     distinct-weaken (λ x y. is_same_number x.period y.period) have_one_number
     (λ x y apart. ne_eqb x.period y.period (λ one. false_is_not_true (sym apart ∙ sym (ap (is_same_number x.period) one) ∙ (eq_by_cmp_equiv nat_cmp_total).refl x.period)))
     (periods_on date count) (periods_distinct date count)
 
--- equality of numbers may be turned
+-- equality of numbers is symmetric
 pub turned_number : (a b : ℕ) → (a == b) ≡ (b == a)
 turned_number a b = elim (b == a) as (λ t. (b == a) ≡ t → (a == b) ≡ t) [
   | true ↦ λ is. eq-eqb a b (sym (eqb-true b a is))
   | false ↦ λ is. ne_eqb a b (λ e. eqb-false b a is (sym e))
 ] refl
 
--- no two credits of all runs have one key
+-- no two credits of all runs have the same key
 all_credits_distinct : (midnight : Midnights) (s : State) → IsReached midnight s → NoneAlike (have_one_key credit_key_cmp) (all_credits (timetable_at midnight s) s)
 all_credits_distinct midnight s reached =
     let timetable : Timetable = timetable_at midnight s in
@@ -91,11 +91,11 @@ all_credits_distinct midnight s reached =
     (runs_distinct midnight s reached)
 
 module _ (unit : List ℕ) (period : ℕ) (run : RunKey) where
-  -- a credit counts where it is of the run and the period and from the unit
+  -- a credit counts if it is of the run and the period and from the unit
   abbrev counted : CreditKey × ℤ → ℤ
   counted e = cond (eq_by_cmp run_key_cmp e.0.run run && (e.0.period == period) && bytes_eq e.0.unit unit) e.1 (pos 0)
 
-  -- in a settled period it counts where it is from the unit
+  -- within a settled period it counts if it is from the unit
   abbrev from_unit : CreditRow → ℤ
   from_unit c = cond (bytes_eq c.unit unit) c.credited (pos 0)
 
@@ -103,11 +103,11 @@ module _ (unit : List ℕ) (period : ℕ) (run : RunKey) where
   abbrev block : RunKey → SettlementPeriod × Settled → List (CreditKey × ℤ)
   block key q = map (λ c. (credit_key key q.0 c, c.credited)) q.1.credits
 
-  -- what a settled period credits from the unit counts where it is of the period
+  -- the credits of a settled period from the unit count if it is the period
   abbrev in_period : SettlementPeriod × Settled → ℤ
   in_period q = cond (q.0.period == period) (total from_unit q.1.credits) (pos 0)
 
-  -- the credits of a Settlement Period of a run that count come to what it credits from the unit, where both are those
+  -- the credits that count in a Settlement Period of a run have the sum of the credits from the unit, if it is the run and the period
   one_period : (key : RunKey) (q : SettlementPeriod × Settled) → total counted (block key q) ≡ cond (eq_by_cmp run_key_cmp key run) (in_period q) (pos 0)
   one_period key q =
       total-map counted (λ (c : CreditRow). (credit_key key q.0 c, c.credited)) q.1.credits
@@ -119,14 +119,14 @@ module _ (unit : List ℕ) (period : ℕ) (run : RunKey) where
         | false ↦ total-zero q.1.credits
       ]
 
-  -- so do those of a run
+  -- the same for all periods of a run
   one_run : (key : RunKey) (day : List (SettlementPeriod × Settled)) → total counted (credit_entries key day) ≡ cond (eq_by_cmp run_key_cmp key run) (total in_period day) (pos 0)
   one_run key day =
       total-flat_map counted (block key) day
       ∙ total-same (λ q. total counted (block key q)) (λ q. cond (eq_by_cmp run_key_cmp key run) (in_period q) (pos 0)) day (one_period key)
       ∙ elim (eq_by_cmp run_key_cmp key run) as (λ b. total (λ q. cond b (in_period q) (pos 0)) day ≡ cond b (total in_period day) (pos 0)) [ true ↦ refl | false ↦ total-zero day ]
 
-  -- and those of all runs
+  -- and for all runs
   all_runs : (timetable : Timetable) (s : State) → total counted (all_credits timetable s) ≡ total (λ r. cond (eq_by_cmp run_key_cmp r.key run) (total in_period (settled_by timetable s.history r)) (pos 0)) s.runs
   all_runs timetable s =
       total-flat_map counted (λ (r : Run). credit_entries r.key (settled_by timetable s.history r)) s.runs
@@ -134,7 +134,7 @@ module _ (unit : List ℕ) (period : ℕ) (run : RunKey) where
       (λ r. one_run r.key (settled_by timetable s.history r))
 
 module _ (midnight : Midnights) (s : State) where
-  -- when local midnights fall and when notifications close in the state's office
+  -- the timetable of the state's office: local midnights, and when notifications close
   abbrev timetable : Timetable
   timetable = timetable_at midnight s
 
@@ -142,12 +142,12 @@ module _ (midnight : Midnights) (s : State) where
   abbrev seen : Run → Registered
   seen r = seen_by timetable s.history r
 
-  -- the credits of each unit in a Settlement Period of a run come to its loss-adjusted volume
+  -- the credits of each unit in a Settlement Period of a run sum to its loss-adjusted volume
   abbrev EachUnit : Run → SettlementPeriod → Type 0
   EachUnit r at = All (λ u. credited_from u.unit at.period r.key (tables_of midnight s).credits ≡ loss_adjusted u) (terms_at (seen r) at).units
 
   module _ (reached : IsReached midnight s) where
-    -- what the tables credit from a unit is what the run credits from it in the Settlement Period
+    -- the credits from a unit in the tables are those of the run in the Settlement Period
     one_unit : (r : Run) → CountsAlone have_one_run_key s.runs r → (at : SettlementPeriod) → CountsAlone have_one_number (periods_of midnight r) at → (u : BmUnit)
         → IsUnitCredited (settled (terms_at (seen r) at)).credits u → credited_from u.unit at.period r.key (tables_of midnight s).credits ≡ loss_adjusted u
     one_unit r run_alone at alone u credited =
@@ -160,7 +160,7 @@ module _ (midnight : Midnights) (s : State) where
         ∙ sym (total-filter (λ (c : CreditRow). c.credited) (λ c. bytes_eq c.unit u.unit) (settled (terms_at (seen r) at)).credits)
         ∙ credited
 
-    -- so it is for each unit of each Settlement Period of a run
+    -- this holds for each unit of each Settlement Period of a run
     each_run : (r : Run) → AreConsistent (seen r) × CountsAlone have_one_run_key s.runs r → AllByRecursion (EachUnit r) (periods_of midnight r)
     each_run r (consistent, run_alone) =
         all-weaken (CountsAlone have_one_number (periods_of midnight r)) (EachUnit r)
@@ -170,7 +170,7 @@ module _ (midnight : Midnights) (s : State) where
         (periods_of midnight r)
         (each_alone have_one_number (λ x. eq-eqb x.period x.period refl) (λ x y. turned_number x.period y.period) (periods_of midnight r) (numbers_differ r.key.date (period_count midnight r.key.date)))
 
--- the credits in the tables from each unit in each Settlement Period of each run come to its loss-adjusted volume
+-- the credits in the tables from each unit in each Settlement Period of each run sum to its loss-adjusted volume
 pub credits_sum_exactly : CreditsSumExactly
 credits_sum_exactly midnight s reached =
     all-weaken (λ r. AreConsistent (seen midnight s r) × CountsAlone have_one_run_key s.runs r) (λ r. AllByRecursion (EachUnit midnight s r) (periods_of midnight r))

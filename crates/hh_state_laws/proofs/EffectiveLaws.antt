@@ -1,4 +1,4 @@
--- What is registered stays effective where no range shrinks, no unit moves and no reference changes its counterparties; and what
+-- What is registered stays effective if no range shrinks, no unit moves and no reference changes its counterparties. And what
 -- accepted rows name is effective.
 use Rattle.std.proofs.Common.{◌≡◌, ◌≢◌, ℕ, ◌≤◌, List, refl, sym, ap, ◌∙◌, Bool, true, false, cond, Option, Some, None, arith}
 use Rattle.std.specs.Prelude.{not, is_none, is_some, IsTrue}
@@ -23,19 +23,19 @@ use Rattle.hh_rules.specs.Refusals.{is_party_off, is_some_that, is_unit_off, who
 use Rattle.hh_states.specs.Soundness.{HasCounterparties, IsInsideLead, IsPartyEffective, IsToSubsidiary, IsUnitEffective}
 use Rattle.hh_state_laws.proofs.PutLaws.{stays-put_new}
 
--- a test that no value may pass is not passed by one that is found
+-- if no value may pass a test, a value that is found doesn't pass it
 pub not_passed : {X : Type 0} (test : X → Bool) (o : Option X) (x : X) → is_some_that test o ≡ false → o ≡ Some x → test x ≡ false
 not_passed test o x none found = sym (ap (is_some_that test) found) ∙ none
 
--- accounts that aren't the same are two
+-- accounts that aren't the same differ
 pub two_accounts : (a b : Account) → is_same_account a b ≡ false → a ≢ b
 two_accounts a b apart one = absurd (false_is_not_true (sym apart ∙ sym (ap (is_same_account a) one) ∙ (eq_by_cmp_equiv account_total).refl a))
 
--- accounts that are the same are one
+-- accounts that are the same are equal
 pub one_account : (a b : Account) → is_same_account a b ≡ true → a ≡ b
 one_account a b same = exact_accounts a b ((Equal-is (account_cmp a b)).0 same)
 
--- counterparties that are the same are one
+-- counterparties that are the same are equal
 one_pair : (a b : Counterparties) → are_same_counterparties a b ≡ true → a ≡ b
 one_pair a b same =
     let parts = and_parts (is_same_account a.seller b.seller) (is_same_account a.buyer b.buyer) same in
@@ -45,7 +45,7 @@ one_pair a b same =
 pub inside_itself : (a : Range) → IsTrue (is_inside a a)
 inside_itself a = and_from _ _ (le-leb a.from a.from (omega arith)) (le-leb a.to a.to (omega arith))
 
--- what lies inside a range lies inside a wider one
+-- a range inside a range is inside a wider one
 inside_wider : (a b c : Range) → IsTrue (is_inside a b) → IsTrue (is_inside b c) → IsTrue (is_inside a c)
 inside_wider a b c inner outer =
     let near = and_parts _ _ inner in
@@ -56,7 +56,7 @@ inside_wider a b c inner outer =
     let far_to : b.to ≤ c.to = leb-true _ _ far.1 in
     and_from _ _ (le-leb c.from a.from (omega arith)) (le-leb a.to c.to (omega arith))
 
--- a wider range holds what a range holds
+-- a wider range has the dates that the range has
 pub wider_holds : (a b : Range) (date : ℕ) → IsTrue (is_inside a b) → IsTrue (holds a date) → IsTrue (holds b date)
 wider_holds a b date inside held =
     let wide = and_parts _ _ inside in
@@ -75,7 +75,7 @@ KeepsParty p q = IsTrue (is_inside p.range q.range)
 abbrev pub KeepsUnit : UnitRegistration → UnitRegistration → Type 0
 KeepsUnit u v = IsTrue (is_inside u.range v.range) × (v.lead ≡ u.lead)
 
--- what is registered stays: no range shrinks, no unit changes its lead account, and no reference its counterparties
+-- what is registered stays: no range shrinks, no unit changes its lead account, and no reference changes its counterparties
 pub record Keeps (old new : Registered) : Type 0 where
   pub parties : (party : List ℕ) (p : PartyRegistration) → find bytes_cmp party old.parties ≡ Some p
       → (q : PartyRegistration) × (find bytes_cmp party new.parties ≡ Some q) × KeepsParty p q
@@ -83,7 +83,7 @@ pub record Keeps (old new : Registered) : Type 0 where
       → (v : UnitRegistration) × (find bytes_cmp unit new.units ≡ Some v) × KeepsUnit u v
   pub references : (reference : List ℕ) (c : Counterparties) → find bytes_cmp reference old.references ≡ Some c → find bytes_cmp reference new.references ≡ Some c
 
--- where what is registered stays
+-- if what is registered stays
 module _ (old new : Registered) (keeps : Keeps old new) where
   -- a party stays effective
   pub party_stays : (party : List ℕ) (date : ℕ) → IsPartyEffective old party date → IsPartyEffective new party date
@@ -124,7 +124,7 @@ module _ (old new : Registered) (keeps : Keeps old new) where
       }
 
 module _ (tables : Registered) where
-  -- a party that is known and not off is effective
+  -- a party that is known, and registered for the date, is effective
   pub party_effective : (party : List ℕ) (date : ℕ) → is_none (find bytes_cmp party tables.parties) ≡ false → is_party_off (whole_standing tables) party date ≡ false → IsPartyEffective tables party date
   party_effective party date =
       elim (find bytes_cmp party tables.parties) as (λ o. find bytes_cmp party tables.parties ≡ o
@@ -133,7 +133,7 @@ module _ (tables : Registered) where
         | Some p ↦ λ is known on. record { registration = p; registered = is; holding = not-false (holds p.range date) on }
       ] refl
 
-  -- a unit that is known and not off is effective
+  -- a unit that is known, and registered for the date, is effective
   pub unit_effective : (unit : List ℕ) (date : ℕ) → is_none (find bytes_cmp unit tables.units) ≡ false → is_unit_off (whole_standing tables) unit date ≡ false → IsUnitEffective tables unit date
   unit_effective unit date =
       elim (find bytes_cmp unit tables.units) as (λ o. find bytes_cmp unit tables.units ≡ o
@@ -142,7 +142,7 @@ module _ (tables : Registered) where
         | Some u ↦ λ is known on. record { registration = u; registered = is; holding = not-false (holds u.range date) on }
       ] refl
 
-  -- a unit whose lead party is known and has its dates is inside it
+  -- a unit is inside its lead party if that is known and has its dates
   pub inside_lead : (u : UnitRegistration) → is_none (find bytes_cmp u.lead.party tables.parties) ≡ false
       → is_some_that (λ (p : PartyRegistration). not (is_inside u.range p.range)) (find bytes_cmp u.lead.party tables.parties) ≡ false → IsInsideLead tables u
   inside_lead u =
@@ -152,7 +152,7 @@ module _ (tables : Registered) where
         | Some p ↦ λ is known wide. record { lead = p; registered = is; inside = not-false (is_inside u.range p.range) wide }
       ] refl
 
-  -- a reference that is new or has these counterparties has them once they are put where it is new
+  -- if a reference is new or has these counterparties, it has them after they are put, which only happens if it is new
   pub fixed_by_row : (reference : List ℕ) (c : Counterparties) → is_moved (find bytes_cmp reference tables.references) c ≡ false
       → find bytes_cmp reference (put_new bytes_cmp (Some (reference, c)) tables.references) ≡ Some c
   fixed_by_row reference c =

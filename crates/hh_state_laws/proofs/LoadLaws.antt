@@ -1,4 +1,4 @@
--- What an accepted load writes is what is registered and in force after it.
+-- Writing what the machine writes for an accepted load gives what is registered and in force after the load.
 use Rattle.std.proofs.Common.{◌≡◌, ℕ, List, [], ◌∷◌, ◌++◌, map, refl, sym, ap, ◌∙◌, true, false, cond, Option, Some, None, Ordering, append_assoc}
 use Rattle.std.specs.Prelude.{ℤ, filter, is_none, is_some, option_to_list}
 use Rattle.std.specs.Cmp.{IsTotalOrder}
@@ -22,12 +22,12 @@ use Rattle.hh_rules.specs.Lateness.{Accepted, Timetable, accepted_at, is_in_time
 use Rattle.hh_rules.proofs.HistoryLaws.{looks_back}
 use Rattle.hh_states.specs.Changes.{put_row, put_rows}
 
--- what is registered and in force after rows that come one after the other
+-- what is registered and in force after some rows, one after another
 abbrev with_rows : Timetable → History → Registered → Registered
 with_rows timetable [] tables = tables
 with_rows timetable (a ∷ rows) tables = with_rows timetable rows (with_row (is_in_time timetable a) a.row tables)
 
--- to look back over a history with more rows is to change the tables by each of them
+-- looking back over a history with more rows changes the tables by each of these rows
 registered_in-append : (timetable : Timetable) (rows history : History) → registered_in timetable (history ++ rows) ≡ with_rows timetable rows (registered_in timetable history)
 registered_in-append timetable [] history = ap (registered_in timetable) (append-nil history)
 registered_in-append timetable (a ∷ rows) history =
@@ -40,7 +40,7 @@ abbrev references_after : History → Table (List ℕ) Counterparties → Table 
 references_after [] known = known
 references_after (a ∷ rows) known = references_after rows (put_new bytes_cmp (reference_entry a.row) known)
 
--- a late row fixes its reference where that is new, and changes nothing else
+-- a late row fixes its reference if that is new, and changes nothing else
 late_row : (timetable : Timetable) (moment : ℤ) (r : Row) (tables : Registered) → is_in_time timetable (accepted_at moment r) ≡ false
     → with_row false r tables ≡ record tables { references = put_new bytes_cmp (reference_entry r) tables.references }
 late_row timetable moment (row.Party r) tables late = absurd (false_is_not_true (sym late))
@@ -50,7 +50,7 @@ late_row timetable moment (row.Price r) tables late = absurd (false_is_not_true 
 late_row timetable moment (row.Contract r) tables late = refl
 late_row timetable moment (row.Reallocation r) tables late = refl
 
--- rows in time change the tables, and references stand apart
+-- the tables after rows in time, with the references taken apart
 apart : (timetable : Timetable) (rows : History) (tables : Registered) (known : Table (List ℕ) Counterparties) →
     with_rows timetable rows (record tables { references = known }) ≡ record (put_rows (timely_rows timetable rows) tables) { references = references_after rows known }
 apart timetable [] tables known = refl
@@ -63,7 +63,7 @@ apart timetable (a ∷ rows) tables known =
           ∙ apart timetable rows tables (put_new bytes_cmp (reference_entry a.row) known)
     ] refl
 
--- the reference that a row fixes, put into the table, is what the row changes of the references
+-- putting the reference that a row fixes changes the references as the row does
 fixed_row : (tables : Registered) (r : Row)
     → put_all bytes_cmp (option_to_list (fixed_by (fixes_reference tables r) (reference_entry r))) tables.references ≡ put_new bytes_cmp (reference_entry r) tables.references
 fixed_row tables (row.Party r) = refl
@@ -81,7 +81,7 @@ put_one_more : {K V : Type 0} (R : K → K → Ordering) (o : Option (K × V)) (
 put_one_more R None es table = refl
 put_one_more R (Some e) es table = refl
 
--- to put the references that rows fix is to let each row see the ones before it
+-- putting the references that rows fix gives the same as judging each row after those before it
 fixed_references-put : (timetable : Timetable) (history rows : History)
     → put_all bytes_cmp (fixed_references timetable history rows) (registered_in timetable history).references ≡ references_after rows (registered_in timetable history).references
 fixed_references-put timetable history [] = refl
@@ -93,7 +93,7 @@ fixed_references-put timetable history (a ∷ rows) =
     ∙ fixed_references-put timetable (history ++ a ∷ []) rows
     ∙ ap (references_after rows) after
 
--- what is registered and in force after rows is what the rows in time and the references that they fix make of the tables
+-- what is registered and in force after rows comes from the rows in time and the references that the rows fix
 pub load_register : (timetable : Timetable) (history rows : History) →
     registered_in timetable (history ++ rows)
     ≡ record (put_rows (timely_rows timetable rows) (registered_in timetable history)) {
@@ -105,7 +105,7 @@ load_register timetable history rows =
     ∙ apart timetable rows tables tables.references
     ∙ ap (λ references. record (put_rows (timely_rows timetable rows) tables) { references = references }) (sym (fixed_references-put timetable history rows))
 
--- one more entry under a new key is put into the table
+-- one more entry with a new key is put into the table
 pub in_key_order-append : {K V : Type 0} {R : K → K → Ordering} → IsTotalOrder R → ((x y : K) → R x y ≡ Equal → x ≡ y) → (es : List (K × V)) (k : K) (v : V) → find R k es ≡ None
     → in_key_order R (es ++ (k, v) ∷ []) ≡ put R k v (in_key_order R es)
 in_key_order-append {R = R} o exact es k v new =

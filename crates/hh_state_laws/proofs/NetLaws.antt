@@ -1,4 +1,4 @@
--- A period by the net volumes of its accounts.
+-- A Settlement Period settled by the net volumes of its accounts.
 use Rattle.hh_share.specs.Shares.{shares}
 use Rattle.hh_calc.specs.Formulas.{credits_of, weights}
 use Rattle.hh_calc.specs.Terms.{settled_period}

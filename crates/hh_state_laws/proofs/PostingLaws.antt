@@ -1,4 +1,4 @@
--- What the postings of runs come to: for each account its day nets in the latest runs of all dates.
+-- The sum of the postings of runs to an account is the sum of its day nets in the latest runs of all dates.
 use Rattle.std.proofs.Common.{◌≡◌, ℕ, List, [], ◌∷◌, ◌++◌, refl, sym, ap, ◌∙◌, Bool, true, false, cond, Option, Some, None, arith, append_assoc, eq-eqb, ne_eqb}
 use Rattle.std.specs.Prelude.{ℤ, pos, ◌+ℤ◌, ◌-ℤ◌, ◌==◌, is_some, map, not, unwrap_or}
 use Rattle.std.specs.Cmp.{eq_by_cmp_equiv, signed_Decides}
@@ -35,7 +35,7 @@ use Rattle.hh_state_laws.proofs.ApartLaws.{NoneAlike, all-weaken, distinct-appen
 use Rattle.hh_state_laws.proofs.RunLaws.{others}
 use Rattle.hh_state_laws.proofs.RunRowLaws.{postings_distinct, postings_own}
 
--- an amount that is left out where it is 0 still counts
+-- an amount that is left out if it is 0 still counts
 still_counts : (z : ℤ) → unwrap_or (if_passing (λ x. not (int_eq x (pos 0))) (Some z)) (pos 0) ≡ z
 still_counts z = elim (int_eq z (pos 0)) as (λ b. int_eq z (pos 0) ≡ b → unwrap_or (cond (not b) (Some z) None) (pos 0) ≡ z) [
   | true ↦ λ is. sym ((signed_Decides z (pos 0)).0 is)
@@ -47,7 +47,7 @@ module _ (old new : DayNets) where
   abbrev pub changes : DayNets
   changes = map (with_change old new) (new ++ old)
 
-  -- an account's change is found where the account is
+  -- an account's change is found if the account is found
   pub found_change : (a : Account) (es : DayNets) → find account_cmp a (map (with_change old new) es) ≡ cond (is_some (find account_cmp a es)) (Some (net_change old new a)) None
   found_change a [] = refl
   found_change a (e ∷ es) =
@@ -61,11 +61,11 @@ module _ (old new : DayNets) where
   pub changes_distinct : NoneAlike (have_one_key account_cmp) (in_key_order account_cmp changes)
   changes_distinct = sorted_distinct account_cmp (in_key_order account_cmp changes) (is_sorted-in_key_order account_total changes)
 
-  -- nor is there a second difference of an account
+  -- nor two differences
   pub differences_distinct : NoneAlike (have_one_key account_cmp) (differences old new)
   differences_distinct = distinct-filter (have_one_key account_cmp) is_difference (in_key_order account_cmp changes) changes_distinct
 
-  -- what differs for an account is its new net less its old
+  -- the difference for an account is its new net less its old
   pub day_net_of-differences : (a : Account) → day_net_of (differences old new) a ≡ net_change old new a
   day_net_of-differences a =
       ap (λ o. unwrap_or o (pos 0))
@@ -79,7 +79,7 @@ module _ (old new : DayNets) where
         | Some z ↦ λ is. still_counts (net_change old new a)
       ] refl
 
--- the first that there is, with a third behind two
+-- the first value of three options, two of which have values
 behind_two : {X : Type 0} (o : Option X) (x y : X) → option_or o (Some y) ≡ option_or (option_or o (Some y)) (Some x)
 behind_two None x y = refl
 behind_two (Some z) x y = refl
@@ -106,35 +106,35 @@ latest_run-append date (x ∷ runs) r =
     ∙ later_first (x.key.date == date) (r.key.date == date) (latest_run date runs)
     ∙ ap (cond (r.key.date == date) (Some r)) (sym (latest_run-cons date x runs))
   where
-    -- which of the two tests comes first makes no difference
+    -- the order of the two tests makes no difference
     later_first : (b c : Bool) (o : Option Run) → cond b (option_or (cond c (Some r) o) (Some x)) (cond c (Some r) o) ≡ cond c (Some r) (cond b (option_or o (Some x)) o)
     later_first true true o = refl
     later_first false true o = refl
     later_first b false o = refl
 
--- a run takes the place of the latest of its date in a sum, the run before it being the only one of the date
+-- a sum in which a run replaces the latest run of its date; the run before it was the only one of the date
 behind_none : (a b c : ℤ) → pos 0 +ℤ ((b -ℤ pos 0) +ℤ c) ≡ ((a +ℤ b) -ℤ a) +ℤ c
 behind_none a b c = omega (arith, ints)
 
--- the same, with another run of the date between them
+-- the same with another run of the date between them
 behind_one : (a b c : ℤ) → pos 0 +ℤ ((b -ℤ a) +ℤ c) ≡ ((pos 0 +ℤ b) -ℤ a) +ℤ c
 behind_one a b c = omega (arith, ints)
 
--- the same, the run before it being of another date
+-- the same if the run before it is of another date
 other_date : (a b c d : ℤ) → a +ℤ ((b -ℤ c) +ℤ d) ≡ ((a +ℤ b) -ℤ c) +ℤ d
 other_date a b c d = omega (arith, ints)
 
--- what is posted for a run is by how much the sum changes
+-- what is posted for a run is the change of the sum
 one_step : (a b before after : ℤ) → (a -ℤ b) +ℤ (after -ℤ ((before -ℤ b) +ℤ a)) ≡ after -ℤ before
 one_step a b before after = omega (arith, ints)
 
--- sums in which each run counts by an amount, and a run that is not there by none
+-- sums in which each run counts by an amount, and a missing run by 0
 module _ (net : Option Run → ℤ) (nothing : net None ≡ pos 0) where
-  -- what the latest runs of all dates come to
+  -- the sum over the latest runs of all dates
   abbrev latest_total : List Run → ℤ
   latest_total runs = total (λ r. net (Some r)) (latest_runs runs)
 
-  -- a run with no later one of its date counts
+  -- a run counts if no later run of its date follows
   latest_total-cons : (x : Run) (later : List Run) → latest_total (x ∷ later) ≡ cond (is_some (latest_run x.key.date later)) (pos 0) (net (Some x)) +ℤ latest_total later
   latest_total-cons x later =
       elim (is_some (latest_run x.key.date later)) as (λ b. total (λ r. net (Some r)) (cond b (latest_runs later) (x ∷ latest_runs later)) ≡ cond b (pos 0) (net (Some x)) +ℤ latest_total later) [
@@ -148,7 +148,7 @@ module _ (net : Option Run → ℤ) (nothing : net None ≡ pos 0) where
   same_date None x rest more = ap (λ z. pos 0 +ℤ ((rest -ℤ z) +ℤ more)) nothing ∙ behind_none (net (Some x)) rest more
   same_date (Some y) x rest more = behind_one (net (Some y)) rest more
 
-  -- one more run takes the place of the latest of its date
+  -- one more run replaces the latest of its date
   latest_total-append : (runs : List Run) (r : Run) → latest_total (runs ++ r ∷ []) ≡ (latest_total runs -ℤ net (latest_run r.key.date runs)) +ℤ net (Some r)
   latest_total-append [] r = +ℤ_idr (net (Some r)) ∙ sym (ap (λ z. (pos 0 -ℤ z) +ℤ net (Some r)) nothing ∙ +ℤ_idl (net (Some r)))
   latest_total-append (x ∷ runs) r =
@@ -172,7 +172,7 @@ module _ (net : Option Run → ℤ) (nothing : net None ≡ pos 0) where
       ] refl
       ∙ sym (λ i. (latest_total-cons x runs i -ℤ net (latest_run-cons r.key.date x runs i)) +ℤ net (Some r))
 
-  -- what each run has more than the run of its date before it comes to what the latest runs have
+  -- the differences between each run and the run of its date before it sum to the sum over the latest runs
   total-with_former : (earlier runs : List Run) → total (λ p. net (Some p.1) -ℤ net p.0) (with_former earlier runs) ≡ latest_total (earlier ++ runs) -ℤ latest_total earlier
   total-with_former earlier [] = sym (ap (λ l. latest_total l -ℤ latest_total earlier) (append-nil earlier) ∙ +ℤ_invr (latest_total earlier))
   total-with_former earlier (r ∷ runs) =
@@ -191,7 +191,7 @@ module _ (timetable : Timetable) (s : State) where
       ∙ total-with_former net refl [] s.runs
       ∙ +ℤ_idr (latest_total net refl s.runs)
 
-  -- the rows of an account in the postings of all runs come to what the runs post to it
+  -- the rows of an account in the postings of all runs sum to what the runs post to it
   all_rows_of : (a : Account) → posted_to a (all_postings timetable s) ≡ posted timetable s a
   all_rows_of a =
       let amount : PostingKey × ℤ → ℤ = λ e. of_account a e.0.account e.1 in
@@ -201,11 +201,11 @@ module _ (timetable : Timetable) (s : State) where
       ∙ total-same (λ r. total amount (posting_entries r.1.key (nets r))) (λ r. day_net_of (nets r) a) (runs_with_former s)
       (λ r. total-map amount (entry r) (nets r) ∙ total_at account_total a (nets r) (differences_distinct (nets_of timetable s.history r.0) (nets_of timetable s.history (Some r.1))))
 
--- whether two runs are of one date and kind
+-- whether two runs are of the same date and kind
 abbrev pub have_one_run_key : Run → Run → Bool
 have_one_run_key x y = eq_by_cmp run_key_cmp x.key y.key
 
--- in each reached state no run stands twice
+-- in each reached state no run occurs twice
 pub runs_distinct : (midnight : Midnights) (s : State) → IsReached midnight s → NoneAlike have_one_run_key s.runs
 runs_distinct midnight s (at_first settings fine) = tt
 runs_distinct midnight s (by_load t load reached can) = runs_distinct midnight t reached
@@ -214,18 +214,18 @@ runs_distinct midnight s (by_run t moment key reached can) =
     (all-weaken (λ r. eq_by_cmp run_key_cmp key r.key ≡ false) (λ r. AllByRecursion (λ y. have_one_run_key r y ≡ false) (new_run t key ∷ []))
     (λ r apart. ((eq_by_cmp_equiv run_key_total).symm r.key key ∙ apart, tt)) t.runs (others midnight t key can.0))
 
--- what holds of each run holds of each with its former
+-- if each run has a property, so has each run paired with its former
 pub all-with_former : (P : Run → Type 0) (earlier runs : List Run) → AllByRecursion P runs → AllByRecursion (λ r. P r.1) (with_former earlier runs)
 all-with_former P earlier [] h = tt
 all-with_former P earlier (r ∷ runs) h = (h.0, all-with_former P (earlier ++ r ∷ []) runs h.1)
 
--- so no two of them are of one run key either
+-- so no two of these pairs have the same run key
 distinct-with_former : (earlier runs : List Run) → NoneAlike have_one_run_key runs → NoneAlike (λ x y. have_one_run_key x.1 y.1) (with_former earlier runs)
 distinct-with_former earlier [] h = tt
 distinct-with_former earlier (r ∷ runs) h =
     (all-with_former (λ y. have_one_run_key r y ≡ false) (earlier ++ r ∷ []) runs h.0, distinct-with_former (earlier ++ r ∷ []) runs h.1)
 
--- so that no two postings of all runs have one key
+-- so no two postings of all runs have the same key
 pub all_postings_distinct : (midnight : Midnights) (s : State) → IsReached midnight s → NoneAlike (have_one_key posting_key_cmp) (all_postings (timetable_at midnight s) s)
 all_postings_distinct midnight s reached =
     let timetable : Timetable = timetable_at midnight s in
@@ -235,12 +235,12 @@ all_postings_distinct midnight s reached =
     (each timetable (runs_with_former s))
     (distinct-with_former [] s.runs (runs_distinct midnight s reached))
   where
-    -- of each run by itself
+    -- the same for each run by itself
     each : (timetable : Timetable) (pairs : List (Option Run × Run)) → AllByRecursion (λ r. NoneAlike (have_one_key posting_key_cmp) (posting_entries r.1.key (postings_after timetable s.history r.0 r.1))) pairs
     each timetable [] = tt
     each timetable (r ∷ pairs) = (postings_distinct r.1.key (nets_of timetable s.history r.0) (nets_of timetable s.history (Some r.1)), each timetable pairs)
 
--- the postings in the tables of a reached state come to what the latest runs of all dates move
+-- the postings in the tables of a reached state sum to what the latest runs of all dates move
 pub postings_total : PostingsTotal
 postings_total midnight s a reached =
     let timetable : Timetable = timetable_at midnight s in

@@ -1,5 +1,5 @@
--- That the tables of each state that the machine reaches hold only values in the grammars and within the ranges of their fields,
--- and that no party has the operator's key.
+-- The tables of each state that the machine reaches have only values in the grammars and ranges of their fields, and no party has
+-- the operator's key.
 use Rattle.std.proofs.Common.{◌≡◌, ◌≢◌, ℕ, ℤ, ◌+◌, ◌≤◌, List, [], ◌∷◌, length, map, filter, refl, sym, ap, subst, ◌∙◌, Bool, true, false, cond, Option, Some, None, Ordering}
 use Rattle.std.specs.Prelude.{IsTrue, is_some, not, take, ◌&&◌, codes, nat_le}
 use Rattle.std.specs.FinMap.{find, put}
@@ -44,13 +44,13 @@ use Rattle.hh_states.specs.declared.file_key.FileKey.{FileKey}
 use Rattle.hh_state_laws.proofs.AcceptedLaws.{reached_holds}
 use Rattle.hh_state_laws.proofs.ApartLaws.{all-append}
 
--- this holds of an entry, if there is one
+-- an entry has the property, if there is an entry
 abbrev OfEntry : {K V : Type 0} → (K × V → Type 0) → Option (K × V) → Type 0
 OfEntry P None = Unit {0}
 OfEntry P (Some e) = P e
 
--- What holds of the key of one entry with the columns of another wherever it holds of both holds of a table once an entry of which it
--- holds is put into it.
+-- P is a property of entries. If two entries have it, so has the key of one with the columns of the other. Then a table whose entries
+-- have P still has it after an entry with P is put.
 module _ {K V : Type 0} (R : K → K → Ordering) (P : K × V → Type 0) (crossed : (q k : K) (w v : V) → P (q, w) → P (k, v) → P (q, v)) where
   all-put : (k : K) (v : V) (es : Table K V) → P (k, v) → AllByRecursion P es → AllByRecursion P (put R k v es)
   all-put k v [] own all = (own, tt)
@@ -77,7 +77,7 @@ module _ {K V : Type 0} (R : K → K → Ordering) (P : K × V → Type 0) (cros
   all-put_in_time true (Some e) es own all = all-put e.0 e.1 es own all
   all-put_in_time false (Some e) es own all = all
 
-  -- what holds of each entry holds of each once they are in the order of their keys
+  -- if each entry has the property, so has each after sorting
   all-in_key_order : (es : List (K × V)) → AllByRecursion P es → AllByRecursion P (in_key_order R es)
   all-in_key_order [] all = tt
   all-in_key_order (e ∷ es) all = all-put e.0 e.1 (in_key_order R es) all.0 (all-in_key_order es all.1)
@@ -106,7 +106,7 @@ OfContract e = IsContractKey e.0 × IsQuantity volumes e.1
 abbrev OfReallocation : ReallocationKey × Reallocation → Type 0
 OfReallocation e = IsReallocationRow (record { key = e.0; reallocation = e.1 })
 
--- the entries that a row makes, where the row is in its grammars and within its ranges
+-- the entries of a row that is in its grammars and ranges
 party_of : (r : Row) → IsRow r → OfEntry OfParty (party_entry r)
 party_of (row.Party r) valued = valued
 party_of _ valued = tt
@@ -135,7 +135,7 @@ reallocation_of : (r : Row) → IsRow r → OfEntry OfReallocation (reallocation
 reallocation_of (row.Reallocation r) valued = valued
 reallocation_of _ valued = tt
 
--- what is registered and in force is of rows, also after one more
+-- what is registered and in force comes from rows, also after one more row
 of_rows_with : (in_time : Bool) (r : Row) (tables : Registered) → IsRow r → AreOfRows tables → AreOfRows (with_row in_time r tables)
 of_rows_with in_time r tables valued before = record {
   parties = all-put_entry bytes_cmp OfParty (λ q k w v old new. record { party = old.party; registration = new.registration }) (party_entry r) tables.parties (party_of r valued) before.parties;
@@ -151,7 +151,7 @@ of_rows_with in_time r tables valued before = record {
 nothing_of_rows : AreOfRows nothing_registered
 nothing_of_rows = record { parties = tt; units = tt; references = tt; meters = tt; prices = tt; contracts = tt; reallocations = tt }
 
--- so it is in each reached state
+-- this holds in each reached state
 registered_of_rows : (midnight : Midnights) (s : State) → IsReached midnight s → AreOfRows (registered_in (timetable_at midnight s) s.history)
 registered_of_rows = reached_holds (λ timetable history. AreOfRows (registered_in timetable history)) (λ timetable. nothing_of_rows)
     (λ timetable history a before valued accepted.
@@ -159,13 +159,13 @@ registered_of_rows = reached_holds (λ timetable history. AreOfRows (registered_
 
 -- ---- settings and files
 
--- the settings of each reached state are those of an office
+-- the settings of each reached state are in range
 settings_in_range : (midnight : Midnights) (s : State) → IsReached midnight s → AreSettings s.settings
 settings_in_range midnight s (at_first settings fine) = fine
 settings_in_range midnight s (by_load t load reached can) = settings_in_range midnight t reached
 settings_in_range midnight s (by_run t moment key reached can) = settings_in_range midnight t reached
 
--- rows that are applied and rows that are late are all rows
+-- each row is applied or late
 counts_are_all : (timetable : Timetable) (moment : ℤ) (rows : List Row)
     → length (timely_rows timetable (coming_at moment rows)) + late_count timetable (coming_at moment rows) ≡ length rows
 counts_are_all timetable moment rows =
@@ -188,7 +188,7 @@ files_in_range midnight s (by_load t load reached can) =
     (record { named = can.named; small = can.file.small; few = subst (λ n. n ≤ most_rows) (sym counts) can.file.few }, tt)
 files_in_range midnight s (by_run t moment key reached can) = files_in_range midnight t reached
 
--- the tables of each reached state hold only values in their grammars and within their ranges
+-- the tables of each reached state have only values in their grammars and ranges
 pub reached_in_range : ReachedInRange
 reached_in_range midnight s reached = record {
   settings = settings_in_range midnight s reached;
@@ -198,7 +198,7 @@ reached_in_range midnight s reached = record {
 
 -- ---- keys
 
--- no access key has the dash of the operator's
+-- no access key has the dash that the operator's key has
 keys_apart : (key : List ℕ) → IsTrue (is_access_key key) → IsTrue (is_operator_key key) → ⊥
 unfolding is_word is_operator_key
 keys_apart key access operator =
@@ -215,7 +215,7 @@ keys_apart key access operator =
         let dash : is_letter_or_digit c ≡ true = (and_parts _ _ (and_parts _ _ (and_parts _ _ all).1).1).0 in
         false_is_not_true (ap is_letter_or_digit (sym third) ∙ dash)
 
--- so no registered party has the operator's key in a reached state
+-- so in a reached state no registered party has the operator's key
 pub keys_never_meet : KeysNeverMeet
 keys_never_meet midnight s reached =
     go (registered_in (timetable_at midnight s) s.history).parties (registered_of_rows midnight s reached).parties

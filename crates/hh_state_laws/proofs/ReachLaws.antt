@@ -1,4 +1,4 @@
--- What holds of the states that the machine reaches, and that a load leaves the tables of the runs as they are.
+-- Properties of the states that the machine reaches; and a load leaves the tables of the runs as they are.
 use Rattle.std.proofs.Common.{◌≡◌, ℕ, ◌+◌, ◌≤◌, List, [], ◌∷◌, ◌++◌, map, length, refl, ap, Bool, true, false, cond, Option, Some, None, arith, length-append}
 use Rattle.std.specs.Prelude.{filter, ◌==◌}
 use Rattle.std.specs.List.{flat_map}
@@ -58,7 +58,7 @@ pairs_within n earlier [] before h = tt
 pairs_within n earlier (r ∷ runs) before h =
     (last_within n (runs_of_date r.key.date earlier) (within_filter n (λ x. x.key.date == r.key.date) earlier before), h.0, pairs_within n (earlier ++ r ∷ []) runs (within_append n earlier r before h.0) h.1)
 
--- in each reached state every run was ordered when no more rows had been accepted than now
+-- in each reached state, every run was ordered when no more rows had been accepted than now
 pub reached_within : (midnight : Midnights) (s : State) → IsReached midnight s → AreWithin (length s.history) s.runs
 reached_within midnight s (at_first settings fine) = tt
 reached_within midnight s (by_load t load reached can) =
@@ -67,7 +67,7 @@ reached_within midnight s (by_run t moment key reached can) =
     within_append (length t.history) t.runs (new_run t key) (reached_within midnight t reached) (omega arith)
 
 module _ (timetable : Timetable) (history more : History) where
-  -- later rows change nothing that a run saw
+  -- later rows don't change what a run saw
   pub seen_same : (r : Run) → r.row_count ≤ length history → seen_by timetable (history ++ more) r ≡ seen_by timetable history r
   seen_same r h = ap (registered_in timetable) (take-append-le r.row_count history more h)
 
@@ -107,7 +107,7 @@ module _ (timetable : Timetable) (history more : History) where
   all_postings_same [] h = refl
   all_postings_same (r ∷ pairs) h = λ i. posting_entries r.1.key (postings_same r.0 r.1 h.0 h.1 i) ++ all_postings_same pairs h.2 i
 
--- what an accepted load writes is what the tables of the state after it have new
+-- writing what the machine writes for an accepted load gives the tables of the state after it
 pub load_effect : LoadEffect
 load_effect midnight s load reached can =
     let timetable : Timetable = timetable_at midnight s in

@@ -1,5 +1,5 @@
--- What is registered and in force, where it is consistent, gives each Settlement Period what it may be settled from: so it is in
--- each state that the machine reaches, and was when each run was ordered.
+-- If what is registered and in force is consistent, each Settlement Period may be settled from it. So this holds in each state that
+-- the machine reaches, and held when each run was ordered.
 use Rattle.std.proofs.Common.{◌≡◌, ◌≢◌, ℕ, zero, suc, ◌*◌, ◌≤◌, ◌<◌, List, [], ◌∷◌, ◌++◌, length, map, refl, sym, ap, subst, ◌∙◌, Bool, true, false, cond, Option, Some, None, Ordering, arith}
 use Rattle.std.specs.Prelude.{All, AllPairs, Contains, T, filter, filter_map, is_some, option_map, ℤ}
 use Rattle.std.specs.Cmp.{IsTotalOrder, Equal-is, eq_by_cmp_equiv, tied_itself}
@@ -52,7 +52,7 @@ use Rattle.hh_state_laws.proofs.ConsistentLaws.{reached_consistent, runs_consist
 use Rattle.hh_state_laws.proofs.EffectiveLaws.{wider_holds}
 
 module _ {X : Type 0} (P : X → Type 0) where
-  -- what holds of each element holds of each that passes a test, and the test with it
+  -- if all elements have a property, those that pass a test have it and pass the test
   all_passing : (test : X → Bool) (xs : List X) → AllByRecursion P xs → AllByRecursion (λ x. P x × (test x ≡ true)) (filter test xs)
   all_passing test [] h = tt
   all_passing test (x ∷ xs) h = elim (test x) as (λ b. test x ≡ b → AllByRecursion (λ y. P y × (test y ≡ true)) (cond b (x ∷ filter test xs) (filter test xs))) [
@@ -60,7 +60,7 @@ module _ {X : Type 0} (P : X → Type 0) where
     | false ↦ λ is. all_passing test xs h.1
   ] refl
 
-  -- two facts of each element are one
+  -- if all elements have two properties, all have both together
   pub all_both : (Q : X → Type 0) (xs : List X) → AllByRecursion P xs → AllByRecursion Q xs → AllByRecursion (λ x. P x × Q x) xs
   all_both Q [] h k = tt
   all_both Q (x ∷ xs) h k = ((h.0, k.0), all_both Q xs h.1 k.1)
@@ -70,18 +70,18 @@ abbrev pub Differ : {X : Type 0} → (X → X → Type 0) → List X → Type 0
 Differ D [] = Unit {0}
 Differ D (x ∷ xs) = AllByRecursion (D x) xs × Differ D xs
 
--- so each differs from each later one
+-- so each element differs from each later one
 pairs_differ : {X : Type 0} (D : X → X → Type 0) (xs : List X) → Differ D xs → AllPairs D xs
 pairs_differ D [] h i j d before below = absurd (omega arith)
 pairs_differ D (x ∷ xs) h i zero d before below = absurd (omega arith)
 pairs_differ D (x ∷ xs) h zero (suc j) d before below = All-from_recursion (D x) xs h.0 j d (omega arith)
 pairs_differ D (x ∷ xs) h (suc i) (suc j) d before below = pairs_differ D xs h.1 i j d (omega arith) (omega arith)
 
--- what is told apart differs
+-- keys that an order tells apart differ
 pub differs : {K : Type 0} {R : K → K → Ordering} → IsTotalOrder R → (x y : K) → eq_by_cmp R x y ≡ false → x ≢ y
 differs {R = R} o x y apart one = false_is_not_true (sym apart ∙ sym (ap (eq_by_cmp R x) one) ∙ (eq_by_cmp_equiv o).refl x)
 
--- what stands in a list and is not its first stands behind it
+-- an element of a list that differs from the first is in the rest of the list
 behind_first : {X : Type 0} (x y : X) (xs : List X) → x ≢ y → Contains (x ∷ xs) y → Contains xs y
 behind_first x y xs apart (zero, inside, is) = absurd (apart is)
 behind_first x y xs apart (suc k, inside, is) = (k, omega arith, is)
@@ -91,20 +91,20 @@ module _ {X : Type 0} (ys : List X) (y : X) (there : Contains ys y) where
   abbrev without : List X
   without = remove ys there.0
 
-  -- is the list, the element being moved to its front
+  -- with the element put in front, it is the list in another order
   taken_out : IsPermutation ys (y ∷ without)
   taken_out = IsPermutation-remove ys there.0 y there.1 (sym there.2)
 
-  -- has one element less
+  -- has one element less than the list
   one_less : suc (length without) ≡ length ys
   one_less = length_permutation ys (y ∷ without) taken_out
 
-  -- and has all others
+  -- and has all other elements of the list
   still_there : (z : X) → y ≢ z → Contains ys z → Contains without z
   still_there z apart inside = behind_first y z without apart (Contains-permutation ys (y ∷ without) z taken_out inside)
 
 module _ {X Y : Type 0} (f : X → Y) where
-  -- different elements of a list are no more than its elements
+  -- there are no more different elements of a list than elements
   pub no_more : (xs : List X) (ys : List Y) → Differ (λ x z. f x ≢ f z) xs → AllByRecursion (λ x. Contains ys (f x)) xs → length xs ≤ length ys
   no_more [] ys apart inside = omega arith
   no_more (x ∷ xs) ys apart inside =
@@ -116,7 +116,7 @@ module _ {X Y : Type 0} (f : X → Y) where
       let less_one : suc (length left) ≡ length ys = one_less ys (f x) inside.0 in
       omega arith
 
-  -- and fewer where they miss one of its elements
+  -- and fewer if one element of the list is not among them
   fewer : (xs : List X) (ys : List Y) (y : Y) → Contains ys y → Differ (λ x z. f x ≢ f z) xs → AllByRecursion (λ x. Contains ys (f x)) xs → AllByRecursion (λ x. f x ≢ y) xs
       → length xs < length ys
   fewer xs ys y there apart inside missing =
@@ -129,7 +129,7 @@ module _ {X Y : Type 0} (f : X → Y) where
       omega arith
 
 module _ {K V : Type 0} {R : K → K → Ordering} (o : IsTotalOrder R) where
-  -- under the key of each entry its own value is found, where no key stands twice
+  -- if no key occurs twice, the key of each entry finds the entry's own value
   each_found : (es : List (K × V)) → NoneAlike (have_one_key R) es → AllByRecursion (λ e. find R e.0 es ≡ Some e.1) es
   each_found [] apart = tt
   each_found (e ∷ es) apart = (
@@ -139,9 +139,9 @@ module _ {K V : Type 0} {R : K → K → Ordering} (o : IsTotalOrder R) where
         (all_both (λ f. eq_by_cmp R e.0 f.0 ≡ false) (λ f. find R f.0 es ≡ Some f.1) es apart.0 (each_found es apart.1)),
   )
 
--- what is made of the elements for which something is found
+-- the values that are made of the elements for which something is found
 module _ {X Y Z : Type 0} (see : X → Option Z) (make : X → Z → Y) where
-  -- holds of each what holds of all that may be made
+  -- if all that may be made has a property, each of them has it
   pub all_made : (P : Y → Type 0) (xs : List X) → AllByRecursion (λ x. (z : Z) → see x ≡ Some z → P (make x z)) xs → AllByRecursion P (filter_map (λ x. option_map (make x) (see x)) xs)
   all_made P [] h = tt
   all_made P (x ∷ xs) h =
@@ -151,7 +151,7 @@ module _ {X Y Z : Type 0} (see : X → Option Z) (make : X → Z → Y) where
         | Some z ↦ λ is. (h.0 z is, all_made P xs h.1)
       ] refl
 
-  -- differs where all that may be made differs
+  -- if all that may be made differs, they differ
   made_differ : (D : Y → Y → Type 0) (E : X → X → Type 0) → ((x y : X) → E x y → (z w : Z) → D (make x z) (make y w)) → (xs : List X) → Differ E xs → Differ D (filter_map (λ x. option_map (make x) (see x)) xs)
   made_differ D E kept [] h = tt
   made_differ D E kept (x ∷ xs) h =
@@ -164,14 +164,14 @@ module _ {X Y Z : Type 0} (see : X → Option Z) (make : X → Z → Y) where
         )
       ]
 
--- an account is below those of later parties
+-- an account comes before the accounts of later parties
 below_parties : (a : Account) (es : Table (List ℕ) PartyRegistration) → T (below_all bytes_cmp a.party es) → AllByRecursion (λ b. account_cmp a b ≡ Less) (flat_map (λ e. both_accounts e.0) es)
 below_parties a [] below = tt
 below_parties a (e ∷ es) below =
     let under : bytes_cmp a.party e.0 ≡ Less = less _ (first _ _ below) in
     (ap (λ o. ordering_then o (side_cmp a.side Production)) under, (ap (λ o. ordering_then o (side_cmp a.side Consumption)) under, below_parties a es (second _ _ below)))
 
--- so that the accounts of rising parties rise
+-- so if parties rise, their accounts rise
 pub parties_rise : (es : Table (List ℕ) PartyRegistration) → T (is_sorted bytes_cmp es) → IsStrictlySortedBy account_cmp (flat_map (λ e. both_accounts e.0) es)
 unfolding IsStrictlySortedBy
 parties_rise [] up = record {}
@@ -181,23 +181,23 @@ parties_rise (e ∷ es) up =
       (below_parties (record { party = e.0; side = Consumption }) es behind, parties_rise es (second _ _ up)),
     )
 
--- of each party there are at most two accounts
+-- there are at most two accounts of each party
 pub two_each : (test : List ℕ × PartyRegistration → Bool) (es : Table (List ℕ) PartyRegistration) → length (flat_map (λ e. both_accounts e.0) (filter test es)) ≤ 2 * length es
 two_each test [] = omega arith
 two_each test (e ∷ es) =
     let rest = two_each test es in
     elim (test e) as (λ b. length (flat_map (λ x. both_accounts x.0) (cond b (e ∷ filter test es) (filter test es))) ≤ 2 * length (e ∷ es)) [ true ↦ omega arith | false ↦ omega arith ]
 
--- an account is one of both of its party
+-- an account is one of the two of its party
 pub one_of_both : (side : Side) (own party : List ℕ) (more : List Account) → party ≡ own → Contains (both_accounts party ++ more) (record { party = own; side = side })
 one_of_both Production own party more is = (0, omega arith, λ i. record { party = is i; side = Production })
 one_of_both Consumption own party more is = (1, omega arith, λ i. record { party = is i; side = Consumption })
 
--- there is one value
+-- a value is one value only
 one_value : {A : Type 0} (x y : A) → Some x ≡ Some y → x ≡ y
 one_value x y e = cc
 
--- an account is there if its party is found with a range that holds the date
+-- an account is among those of the date if its party is found with a range that has the date
 pub account_there : (date : ℕ) (es : Table (List ℕ) PartyRegistration) (a : Account) (p : PartyRegistration) → find bytes_cmp a.party es ≡ Some p → holds p.range date ≡ true
     → Contains (flat_map (λ e. both_accounts e.0) (filter (λ e. holds e.1.range date) es)) a
 account_there date [] a p found held = cc
@@ -217,7 +217,7 @@ account_there date (e ∷ es) a p found held =
           ]
     ] refl found
 
--- reallocations of one unit in one Settlement Period are to different accounts
+-- reallocations of the same unit in the same Settlement Period are to different accounts
 accounts_differ : (key : UnitPeriod) (es : Table ReallocationKey Reallocation) → AllByRecursion (λ e. e.0.unit_period ≡ key) es → NoneAlike (have_one_key reallocation_key_cmp) es
     → Differ (λ s t. s.account ≢ t.account) (map {B = Subsidiary} (λ e. record { account = e.0.account; reallocation = e.1 }) es)
 accounts_differ key [] own apart = tt
@@ -234,18 +234,18 @@ module _ (tables : Registered) (consistent : AreConsistent tables) (at : Settlem
   abbrev accounts : List Account
   accounts = accounts_on tables at.date
 
-  -- there are at most as many accounts as parties may have
+  -- there are at most as many accounts as all parties can have
   few_accounts : length accounts ≤ 2 * most_parties
   few_accounts =
       let two : length accounts ≤ 2 * length tables.parties = two_each (λ e. holds e.1.range at.date) tables.parties in
       let most : length tables.parties ≤ most_parties = consistent.parties in
       omega arith
 
-  -- an account whose party is effective on the date is there
+  -- an account whose party is effective on the date is among the accounts
   effective_there : (a : Account) → IsPartyEffective tables a.party at.date → Contains accounts a
   effective_there a effective = account_there at.date tables.parties a effective.registration effective.registered effective.holding
 
-  -- a unit is registered as it is listed, and effective on the date
+  -- a unit is registered as it is listed, and is effective on the date
   abbrev IsOfDate : List ℕ × UnitRegistration → Type 0
   IsOfDate e = (find bytes_cmp e.0 tables.units ≡ Some e.1) × (holds e.1.range at.date ≡ true)
 
@@ -253,7 +253,7 @@ module _ (tables : Registered) (consistent : AreConsistent tables) (at : Settlem
   units_apart : NoneAlike (have_one_key bytes_cmp) tables.units
   units_apart = sorted_distinct bytes_cmp tables.units (from_true _ consistent.rising.units)
 
-  -- each unit of the date is so
+  -- this holds for each unit of the date
   all_of_date : AllByRecursion IsOfDate (units_on tables at.date)
   all_of_date = all_passing (λ e. find bytes_cmp e.0 tables.units ≡ Some e.1) (λ e. holds e.1.range at.date) tables.units (each_found bytes_total tables.units units_apart)
 
@@ -262,13 +262,13 @@ module _ (tables : Registered) (consistent : AreConsistent tables) (at : Settlem
     abbrev here : UnitPeriod
     here = record { unit = e.0; at = at }
 
-    -- its lead account is there
+    -- its lead account is among the accounts
     lead_there : Contains accounts e.1.lead
     lead_there =
         let inside = consistent.leads e.0 e.1 of_date.0 in
         effective_there e.1.lead (record { registration = inside.lead; registered = inside.registered; holding = wider_holds e.1.range inside.lead.range at.date inside.inside of_date.1 })
 
-    -- a reallocation is in force, and is the unit's in the Settlement Period
+    -- a reallocation is in force, and it is of the unit in the Settlement Period
     abbrev IsInForce : ReallocationKey × Reallocation → Type 0
     IsInForce f = (find reallocation_key_cmp f.0 tables.reallocations ≡ Some f.1) × (eq_by_cmp unit_period_cmp f.0.unit_period here ≡ true)
 
@@ -276,23 +276,23 @@ module _ (tables : Registered) (consistent : AreConsistent tables) (at : Settlem
     reallocations_apart : NoneAlike (have_one_key reallocation_key_cmp) tables.reallocations
     reallocations_apart = sorted_distinct reallocation_key_cmp tables.reallocations (from_true _ consistent.rising.reallocations)
 
-    -- each that the unit is settled from is so
+    -- this holds for each reallocation that the unit is settled from
     all_in_force : AllByRecursion IsInForce (reallocations_at tables here)
     all_in_force =
         all_passing (λ f. find reallocation_key_cmp f.0 tables.reallocations ≡ Some f.1) (λ f. eq_by_cmp unit_period_cmp f.0.unit_period here) tables.reallocations
         (each_found reallocation_key_total tables.reallocations reallocations_apart)
 
-    -- its key has the unit and the Settlement Period
+    -- the key of such a reallocation has the unit and the Settlement Period
     its_own : (f : ReallocationKey × Reallocation) → IsInForce f → f.0.unit_period ≡ here
     its_own f in_force = exact_unit_periods f.0.unit_period here ((Equal-is (unit_period_cmp f.0.unit_period here)).0 in_force.1)
 
-    -- what holds of the account of each reallocation holds of each subsidiary's
+    -- if the account of each reallocation has a property, so has that of each subsidiary
     each_subsidiary : (P : Account → Type 0) → ((f : ReallocationKey × Reallocation) → IsInForce f → P f.0.account) → AllByRecursion (λ s. P s.account) (subsidiaries_of tables here)
     each_subsidiary P each =
         all-map (λ (s : Subsidiary). P s.account) (λ (f : ReallocationKey × Reallocation). record { account = f.0.account; reallocation = f.1 }) (reallocations_at tables here)
         (all-weaken IsInForce (λ f. P f.0.account) each (reallocations_at tables here) all_in_force)
 
-    -- a subsidiary's account is there
+    -- a subsidiary's account is among the accounts
     subsidiary_there : (f : ReallocationKey × Reallocation) → IsInForce f → Contains accounts f.0.account
     subsidiary_there f in_force =
         effective_there f.0.account
@@ -306,7 +306,7 @@ module _ (tables : Registered) (consistent : AreConsistent tables) (at : Settlem
         one_value to_one.unit.registration e.1 (sym to_one.unit.registered ∙ ap (λ (k : UnitPeriod). find bytes_cmp k.unit tables.units) (its_own f in_force) ∙ of_date.0) in
         to_one.not_lead (ap (λ (u : UnitRegistration). u.lead) registered ∙ sym one)
 
-    -- subsidiaries' accounts are there
+    -- the accounts of all subsidiaries are among the accounts
     all_there : AllByRecursion (λ s. Contains accounts s.account) (subsidiaries_of tables here)
     all_there = each_subsidiary (Contains accounts) subsidiary_there
 
@@ -345,14 +345,14 @@ module _ (tables : Registered) (consistent : AreConsistent tables) (at : Settlem
   abbrev its_reading : List ℕ × UnitRegistration → Option Reading
   its_reading e = reading_of tables (record { unit = e.0; at = at })
 
-  -- what holds of each unit of the date with a reading holds of the units that are settled
+  -- if each unit of the date with a reading has a property, so has each unit that is settled
   each_unit : (P : BmUnit → Type 0) → ((e : List ℕ × UnitRegistration) → IsOfDate e → (reading : Reading) → P (unit_with tables at e reading)) → All P (terms_at tables at).units
   each_unit P each =
       All-from_recursion P (terms_at tables at).units
       (all_made its_reading (unit_with tables at) P (units_on tables at.date)
       (all-weaken IsOfDate (λ e. (reading : Reading) → its_reading e ≡ Some reading → P (unit_with tables at e reading)) (λ e of_date reading is. each e of_date reading) (units_on tables at.date) all_of_date))
 
-  -- no two entries of a table without a key that stands twice have one key
+  -- if no key of a table occurs twice, no two entries have the same key
   keys_differ : (es : Table (List ℕ) UnitRegistration) → NoneAlike (have_one_key bytes_cmp) es → Differ (λ e f. e.0 ≢ f.0) es
   keys_differ [] apart = tt
   keys_differ (e ∷ es) apart =
@@ -368,7 +368,7 @@ module _ (tables : Registered) (consistent : AreConsistent tables) (at : Settlem
   abbrev IsContractOf : ContractKey × ℤ → Type 0
   IsContractOf e = (find contract_key_cmp e.0 tables.contracts ≡ Some e.1) × (eq_by_cmp settlement_period_cmp e.0.at at ≡ true)
 
-  -- its seller and buyer are there
+  -- its seller and buyer are among the accounts
   contract_there : (e : ContractKey × ℤ) → IsContractOf e → (c : Counterparties) → find bytes_cmp e.0.reference tables.references ≡ Some c → Contains accounts c.seller × Contains accounts c.buyer
   contract_there e is c fixed =
       let has = consistent.contracts e.0 (ap is_some is.0) in
@@ -379,11 +379,11 @@ module _ (tables : Registered) (consistent : AreConsistent tables) (at : Settlem
         effective_there has.counterparties.buyer (subst (λ (k : SettlementPeriod). IsPartyEffective tables has.counterparties.buyer.party k.date) same has.buyer),
       )
 
-  -- the row of a contract with its seller and buyer
+  -- the row of a contract, with its seller and buyer
   abbrev row_with : ContractKey × ℤ → Counterparties → ContractRow
   row_with e c = record { key = e.0; contract = record { counterparties = c; volume = e.1 } }
 
-  -- sellers and buyers are there
+  -- all sellers and buyers are among the accounts
   contracts_named : AreContractsReady accounts (terms_at tables at).contracts
   contracts_named =
       let es : Table ContractKey ℤ = filter (λ e. eq_by_cmp settlement_period_cmp e.0.at at) tables.contracts in
@@ -406,11 +406,11 @@ module _ (tables : Registered) (consistent : AreConsistent tables) (at : Settlem
     credits = each_unit CreditsEachOnce unit_credits_once;
   }
 
--- in each reached state each Settlement Period may be settled
+-- in each reached state, each Settlement Period may be settled
 pub periods_ready : PeriodsReady
 periods_ready midnight s at reached = terms_ready (registered_at midnight s) (reached_consistent midnight s reached) at
 
--- and so it was when each run was ordered
+-- and it could be when each run was ordered
 pub run_periods_ready : RunPeriodsReady
 run_periods_ready midnight s at reached =
     all-weaken (λ r. AreConsistent (seen_by (timetable_at midnight s) s.history r)) (λ r. AreTermsConsistent (terms_at (seen_by (timetable_at midnight s) s.history r) at))

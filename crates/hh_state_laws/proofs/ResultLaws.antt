@@ -1,4 +1,4 @@
--- The rows of a run's accounts are read by Settlement Period, then by account; so its day nets are found in them.
+-- The rows of a run's accounts are read by Settlement Period, then by account. So its day nets can be computed from them.
 use Rattle.std.proofs.Common.{◌≡◌, ℕ, zero, suc, ◌≤◌, List, [], ◌∷◌, ◌++◌, map, refl, sym, ap, subst, ◌∙◌, Bool, false, Some, arith}
 use Rattle.std.specs.Prelude.{ℤ, filter, take}
 use Rattle.std.specs.Cmp.{eq_by_cmp_equiv, nat_cmp_total}
@@ -71,7 +71,7 @@ accounts_rise timetable history date =
     each_own [] = tt
     each_own (e ∷ es) = (((second_below (bytes_cmp e.0 e.0) Less (tied_itself bytes_total e.0) refl, tt), (tt, tt)), each_own es)
 
--- rows of accounts rise as the accounts do
+-- rows of accounts are in the order of the accounts
 rows_rise : (p : PeriodTerms) (accounts : List Account) (shares : List ℤ) → NoneAlike (is_not_below account_cmp) accounts → Rises account_cmp (λ (r : AccountRow). r.account) (account_rows (map (figures p) accounts) shares)
 rows_rise p [] shares h = tt
 rows_rise p (a ∷ accounts) [] h = tt
@@ -92,14 +92,14 @@ module _ (key : RunKey) (timetable : Timetable) (history : History) (date count 
   abbrev rows_of : SettlementPeriod × Settled → List (ResultKey × AccountRow)
   rows_of q = map (λ r. (result_key key q.0 r, r)) q.1.accounts
 
-  -- those of one period rise by account
+  -- the rows of one period rise by account
   pub period_rises : (at : SettlementPeriod) → Rises result_key_cmp (λ e. e.0) (rows_of (settled_at seen at))
   period_rises at =
       let p : PeriodTerms = terms_at seen at in
       distinct-map (λ (a b : ResultKey × AccountRow). is_not_below result_key_cmp a.0 b.0) (λ r. (result_key key at r, r)) (settled p).accounts
       (others_below (settled p).accounts (rows_rise p p.accounts (residual_shares p) (accounts_rise timetable history at.date)))
     where
-      -- keys of one run and one period are in the order of their accounts
+      -- keys of the same run and period are in the order of their accounts
       tied : (a b : Account) → is_not_below account_cmp a b ≡ false → is_not_below result_key_cmp (record { run = key; period = at.period; account = a }) (record { run = key; period = at.period; account = b }) ≡ false
       tied a b h =
           second_below (run_key_cmp key key) (ordering_then (nat_cmp at.period at.period) (account_cmp a b)) (tied_itself run_key_total key)
@@ -118,7 +118,7 @@ module _ (key : RunKey) (timetable : Timetable) (history : History) (date count 
       (distinct-map (λ (x y : SettlementPeriod). is_not_below run_period_cmp (key, x.period) (key, y.period)) (λ p. record { date = date; period = p }) (from_one_to count)
       (in_one_run (from_one_to count) (numbers_rise count)))
     where
-      -- in one run the order is that of the numbers
+      -- within one run the order is that of the period numbers
       in_one_run : (numbers : List ℕ) → NoneAlike (is_not_below nat_cmp) numbers → NoneAlike (λ x y. is_not_below run_period_cmp (key, x) (key, y)) numbers
       in_one_run [] h = tt
       in_one_run (n ∷ numbers) h =
@@ -148,7 +148,7 @@ shown_by_period key (q ∷ day) =
     ∙ (λ i. map-map with_period (λ r. (result_key key q.0 r, r)) q.1.accounts i ++ shown_by_period key day i)
 
 module _ (midnight : Midnights) (s : State) where
-  -- when local midnights fall and when notifications close
+  -- the timetable: local midnights, and when notifications close
   abbrev timetable : Timetable
   timetable = timetable_at midnight s
 
@@ -160,7 +160,7 @@ module _ (midnight : Midnights) (s : State) where
   abbrev entries_under : RunKey → List (ResultKey × AccountRow)
   entries_under key = filter (λ e. eq_by_cmp run_key_cmp e.0.run key) (all_results timetable s)
 
-  -- rows under a run's key that rise are read as they are
+  -- rows under a run's key that rise are read in their own order
   rows_read : (key : RunKey) (es : List (ResultKey × AccountRow)) → entries_under key ≡ es → Rises result_key_cmp (λ e. e.0) es → results_in (tables_of midnight s) key ≡ map with_period es
   rows_read key es are rising =
       filter_map-if (λ e. eq_by_cmp run_key_cmp e.0.run key) with_period (in_key_order result_key_cmp (all_results timetable s))
@@ -168,7 +168,7 @@ module _ (midnight : Midnights) (s : State) where
       (read_as_they_came result_key_total exact_result_keys (λ k. eq_by_cmp run_key_cmp k.run key) (all_results timetable s) (subst (Rises result_key_cmp (λ e. e.0)) (sym are) rising)
       ∙ are)
 
-  -- the rows under the key of a run are the run's
+  -- the rows under the key of a run are those of the run
   own_entries : NoneAlike (λ (x y : Run). eq_by_cmp run_key_cmp x.key y.key) s.runs → AllByRecursion (λ r. entries_under r.key ≡ run_entries r) s.runs
   own_entries =
       own_block (eq_by_cmp run_key_cmp) (eq_by_cmp_equiv run_key_total).refl (eq_by_cmp_equiv run_key_total).symm
@@ -184,7 +184,7 @@ holds_results midnight s reached =
     ∙ shown_by_period r.key (settled_by timetable s.history r))
     s.runs (own_entries midnight s (runs_distinct midnight s reached))
 
--- a run that is not there has no rows in them
+-- the tables have no rows of a run that does not exist
 pub holds_no_other_results : HoldsNoOtherResults
 holds_no_other_results midnight s key none =
     rows_read midnight s key []
@@ -192,12 +192,12 @@ holds_no_other_results midnight s key none =
     (λ (r : Run). r.key) (λ (e : ResultKey × AccountRow). e.0.run) (run_entries midnight s) (λ r. results_own r.key (settled_by (timetable_at midnight s) s.history r)) key s.runs (others midnight s key none))
     tt
 
--- the postings to an account in the tables come to what the latest runs of all dates move to it
+-- the postings to an account in the tables sum to what the latest runs of all dates move to it
 pub holds_postings : HoldsPostings
 holds_postings midnight s a reached =
     postings_read a (in_key_order posting_key_cmp (all_postings (timetable_at midnight s) s)) ∙ postings_total midnight s a reached
 
--- what an account pays by the rows of settled periods is what it pays in the periods
+-- the sum of what an account pays by the rows of settled periods is what it pays in the periods
 paid_by_period : (a : Account) (day : List (SettlementPeriod × Settled)) → paid_in a (rows_by_period day) ≡ day_net day a
 paid_by_period a day =
     let amount : ℕ × AccountRow → ℤ = λ e. moved_by_row a e.1 in
@@ -205,7 +205,7 @@ paid_by_period a day =
     ∙ total-same (λ (q : SettlementPeriod × Settled). total amount (map (λ (row : AccountRow). (q.0.period, row)) q.1.accounts)) (λ q. period_net a q.1) day
     (λ q. total-map amount (λ (row : AccountRow). (q.0.period, row)) q.1.accounts)
 
--- so by the rows of a run in the tables each account pays its day net
+-- so the sum of what an account pays by the rows of a run in the tables is its day net
 pub day_nets_from_results : DayNetsFromResults
 day_nets_from_results midnight s a reached =
     let timetable : Timetable = timetable_at midnight s in

@@ -1,4 +1,4 @@
--- Lists that rise, and tables of which the entries under some keys are read.
+-- Lists that rise, and tables from which the entries under some keys are read.
 use Rattle.std.proofs.Common.{◌≡◌, ℕ, ◌<◌, List, [], ◌∷◌, ◌++◌, map, refl, sym, ap, ◌∙◌, Bool, true, false, cond, Some, None, Ordering}
 use Rattle.std.specs.Prelude.{filter, filter_map, not, T}
 use Rattle.std.specs.Cmp.{IsTotalOrder, nat_cmp_is}
@@ -18,53 +18,53 @@ use Rattle.hh_state_laws.proofs.ApartLaws.{NoneAlike, all-before-map, all-weaken
 abbrev pub is_not_below : {K : Type 0} → (K → K → Ordering) → K → K → Bool
 is_not_below R x y = not (is_lt (R x y))
 
--- each element of a list comes before all that are behind it, by their keys
+-- each element of a list comes before all later ones, by their keys
 abbrev pub Rises : {K X : Type 0} → (K → K → Ordering) → (X → K) → List X → Type 0
 Rises R key xs = NoneAlike (λ x y. is_not_below R (key x) (key y)) xs
 
--- a lesser number comes before
+-- a lesser number comes before a greater one
 pub less_number : (a b : ℕ) → a < b → is_not_below nat_cmp a b ≡ false
 less_number a b below = ap (λ o. not (is_lt o)) (sym (nat_cmp_is a b Less below))
 
--- what the first of two parts tells
+-- if the first of two parts comes before, the whole does
 pub first_below : (o p : Ordering) → not (is_lt o) ≡ false → not (is_lt (ordering_then o p)) ≡ false
 first_below Less p h = refl
 first_below Equal p h = cc
 first_below Greater p h = cc
 
--- what the second of two parts tells, where the first ties
+-- if the first of two parts is equal and the second comes before, the whole does
 pub second_below : (o p : Ordering) → o ≡ Equal → not (is_lt p) ≡ false → not (is_lt (ordering_then o p)) ≡ false
 second_below o p ties h = ap (λ x. not (is_lt (ordering_then x p))) ties ∙ h
 
--- what the first two of three parts tell
+-- if the first two of three parts come before, the whole does
 pub two_parts_below : (o p r : Ordering) → not (is_lt (ordering_then o p)) ≡ false → not (is_lt (ordering_then o (ordering_then p r))) ≡ false
 two_parts_below Less p r h = refl
 two_parts_below Equal p r h = first_below p r h
 two_parts_below Greater p r h = cc
 
--- where a test's opposite fails, the test holds
+-- if the opposite of a test fails, the test holds
 not_false : (b : Bool) → not b ≡ false → T b
 not_false true h = tt
 not_false false h = cc
 
--- where a test holds, its opposite fails
+-- if a test holds, its opposite fails
 false_not : (b : Bool) → T b → not b ≡ false
 false_not true h = refl
 false_not false h = absurd h
 
 module _ {K V : Type 0} (R : K → K → Ordering) where
-  -- a key that comes before each entry's is below all
+  -- a key that comes before the key of each entry is below all
   below : (k : K) (es : List (K × V)) → AllByRecursion (λ e. is_not_below R k e.0 ≡ false) es → T (below_all R k es)
   below k [] h = tt
   below k (e ∷ es) h = both (is_lt (R k e.0)) (below_all R k es) (not_false (is_lt (R k e.0)) h.0) (below k es h.1)
 
-  -- and the other way round
+  -- and conversely
   not_below : (k : K) (es : List (K × V)) → T (below_all R k es) → AllByRecursion (λ e. is_not_below R k e.0 ≡ false) es
   not_below k [] h = tt
   not_below k (e ∷ es) h =
       (false_not (is_lt (R k e.0)) (first (is_lt (R k e.0)) (below_all R k es) h), not_below k es (second (is_lt (R k e.0)) (below_all R k es) h))
 
-  -- entries that rise form a table
+  -- entries that rise are a table
   pub sorted_if_rising : (es : List (K × V)) → Rises R (λ e. e.0) es → T (is_sorted R es)
   sorted_if_rising [] h = tt
   sorted_if_rising (e ∷ es) h = both (below_all R e.0 es) (is_sorted R es) (below e.0 es h.0) (sorted_if_rising es h.1)
@@ -76,13 +76,13 @@ module _ {K V : Type 0} (R : K → K → Ordering) where
       (not_below e.0 es (first (below_all R e.0 es) (is_sorted R es) h), rising_if_sorted es (second (below_all R e.0 es) (is_sorted R es) h))
 
 module _ {K V : Type 0} {R : K → K → Ordering} (o : IsTotalOrder R) (exact : (x y : K) → R x y ≡ Equal → x ≡ y) where
-  -- entries that rise stay as they are when they are put in the order of their keys
+  -- sorting entries that rise leaves them as they are
   in_key_order_stays : (es : List (K × V)) → Rises R (λ e. e.0) es → in_key_order R es ≡ es
   in_key_order_stays es rising =
       same_entries R o exact (in_key_order R es) es (is_sorted-in_key_order o es) (sorted_if_rising R es rising) (find-in_key_order o es)
 
   module _ (passes : K → Bool) where
-    -- of entries in the order of their keys those whose keys pass are those that pass, in that order
+    -- it makes no difference whether the entries whose keys pass are taken after sorting or before
     filter-in_key_order : (es : List (K × V)) → filter (λ e. passes e.0) (in_key_order R es) ≡ in_key_order R (filter (λ e. passes e.0) es)
     filter-in_key_order es =
         same_entries R o exact _ _
@@ -93,15 +93,15 @@ module _ {K V : Type 0} {R : K → K → Ordering} (o : IsTotalOrder R) (exact :
         ∙ sym (found q es)
         ∙ sym (find-in_key_order o (filter (λ e. passes e.0) es) q))
       where
-        -- what is found under a key among those that pass
+        -- the value under a key among the entries that pass
         found : (q : K) (fs : List (K × V)) → find R q (filter (λ e. passes e.0) fs) ≡ cond (passes q) (find R q fs) None
         found q = find-where_key R passes q (λ x ties. ap passes (sym (exact q x ties)))
 
-    -- so where those that pass rise, they are read as they came
+    -- so entries that pass and rise are read in the order in which they came
     pub read_as_they_came : (es : List (K × V)) → Rises R (λ e. e.0) (filter (λ e. passes e.0) es) → filter (λ e. passes e.0) (in_key_order R es) ≡ filter (λ e. passes e.0) es
     read_as_they_came es rising = filter-in_key_order es ∙ in_key_order_stays (filter (λ e. passes e.0) es) rising
 
--- what is made of those that pass
+-- mapping the elements that pass
 pub filter_map-if : {X Y : Type 0} (test : X → Bool) (f : X → Y) (xs : List X) → filter_map (λ x. cond (test x) (Some (f x)) None) xs ≡ map f (filter test xs)
 filter_map-if test f [] = refl
 filter_map-if test f (x ∷ xs) = elim (test x) as (λ b. cons_option (cond b (Some (f x)) None) (filter_map (λ y. cond (test y) (Some (f y)) None) xs) ≡ map f (cond b (x ∷ filter test xs) (filter test xs))) [
@@ -109,12 +109,12 @@ filter_map-if test f (x ∷ xs) = elim (test x) as (λ b. cons_option (cond b (S
   | false ↦ filter_map-if test f xs
 ]
 
--- what is made of what is made of each element
+-- mapping twice
 pub map-map : {X Y Z : Type 0} (f : Y → Z) (g : X → Y) (xs : List X) → map f (map g xs) ≡ map (λ x. f (g x)) xs
 map-map f g [] = refl
 map-map f g (x ∷ xs) = ap (λ ys. f (g x) ∷ ys) (map-map f g xs)
 
--- those that pass among what is made of each element
+-- the elements that pass after a map
 pub filter-map : {X Y : Type 0} (test : Y → Bool) (f : X → Y) (xs : List X) → filter test (map f xs) ≡ map f (filter (λ x. test (f x)) xs)
 filter-map test f [] = refl
 filter-map test f (x ∷ xs) = elim (test (f x)) as (λ b. cond b (f x ∷ filter test (map f xs)) (filter test (map f xs)) ≡ map f (cond b (x ∷ filter (λ y. test (f y)) xs) (filter (λ y. test (f y)) xs))) [
@@ -123,17 +123,17 @@ filter-map test f (x ∷ xs) = elim (test (f x)) as (λ b. cond b (f x ∷ filte
 ]
 
 module _ {X : Type 0} (test : X → Bool) where
-  -- where all pass, none is left out
+  -- if all pass, none is left out
   pub filter-all : (xs : List X) → AllByRecursion (λ x. test x ≡ true) xs → filter test xs ≡ xs
   filter-all [] h = refl
   filter-all (x ∷ xs) h = ap (λ b. cond b (x ∷ filter test xs) (filter test xs)) h.0 ∙ ap (λ ys. x ∷ ys) (filter-all xs h.1)
 
-  -- where none passes, none is left
+  -- if none passes, none is left
   pub filter-none : (xs : List X) → AllByRecursion (λ x. test x ≡ false) xs → filter test xs ≡ []
   filter-none [] h = refl
   filter-none (x ∷ xs) h = ap (λ b. cond b (x ∷ filter test xs) (filter test xs)) h.0 ∙ filter-none xs h.1
 
-  -- those that are left pass
+  -- the elements that are left pass
   pub filter-passes : (xs : List X) → AllByRecursion (λ x. test x ≡ true) (filter test xs)
   filter-passes [] = tt
   filter-passes (x ∷ xs) = elim (test x) as (λ b. test x ≡ b → AllByRecursion (λ y. test y ≡ true) (cond b (x ∷ filter test xs) (filter test xs))) [
@@ -141,12 +141,12 @@ module _ {X : Type 0} (test : X → Bool) where
     | false ↦ λ is. filter-passes xs
   ] refl
 
--- what holds of each and what else holds of each hold of each together
+-- if all elements have two properties, all have both together
 pub all-both : {X : Type 0} (P Q : X → Type 0) (xs : List X) → AllByRecursion P xs → AllByRecursion Q xs → AllByRecursion (λ x. P x × Q x) xs
 all-both P Q [] h k = tt
 all-both P Q (x ∷ xs) h k = ((h.0, k.0), all-both P Q xs h.1 k.1)
 
--- no two are alike where no two are that they become
+-- if no two elements are alike after a map, none were before it
 pub distinct-before-map : {X Y : Type 0} (alike : Y → Y → Bool) (f : X → Y) (xs : List X) → NoneAlike alike (map f xs) → NoneAlike (λ x y. alike (f x) (f y)) xs
 distinct-before-map alike f [] h = tt
 distinct-before-map alike f (x ∷ xs) h = (all-before-map (λ y. alike (f x) y ≡ false) f xs h.0, distinct-before-map alike f xs h.1)
@@ -154,7 +154,7 @@ distinct-before-map alike f (x ∷ xs) h = (all-before-map (λ y. alike (f x) y 
 -- blocks of elements, each element with the mark of its block
 module _ {X Y M : Type 0} (same : M → M → Bool) (itself : (m : M) → same m m ≡ true) (turned : (m n : M) → same m n ≡ same n m)
     (mark : X → M) (mark_of : Y → M) (block : X → List Y) (marked : (x : X) → AllByRecursion (λ y. mark_of y ≡ mark x) (block x)) where
-  -- the elements of a mark that no block has are none
+  -- if no block has a mark, no elements have it
   pub no_block : (m : M) (xs : List X) → AllByRecursion (λ x. same m (mark x) ≡ false) xs → filter (λ y. same (mark_of y) m) (flat_map block xs) ≡ []
   no_block m [] others = refl
   no_block m (x ∷ xs) others =
@@ -162,7 +162,7 @@ module _ {X Y M : Type 0} (same : M → M → Bool) (itself : (m : M) → same m
       ∙ (λ i. filter-none (λ y. same (mark_of y) m) (block x) (all-weaken (λ y. mark_of y ≡ mark x) (λ y. same (mark_of y) m ≡ false) (λ y is. ap (λ n. same n m) is ∙ turned (mark x) m ∙ others.0) (block x) (marked x)) i
       ++ no_block m xs others.1 i)
 
-  -- the elements of a block's mark are the block, where no two blocks have one mark
+  -- if no two blocks have the same mark, the elements with a block's mark are the block
   pub own_block : (xs : List X) → NoneAlike (λ x z. same (mark x) (mark z)) xs → AllByRecursion (λ x. filter (λ y. same (mark_of y) (mark x)) (flat_map block xs) ≡ block x) xs
   own_block [] distinct = tt
   own_block (x ∷ xs) distinct = (

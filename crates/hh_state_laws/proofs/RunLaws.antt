@@ -1,4 +1,4 @@
--- The tables of the state after a new run are those before with what the run writes.
+-- The tables of the state after a new run are the tables before it with what the run writes.
 use Rattle.std.proofs.Common.{◌≡◌, List, [], ◌∷◌, ◌++◌, map, refl, sym, ap, subst, ◌∙◌, true, false, Option, None, Ordering, append_assoc}
 use Rattle.std.specs.Prelude.{ℤ, take, Some}
 use Rattle.std.specs.FinMap.{find, put}
@@ -26,7 +26,7 @@ use Rattle.hh_state_laws.proofs.ApartLaws.{Lacks, all-before-map, all-weaken, ap
 use Rattle.hh_state_laws.proofs.LoadLaws.{in_key_order-append}
 use Rattle.hh_state_laws.proofs.RunRowLaws.{credits_own, postings_distinct, postings_own, results_distinct, results_own, run_credits_distinct}
 
--- a new run comes last, with the latest run of its date before it
+-- a new run comes last, paired with the latest run of its date before it
 pub with_former-append : (earlier runs : List Run) (r : Run) → with_former earlier (runs ++ r ∷ []) ≡ with_former earlier runs ++ (latest_run r.key.date (earlier ++ runs), r) ∷ []
 with_former-append earlier [] r = ap (λ es. (latest_run r.key.date es, r) ∷ []) (sym (append-nil earlier))
 with_former-append earlier (x ∷ runs) r =
@@ -40,12 +40,12 @@ flat_map-push : {X Y : Type 0} (f : X → List Y) (xs : List X) (x : X) → flat
 flat_map-push f [] x = append-nil (f x)
 flat_map-push f (y ∷ xs) x = ap (λ ys. f y ++ ys) (flat_map-push f xs x) ∙ sym (append_assoc (f y) (flat_map f xs) (f x))
 
--- what holds of each run with its former holds of each run
+-- if each run paired with its former has a property, so has each run
 all_runs : (P : Run → Type 0) (earlier runs : List Run) → AllByRecursion (λ r. P r.1) (with_former earlier runs) → AllByRecursion P runs
 all_runs P earlier [] h = tt
 all_runs P earlier (r ∷ runs) h = (h.0, all_runs P (earlier ++ r ∷ []) runs h.1)
 
--- entries under keys of a run that is not among others are none of the others' entries
+-- entries under keys of a new run are none of the entries of other runs
 module _ {X K V : Type 0} (R : K → K → Ordering) (run_of : K → RunKey) (unlike : (a b : K) → eq_by_cmp run_key_cmp (run_of a) (run_of b) ≡ false → eq_by_cmp R a b ≡ false)
     (key_of : X → RunKey) (entries : X → List (K × V)) (own : (x : X) → AllByRecursion (λ e. run_of e.0 ≡ key_of x) (entries x)) where
   all_new : (key : RunKey) (xs : List X) → AllByRecursion (λ x. eq_by_cmp run_key_cmp key (key_of x) ≡ false) xs → (fs : List (K × V)) → AllByRecursion (λ f. run_of f.0 ≡ key) fs
@@ -84,7 +84,7 @@ module _ (midnight : Midnights) (s : State) (key : RunKey) where
     others_with_former : AllByRecursion (λ r. eq_by_cmp run_key_cmp key r.1.key ≡ false) (runs_with_former s)
     others_with_former = all-before-map (λ (e : RunKey × Summary). eq_by_cmp run_key_cmp key e.0 ≡ false) summary_entry (runs_with_former s) (lacks run_key_cmp key (all_summaries timetable s) new)
 
-    -- a run that is not there has another key than each that is
+    -- the key of a run that does not exist differs from those of all runs
     pub others : AllByRecursion (λ r. eq_by_cmp run_key_cmp key r.key ≡ false) s.runs
     others = all_runs (λ r. eq_by_cmp run_key_cmp key r.key ≡ false) [] s.runs others_with_former
 
@@ -123,7 +123,7 @@ module _ (midnight : Midnights) (s : State) (key : RunKey) where
         ap (in_key_order posting_key_cmp) (ap (flat_map postings_of) pairs ∙ flat_map-push postings_of (runs_with_former s) (former, run))
         ∙ in_key_order-append_all posting_key_total exact_posting_keys (postings_of (former, run)) (all_postings timetable s) postings_new (postings_distinct key (nets_of timetable s.history former) (nets_of timetable s.history (Some run)))
 
--- what a new run writes is what the tables of the state after it have new
+-- writing what the machine writes for a new run gives the tables of the state after it
 pub run_effect : RunEffect
 run_effect midnight s moment key can = λ i. record {
   settings = s.settings;

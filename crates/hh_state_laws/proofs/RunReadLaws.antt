@@ -1,4 +1,4 @@
--- What is read of the runs of a state from the tables that stand for it.
+-- What is read of the runs of a state from the tables that represent it.
 use Rattle.std.proofs.Common.{◌≡◌, ℕ, ◌≤◌, ◌<◌, List, [], ◌∷◌, ◌++◌, map, refl, sym, ap, subst, ◌∙◌, Bool, true, false, cond, Option, Some, None, arith}
 use Rattle.std.specs.Prelude.{ℤ, ◌==◌, ◌||◌, ◌≢◌, filter, option_map}
 use Rattle.std.specs.Cmp.{nat_cmp_total}
@@ -30,64 +30,64 @@ use Rattle.hh_state_laws.proofs.ApartLaws.{NoneAlike, all-filter, all-weaken, di
 use Rattle.hh_state_laws.proofs.RisingLaws.{Rises, all-both, distinct-before-map, filter-passes, filter-map, filter_map-if, is_not_below, less_number, map-map, read_as_they_came, second_below}
 use Rattle.hh_state_laws.proofs.RunLaws.{others}
 
--- the summary of a run in the tables is the one that is kept of it
+-- the summary of a run in the tables is the summary of that run
 pub holds_summaries : HoldsSummaries
 holds_summaries midnight s key = find-in_key_order run_key_total (all_summaries (timetable_at midnight s) s) key
 
--- where neither of two is there, the first is not there
+-- if neither of two options has a value, the first has none
 none_at_first : {X : Type 0} (o rest : Option X) → option_or o rest ≡ None → o ≡ None
 none_at_first None rest none = refl
 none_at_first (Some x) rest none = cc
 
--- where what is made of a value is not there, the value is not there
+-- if a map gives no value, there was no value
 none_mapped : {X Y : Type 0} (f : X → Y) (o : Option X) → option_map f o ≡ None → o ≡ None
 none_mapped f None none = refl
 none_mapped f (Some x) none = cc
 
--- where no refusal is met, the condition of the first does not hold
+-- if no condition is met, the first is not met
 first_not_met : {X : Type 0} (b : Bool) (x : X) (rest : Option X) → cond b (Some x) rest ≡ None → b ≡ false
 first_not_met true x rest none = cc
 first_not_met false x rest none = refl
 
--- where neither of two tests holds, each of them fails
+-- if neither of two tests holds, each fails
 neither : (a b : Bool) → (a || b) ≡ false → (a ≡ false) × (b ≡ false)
 neither true b h = cc
 neither false b h = (refl, h)
 
--- where a test holds of nothing that elements become, it fails of what each becomes
+-- if a test holds for no element after a map, it fails for each mapped element
 none_passes : {X Y : Type 0} (test : Y → Bool) (f : X → Y) (xs : List X) → list_any test (map f xs) ≡ false → AllByRecursion (λ x. test (f x) ≡ false) xs
 none_passes test f [] h = tt
 none_passes test f (x ∷ xs) h = let parts = neither (test (f x)) (list_any test (map f xs)) h in (parts.0, none_passes test f xs parts.1)
 
--- a run that may be made comes behind none of a later kind
+-- a run that may be made comes after no run of a later kind
 not_behind : (midnight : Midnights) (s : State) (moment : ℤ) (key : RunKey) → run_fault midnight s moment key ≡ None
     → AllByRecursion (λ r. is_earlier_kind key.kind r.key.kind ≡ false) (runs_of_date key.date s.runs)
 not_behind midnight s moment key none =
     none_passes (is_earlier_kind key.kind) (λ (r : Run). r.key.kind) (runs_of_date key.date s.runs)
     (first_not_met _ _ _ (none_mapped plain_fault (first_met (order_refusals (kinds_on s key.date) key.kind)) (none_at_first _ _ none)))
 
--- of two runs of a date with different keys, the one that isn't of a later kind comes before
+-- of two runs of a date with different keys, the one whose kind is not later comes before
 comes_before : (x y : RunKey) → x.date ≡ y.date → eq_by_cmp run_key_cmp y x ≡ false → is_earlier_kind y.kind x.kind ≡ false → is_not_below run_key_cmp x y ≡ false
 comes_before x y same apart not_earlier =
     let most : run_kind_number x.kind ≤ run_kind_number y.kind = ltb-false (run_kind_number y.kind) (run_kind_number x.kind) not_earlier in
     second_below (nat_cmp x.date y.date) (run_kind_cmp x.kind y.kind) (ap (nat_cmp x.date) (sym same) ∙ tied_itself nat_cmp_total x.date)
     (less_number (run_kind_number x.kind) (run_kind_number y.kind) (below most))
   where
-    -- keys of one date and one kind's number tie
+    -- keys of the same date whose kinds have the same number are equal
     ties : run_kind_number x.kind ≡ run_kind_number y.kind → eq_by_cmp run_key_cmp y x ≡ true
     ties e =
         ap is_eq ((λ i. ordering_then (nat_cmp y.date (same i)) (nat_cmp (run_kind_number y.kind) (e i)))
         ∙ (λ i. ordering_then (tied_itself nat_cmp_total y.date i) (tied_itself nat_cmp_total (run_kind_number y.kind) i)))
 
-    -- so their kinds' numbers differ
+    -- so the numbers of their kinds differ
     different : run_kind_number x.kind ≢ run_kind_number y.kind
     different e = false_is_not_true (sym apart ∙ ties e)
 
-    -- and a number that is at most another and differs from it is less
+    -- a number that is at most another and differs from it is less
     below : run_kind_number x.kind ≤ run_kind_number y.kind → run_kind_number x.kind < run_kind_number y.kind
     below most = let ne : run_kind_number x.kind ≢ run_kind_number y.kind = different in omega arith
 
--- in each reached state the runs of a date rise by their keys: each was made behind those of earlier kinds
+-- in each reached state the runs of a date rise by their keys, because each was made after those of earlier kinds
 pub runs_rise : (midnight : Midnights) (s : State) (date : ℕ) → IsReached midnight s → Rises run_key_cmp (λ (r : Run). r.key) (runs_of_date date s.runs)
 runs_rise midnight s date (at_first settings fine) = tt
 runs_rise midnight s date (by_load t load reached can) = runs_rise midnight t date reached
@@ -112,15 +112,15 @@ runs_rise midnight s date (by_run t moment key reached can) =
     ] refl)
 
 module _ (midnight : Midnights) (s : State) (date : ℕ) where
-  -- when local midnights fall and when notifications close
+  -- the timetable: local midnights, and when notifications close
   abbrev timetable : Timetable
   timetable = timetable_at midnight s
 
-  -- a run, with its former, under its key with its summary
+  -- a run paired with its former, as its key and its summary
   abbrev entry : Option Run × Run → RunKey × Summary
   entry r = (r.1.key, summary_after timetable s.history r.0 r.1)
 
-  -- a run's kind and summary, of those under its key
+  -- the kind and summary of a run, from its key and summary
   abbrev shown : RunKey × Summary → RunKind × Summary
   shown e = (e.0.kind, e.1)
 
@@ -128,7 +128,7 @@ module _ (midnight : Midnights) (s : State) (date : ℕ) where
   abbrev of_date : RunKey → Bool
   of_date key = key.date == date
 
-  -- the entries of the date are of the date's runs, in their order
+  -- the entries of the date are those of the date's runs, in their order
   keys_shown : (earlier runs : List Run) → map (λ e. e.0) (filter (λ e. of_date e.0) (map entry (with_former earlier runs))) ≡ map (λ r. r.key) (runs_of_date date runs)
   keys_shown earlier [] = refl
   keys_shown earlier (r ∷ runs) =
@@ -152,7 +152,7 @@ module _ (midnight : Midnights) (s : State) (date : ℕ) where
         filter_map-if (λ e. of_date e.0) shown (in_key_order run_key_cmp (all_summaries timetable s))
         ∙ ap (map shown) (read_as_they_came run_key_total exact_run_keys of_date (all_summaries timetable s) entries_rise)
 
--- the runs of a date that the tables hold are the date's runs with their summaries
+-- the runs of a date in the tables are the date's runs with their summaries
 pub holds_runs_of_dates : HoldsRunsOfDates
 holds_runs_of_dates midnight s date reached =
     let summarized : Option Run × Run → RunKey × Summary = entry midnight s date in
@@ -160,7 +160,7 @@ holds_runs_of_dates midnight s date reached =
     ∙ ap (map (shown midnight s date)) (filter-map (λ (e : RunKey × Summary). e.0.date == date) summarized (runs_with_former s))
     ∙ map-map (shown midnight s date) summarized (filter (λ r. r.1.key.date == date) (runs_with_former s))
 
--- the runs of a date that the tables hold are of the kinds of the date's runs
+-- the kinds of the runs of a date in the tables are those of the date's runs
 pub holds_runs : HoldsRuns
 holds_runs midnight s date reached =
     let entries : List (RunKey × Summary) = filter (λ e. e.0.date == date) (all_summaries (timetable_at midnight s) s) in

@@ -1,4 +1,4 @@
--- The keys under which a run writes: none comes twice, and each is the run's own.
+-- The keys under which a run writes: no key occurs twice, and each is the run's own.
 use Rattle.std.proofs.Common.{◌≡◌, ℕ, zero, suc, ◌≤◌, List, [], ◌∷◌, ◌++◌, map, refl, sym, subst, Bool, false, arith}
 use Rattle.std.specs.Prelude.{ℤ, pos, filter, not, ◌≢◌}
 use Rattle.std.specs.List.{AllByRecursion, flat_map}
@@ -34,7 +34,7 @@ use Rattle.hh_states.specs.Runs.{run_key_cmp}
 use Rattle.hh_states.proofs.KeyLaws.{unit_account_total}
 use Rattle.hh_state_laws.proofs.ApartLaws.{NoneAlike, all-append, all-map, all-weaken, distinct-append, distinct-filter, distinct-map, distinct-weaken, distinct_blocks, first_part, have_one_key, second_part, sorted_distinct}
 
--- whether two numbers are one
+-- whether two numbers are the same
 abbrev pub is_same_number : ℕ → ℕ → Bool
 is_same_number = eq_by_cmp nat_cmp
 
@@ -77,13 +77,13 @@ accounts_distinct timetable history date =
     each_own (e ∷ es) = (((second_part (bytes_cmp e.0 e.0) Less refl, tt), (tt, tt)), each_own es)
 
 module _ (figures_at : Account → Figures) (same : (a : Account) → (figures_at a).account ≡ a) where
-  -- what holds of accounts holds of the accounts of their rows
+  -- if accounts have a property, so have the accounts of their rows
   pub rows_all : (P : Account → Type 0) (accounts : List Account) (shares : List ℤ) → AllByRecursion P accounts → AllByRecursion (λ r. P r.account) (account_rows (map figures_at accounts) shares)
   rows_all P [] shares h = tt
   rows_all P (a ∷ accounts) [] h = tt
   rows_all P (a ∷ accounts) (share ∷ shares) h = (subst P (sym (same a)) h.0, rows_all P accounts shares h.1)
 
-  -- rows of different accounts are of different accounts
+  -- the rows of different accounts have different accounts
   pub rows_distinct : (accounts : List Account) (shares : List ℤ) → NoneAlike is_same_account accounts → NoneAlike (λ r s. is_same_account r.account s.account) (account_rows (map figures_at accounts) shares)
   rows_distinct [] shares h = tt
   rows_distinct (a ∷ accounts) [] h = tt
@@ -129,7 +129,7 @@ module _ (key : RunKey) where
   abbrev credit_block : SettlementPeriod × Settled → List (CreditKey × ℤ)
   credit_block q = map (λ c. (credit_key key q.0 c, c.credited)) q.1.credits
 
-  -- what a run writes stands under its own key
+  -- a run writes its results under its own key
   pub results_own : (day : List (SettlementPeriod × Settled)) → AllByRecursion (λ e. e.0.run ≡ key) (result_entries key day)
   results_own = all_blocks (λ e. e.0.run ≡ key) result_block (λ q. all-map (λ (e : ResultKey × AccountRow). e.0.run ≡ key) (λ r. (result_key key q.0 r, r)) q.1.accounts (all_of (λ _. key ≡ key) (λ _. refl) q.1.accounts))
 
@@ -151,7 +151,7 @@ module _ (key : RunKey) where
         let p : PeriodTerms = terms_at seen at in
         results_in_period key at (settled p).accounts (rows_distinct (figures p) (λ a. refl) p.accounts (residual_shares p) (accounts_distinct timetable history at.date))
 
-    -- no result of a run comes twice
+    -- no result of a run occurs twice
     pub results_distinct : NoneAlike (have_one_key result_key_cmp) (result_entries key (settled_day seen (periods_on date count)))
     results_distinct =
         distinct_blocks is_same_number (have_one_key result_key_cmp) (λ (q : SettlementPeriod × Settled). q.0.period) (λ (e : ResultKey × AccountRow). e.0.period)
@@ -167,7 +167,7 @@ module _ (key : RunKey) where
         let p : PeriodTerms = terms_at seen at in
         credits_in_period key at (settled p).credits (credits_distinct (credits_of p.units))
 
-    -- no credit of a run comes twice
+    -- no credit of a run occurs twice
     pub run_credits_distinct : NoneAlike (have_one_key credit_key_cmp) (credit_entries key (settled_day seen (periods_on date count)))
     run_credits_distinct =
         distinct_blocks is_same_number (have_one_key credit_key_cmp) (λ (q : SettlementPeriod × Settled). q.0.period) (λ (e : CreditKey × ℤ). e.0.period)
@@ -178,7 +178,7 @@ module _ (key : RunKey) where
         (all-map (λ q. NoneAlike (have_one_key credit_key_cmp) (credit_block q)) (settled_at seen) (periods_on date count) (all_of (λ at. NoneAlike (have_one_key credit_key_cmp) (credit_block (settled_at seen at))) credit_blocks_distinct (periods_on date count)))
         days_distinct
 
-  -- no posting of a run comes twice
+  -- no posting of a run occurs twice
   pub postings_distinct : (old new : DayNets) → NoneAlike (have_one_key posting_key_cmp) (posting_entries key (differences old new))
   postings_distinct old new =
       let changes : List (Account × ℤ) = map (λ e. (e.0, net_change old new e.0)) (new ++ old) in

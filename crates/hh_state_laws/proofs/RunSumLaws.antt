@@ -1,4 +1,4 @@
--- What each run settles adds up in each reached state, and so do the rows that the tables have of it.
+-- In each reached state, what each run settled adds up, and so do the rows that the tables have of it.
 use Rattle.std.proofs.Common.{◌≡◌, ℕ, List, [], ◌∷◌, map, refl, sym, ap, ◌∙◌, true, false, cond, Some, None}
 use Rattle.std.specs.Prelude.{ℤ, pos, ◌+ℤ◌, ◌==◌, filter_map, take}
 use Rattle.std.specs.List.{AllByRecursion, cons_option}
@@ -36,7 +36,7 @@ use Rattle.hh_state_laws.proofs.ReadyLaws.{terms_ready}
 use Rattle.hh_state_laws.proofs.RunRowLaws.{all_of, results_distinct, results_own}
 use Rattle.hh_state_laws.proofs.SettledLaws.{settled_adds_up}
 
--- where what is registered and in force is consistent, what is settled of a Settlement Period adds up
+-- if what is registered and in force is consistent, the settlement of a Settlement Period adds up
 pub period_adds_up : (tables : Registered) → AreConsistent tables → (at : SettlementPeriod) → AddsUp (terms_at tables at) (settled (terms_at tables at))
 period_adds_up tables consistent at =
     let fit = terms_ready tables consistent at in
@@ -48,7 +48,7 @@ run_adds_up tables consistent periods =
     all-map (λ (q : SettlementPeriod × Settled). AddsUp (terms_at tables q.0) q.1) (settled_at tables) periods
     (all_of (λ at. AddsUp (terms_at tables at) (settled (terms_at tables at))) (period_adds_up tables consistent) periods)
 
--- in each reached state, of each of its runs
+-- in each reached state, this holds for each of its runs
 pub runs_add_up : RunsAddUp
 runs_add_up midnight s reached =
     let timetable : Timetable = timetable_at midnight s in
@@ -56,7 +56,7 @@ runs_add_up midnight s reached =
     (λ r. AllByRecursion (λ q. AddsUp (terms_at (seen_by timetable s.history r) q.0) q.1) (settled_by timetable s.history r))
     (λ r consistent. run_adds_up (seen_by timetable s.history r) consistent (periods_of timetable.midnight r)) s.runs (runs_consistent midnight s reached)
 
--- no two results of all runs have one key
+-- no two results of all runs have the same key
 all_results_distinct : (midnight : Midnights) (s : State) → IsReached midnight s → NoneAlike (have_one_key result_key_cmp) (all_results (timetable_at midnight s) s)
 all_results_distinct midnight s reached =
     let timetable : Timetable = timetable_at midnight s in
@@ -67,7 +67,7 @@ all_results_distinct midnight s reached =
     (λ r. results_distinct r.key timetable (take r.row_count s.history) r.key.date (period_count timetable.midnight r.key.date)) s.runs)
     (runs_distinct midnight s reached)
 
--- what the rows of a run come to is what its entries among all come to
+-- the sum over the rows of a run is the sum over its entries among all entries
 total_in_run : (run : RunKey) (f : ℕ × AccountRow → ℤ) (es : List (ResultKey × AccountRow))
     → total f (filter_map (result_in run) es) ≡ total (λ e. cond (eq_by_cmp run_key_cmp e.0.run run) (f (e.0.period, e.1)) (pos 0)) es
 total_in_run run f [] = refl
@@ -78,13 +78,13 @@ total_in_run run f (e ∷ es) =
       | false ↦ total_in_run run f es ∙ sym (+ℤ_idl rest)
     ]
 
--- where each of a list comes to zero, all do
+-- if each amount is zero, so is the sum
 all_zero : {X : Type 0} (f : X → ℤ) (xs : List X) → AllByRecursion (λ x. f x ≡ pos 0) xs → total f xs ≡ pos 0
 all_zero f [] zero = refl
 all_zero f (x ∷ xs) zero = λ i. zero.0 i +ℤ all_zero f xs zero.1 i
 
 module _ (amount : AccountRow → ℤ) (run : RunKey) (period : ℕ) where
-  -- a row counts where it is of the run and the period
+  -- a row counts if it is of the run and the period
   abbrev counted : ResultKey × AccountRow → ℤ
   counted e = cond (eq_by_cmp run_key_cmp e.0.run run) (cond (e.0.period == period) (amount e.1) (pos 0)) (pos 0)
 
@@ -92,7 +92,7 @@ module _ (amount : AccountRow → ℤ) (run : RunKey) (period : ℕ) where
   abbrev block : RunKey → SettlementPeriod × Settled → List (ResultKey × AccountRow)
   block key q = map (λ r. (result_key key q.0 r, r)) q.1.accounts
 
-  -- of a Settlement Period whose rows come to zero those that count do too
+  -- if the rows of a Settlement Period sum to zero, so do those of them that count
   one_period : (key : RunKey) (q : SettlementPeriod × Settled) → total amount q.1.accounts ≡ pos 0 → total counted (block key q) ≡ pos 0
   one_period key q zero =
       total-map counted (λ (r : AccountRow). (result_key key q.0 r, r)) q.1.accounts
@@ -101,13 +101,13 @@ module _ (amount : AccountRow → ℤ) (run : RunKey) (period : ℕ) where
         | false ↦ total-zero q.1.accounts
       ]
 
-  -- so do those of a run
+  -- the same for all periods of a run
   one_run : (key : RunKey) (day : List (SettlementPeriod × Settled)) → AllByRecursion (λ q. total amount q.1.accounts ≡ pos 0) day → total counted (result_entries key day) ≡ pos 0
   one_run key day zero =
       total-flat_map counted (block key) day
       ∙ all_zero (λ q. total counted (block key q)) day (all-weaken (λ q. total amount q.1.accounts ≡ pos 0) (λ q. total counted (block key q) ≡ pos 0) (one_period key) day zero)
 
-  -- and those in the tables, where the rows of each Settlement Period of each run come to zero
+  -- and for the tables, if the rows of each Settlement Period of each run sum to zero
   tables_zero : (midnight : Midnights) (s : State) → IsReached midnight s
       → AllByRecursion (λ r. AllByRecursion (λ q. total amount q.1.accounts ≡ pos 0) (settled_by (timetable_at midnight s) s.history r)) s.runs
       → period_total amount period (results_in (tables_of midnight s) run) ≡ pos 0
@@ -122,7 +122,7 @@ module _ (amount : AccountRow → ℤ) (run : RunKey) (period : ℕ) where
       (all-weaken (λ r. AllByRecursion (λ q. total amount q.1.accounts ≡ pos 0) (settled_by timetable s.history r)) (λ r. total counted (entries r) ≡ pos 0)
       (λ r. one_run r.key (settled_by timetable s.history r)) s.runs zero)
 
--- what each Settlement Period that adds up comes to, of all that each run of a reached state settles
+-- if an amount sums to zero in each period that adds up, it does in each Settlement Period of each run of a reached state
 each_period : (amount : AccountRow → ℤ) → ((p : PeriodTerms) (x : Settled) → AddsUp p x → total amount x.accounts ≡ pos 0) → (midnight : Midnights) (s : State) → IsReached midnight s
     → AllByRecursion (λ r. AllByRecursion (λ q. total amount q.1.accounts ≡ pos 0) (settled_by (timetable_at midnight s) s.history r)) s.runs
 each_period amount zero midnight s reached =
@@ -132,7 +132,7 @@ each_period amount zero midnight s reached =
     (λ r. all-weaken (λ q. AddsUp (terms_at (seen_by timetable s.history r) q.0) q.1) (λ q. total amount q.1.accounts ≡ pos 0)
     (λ q. zero (terms_at (seen_by timetable s.history r) q.0) q.1) (settled_by timetable s.history r)) s.runs (runs_add_up midnight s reached)
 
--- contracts come to zero in each Settlement Period of each run in the tables
+-- contracts sum to zero in each Settlement Period of each run in the tables
 pub contracts_sum_to_zero : ContractsSumToZero
 contracts_sum_to_zero midnight s run period reached =
     tables_zero (λ r. r.contracts) run period midnight s reached (each_period (λ r. r.contracts) (λ p x adds. adds.contracts) midnight s reached)

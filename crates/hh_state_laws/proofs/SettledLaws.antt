@@ -1,4 +1,4 @@
--- A settled period is what its definition says: its rows show the accounts' figures and shares, and its credits are those of the
+-- A settled period is as its definition says: its rows show the accounts' figures and shares, and its credits are those of the
 -- units, in order.
 use Rattle.std.proofs.Common.{◌≡◌, ◌≢◌, ℕ, zero, suc, ◌<◌, List, [], ◌∷◌, length, get_or, map, refl, sym, ap, subst, ◌∙◌, Bool, false, Ordering, arith, add-one}
 use Rattle.std.specs.Prelude.{ℤ, pos, neg_ℤ, ◌+ℤ◌, All, AllPairs, T}
@@ -42,7 +42,7 @@ figures_shown [] shares same = refl
 figures_shown (f ∷ fs) [] same = absurd (omega arith)
 figures_shown (f ∷ fs) (x ∷ shares) same = ap (λ t. f ∷ t) (figures_shown fs shares (omega arith))
 
--- and the shares
+-- and they show the shares
 shares_are_shown : (fs : List Figures) (shares : List ℤ) → length fs ≡ length shares → shares_shown (account_rows fs shares) ≡ shares
 shares_are_shown [] [] same = refl
 shares_are_shown [] (x ∷ shares) same = absurd (omega arith)
@@ -55,12 +55,12 @@ a_share_each p =
     length-map p.accounts (figures p)
     ∙ sym (length-shares (residual p) (weights p) ∙ length-map p.accounts (λ a. (period_sums p a).weight))
 
--- a residual that is not zero is some account's
+-- a residual other than zero is shared by at least one account
 some_account : (accounts : List Account) (f : Account → ℤ) (g : Account → ℕ) → neg_ℤ (total f accounts) ≢ pos 0 → 0 < length (map g accounts)
 some_account [] f g differs = absurd (differs refl)
 some_account (a ∷ accounts) f g differs = omega arith
 
--- charges and shares together come to zero
+-- charges and shares together sum to zero
 pub period_balances : (p : PeriodTerms) → total paid_by (settled p).accounts ≡ pos 0
 period_balances p =
     let rows : List AccountRow = (settled p).accounts in
@@ -71,7 +71,7 @@ period_balances p =
     ∙ shares_sum (residual p) (weights p) (some_account p.accounts charge (λ a. (period_sums p a).weight))) i)
     ∙ +ℤ_invr (total charge p.accounts)
 
--- what differs pair by pair is told apart
+-- elements that differ pairwise are told apart
 told_apart_all : {X : Type 0} (alike : X → X → Bool) (Differ : X → X → Type 0) → ((x y : X) → Differ x y → alike x y ≡ false) → (xs : List X) → AllPairs Differ xs → NoneAlike alike xs
 told_apart_all alike Differ told [] h = tt
 told_apart_all {X = X} alike Differ told (x ∷ xs) h = (
@@ -79,7 +79,7 @@ told_apart_all {X = X} alike Differ told (x ∷ xs) h = (
   told_apart_all alike Differ told xs (λ i j d before below. h (suc i) (suc j) d (omega arith) (omega arith)),
 )
 
--- whether two credits are from one unit to one account
+-- whether two credits are from the same unit to the same account
 abbrev have_one_place : CreditRow → CreditRow → Bool
 have_one_place c d = eq_by_cmp unit_account_cmp (c.unit, c.account) (d.unit, d.account)
 
@@ -101,7 +101,7 @@ module _ (u : BmUnit) where
   pub own_credits : AllByRecursion (λ c. c.unit ≡ u.unit) (unit_credits u)
   own_credits = all-append (λ c. c.unit ≡ u.unit) (map to_subsidiary u.subsidiaries) (to_lead ∷ []) (all_own u.subsidiaries) (refl, tt)
 
-  -- other accounts have other credits
+  -- credits to different accounts differ
   other_place : (a b : Account) → a ≢ b → eq_by_cmp unit_account_cmp (u.unit, a) (u.unit, b) ≡ false
   other_place a b apart = second_part (bytes_cmp u.unit u.unit) (account_cmp a b) (told_apart exact_accounts a b apart)
 
@@ -125,20 +125,20 @@ period_credits_distinct p distinct once =
     (recursion_from_All (λ u. NoneAlike have_one_place (unit_credits u)) p.units (All-weaker CreditsEachOnce (λ u. NoneAlike have_one_place (unit_credits u)) unit_credits_distinct p.units once))
     (told_apart_all (λ u v. eq_by_cmp bytes_cmp u.unit v.unit) (λ u v. u.unit ≢ v.unit) (λ u v apart. told_apart exact_bytes u.unit v.unit apart) p.units distinct)
 
--- a credit by its unit and account
+-- a credit as its unit and account, with its energy
 abbrev keyed_credit : CreditRow → UnitAccount × ℤ
 keyed_credit c = ((c.unit, c.account), c.credited)
 
--- the credit that stands under a unit and an account
+-- the credit of a unit and an account
 abbrev credit_under : UnitAccount × ℤ → CreditRow
 credit_under e = record { unit = e.0.0; account = e.0.1; credited = e.1 }
 
--- by their units and accounts credits stay the same
+-- turning credits into such entries and back leaves them the same
 back_from_keys : (credits : List CreditRow) → map credit_under (keyed_credits credits) ≡ credits
 back_from_keys [] = refl
 back_from_keys (c ∷ credits) = ap (λ t. c ∷ t) (back_from_keys credits)
 
--- credits of which no two are alike are only moved by being put in order
+-- sorting credits, no two of which are alike, only moves them
 credits_moved : (credits : List CreditRow) → NoneAlike have_one_place credits → IsPermutation credits (in_credit_order credits)
 credits_moved credits distinct =
     subst (λ l. IsPermutation l (in_credit_order credits)) (back_from_keys credits)
@@ -146,7 +146,7 @@ credits_moved credits distinct =
     (in_key_order_moves unit_account_total (keyed_credits credits) (distinct-map (have_one_key unit_account_cmp) keyed_credit credits distinct)))
 
 module _ {K V X : Type 0} {R : K → K → Ordering} (o : IsTotalOrder R) (cmp : X → X → Ordering) (f : K × V → X) (same : (e g : K × V) → cmp (f e) (f g) ≡ R e.0 g.0) where
-  -- no row that a table's rows are shown as is below the one before it
+  -- if a table's rows are shown in its order, no shown row is below the one before it
   each_next : (es : List (K × V)) → T (is_sorted R es) → (k : ℕ) (d : X) → suc k < length (map f es) → is_lt (cmp (get_or (map f es) (suc k) d) (get_or (map f es) k d)) ≡ false
   each_next [] sorted k d inside = absurd (omega arith)
   each_next (e ∷ []) sorted k d inside = absurd (omega arith)
@@ -154,12 +154,12 @@ module _ {K V X : Type 0} {R : K → K → Ordering} (o : IsTotalOrder R) (cmp :
       ap is_lt (same g e ∙ o.antisymm g.0 e.0 ∙ ap ordering_reverse (less (R e.0 g.0) (first (is_lt (R e.0 g.0)) (below_all R e.0 es) (first (below_all R e.0 (g ∷ es)) (is_sorted R (g ∷ es)) sorted))))
   each_next (e ∷ g ∷ es) sorted (suc k) d inside = each_next (g ∷ es) (second (below_all R e.0 (g ∷ es)) (is_sorted R (g ∷ es)) sorted) k d (omega arith)
 
-  -- so they are in order
+  -- so the shown rows are sorted
   shown_in_order : (es : List (K × V)) → T (is_sorted R es) → IsSorted cmp (map f es)
   shown_in_order es sorted k d from inside =
       subst (λ n. is_lt (cmp (get_or (map f es) n d) (get_or (map f es) k d)) ≡ false) (sym (add-one k)) (each_next es sorted k d (omega arith))
 
--- a settled period is what its definition says
+-- a settled period is as its definition says
 pub is_settled : SettlesEachPeriod
 is_settled p distinct once = record {
   rows = figures_shown (all_figures p) (residual_shares p) (a_share_each p);

@@ -1,4 +1,4 @@
--- How much accounts pay at most in a Settlement Period, in a run and over all dates, where no period passes a limit.
+-- The most that accounts pay in a Settlement Period, in a run and over all dates, if no period passes a limit.
 use Rattle.std.proofs.Common.{◌≡◌, ℕ, zero, suc, ◌+◌, ◌*◌, ◌≤◌, ◌<◌, List, [], ◌∷◌, ◌++◌, length, map, refl, sym, ap, subst, ◌∙◌, Bool, true, false, cond, not, Option, Some, None, add-one, arith}
 use Rattle.std.specs.Prelude.{ℤ, pos, ◌+ℤ◌, ◌≢◌, ◌==◌, Contains, is_some, sum_by, take, unsigned_abs, unwrap_or}
 use Rattle.std.specs.List.{AllByRecursion, list_all}
@@ -48,14 +48,14 @@ use Rattle.hh_state_laws.proofs.ReadyLaws.{Differ, all_both, no_more}
 use Rattle.hh_state_laws.proofs.ResultLaws.{day_nets_from_results, holds_results}
 use Rattle.hh_state_laws.proofs.RunRowLaws.{accounts_distinct, rows_distinct}
 
--- one more of as many
+-- n + 1 times an amount
 one_more : (n most : ℕ) → suc n * most ≡ most + n * most
 one_more n most =
     let split : suc n * most ≡ n * most + 1 * most = ap (λ k. k * most) (sym (add-one n)) ∙ add-mul n 1 most in
     omega arith
 
 module _ {X : Type 0} (f : X → ℤ) where
-  -- a sum is no greater in size than the sum of the sizes
+  -- the size of a sum is at most the sum of the sizes
   pub total_by_sizes : (xs : List X) → unsigned_abs (total f xs) ≤ sum_by (λ x. unsigned_abs (f x)) xs
   total_by_sizes [] = omega arith
   total_by_sizes (x ∷ xs) =
@@ -63,7 +63,7 @@ module _ {X : Type 0} (f : X → ℤ) where
       let rest : unsigned_abs (total f xs) ≤ sum_by (λ y. unsigned_abs (f y)) xs = total_by_sizes xs in
       omega (arith, ints)
 
-  -- nor than so many times the most that each comes to
+  -- and at most the number of elements times the greatest size
   pub total_by_most : (most : ℕ) (xs : List X) → AllByRecursion (λ x. unsigned_abs (f x) ≤ most) xs → unsigned_abs (total f xs) ≤ length xs * most
   total_by_most most [] small = omega arith
   total_by_most most (x ∷ xs) small =
@@ -72,22 +72,22 @@ module _ {X : Type 0} (f : X → ℤ) where
       let all : suc (length xs) * most ≡ most + length xs * most = one_more (length xs) most in
       omega (arith, ints)
 
--- a sum over what is made of each element
+-- a sum over mapped elements
 pub sum_by-made : {X Y : Type 0} (f : Y → ℕ) (g : X → Y) (xs : List X) → sum_by f (map g xs) ≡ sum_by (λ x. f (g x)) xs
 sum_by-made f g [] = refl
 sum_by-made f g (x ∷ xs) = sum_by-cons f (g x) (map g xs) ∙ ap (λ n. f (g x) + n) (sum_by-made f g xs) ∙ sym (sum_by-cons (λ y. f (g y)) x xs)
 
--- what an account pays by a row, in size
+-- the size of what an account pays by a row
 abbrev moved : Account → AccountRow → ℕ
 moved a r = unsigned_abs (of_account a r.account (r.charge +ℤ r.share))
 
--- rows of others move nothing for an account
+-- rows of other accounts move nothing for an account
 none_moved : (a : Account) (rows : List AccountRow) → AllByRecursion (λ r. is_same_account r.account a ≡ false) rows → sum_by (moved a) rows ≡ 0
 none_moved a [] others = refl
 none_moved a (r ∷ rows) others =
     sum_by-cons (moved a) r rows ∙ (λ i. unsigned_abs (cond (others.0 i) (r.charge +ℤ r.share) (pos 0)) + none_moved a rows others.1 i)
 
--- an account that has one row at most pays no more than one row moves
+-- an account that has at most one row pays no more than one row moves
 one_moved : (a : Account) (most : ℕ) (rows : List AccountRow) → NoneAlike (λ r s. is_same_account r.account s.account) rows
     → AllByRecursion (λ r. unsigned_abs (r.charge +ℤ r.share) ≤ most) rows → sum_by (moved a) rows ≤ most
 one_moved a most [] distinct small = omega arith
@@ -120,7 +120,7 @@ rows_small figures_at most (a ∷ accounts) (x ∷ shares) charges small = (
     both : (y z : ℤ) → unsigned_abs y ≤ most → unsigned_abs z ≤ most → unsigned_abs (y +ℤ z) ≤ 2 * most
     both y z one other = omega (arith, ints)
 
--- no charge passes the limit where no figure of an account does
+-- no charge passes the limit if no figure of an account does
 charges_small : (p : PeriodTerms) (accounts : List Account) → list_all (is_account_within p) accounts ≡ true → AllByRecursion (λ a. unsigned_abs (figures p a).charge ≤ greatest_cash) accounts
 charges_small p [] within = tt
 charges_small p (a ∷ accounts) within =
@@ -133,14 +133,14 @@ module _ (p : PeriodTerms) (within : is_within_limits p ≡ true) where
   pub residual_small : unsigned_abs (residual p) ≤ greatest_cash
   residual_small = leb-true _ _ (and_parts _ _ within).1
 
-  -- and small shares of it
+  -- and small shares of the residual
   shares_small : AllByRecursion (λ x. unsigned_abs x ≤ greatest_cash) (residual_shares p)
   shares_small =
       all-weaken (λ x. unsigned_abs x ≤ unsigned_abs (residual p)) (λ x. unsigned_abs x ≤ greatest_cash)
       (λ x small. let most : unsigned_abs (residual p) ≤ greatest_cash = residual_small in omega arith) (residual_shares p)
       (recursion_from_All (λ x. unsigned_abs x ≤ unsigned_abs (residual p)) (residual_shares p) (shares_within (residual p) (weights p)))
 
-  -- so that each account, where none stands twice, pays no more than twice the limit in size
+  -- so each account pays at most twice the limit in size, if no account occurs twice
   period_turnover : NoneAlike is_same_account p.accounts → (a : Account) → sum_by (moved a) (settled p).accounts ≤ 2 * greatest_cash
   period_turnover distinct a =
       one_moved a (2 * greatest_cash) (settled p).accounts (rows_distinct (figures p) (λ b. refl) p.accounts (residual_shares p) distinct)
@@ -169,13 +169,13 @@ module _ (timetable : Timetable) (history : History) where
       summed : (whole made later rows most n : ℕ) → whole ≡ made + later → made ≡ rows → rows ≤ most → later ≤ n * most → suc n * most ≡ most + n * most → whole ≤ suc n * most
       summed whole made later rows most n both is one rest all = omega arith
 
-  -- and the residuals of such periods
+  -- and the sum of the residuals of such periods
   pub day_residual : (periods : List SettlementPeriod) → AllByRecursion (λ at. is_within_limits (terms_at tables at) ≡ true) periods
       → AllByRecursion (λ q. unsigned_abs q.1.residual ≤ greatest_cash) (settled_day tables periods)
   day_residual [] within = tt
   day_residual (at ∷ periods) within = (residual_small (terms_at tables at) within.0, day_residual periods within.1)
 
--- so many numbers from 1 on
+-- how many numbers there are from 1 to n
 numbers_counted : (n : ℕ) → length (from_one_to n) ≡ n
 numbers_counted zero = refl
 numbers_counted (suc n) =
@@ -183,7 +183,7 @@ numbers_counted (suc n) =
     let one_more : length (from_one_to n ++ suc n ∷ []) ≡ length (from_one_to n) + 1 = length-append (from_one_to n) (suc n ∷ []) in
     omega arith
 
--- as many periods
+-- how many periods there are
 pub periods_counted : (date n : ℕ) → length (periods_on date n) ≡ n
 periods_counted date n = length-map (from_one_to n) (λ p. record { date = date; period = p }) ∙ numbers_counted n
 
@@ -198,22 +198,22 @@ few_counted true false true long = omega arith
 few_counted true false false true = omega arith
 few_counted true false false false = omega arith
 
--- a date has no more than 50
+-- a date has at most 50 periods
 pub few_periods : (midnight : Midnights) (date : ℕ) → period_count midnight date ≤ most_periods
 few_periods midnight date = few_counted (is_accepted date) _ _ _
 
--- a test that fails of the opposite holds
+-- a test holds if its opposite fails
 passes : (b : Bool) → not b ≡ false → b ≡ true
 passes true fails = refl
 passes false fails = absurd (false_is_not_true (sym fails))
 
--- what passes no limit is within each
+-- if no period passes a limit, each is within the limits
 pub all_within : (tables : Registered) (periods : List SettlementPeriod) → too_large tables periods ≡ None → AllByRecursion (λ at. is_within_limits (terms_at tables at) ≡ true) periods
 all_within tables periods none =
     all-weaken (λ at. not (is_within_limits (terms_at tables at)) ≡ false) (λ at. is_within_limits (terms_at tables at) ≡ true)
     (λ at. passes (is_within_limits (terms_at tables at))) periods (none_passes (λ at. not (is_within_limits (terms_at tables at))) periods none)
 
--- in each reached state the turnover of each account in each run is at most so great
+-- in each reached state the turnover of each account in each run is at most the greatest
 pub turnovers_within : TurnoversWithin
 turnovers_within midnight s a reached =
     let timetable : Timetable = timetable_at midnight s in
@@ -232,11 +232,11 @@ turnovers_within midnight s a reached =
         let more : n * most ≤ most_periods * most = mul-le-mul few (let same : most ≤ most = omega arith in same) in
         omega arith
 
--- what is no greater in size than the greatest turnover is a day net
+-- an amount of at most the greatest turnover in size is in the range of day nets
 pub is_day_net : (z : ℤ) (turnover : ℕ) → unsigned_abs z ≤ turnover → turnover ≤ greatest_turnover → IsBetween day_cash.least day_cash.most z
 is_day_net z turnover small few = (omega (arith, ints), omega (arith, ints))
 
--- what accounts pay by the rows of runs
+-- what accounts pay by the rows of runs is within that range
 pub paid_within : PaidWithin
 paid_within midnight s a reached =
     let timetable : Timetable = timetable_at midnight s in
@@ -252,7 +252,7 @@ paid_within midnight s a reached =
     (λ r. results_in (tables_of midnight s) r.key ≡ rows_by_period (settled_by timetable s.history r)) s.runs
     (turnovers_within midnight s a reached) (holds_results midnight s reached))
 
--- so their day nets are within the range of day nets
+-- so day nets are within the range of day nets
 pub day_nets_within : DayNetsWithin
 day_nets_within midnight s a reached =
     let timetable : Timetable = timetable_at midnight s in
@@ -266,7 +266,7 @@ day_nets_within midnight s a reached =
 
 -- the latest runs of all dates
 module _ (P : Run → Type 0) where
-  -- have what each run has
+  -- have a property if each run has it
   latest_have : (runs : List Run) → AllByRecursion P runs → AllByRecursion P (latest_runs runs)
   latest_have [] h = tt
   latest_have (run ∷ later) h = elim (is_some (latest_run run.key.date later)) as (λ b. AllByRecursion P (cond b (latest_runs later) (run ∷ latest_runs later))) [
@@ -274,7 +274,7 @@ module _ (P : Run → Type 0) where
     | false ↦ (h.0, latest_have later h.1)
   ]
 
--- no run is of a date that has no latest run
+-- if a date has no latest run, it has no run
 none_of_date : (date : ℕ) (runs : List Run) → is_some (latest_run date runs) ≡ false → AllByRecursion (λ r. date ≢ r.key.date) runs
 none_of_date date [] none = tt
 none_of_date date (r ∷ runs) none =
@@ -296,7 +296,7 @@ latest_differ (run ∷ later) =
       | false ↦ λ none. (latest_have (λ r. run.key.date ≢ r.key.date) later (none_of_date run.key.date later none), latest_differ later)
     ] refl
 
--- so many dates, from the first on
+-- the dates from a first one on, so many of them
 abbrev dates_from : ℕ → ℕ → List ℕ
 dates_from first zero = []
 dates_from first (suc n) = (first + n) ∷ dates_from first n
@@ -305,7 +305,7 @@ dates_counted : (first n : ℕ) → length (dates_from first n) ≡ n
 dates_counted first zero = refl
 dates_counted first (suc n) = ap suc (dates_counted first n)
 
--- a date of these is one of them
+-- a date in the range is one of these dates
 date_among : (first n date : ℕ) → first ≤ date → date < first + n → Contains (dates_from first n) date
 date_among first zero date from_first before = absurd (omega arith)
 date_among first (suc n) date from_first before =
@@ -317,7 +317,7 @@ date_among first (suc n) date from_first before =
           (suc rest.0, omega arith, rest.2)
     ] refl
 
--- runs of different dates are no more than the dates that they may have
+-- there are at most as many runs of different dates as dates that they can have
 few_dates : (first n : ℕ) (runs : List Run) → Differ (λ x y. x.key.date ≢ y.key.date) runs → AllByRecursion (λ r. (first ≤ r.key.date) × (r.key.date < first + n)) runs → length runs ≤ n
 few_dates first n runs apart among =
     subst (λ k. length runs ≤ k) (dates_counted first n)
@@ -353,7 +353,7 @@ dates_accepted midnight s (by_load t load reached can) = dates_accepted midnight
 dates_accepted midnight s (by_run t moment key reached can) =
     all-append (λ r. is_accepted r.key.date ≡ true) t.runs (new_run t key ∷ []) (dates_accepted midnight t reached) (run_date_accepted midnight t moment key can.1, tt)
 
--- an accepted date is one of so many
+-- an accepted date is one of the 36,159
 accepted_among : (date : ℕ) → is_accepted date ≡ true → (first_date ≤ date) × (date < first_date + accepted_dates)
 accepted_among date is =
     let parts = and_parts _ _ is in
@@ -361,7 +361,7 @@ accepted_among date is =
     let to_last : date ≤ last_date = leb-true _ _ parts.1 in
     (from_first, omega arith)
 
--- in each reached state no more than so many runs are the latest of their dates
+-- in each reached state there are at most as many latest runs as accepted dates
 few_latest : (midnight : Midnights) (s : State) → IsReached midnight s → length (latest_runs s.runs) ≤ accepted_dates
 few_latest midnight s reached =
     few_dates first_date accepted_dates (latest_runs s.runs) (latest_differ s.runs)
@@ -369,7 +369,7 @@ few_latest midnight s reached =
     (all-weaken (λ r. is_accepted r.key.date ≡ true) (λ r. (first_date ≤ r.key.date) × (r.key.date < first_date + accepted_dates)) (λ r. accepted_among r.key.date) s.runs
     (dates_accepted midnight s reached)))
 
--- a day net of each of so many dates comes to a balance
+-- a sum of at most so many day nets is in the range of balances
 is_balance : (z : ℤ) (n : ℕ) → unsigned_abs z ≤ n * 100_000_000_000_000 → n ≤ accepted_dates → IsBetween balances.least balances.most z
 is_balance z n small few =
     let most : unsigned_abs z ≤ 3_700_000_000_000_000_000 = omega arith in
@@ -378,7 +378,7 @@ is_balance z n small few =
 day_net_small : (z : ℤ) → IsBetween day_cash.least day_cash.most z → unsigned_abs z ≤ 100_000_000_000_000
 day_net_small z within = let low = within.0 in let high = within.1 in omega (arith, ints)
 
--- in each reached state what is moved over all dates is within the range of balances
+-- in each reached state, what is moved over all dates is in the range of balances
 pub balances_within : BalancesWithin
 balances_within midnight s a reached =
     let timetable : Timetable = timetable_at midnight s in

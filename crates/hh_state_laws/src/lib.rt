@@ -1,4 +1,4 @@
-//! What holds in each state that the settlement machine reaches, and what its tables add up to.
+//! Properties of each state that the settlement machine reaches, and what its tables add up to.
 #![tactic(auto)]
 
 mod amounts;

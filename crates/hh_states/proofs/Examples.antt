@@ -1,4 +1,4 @@
--- A market of two parties and a day of its files, computed: replies, the settled day, runs and what they post.
+-- A market of two parties and a day of its files: replies, the settled day, runs and their postings, all computed.
 use Rattle.std.proofs.Common.{◌≡◌, ℕ, List, [], ◌∷◌, ◌++◌, refl, Some, None, true, false, Option}
 use Rattle.std.specs.Prelude.{ℤ, pos, neg_ℤ, codes, ◌+◌, ◌-◌, ◌*◌, ◌==◌, map, option_map, if◌then◌else◌}
 use Rattle.hh_names.specs.declared.account.Account.{Account}
@@ -55,7 +55,7 @@ unit id lead = row.Unit (record { unit = id; registration = record { lead = lead
 abbrev period : ℕ → SettlementPeriod
 period p = record { date = 19_905; period = p }
 
--- a reading in the first period, and nothing metered in the others
+-- a reading in the first period, and in the others a reading of 0
 abbrev reading : List ℕ → ℤ → ℤ → ℕ → Row
 reading id metered tlm p = row.Meter (record {
   key = record { unit = id; at = period p };
@@ -66,7 +66,7 @@ reading id metered tlm p = row.Meter (record {
   };
 })
 
--- a price in the first period, and none to pay in the others
+-- a price in the first period, and a price of 0 in the others
 abbrev price : ℤ → ℕ → Row
 price first p = row.Price (record { at = period p; price = if p == 1 then first else pos 0 })
 
@@ -74,7 +74,7 @@ abbrev sale : List ℕ → Account → Account → ℤ → Row
 sale reference seller buyer volume =
     row.Contract (record { key = record { reference = reference; at = period 1 }; contract = record { counterparties = record { seller = seller; buyer = buyer }; volume = volume } })
 
--- a file that comes at a moment; its bytes are left out
+-- a file that comes at a moment, here without its bytes
 abbrev coming : ℤ → FileKind → List ℕ → List Row → Load
 coming moment kind name rows = record { moment = moment; key = record { kind = kind; name = name }; body = []; rows = rows }
 
@@ -146,14 +146,14 @@ replies :
     ≡ replied 2 0 ∷ replied 2 0 ∷ replied 1 0 ∷ replied 96 0 ∷ replied 48 0 ∷ []
 replies = refl
 
--- what each load writes makes the tables those of the state after it
+-- the tables after a load, from what the load writes; they are those of the state after it
 abbrev written : State → Load → Content
 written s load = effect_of_load (load_writes midnight s load) (tables_of midnight s)
 
 contracts_written : written with_units contracts ≡ tables_of midnight with_contracts
 contracts_written = refl
 
--- a further contract row a second before the deadline is in time, one at the deadline is late, and one accepted last counts
+-- one more contract row: a second before the deadline it is in time, at the deadline it is late, and the last accepted counts
 abbrev further : ℤ → List ℕ → ℤ → Load
 further moment name volume = coming moment file.Contracts name (sale (codes "C1") genco_p supco_c volume ∷ [])
 
@@ -197,7 +197,7 @@ late_volume = refl
 last_volume : volumes with_last genco_p ≡ pos 96_000 ∷ []
 last_volume = refl
 
--- the third row of a file is refused, so that the file is
+-- the third row of a file is refused, and so the file is
 same_account : fault_in with_contracts (coming loading file.Contracts (codes "c5.csv") (sale (codes "C5") genco_p supco_c (pos 1) ∷ sale (codes "C6") supco_c genco_p (pos 1) ∷ sale (codes "C7") genco_p genco_p (pos 1) ∷ [])) ≡ Some (row_fault refusal.SameAccount 3)
 same_account = refl
 
@@ -205,14 +205,14 @@ same_account = refl
 moved_in_file : fault_in with_contracts (coming loading file.Contracts (codes "c6.csv") (sale (codes "C5") genco_p supco_c (pos 1) ∷ sale (codes "C5") supco_c genco_p (pos 1) ∷ [])) ≡ Some (row_fault refusal.ReferenceMoved 2)
 moved_in_file = refl
 
--- a party's key is known, and the operator's is none
+-- a party's key is known as one, and the operator's is not
 key_known : is_key_known (tables_of midnight loaded) (codes "supco0001") ≡ true
 key_known = refl
 
 operator_key_unknown : is_key_known (tables_of midnight loaded) (codes "op-settle001") ≡ false
 operator_key_unknown = refl
 
--- an account of which nothing is metered, contracted or charged
+-- an account with nothing metered, contracted or charged
 abbrev idle : List ℕ → Side → AccountRow
 idle id side = record {
   account = record { party = id; side = side };
@@ -251,11 +251,11 @@ first_period : (settled (terms_at (registered_at midnight loaded) (period 1))).a
     ≡ genco_row ∷ idle (codes "GENCO") Consumption ∷ idle (codes "SUPCO") Production ∷ supco_row ∷ []
 first_period = refl
 
--- the periods after it, in which nothing is metered
+-- the second period, in which the metered volumes are 0
 second_period : (settled (terms_at (registered_at midnight loaded) (period 2))).residual ≡ pos 0
 second_period = refl
 
--- the runs of the day: not before it is over, and SF first
+-- the runs of the day: none before it is over, and SF first
 abbrev run : RunKind → RunKey
 run wanted = record { date = 19_905; kind = wanted }
 
@@ -281,7 +281,7 @@ first_run = refl
 first_postings : postings_after (timetable_at midnight loaded) loaded.history None (new_run loaded (run kind.SF)) ≡ (genco_p, pos 38) ∷ (supco_c, minus 38) ∷ []
 first_postings = refl
 
--- a run that is there keeps its summary, and after RF comes no R2
+-- a run that exists keeps its summary, and no R2 comes after RF
 abbrev run_once : State
 run_once = after_run loaded (run kind.SF)
 

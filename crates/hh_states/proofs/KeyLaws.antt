@@ -1,4 +1,4 @@
--- The orders of files and of the keys of runs, results, credits and postings are total, and tell each two keys apart.
+-- The orders of files and of the keys of runs, results, credits and postings are total, and two that they find equal are the same.
 use Rattle.std.proofs.Common.{◌≡◌, ℕ, List, refl, ap, sym, ◌∙◌, Some, Ordering}
 use Rattle.std.specs.Prelude.{unwrap_or}
 use Rattle.std.specs.Cmp.{IsTotalOrder, nat_cmp_total, on_total, then_total}
@@ -39,7 +39,7 @@ credit_key_total =
 pub posting_key_total : IsTotalOrder posting_key_cmp
 posting_key_total = then_total (on_total (λ k. k.run) run_key_total) (on_total (λ k. k.account) account_total)
 
--- each kind of file is the one that its word names
+-- the word of a kind of file names that kind
 named_by_word : (kind : FileKind) → kind_value (kind_word kind) ≡ Some kind
 unfolding kind_value
 named_by_word Parties = refl

@@ -12,11 +12,11 @@ use Rattle.hh_states.specs.Reads.{HoldsFiles, posting_to}
 use Rattle.hh_states.specs.Sums.{posted_to}
 use Rattle.hh_states.proofs.KeyLaws.{file_key_total}
 
--- the file that the tables of a state hold is the one that was accepted
+-- the file that the tables of a state have is the one that was accepted
 pub holds_files : HoldsFiles
 holds_files midnight s key = find-in_key_order file_key_total s.files key
 
--- the postings that are read for an account come to those of its keys
+-- the postings that are read for an account have the same sum as those of its keys
 pub postings_read : (a : Account) (es : List (PostingKey × ℤ)) → total (λ e. e.1) (filter_map (posting_to a) es) ≡ posted_to a es
 postings_read a [] = refl
 postings_read a (e ∷ es) =

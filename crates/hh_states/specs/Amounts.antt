@@ -1,4 +1,4 @@
--- How great the amounts and the counts of runs are in the states that the machine reaches: they fit the types that keep them.
+-- The sizes of the amounts and the counts of runs in the states that the machine reaches: they fit the types that keep them.
 use Rattle.std.specs.Prelude.{ℕ, ◌*◌, ◌≤◌, unsigned_abs, List, Some, sum_by}
 use Rattle.std.specs.List.{AllByRecursion}
 use Rattle.hh_num.specs.Quantities.{Measure, either_sign}
@@ -23,7 +23,7 @@ use Rattle.hh_states.specs.Sums.{moved_by_runs}
 abbrev pub most_periods : ℕ
 most_periods = 50
 
--- the most accounts that there are: two of each party
+-- the most accounts that there can be: two of each party
 abbrev pub most_accounts : ℕ
 most_accounts = 2 * most_parties
 
@@ -31,15 +31,15 @@ most_accounts = 2 * most_parties
 abbrev pub greatest_turnover : ℕ
 greatest_turnover = most_periods * (2 * greatest_cash)
 
--- what an account moves over all dates: whole pence, at most 3.7 * 10^18 in size, since the dates from 2001 to 2099 are 36,159
+-- what an account moves over all dates: whole pence, at most 3.7 * 10^18 in size, since there are 36,159 dates from 2001 to 2099
 abbrev pub balances : Measure
 balances = either_sign 0 3_700_000_000_000_000_000
 
--- the turnover of an account by rows, each with the number of its Settlement Period: what it pays by each of its own, in size
+-- the turnover of an account by rows, each with the number of its Settlement Period: the sum of the sizes of what it pays
 abbrev pub turnover_in : Account → List (ℕ × AccountRow) → ℕ
 turnover_in a rows = sum_by (λ e. unsigned_abs (moved_by_row a e.1)) rows
 
--- in each state that the machine reaches, the turnover of each account in each run is at most so great
+-- in each state that the machine reaches, the turnover of each account in each run is at most the greatest
 abbrev pub TurnoversWithin : Type 0
 TurnoversWithin = (midnight : Midnights) (s : State) (a : Account) → IsReached midnight s
     → AllByRecursion (λ r. turnover_in a (rows_in_run midnight s r) ≤ greatest_turnover) s.runs
@@ -50,7 +50,7 @@ DayNetsWithin = (midnight : Midnights) (s : State) (a : Account) → IsReached m
     → AllByRecursion (λ r.
     IsBetween day_cash.least day_cash.most (day_net_of (nets_of (timetable_at midnight s) s.history (Some r)) a)) s.runs
 
--- and so is what each account pays by the rows of each run in the tables
+-- and so is the sum of what each account pays by the rows of each run in the tables
 abbrev pub PaidWithin : Type 0
 PaidWithin = (midnight : Midnights) (s : State) (a : Account) → IsReached midnight s
     → AllByRecursion (λ r. IsBetween day_cash.least day_cash.most (paid_in a (results_in (tables_of midnight s) r.key))) s.runs
@@ -60,15 +60,15 @@ abbrev pub BalancesWithin : Type 0
 BalancesWithin = (midnight : Midnights) (s : State) (a : Account) → IsReached midnight s
     → IsBetween balances.least balances.most (moved_by_runs (timetable_at midnight s) s a)
 
--- a summary is of no more Settlement Periods, accounts and postings than there may be, and its residual is no greater in size than
--- the residuals of so many periods come to
+-- a summary has no more Settlement Periods, accounts and postings than there can be, and its residual is at most the sum of the
+-- greatest residuals of so many periods
 pub record IsSummaryWithin (summary : Summary) : Type 0 where
   pub periods : summary.periods ≤ most_periods
   pub accounts : summary.accounts ≤ most_accounts
   pub residual : unsigned_abs summary.residual ≤ most_periods * greatest_cash
   pub postings : summary.postings ≤ most_accounts
 
--- in each state that the machine reaches, so is the summary of each run
+-- in each state that the machine reaches, this holds for the summary of each run
 abbrev pub SummariesWithin : Type 0
 SummariesWithin = (midnight : Midnights) (s : State) → IsReached midnight s
     → AllByRecursion (λ r. IsSummaryWithin (summary_after (timetable_at midnight s) s.history r.0 r.1)) (runs_with_former s)

@@ -1,4 +1,4 @@
--- What a load and a run write into the tables of an office, and what the tables are then.
+-- What a load and a run write into the tables of an office, and the tables after that.
 use Rattle.std.specs.Prelude.{◌≡◌, ℕ, ℤ, List, [], ◌∷◌, true}
 use Rattle.std.specs.FinMap.{put}
 use Rattle.hh_tables.specs.Tables.{put_all}
@@ -36,11 +36,11 @@ pub record RunWrites : Type 0 where
   pub credits : List (CreditKey × ℤ)
   pub postings : List (PostingKey × ℤ)
 
--- what is registered and in force with a further row that is not late; references stand apart
+-- what is registered and in force after one more row that is not late; references are put apart
 abbrev pub put_row : Row → Registered → Registered
 put_row r tables = record (with_row true r tables) { references = tables.references }
 
--- what is registered and in force with further rows that are not late, one after the other
+-- what is registered and in force after more rows that are not late, one after another
 abbrev pub put_rows : List Row → Registered → Registered
 put_rows [] tables = tables
 put_rows (r ∷ rows) tables = put_rows rows (put_row r tables)
@@ -70,7 +70,7 @@ module _ (midnight : Midnights) (s : State) where
   abbrev pub rows_in_time : Load → List Row
   rows_in_time load = timely_rows (timetable_at midnight s) (rows_coming load)
 
-  -- the references that a load fixes, late rows included
+  -- the references that a load fixes, those of late rows included
   abbrev pub references_fixed : Load → List (List ℕ × Counterparties)
   references_fixed load = fixed_references (timetable_at midnight s) s.history (rows_coming load)
 
@@ -108,12 +108,12 @@ module _ (midnight : Midnights) (content : Content) where
   abbrev pub IsRunFrom : RunWrites → Type 0
   IsRunFrom w = (s : State) × (moment : ℤ) × (key : RunKey) × StandsFor s × CanRun midnight s moment key × (w ≡ run_writes midnight s key)
 
--- what a load writes makes the tables of a reached state those of the state after the load
+-- the tables of the state after a load are those of the state before, with what the load writes put into them
 abbrev pub LoadEffect : Type 0
 LoadEffect = (midnight : Midnights) (s : State) (load : Load) → IsReached midnight s → CanLoad midnight s load
     → tables_of midnight (after_load midnight s load) ≡ effect_of_load (load_writes midnight s load) (tables_of midnight s)
 
--- what a run writes makes the tables of a state those of the state after the run
+-- the tables of the state after a run are those of the state before, with what the run writes put into them
 abbrev pub RunEffect : Type 0
 RunEffect = (midnight : Midnights) (s : State) (moment : ℤ) (key : RunKey) → CanRun midnight s moment key
     → tables_of midnight (after_run s key) ≡ effect_of_run (run_writes midnight s key) (tables_of midnight s)

@@ -1,4 +1,4 @@
--- The tables that an office keeps, and those that stand for a state.
+-- The tables that an office keeps, and those that represent a state.
 use Rattle.std.specs.Prelude.{ℤ, List, [], map, Bool, true, Option}
 use Rattle.std.specs.List.{flat_map}
 use Rattle.std.specs.Ordering.{nat_cmp, on, then_cmp}
@@ -38,8 +38,8 @@ credit_key_cmp =
 abbrev pub posting_key_cmp : PostingKey → PostingKey → Ordering
 posting_key_cmp = then_cmp (on (λ k. k.run) run_key_cmp) (on (λ k. k.account) account_cmp)
 
--- The thirteen tables: the settings, the seven of what is registered and in force, the files, and four of the runs. And whether what
--- a store keeps beside them, so that a run settles again only what has changed, agrees with them.
+-- The thirteen tables: the settings, the seven of what is registered and in force, the files, and four of the runs. A store also
+-- keeps data so that a run settles again only what has changed; is_in_step says whether these data agree with the tables.
 pub record Content : Type 0 where
   pub settings : Settings
   pub registered : Registered
@@ -85,7 +85,7 @@ credit_entries run day =
 abbrev pub posting_entries : RunKey → DayNets → List (PostingKey × ℤ)
 posting_entries run nets = map (λ e. (record { run = run; account = e.0 }, e.1)) nets
 
--- each run of a state with the run of its date before it
+-- each run of a state, with the run of its date before it
 abbrev pub runs_with_former : State → List (Option Run × Run)
 runs_with_former s = with_former [] s.runs
 
@@ -106,7 +106,7 @@ module _ (timetable : Timetable) (s : State) where
   abbrev pub all_postings : List (PostingKey × ℤ)
   all_postings = flat_map (λ r. posting_entries r.1.key (postings_after timetable s.history r.0 r.1)) (runs_with_former s)
 
--- the tables that stand for a state, each in the order of its keys; what is kept beside them agrees with them
+-- the tables that represent a state, each in the order of its keys; what a store keeps besides agrees with them
 abbrev pub tables_of : Midnights → State → Content
 tables_of midnight s =
     let timetable : Timetable = office_timetable midnight s.settings in

@@ -1,4 +1,4 @@
--- A Settlement Day: the settlement of its periods by what is registered and in force, what is missing for it, and day nets.
+-- A Settlement Day: its periods settled by what is registered and in force, what is missing for that, and the day nets.
 use Rattle.std.specs.Prelude.{ℕ, zero, suc, List, [], ◌∷◌, ◌++◌, map, find, is_none, not, ℤ, Option}
 use Rattle.std.specs.List.{flat_map}
 use Rattle.hh_num.specs.Totals.{total}
@@ -17,7 +17,7 @@ abbrev pub from_one_to : ℕ → List ℕ
 from_one_to zero = []
 from_one_to (suc n) = from_one_to n ++ suc n ∷ []
 
--- so many Settlement Periods of a date, from the first on
+-- the first Settlement Periods of a date, so many of them
 abbrev pub periods_on : ℕ → ℕ → List SettlementPeriod
 periods_on date count = map (λ p. record { date = date; period = p }) (from_one_to count)
 
@@ -43,15 +43,15 @@ module _ (tables : Registered) where
     abbrev pub missing_meter : Option UnitPeriod
     missing_meter = find (λ key. is_none (reading_of tables key)) (flat_map unit_periods_at periods)
 
-    -- the first of these Settlement Periods that passes a limit of settlement
+    -- the first of these Settlement Periods whose settlement passes a limit
     abbrev pub too_large : Option SettlementPeriod
     too_large = find (λ at. not (is_within_limits (terms_at tables at))) periods
 
--- what an account pays in a settled period in all, negative where it is paid: its charge and its share
+-- what an account pays in a settled period, negative if it is paid: its charge and its share
 abbrev pub period_net : Account → Settled → ℤ
 period_net a s = total (moved_by_row a) s.accounts
 
--- the day net of an account: what it pays in all the settled periods of a day
+-- the day net of an account: the sum of what it pays in all the settled periods of a day
 abbrev pub day_net : List (SettlementPeriod × Settled) → Account → ℤ
 day_net day a = total (λ q. period_net a q.1) day
 

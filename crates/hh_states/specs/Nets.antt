@@ -1,4 +1,4 @@
--- That a Settlement Period settles alike by the contract volumes in force and by the net volumes of its accounts.
+-- A Settlement Period has the same settlement by the contract volumes in force as by the net volumes of its accounts.
 use Rattle.std.specs.Prelude.{◌≡◌, pos, List, map, All}
 use Rattle.hh_num.specs.Totals.{total}
 use Rattle.hh_names.specs.declared.account.Account.{Account}
@@ -9,17 +9,17 @@ use Rattle.hh_calc.specs.Ready.{AreAccountsInOrder, AreInOrder, IsContractNamed,
 use Rattle.hh_calc.specs.Terms.{PeriodTerms, Rows}
 use Rattle.hh_states.specs.PeriodSettlement.{settled}
 
--- with the net volumes of its accounts in the place of rows a period settles to the same, and passes a limit just where it did
+-- a period with its accounts' net volumes instead of its rows has the same settlement, and passes a limit in the same cases
 abbrev pub NetsSettleAlike : Type 0
 NetsSettleAlike = (p : PeriodTerms) → AreInOrder p
     → (settled (netted p) ≡ settled p) × (is_within_limits (netted p) ≡ is_within_limits p)
 
--- the net volumes come to zero where each seller and buyer is one of the accounts
+-- net volumes sum to zero if each seller and buyer is one of the accounts
 abbrev pub NetsSumToZero : Type 0
 NetsSumToZero = (accounts : List Account) (rows : List Contract) → AreAccountsInOrder accounts
     → All (IsContractNamed accounts) rows → total (net_kwh rows) accounts ≡ pos 0
 
--- so a period that may be settled may be settled with them, where each is at most 100,000,000 MWh in size
+-- so a period that may be settled may be settled with its net volumes, if each is at most 100,000,000 MWh in size
 abbrev pub NettedAreReady : Type 0
 NettedAreReady = (p : PeriodTerms) (rows : List Contract) → p.contracts ≡ Rows rows → IsReady p
     → All IsNetVolume (map (net_kwh rows) p.accounts) → IsReady (netted p)

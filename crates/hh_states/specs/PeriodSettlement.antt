@@ -1,4 +1,4 @@
--- A Settlement Period: what it is settled from, by what is registered and in force, and its settlement.
+-- A Settlement Period: what it is settled from, out of what is registered and in force, and its settlement.
 use Rattle.std.specs.Prelude.{ℕ, ℤ, pos, List, map, filter, filter_map, zip, Option, option_map, unwrap_or}
 use Rattle.std.specs.FinMap.{find}
 use Rattle.std.specs.List.{flat_map}
@@ -27,11 +27,11 @@ use Rattle.hh_calc.specs.Formulas.{all_figures, credits_of, residual, residual_s
 use Rattle.hh_calc.specs.Terms.{BmUnit, PeriodTerms, Rows, Settled, bm_unit, period_terms, settled_period}
 
 module _ (tables : Registered) where
-  -- the accounts of a date: both accounts of each party whose range holds it, in their order
+  -- the accounts of a date: both accounts of each party whose range has the date, in their order
   abbrev pub accounts_on : ℕ → List Account
   accounts_on date = flat_map (λ e. both_accounts e.0) (filter (λ e. holds e.1.range date) tables.parties)
 
-  -- the units whose range holds a date, in the order of their ids
+  -- the units whose range has a date, in the order of their ids
   abbrev pub units_on : ℕ → Table (List ℕ) UnitRegistration
   units_on date = filter (λ e. holds e.1.range date) tables.units
 
@@ -43,7 +43,7 @@ module _ (tables : Registered) where
   abbrev pub price_of : SettlementPeriod → Option ℤ
   price_of at = find settlement_period_cmp at tables.prices
 
-  -- the accounts to which a unit's energy is reallocated in a Settlement Period, with what is reallocated to each
+  -- the accounts to which a unit's energy is reallocated in a Settlement Period, each with its reallocation
   abbrev pub subsidiaries_of : UnitPeriod → List Subsidiary
   subsidiaries_of key = map (λ e. record { account = e.0.account; reallocation = e.1 }) (reallocations_at tables key)
 
@@ -67,8 +67,8 @@ module _ (tables : Registered) where
     abbrev pub unit_at : List ℕ × UnitRegistration → Option BmUnit
     unit_at e = option_map (unit_with e) (reading_of (record { unit = e.0; at = at }))
 
-    -- What a Settlement Period is settled from. Where a price or a reading is missing no run is made; here the price counts as 0
-    -- then, and the unit is left out.
+    -- What a Settlement Period is settled from. No run is made if a price or a reading is missing; here a missing price counts as 0,
+    -- and a unit without a reading is left out.
     abbrev pub terms_at : PeriodTerms
     terms_at =
         period_terms (accounts_on at.date) (filter_map unit_at (units_on at.date))
@@ -90,11 +90,11 @@ account_row f share = record {
 abbrev pub account_rows : List Figures → List ℤ → List AccountRow
 account_rows figures shares = map (λ e. account_row e.0 e.1) (zip figures shares)
 
--- a unit with an account that is credited from it
+-- a unit, with an account that is credited from it
 abbrev pub UnitAccount : Type 0
 UnitAccount = List ℕ × Account
 
--- units with accounts in the order of the units' bytes, then of the accounts
+-- units with accounts, in the order of the units' bytes, then of the accounts
 abbrev pub unit_account_cmp : UnitAccount → UnitAccount → Ordering
 unit_account_cmp = then_cmp (on (λ k. k.0) bytes_cmp) (on (λ k. k.1) account_cmp)
 

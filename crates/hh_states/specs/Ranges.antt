@@ -1,5 +1,5 @@
--- That the tables of each state that the machine reaches hold only values in the grammars and within the ranges of their fields,
--- and that no party has the operator's key.
+-- The tables of each state that the machine reaches have only values in the grammars and ranges of their fields, and no party has
+-- the operator's key.
 use Rattle.std.specs.Prelude.{◌≢◌, ◌+◌, ◌≤◌, length, IsTrue}
 use Rattle.std.specs.List.{AllByRecursion}
 use Rattle.hh_num.specs.Quantities.{volumes}
@@ -13,7 +13,7 @@ use Rattle.hh_states.specs.declared.file_key.FileKey.{FileKey}
 use Rattle.hh_states.specs.States.{AcceptedFile, State}
 use Rattle.hh_states.specs.Steps.{IsReached, registered_at}
 
--- each key and each value of what is registered and in force is one that a row can have
+-- each key and value of what is registered and in force is one that a row can have
 pub record AreOfRows (tables : Registered) : Type 0 where
   pub parties : AllByRecursion (λ e. IsPartyRow (record { party = e.0; registration = e.1 })) tables.parties
   pub units : AllByRecursion (λ e. IsUnitRow (record { unit = e.0; registration = e.1 })) tables.units
@@ -29,7 +29,7 @@ pub record IsKeptFile (key : FileKey) (file : AcceptedFile) : Type 0 where
   pub small : length file.body ≤ most_bytes
   pub few : file.applied + file.late ≤ most_rows
 
--- so has each file that was accepted in a state that the machine reaches
+-- this holds for each file that was accepted in a state that the machine reaches
 abbrev pub ReachedFiles : Type 0
 ReachedFiles = (midnight : Midnights) (s : State) → IsReached midnight s → AllByRecursion (λ f. IsKeptFile f.0 f.1) s.files
 
@@ -39,7 +39,7 @@ pub record AreInRange (content : Content) : Type 0 where
   pub registered : AreOfRows content.registered
   pub files : AllByRecursion (λ f. IsKeptFile f.0 f.1) content.files
 
--- so are those of each state that the machine reaches
+-- so are the tables of each state that the machine reaches
 abbrev pub ReachedInRange : Type 0
 ReachedInRange = (midnight : Midnights) (s : State) → IsReached midnight s → AreInRange (tables_of midnight s)
 

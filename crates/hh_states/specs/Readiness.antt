@@ -1,4 +1,4 @@
--- That what each Settlement Period is settled from fits together, and that no run lacked anything.
+-- What each Settlement Period is settled from fits together, and no run lacked anything.
 use Rattle.std.specs.Prelude.{◌≡◌, All, List, None}
 use Rattle.std.specs.List.{AllByRecursion}
 use Rattle.hh_time.specs.Days.{Midnights}
@@ -13,8 +13,8 @@ use Rattle.hh_states.specs.States.{State}
 use Rattle.hh_states.specs.Steps.{IsReached, registered_at, timetable_at}
 use Rattle.hh_states.specs.Sums.{CreditsEachOnce}
 
--- What a period is settled from fits together: the period is ready to be settled, no unit stands twice, and none credits an
--- account twice.
+-- What a period is settled from fits together: the period may be settled, no unit occurs twice, and no unit credits an account
+-- twice.
 pub record AreTermsConsistent (p : PeriodTerms) : Type 0 where
   pub ready : IsReady p
   pub units : AreUnitsDistinct p
@@ -29,19 +29,19 @@ abbrev pub PeriodsReady : Type 0
 PeriodsReady = (midnight : Midnights) (s : State) (at : SettlementPeriod) → IsReached midnight s
     → AreTermsConsistent (terms_at (registered_at midnight s) at)
 
--- and so does, of each run of such a state, what it was settled from by what the run saw
+-- and this holds for the Settlement Periods of each run of such a state, by what the run saw
 abbrev pub RunPeriodsReady : Type 0
 RunPeriodsReady = (midnight : Midnights) (s : State) (at : SettlementPeriod) → IsReached midnight s
     → AllByRecursion (λ r. AreTermsConsistent (terms_at (seen_by (timetable_at midnight s) s.history r) at)) s.runs
 
--- What is registered and in force has all that a run of these Settlement Periods needs: none of them has no price, in none has a
--- unit no reading, and none passes a limit of settlement.
+-- What is registered and in force has all that a run of these Settlement Periods needs: each of them has a price, each unit has a
+-- reading in each of them, and none passes a limit of settlement.
 pub record IsComplete (tables : Registered) (periods : List SettlementPeriod) : Type 0 where
   pub prices : missing_price tables periods ≡ None
   pub readings : missing_meter tables periods ≡ None
   pub limits : too_large tables periods ≡ None
 
--- in each state that the machine reaches, each run lacked nothing when it was ordered
+-- in each state that the machine reaches, no run lacked anything when it was ordered
 abbrev pub RunsComplete : Type 0
 RunsComplete = (midnight : Midnights) (s : State) → IsReached midnight s
     → AllByRecursion (λ r. IsComplete (seen_by (timetable_at midnight s) s.history r) (periods_of midnight r)) s.runs

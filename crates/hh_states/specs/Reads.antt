@@ -96,7 +96,7 @@ module _ (content : Content) where
   abbrev pub postings_in : Account → List (RunKey × ℤ)
   postings_in account = filter_map (posting_to account) content.postings
 
--- the file that the tables of a state hold under a key is the one that was accepted under it
+-- the file that the tables of a state have under a key is the one that was accepted under it
 abbrev pub HoldsFiles : Type 0
 HoldsFiles = (midnight : Midnights) (s : State) (key : FileKey)
     → file_in (tables_of midnight s) key.kind key.name ≡ find file_key_cmp key s.files

@@ -1,4 +1,4 @@
--- What the reading calls answer about the runs of a state, from the tables that stand for it.
+-- What the reading calls answer about the runs of a state, from the tables that represent it.
 use Rattle.std.specs.Prelude.{◌≡◌, ℕ, ◌==◌, ℤ, List, [], map, filter, Some, None}
 use Rattle.std.specs.FinMap.{find}
 use Rattle.std.specs.List.{AllByRecursion, flat_map}
@@ -21,7 +21,7 @@ use Rattle.hh_states.specs.States.{State}
 use Rattle.hh_states.specs.Steps.{IsReached, kept_summary, kinds_on, timetable_at}
 use Rattle.hh_states.specs.Sums.{moved_by_runs}
 
--- the summary that the tables of a state hold under a key is the one that is kept of the run
+-- the summary that the tables of a state have under a key is the summary of that run
 abbrev pub HoldsSummaries : Type 0
 HoldsSummaries = (midnight : Midnights) (s : State) (key : RunKey)
     → find run_key_cmp key (tables_of midnight s).runs ≡ kept_summary midnight s key
@@ -37,7 +37,7 @@ abbrev pub HoldsRunsOfDates : Type 0
 HoldsRunsOfDates = (midnight : Midnights) (s : State) (date : ℕ) → IsReached midnight s
     → runs_in (tables_of midnight s) date ≡ summaries_on (timetable_at midnight s) s date
 
--- so they are of the kinds of the date's runs, in the order in which these were made
+-- so their kinds are those of the date's runs, in the order in which these were made
 abbrev pub HoldsRuns : Type 0
 HoldsRuns = (midnight : Midnights) (s : State) (date : ℕ) → IsReached midnight s
     → map (λ r. r.0) (runs_in (tables_of midnight s) date) ≡ kinds_on s date
@@ -50,26 +50,26 @@ rows_by_period day = flat_map (λ q. map (λ row. (q.0.period, row)) q.1.account
 abbrev pub rows_in_run : Midnights → State → Run → List (ℕ × AccountRow)
 rows_in_run midnight s run = rows_by_period (settled_by (timetable_at midnight s) s.history run)
 
--- the rows of each run in the tables of a reached state are those
+-- the tables of a reached state have these rows for each run
 abbrev pub HoldsResults : Type 0
 HoldsResults = (midnight : Midnights) (s : State) → IsReached midnight s
     → AllByRecursion (λ r. results_in (tables_of midnight s) r.key ≡ rows_in_run midnight s r) s.runs
 
--- the tables of a state hold no rows of a run that is not there
+-- the tables of a state have no rows of a run that does not exist
 abbrev pub HoldsNoOtherResults : Type 0
 HoldsNoOtherResults = (midnight : Midnights) (s : State) (key : RunKey)
     → kept_summary midnight s key ≡ None → results_in (tables_of midnight s) key ≡ []
 
--- the postings to an account in the tables of a reached state come to what the latest runs of all dates move to it
+-- the postings to an account in the tables of a reached state sum to what the latest runs of all dates move to it
 abbrev pub HoldsPostings : Type 0
 HoldsPostings = (midnight : Midnights) (s : State) (a : Account) → IsReached midnight s
     → total (λ e. e.1) (postings_in (tables_of midnight s) a) ≡ moved_by_runs (timetable_at midnight s) s a
 
--- what an account pays by these rows: the charges and shares of its own
+-- what an account pays by these rows: the charges and shares of its own rows
 abbrev pub paid_in : Account → List (ℕ × AccountRow) → ℤ
 paid_in a rows = total (λ e. moved_by_row a e.1) rows
 
--- what an account pays by the rows of a run in the tables of a reached state is its day net in the run
+-- the sum of what an account pays by the rows of a run in the tables of a reached state is its day net in the run
 abbrev pub DayNetsFromResults : Type 0
 DayNetsFromResults = (midnight : Midnights) (s : State) (a : Account) → IsReached midnight s
     → AllByRecursion (λ r.

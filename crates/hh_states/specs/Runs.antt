@@ -1,4 +1,4 @@
--- Runs: each settles a date by the rows that had been accepted when it was ordered, and posts what differs from the run of the
+-- Runs: each settles a date by the rows that had been accepted when it was ordered, and posts the differences from the run of the
 -- date before it.
 use Rattle.std.specs.Prelude.{ℕ, ◌==◌, List, [], ◌∷◌, ◌++◌, filter, take, length, Option, Some, None}
 use Rattle.std.specs.Ordering.{nat_cmp, on, then_cmp}
@@ -21,7 +21,7 @@ use Rattle.hh_states.specs.PeriodSettlement.{accounts_on}
 abbrev pub run_key_cmp : RunKey → RunKey → Ordering
 run_key_cmp = then_cmp (on (λ k. k.date) nat_cmp) (on (λ k. k.kind) run_kind_cmp)
 
--- a run, which was ordered when so many rows had been accepted
+-- a run, with the number of rows that had been accepted when it was ordered
 pub record Run : Type 0 where
   pub key : RunKey
   pub row_count : ℕ
@@ -40,7 +40,7 @@ last_of (x ∷ y ∷ xs) = last_of (y ∷ xs)
 abbrev pub latest_run : ℕ → List Run → Option Run
 latest_run date runs = last_of (runs_of_date date runs)
 
--- each run of a list with the run of its date before it, where other runs were made before those of the list
+-- each run of a list with the run of its date before it; other runs were made before those of the list
 abbrev pub with_former : List Run → List Run → List (Option Run × Run)
 with_former earlier [] = []
 with_former earlier (run ∷ runs) = (latest_run run.key.date earlier, run) ∷ with_former (earlier ++ run ∷ []) runs
@@ -62,16 +62,16 @@ module _ (timetable : Timetable) (history : History) where
   abbrev pub settled_by : Run → List (SettlementPeriod × Settled)
   settled_by run = settled_day (seen_by run) (periods_of timetable.midnight run)
 
-  -- the day net of each account in a run; a run that is not there has none
+  -- the day net of each account in a run; a run that does not exist has none
   abbrev pub nets_of : Option Run → DayNets
   nets_of None = []
   nets_of (Some run) = day_nets (settled_by run) (accounts_of run)
 
-  -- what a run posts to which accounts, where this run of its date came before it, if one did
+  -- what a run posts to which accounts; the run of its date before it is given, if there was one
   abbrev pub postings_after : Option Run → Run → DayNets
   postings_after former run = differences (nets_of former) (nets_of (Some run))
 
-  -- the summary of a run, where this run of its date came before it, if one did
+  -- the summary of a run; the run of its date before it is given, if there was one
   abbrev pub summary_after : Option Run → Run → Summary
   summary_after former run = record {
     periods = period_count timetable.midnight run.key.date;

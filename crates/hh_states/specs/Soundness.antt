@@ -1,4 +1,4 @@
--- What holds of all that is registered and in force, however the files came.
+-- Properties of all that is registered and in force, however the files came.
 use Rattle.std.specs.Prelude.{◌≡◌, ◌≢◌, ℕ, ◌≤◌, ◌≤ℤ◌, List, length, Some, IsSome, IsTrue}
 use Rattle.std.specs.FinMap.{find}
 use Rattle.std.specs.List.{AllByRecursion}
@@ -22,8 +22,8 @@ use Rattle.hh_states.specs.Runs.{seen_by}
 use Rattle.hh_states.specs.States.{State}
 use Rattle.hh_states.specs.Steps.{IsReached, registered_at, timetable_at}
 
--- no more parties and units are registered than there may be, the reference of each contract in force is fixed, and of a unit
--- at most 100 percent is in force in a Settlement Period
+-- no more parties and units are registered than there may be, the reference of each contract in force is fixed, and at most 100
+-- percent of a unit is in force in a Settlement Period
 pub record AreSound (tables : Registered) : Type 0 where
   pub parties : length tables.parties ≤ most_parties
   pub units : length tables.units ≤ most_units
@@ -31,13 +31,13 @@ pub record AreSound (tables : Registered) : Type 0 where
       → IsSome (find bytes_cmp key.reference tables.references)
   pub percents : (at : UnitPeriod) → percent_at tables.reallocations at ≤ℤ hundred_percent
 
--- a party is registered, and its range holds a date
+-- a party is registered, and its range has a date
 pub record IsPartyEffective (tables : Registered) (party : List ℕ) (date : ℕ) : Type 0 where
   pub registration : PartyRegistration
   pub registered : find bytes_cmp party tables.parties ≡ Some registration
   pub holding : IsTrue (holds registration.range date)
 
--- a unit is registered, and its range holds a date
+-- a unit is registered, and its range has a date
 pub record IsUnitEffective (tables : Registered) (unit : List ℕ) (date : ℕ) : Type 0 where
   pub registration : UnitRegistration
   pub registered : find bytes_cmp unit tables.units ≡ Some registration
@@ -63,7 +63,7 @@ pub record IsToSubsidiary (tables : Registered) (key : ReallocationKey) : Type 0
   pub party : IsPartyEffective tables key.account.party key.unit_period.at.date
   pub not_lead : lead_on tables key.unit_period.unit unit.registration key.unit_period.at.date ≢ key.account
 
--- the keys of each of the seven tables rise, so that none stands twice
+-- the keys of each of the seven tables rise, so none occurs twice
 pub record AreTables (tables : Registered) : Type 0 where
   pub parties : IsTable bytes_cmp tables.parties
   pub units : IsTable bytes_cmp tables.units
@@ -74,8 +74,8 @@ pub record AreTables (tables : Registered) : Type 0 where
   pub reallocations : IsTable reallocation_key_cmp tables.reallocations
 
 -- What is registered and in force fits together: there are no more parties and units than there may be, each unit's range lies
--- inside its lead party's, each contract has its counterparties, each reallocation is to a subsidiary, of no unit is more than 100
--- percent in force in a Settlement Period, and each reading is of a unit that is effective on the date.
+-- inside its lead party's, each contract has its counterparties, each reallocation is to a subsidiary, at most 100 percent of each
+-- unit is in force in a Settlement Period, and each reading is of a unit that is effective on the date.
 pub record AreConsistent (tables : Registered) : Type 0 where
   pub rising : AreTables tables
   pub parties : length tables.parties ≤ most_parties
@@ -96,7 +96,7 @@ ConsistentStates = (midnight : Midnights) (s : State) → IsReached midnight s �
 abbrev pub SoundStates : Type 0
 SoundStates = (midnight : Midnights) (s : State) → IsReached midnight s → AreSound (registered_at midnight s)
 
--- and consistent is, of each run of such a state, what was registered and in force when the run was ordered
+-- and for each run of such a state, what was registered and in force when the run was ordered is consistent
 abbrev pub ConsistentRuns : Type 0
 ConsistentRuns = (midnight : Midnights) (s : State) → IsReached midnight s
     → AllByRecursion (λ r. AreConsistent (seen_by (timetable_at midnight s) s.history r)) s.runs

@@ -32,6 +32,6 @@ pub record State : Type 0 where
 abbrev pub empty_state : Settings → State
 empty_state settings = record { settings = settings; history = []; files = []; runs = [] }
 
--- when local midnights fall, and by how many minutes before their period an office's notifications close
+-- the local midnights, and the minutes by which an office's notifications close before their period
 abbrev pub office_timetable : Midnights → Settings → Timetable
 office_timetable midnight settings = record { midnight = midnight; lead_minutes = settings.lead_minutes }

@@ -1,4 +1,4 @@
--- What the settlement machine does with a file and with a run: when it accepts them, and the state after it.
+-- What the settlement machine does with a file and with a run: when it accepts them, and the state after that.
 use Rattle.std.specs.Prelude.{◌≡◌, ℕ, ℤ, List, [], ◌∷◌, ◌++◌, map, length, if◌then◌else◌, Option, Some, None, option_map, IsTrue}
 use Rattle.std.specs.FinMap.{find}
 use Rattle.std.specs.Option.{option_or}
@@ -27,7 +27,7 @@ use Rattle.hh_states.specs.DaySettlement.{missing_meter, missing_price, periods_
 use Rattle.hh_states.specs.Runs.{Run, latest_run, run_key_cmp, runs_of_date, summary_after}
 use Rattle.hh_states.specs.States.{AcceptedFile, State, empty_state, file_key_cmp, office_timetable}
 
--- a file that comes at a moment: the kind and name that it comes under, its bytes, and the rows that they read as
+-- a file that comes at a moment: the kind and name under which it comes, its bytes, and the rows that are read from them
 pub record Load : Type 0 where
   pub moment : ℤ
   pub key : FileKey
@@ -44,7 +44,7 @@ kept_file timetable load =
     let rows : History = rows_coming load in
     record { body = load.body; applied = length (timely_rows timetable rows); late = late_count timetable rows }
 
--- the first that there is
+-- the first value that exists
 abbrev pub first_there : {X : Type 0} → List (Option X) → Option X
 first_there [] = None
 first_there (o ∷ os) = option_or o (first_there os)
@@ -71,7 +71,7 @@ module _ (s : State) where
   after_run key = record s { runs = s.runs ++ new_run key ∷ [] }
 
 module _ (midnight : Midnights) (s : State) where
-  -- when local midnights fall and when notifications close in this state's office
+  -- the timetable of this state's office: local midnights, and when notifications close
   abbrev pub timetable_at : Timetable
   timetable_at = office_timetable midnight s.settings
 
@@ -79,15 +79,15 @@ module _ (midnight : Midnights) (s : State) where
   abbrev pub registered_at : Registered
   registered_at = registered_in timetable_at s.history
 
-  -- the state after an accepted load: its rows stand at the end of the history, and the file is kept
+  -- the state after an accepted load: its rows are added at the end of the history, and the file is kept
   abbrev pub after_load : Load → State
   after_load load = record s {
     history = s.history ++ rows_coming load;
     files = s.files ++ (load.key, kept_file timetable_at load) ∷ [];
   }
 
-  -- Why the Settlement Periods of a date are not settled at a moment, if they are not: since the day is not over, or for the first
-  -- of them that lacks a price or a reading or passes a limit.
+  -- Why the Settlement Periods of a date cannot be settled at a moment, if they cannot: the day is not over, or a period lacks a price
+  -- or a reading, or passes a limit. The first such period counts.
   abbrev pub settle_fault : ℤ → ℕ → Option Fault
   settle_fault moment date =
       let periods : List SettlementPeriod = periods_on date (period_count midnight date) in
@@ -98,7 +98,7 @@ module _ (midnight : Midnights) (s : State) where
       ∷ option_map (period_fault TooLarge) (too_large registered_at periods)
       ∷ [])
 
-  -- why a run that is not there yet is refused at a moment, if it is: for the order of runs, or since its date is not settled
+  -- why a new run is refused at a moment, if it is: the order of runs, or its date cannot be settled
   abbrev pub run_fault : ℤ → RunKey → Option Fault
   run_fault moment key =
       option_or (option_map plain_fault (first_met (order_refusals (kinds_on s key.date) key.kind))) (settle_fault moment key.date)
@@ -107,23 +107,23 @@ module _ (midnight : Midnights) (s : State) where
   abbrev pub new_summary : RunKey → Summary
   new_summary key = summary_after timetable_at s.history (latest_run key.date s.runs) (new_run s key)
 
-  -- the summary that is kept of a run, if it is there
+  -- the summary of a run, if the run exists
   abbrev pub kept_summary : RunKey → Option Summary
   kept_summary key = find run_key_cmp key (all_summaries timetable_at s)
 
-  -- the run is not there, and is not refused at the moment
+  -- the run does not exist, and is not refused at the moment
   abbrev pub CanRun : ℤ → RunKey → Type 0
   CanRun moment key = (kept_summary key ≡ None) × (run_fault moment key ≡ None)
 
--- no file of the load's kind and name has been accepted, its name is in its grammar, it can be a file of its kind that reads as
--- its rows, and each of these is accepted
+-- no file of the load's kind and name has been accepted, its name is in its grammar, its bytes can be a file of its kind with its
+-- rows, and each row is accepted
 pub record CanLoad (midnight : Midnights) (s : State) (load : Load) : Type 0 where
   pub new : find file_key_cmp load.key s.files ≡ None
   pub named : IsTrue (is_file_name load.key.name)
   pub file : IsFileOf load.key.kind load.body load.rows
   pub accepted : first_fault (timetable_at midnight s) s.history 1 (rows_coming load) ≡ None
 
--- the states that the machine reaches from one with settings in which nothing has been accepted, by accepted loads and by runs
+-- the states that the machine reaches: from one with settings in which nothing has been accepted, by accepted loads and by runs
 pub data IsReached (midnight : Midnights) : State → Type 0 where
   at_first : (settings : Settings) → AreSettings settings → IsReached midnight (empty_state settings)
   by_load : (s : State) (load : Load) → IsReached midnight s → CanLoad midnight s load

@@ -1,4 +1,4 @@
--- What the postings of runs come to, for an account and for a run; and what a settled period holds and adds up to.
+-- The sums of the postings of runs, for an account and for a run; and what a settled period has and adds up to.
 use Rattle.std.specs.Prelude.{◌≡◌, ◌≢◌, ℕ, ◌==◌, ◌&&◌, ℤ, pos, ◌*ℤ◌, List, [], ◌∷◌, All, AllPairs, is_some, if◌then◌else◌, Some}
 use Rattle.std.specs.List.{AllByRecursion}
 use Rattle.std.specs.Ordering.{eq_by_cmp}
@@ -28,7 +28,7 @@ use Rattle.hh_states.specs.Runs.{Run, latest_run, nets_of, periods_of, postings_
 use Rattle.hh_states.specs.States.{State}
 use Rattle.hh_states.specs.Steps.{IsReached, timetable_at}
 
--- the runs of a list after which no run of their date stands
+-- the runs of a list that no later run of their date follows
 abbrev pub latest_runs : List Run → List Run
 latest_runs [] = []
 latest_runs (run ∷ later) =
@@ -39,24 +39,24 @@ module _ (timetable : Timetable) (s : State) where
   abbrev pub posted : Account → ℤ
   posted a = total (λ r. day_net_of (postings_after timetable s.history r.0 r.1) a) (runs_with_former s)
 
-  -- what the latest runs of all dates move to an account: its day nets in them
+  -- what the latest runs of all dates move to an account: the sum of its day nets in them
   abbrev pub moved_by_runs : Account → ℤ
   moved_by_runs a = total (λ run. day_net_of (nets_of timetable s.history (Some run)) a) (latest_runs s.runs)
 
--- what postings come to for an account
+-- the sum of postings to an account
 abbrev pub posted_to : Account → Table PostingKey ℤ → ℤ
 posted_to a postings = total (λ e. of_account a e.0.account e.1) postings
 
--- the postings in the tables of a reached state come to what the latest runs of all dates move, for each account
+-- for each account, the postings in the tables of a reached state sum to what the latest runs of all dates move
 abbrev pub PostingsTotal : Type 0
 PostingsTotal = (midnight : Midnights) (s : State) (a : Account) → IsReached midnight s
     → posted_to a (tables_of midnight s).postings ≡ moved_by_runs (timetable_at midnight s) s a
 
--- what the postings of a run come to
+-- the sum of the postings of a run
 abbrev pub posted_by : RunKey → Table PostingKey ℤ → ℤ
 posted_by run postings = total (λ e. if eq_by_cmp run_key_cmp e.0.run run then e.1 else pos 0) postings
 
--- the postings of each run in the tables of a reached state come to zero
+-- the postings of each run in the tables of a reached state sum to zero
 abbrev pub RunPostingsSumToZero : Type 0
 RunPostingsSumToZero = (midnight : Midnights) (s : State) (run : RunKey) → IsReached midnight s
     → posted_by run (tables_of midnight s).postings ≡ pos 0
@@ -71,28 +71,28 @@ DayNetsAreSums =
 abbrev pub CreditsEachOnce : BmUnit → Type 0
 CreditsEachOnce u = AllPairs (λ s t. s.account ≢ t.account) u.subsidiaries × All (λ s. s.account ≢ u.lead) u.subsidiaries
 
--- what is settled holds what a settled period is to hold, where no unit stands twice and none credits an account twice
+-- a period's settlement is what IsSettled says, if no unit occurs twice and no unit credits an account twice
 abbrev pub SettlesEachPeriod : Type 0
 SettlesEachPeriod =
     (p : PeriodTerms) → AreUnitsDistinct p → All CreditsEachOnce p.units → IsSettled p (settled p)
 
--- so it adds up, where besides the accounts are in order, with each lead, subsidiary, seller and buyer among them
+-- so it adds up, if also the accounts are in order and each lead, subsidiary, seller and buyer is among them
 abbrev pub SettledAddsUp : Type 0
 SettledAddsUp =
     (p : PeriodTerms) → AreInOrder p → AreNamed p → AreUnitsDistinct p → All CreditsEachOnce p.units
     → AddsUp p (settled p)
 
--- in each state that the machine reaches, each Settlement Period that a run settles adds up, from what the run saw
+-- in each state that the machine reaches, each Settlement Period that a run settles adds up, by what the run saw
 abbrev pub RunsAddUp : Type 0
 RunsAddUp = (midnight : Midnights) (s : State) → IsReached midnight s
     → AllByRecursion (λ r. AllByRecursion (λ q. AddsUp (terms_at (seen_by (timetable_at midnight s) s.history r) q.0) q.1)
     (settled_by (timetable_at midnight s) s.history r)) s.runs
 
--- what an amount of the rows of a Settlement Period comes to, among the rows of a run
+-- the sum of an amount over the rows of a Settlement Period, out of the rows of a run
 abbrev pub period_total : (AccountRow → ℤ) → ℕ → List (ℕ × AccountRow) → ℤ
 period_total amount period rows = total (λ r. if r.0 == period then amount r.1 else pos 0) rows
 
--- in the tables of a reached state, contracts come to zero in each Settlement Period of each run
+-- in the tables of a reached state, contracts sum to zero in each Settlement Period of each run
 abbrev pub ContractsSumToZero : Type 0
 ContractsSumToZero = (midnight : Midnights) (s : State) (run : RunKey) (period : ℕ) → IsReached midnight s
     → period_total (λ r. r.contracts) period (results_in (tables_of midnight s) run) ≡ pos 0
@@ -102,12 +102,12 @@ abbrev pub CashSumsToZero : Type 0
 CashSumsToZero = (midnight : Midnights) (s : State) (run : RunKey) (period : ℕ) → IsReached midnight s
     → period_total paid_by period (results_in (tables_of midnight s) run) ≡ pos 0
 
--- what is credited from a unit in a Settlement Period of a run
+-- the sum of what is credited from a unit in a Settlement Period of a run
 abbrev pub credited_from : List ℕ → ℕ → RunKey → Table CreditKey ℤ → ℤ
 credited_from unit period run credits =
     total (λ e. if eq_by_cmp run_key_cmp e.0.run run && (e.0.period == period) && bytes_eq e.0.unit unit then e.1 else pos 0) credits
 
--- In the tables of a reached state, the credits from each unit in each Settlement Period of each run come to the unit's
+-- In the tables of a reached state, the credits from each unit in each Settlement Period of each run sum to the unit's
 -- loss-adjusted volume, by the reading that counted when the run was ordered.
 abbrev pub CreditsSumExactly : Type 0
 CreditsSumExactly = (midnight : Midnights) (s : State) → IsReached midnight s
@@ -115,15 +115,15 @@ CreditsSumExactly = (midnight : Midnights) (s : State) → IsReached midnight s
     (λ u. credited_from u.unit at.period r.key (tables_of midnight s).credits ≡ loss_adjusted u)
     (terms_at (seen_by (timetable_at midnight s) s.history r) at).units) (periods_of midnight r)) s.runs
 
--- A unit has a reading that counts in a Settlement Period, and what is credited from the unit there, in a run, is that reading's
--- metered energy times its loss multiplier.
+-- A unit has a reading that counts in a Settlement Period. In a run, the credits from the unit in that period sum to the metered
+-- energy of the reading times its loss multiplier.
 pub record IsCreditedByReading (tables : Registered) (credits : Table CreditKey ℤ) (run : RunKey) (at : SettlementPeriod)
     (unit : List ℕ) : Type 0 where
   pub reading : Reading
   pub counting : reading_of tables (record { unit = unit; at = at }) ≡ Some reading
   pub exact : credited_from unit at.period run credits ≡ reading.metered *ℤ reading.tlm
 
--- In the tables of a reached state, so it is for each run, in each Settlement Period of the run's date, with each unit that was
+-- In the tables of a reached state, this holds for each run, in each Settlement Period of the run's date, for each unit that was
 -- registered for that date when the run was ordered.
 abbrev pub EachUnitCredited : Type 0
 EachUnitCredited = (midnight : Midnights) (s : State) → IsReached midnight s

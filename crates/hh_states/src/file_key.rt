@@ -11,8 +11,8 @@ use hh_names::FileName;
 use hh_rows::FileKind;
 use std::cmp::Ordering;
 
-/// The kind and the name under which a file is kept (profile). Keys are ordered by the bytes of the
-/// word that names the kind, then by those of the name.
+/// The kind and the name under which a file is kept. Keys are ordered by the bytes of the word that names
+/// the kind, then by those of the name.
 #[derive(Clone, Copy, Debug)]
 pub struct FileKey {
     pub kind: FileKind,

@@ -1,4 +1,4 @@
-//! The states of the settlement machine, and the tables that stand for them.
+//! The states of the settlement machine, and the tables that represent them.
 #![tactic(auto)]
 
 mod file_key;

@@ -3,8 +3,8 @@
 use hh_names::{Account, PeriodNumber, UnitId};
 use hh_runs::RunKey;
 
-/// An account in a Settlement Period of a run (profile). Ordered by run, then by period, then by
-/// account.
+/// The key of a result: an account in a Settlement Period of a run. Ordered by run, then by period, then
+/// by account.
 #[derive(Clone, Copy, Debug, PartialEq, Eq, PartialOrd, Ord)]
 pub struct ResultKey {
     pub run: RunKey,
@@ -12,8 +12,8 @@ pub struct ResultKey {
     pub account: Account,
 }
 
-/// An account that is credited from a unit in a Settlement Period of a run (profile). Ordered by run,
-/// then by period, then by the bytes of the unit's id, then by account.
+/// The key of a credit: an account that is credited from a unit in a Settlement Period of a run. Ordered
+/// by run, then by period, then by the bytes of the unit's id, then by account.
 #[derive(Clone, Copy, Debug, PartialEq, Eq, PartialOrd, Ord)]
 pub struct CreditKey {
     pub run: RunKey,
@@ -22,7 +22,7 @@ pub struct CreditKey {
     pub account: Account,
 }
 
-/// An account to which a run posts (profile). Ordered by run, then by account.
+/// The key of a posting: an account to which a run posts. Ordered by run, then by account.
 #[derive(Clone, Copy, Debug, PartialEq, Eq, PartialOrd, Ord)]
 pub struct PostingKey {
     pub run: RunKey,

@@ -1,4 +1,4 @@
--- What is read of a Settlement Day, to settle it from.
+-- What is read of a Settlement Day in order to settle it.
 use Rattle.std.specs.Prelude.{◌≡◌, ◌⊎◌, ℕ, List, length, filter, Bool, true, false, None, IsTrue}
 use Rattle.std.specs.List.{AllZip}
 use Rattle.hh_rows.specs.declared.settlement_period.SettlementPeriod.{SettlementPeriod}
@@ -22,26 +22,26 @@ is_changed (Same s) = false
 abbrev pub count_changed : List PeriodState → ℕ
 count_changed periods = length (filter is_changed periods)
 
--- the same with the accounts' net volumes in the place of the contract volumes in force; each is at most 100,000,000 MWh in size
+-- the terms with the accounts' net volumes instead of the contract volumes in force; each is at most 100,000,000 MWh in size
 pub record IsNetted (terms p : PeriodTerms) : Type 0 where
   pub same : p ≡ netted terms
   pub sizes : HasNetVolumes p.contracts
 
--- a Settlement Period with these terms is settled from this, or this is what it is settled to within the limits
+-- a Settlement Period with these terms is settled from this; or this is its settlement, and it is within the limits
 abbrev pub IsStateOf : PeriodTerms → PeriodState → Type 0
 IsStateOf terms (Changed p) = (p ≡ terms) ⊎ IsNetted terms p
 IsStateOf terms (Same s) = (s ≡ settled terms) × IsTrue (is_within_limits terms)
 
--- so it is by the rows as they stand
+-- the same for a Settlement Period, with its terms by the rows as they are now
 abbrev pub IsPeriodOf : Registered → SettlementPeriod → PeriodState → Type 0
 IsPeriodOf tables at state = IsStateOf (terms_at tables at) state
 
--- these are so of these Settlement Periods, one for each
+-- the same for each of these Settlement Periods
 abbrev pub ArePeriodsOf : Registered → List SettlementPeriod → List PeriodState → Type 0
 ArePeriodsOf tables = AllZip (IsPeriodOf tables)
 
--- This is read of these Settlement Periods: the first of them that has no price, if there is one; the first reading that a unit
--- lacks, if there is one; and where neither is missing, what each is settled from or to.
+-- What is read of these Settlement Periods: the first that has no price, if there is one, and the first reading that a unit
+-- lacks, if there is one. If neither is missing, it is also what each is settled from, or its settlement.
 pub record IsDayData (tables : Registered) (periods : List SettlementPeriod) (day : DayData) : Type 0 where
   pub price : day.missing_price ≡ missing_price tables periods
   pub meter : day.missing_meter ≡ missing_meter tables periods

@@ -1,4 +1,4 @@
--- The reports that tables write, and what a call that is to write one comes to.
+-- The reports that tables write, and the outcome of a call that writes one.
 use Rattle.std.specs.Prelude.{ℕ, ℤ, List, map, Option, option_map, Result, Ok, Err}
 use Rattle.std.specs.FinMap.{find}
 use Rattle.std.specs.Io.KnownBytes.{Appends}
@@ -22,19 +22,19 @@ abbrev pub reported_as : RunKey → Summary → ReportedRun
 reported_as key summary = record { date = key.date; kind = key.kind; periods = summary.periods }
 
 module _ (content : Content) where
-  -- a run as its reports show it, if it is there
+  -- a run as its reports show it, if it exists
   abbrev pub reported_in : RunKey → Option ReportedRun
   reported_in key = option_map (reported_as key) (find run_key_cmp key content.runs)
 
-  -- the day report of a run, by its rows in the table of results, if the run is there
+  -- the day report of a run, by its rows in the table of results, if the run exists
   abbrev pub day_report_in : RunKey → Option (List ℕ)
   day_report_in key = option_map (λ run. day_report_text run (results_in content key)) (reported_in key)
 
-  -- the results of a run, by its rows in that table, if the run is there
+  -- the results of a run, by its rows in that table, if the run exists
   abbrev pub export_in : RunKey → Option (List ℕ)
   export_in key = option_map (λ run. results_text run (results_in content key)) (reported_in key)
 
-  -- what was posted to an account in all
+  -- the sum of what was posted to an account
   abbrev pub balance_in : Account → ℤ
   balance_in account = total (λ e. e.1) (postings_in content account)
 
@@ -42,20 +42,20 @@ module _ (content : Content) where
   abbrev pub balances_in : List ℕ
   balances_in = balances_text (map (λ e. e.0) content.registered.parties) balance_in
 
--- What changes in a sink by a call.
+-- What a call changes in a sink.
 module _ (device : DeviceChange) where
-  -- it counts a failure where it is told as failed, and none elsewhere
+  -- a failure is counted if the fault says that the output failed, and otherwise none
   abbrev pub CountsOutput : OutputFault → Type 0
   CountsOutput Memory = IsWell device
   CountsOutput Store = IsWell device
   CountsOutput Write = HasFailed device
 
-  -- it counts one failure where the call ended for it, and none elsewhere
+  -- one failure is counted if the call ended for that reason, and otherwise none
   abbrev pub CountsOutcome : {A : Type 0} → Result A OutputFault → Type 0
   CountsOutcome (Ok x) = IsWell device
   CountsOutcome (Err fault) = CountsOutput fault
 
-  -- the text went out and nothing else, and the sink did not fail; or a beginning of the text went out
+  -- the text and nothing else went out and the sink did not fail; or the call failed and a beginning of the text went out
   abbrev pub Outputs : {A : Type 0} → List ℕ → Result A OutputFault → Type 0
   Outputs text (Ok x) = Appends device.old device.new text × IsWell device
   Outputs text (Err fault) = AppendsFront device.old device.new text × CountsOutput fault

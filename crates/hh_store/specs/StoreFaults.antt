@@ -1,4 +1,4 @@
--- The refusals that stand for the faults of a store, how a store tells the faults of reports, and how often it has refused.
+-- The refusals for the faults of a store, the faults of reports as a store tells them, and how often a store has refused.
 use Rattle.std.specs.Prelude.{◌≡◌, ◌≤◌, ℕ, Result, Ok, Err}
 use Rattle.hh_devices.specs.Devices.{Failed}
 use Rattle.hh_names.specs.declared.fault.Fault.{Fault}
@@ -16,22 +16,22 @@ abbrev pub store_fault : StoreFault → Fault
 store_fault Memory = memory_fault
 store_fault Store = plain_fault refusal.Store
 
--- the fault of a report that is not written whole, as the tables tell it
+-- the fault of a report that was not written whole, as the tables tell it
 abbrev pub output_fault : ReportFault → OutputFault
 output_fault report.Memory = output.Memory
 output_fault report.Write = output.Write
 
--- one more refusal was counted; at the greatest count it is said alone that the count did not fall
+-- one more refusal was counted; at the greatest count it is only said that the count did not fall
 abbrev pub CountsOneMore : ℕ → ℕ → Type 0
 CountsOneMore old new = (old ≤ new) × Failed old new
 
--- a store counts one refusal where a call failed for another cause than memory, and none elsewhere
+-- a store counts one refusal if a call failed for another reason than memory, and otherwise none
 abbrev pub CountsRefusal : {A : Type 0} → Result A StoreFault → ℕ → ℕ → Type 0
 CountsRefusal (Ok x) old new = new ≡ old
 CountsRefusal (Err Memory) old new = new ≡ old
 CountsRefusal (Err Store) old new = CountsOneMore old new
 
--- the same where a report was to be written, which the output may stop, too
+-- the same for a call that writes a report; it counts none if the output failed
 abbrev pub CountsReportRefusal : {A : Type 0} → Result A OutputFault → ℕ → ℕ → Type 0
 CountsReportRefusal (Ok x) old new = new ≡ old
 CountsReportRefusal (Err output.Memory) old new = new ≡ old

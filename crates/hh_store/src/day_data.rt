@@ -6,7 +6,7 @@ ghost use Rattle.hh_store.specs.DayReads.{count_changed, is_changed};
 use hh_calc::{PeriodData, PeriodResult};
 use hh_rows::{SettlementPeriod, UnitPeriod};
 
-/// What the Settlement Periods of a date are settled from, and what is missing for it (profile).
+/// What the Settlement Periods of a date are settled from, and what is missing for that.
 #[derive(Debug, Drop)]
 pub struct DayData {
     /// The first period that has no price, if there is one.
@@ -14,17 +14,17 @@ pub struct DayData {
     /// The first period in which a unit has no reading, if there is one, with the first such unit by the
     /// bytes of its id.
     pub missing_meter: Option<UnitPeriod>,
-    /// How many readings are missing: for each period, how many units of the date have none there. No
-    /// contract speaks of it: it is told to people alone.
+    /// How many readings are missing: the sum over the periods of the units of the date that have none
+    /// there. No contract depends on it, because it is only shown to people.
     pub missing_readings: u64,
-    /// Each period in order; of no meaning where a price or a reading is missing.
+    /// Each period in order. It means nothing if a price or a reading is missing.
     pub periods: Vec<PeriodState>,
 }
 
-/// A Settlement Period that is to be settled (profile).
+/// A Settlement Period that is to be settled.
 #[derive(Debug, Drop)]
 pub enum PeriodState {
-    /// It may have changed since a run settled it: what it is settled from.
+    /// It may have changed since a run settled it. This is what it is settled from.
     Changed(PeriodData),
     /// It is as the latest run of its date settled it.
     Same(PeriodResult),

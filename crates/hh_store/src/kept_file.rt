@@ -22,7 +22,7 @@ impl Model for KeptFile {
 }
 
 impl KeptFile {
-    /// A file of these bytes, so many of whose rows were applied and so many of which came late.
+    /// A file of these bytes, with the numbers of rows that were applied and that came late.
     pub fn new(body: Vec<u8>, applied: u32, late: u32) -> KeptFile
         ensures { result ≡ record { body = body.items; applied = applied; late = late } }
     {
@@ -33,7 +33,7 @@ impl KeptFile {
         }
     }
 
-    /// The same once more. `Err` only where memory is refused.
+    /// A copy. `Err` only if memory is refused.
     pub fn copy(&self, alloc: Global) -> Result<KeptFile, AllocError>
         ensures { IfOk result (λ file. file ≡ self.now) }
     {
@@ -58,8 +58,8 @@ impl KeptFile {
         self.applied
     }
 
-    /// How many rows came late: those of contracts or reallocations at their deadline or after it
-    /// (Section P in shape; the deadline is profile).
+    /// How many rows came late, which are rows of contracts or reallocations that came at their deadline or
+    /// after it (Section P in shape; the deadline is profile).
     pub fn late(&self) -> u32
         ensures { result ≡ self.now.late }
     {

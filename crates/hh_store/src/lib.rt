@@ -1,4 +1,4 @@
-//! What the tables of an office answer and what is written into them, however they are kept.
+//! What the tables of an office answer, and what is written into them, however they are kept.
 #![tactic(auto)]
 
 mod day_data;

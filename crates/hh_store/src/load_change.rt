@@ -8,8 +8,8 @@ use hh_rows::{FileKind, Row};
 use hh_states::FileKey;
 use std::marker::Model;
 
-/// What is written into the tables for an accepted file (profile): the file with the counts of its
-/// reply, its rows that are not late, and the references that it fixes, both in the file's order.
+/// What is written into the tables for an accepted file: the file with the counts of its reply, its rows
+/// that are not late, and the references that it fixes, both in the file's order.
 #[derive(Debug, Drop)]
 pub struct LoadChange {
     kind: FileKind,
@@ -67,7 +67,7 @@ impl LoadChange {
         }
     }
 
-    /// The file with the counts of its reply, handed on without a copy.
+    /// The file with the counts of its reply. It is moved, not copied.
     pub fn into_file(self) -> KeptFile
         ensures { result ≡ self.file }
     {

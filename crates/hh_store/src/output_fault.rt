@@ -8,7 +8,7 @@ use std::alloc::AllocError;
 pub enum OutputFault {
     /// Memory was refused: refusal 90.
     Memory,
-    /// The store refused for another cause, or holds what no office wrote: refusal 91.
+    /// The store refused for another reason, or has content that no office wrote: refusal 91.
     Store,
     /// The output failed or took nothing.
     Write,

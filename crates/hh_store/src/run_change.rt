@@ -8,8 +8,8 @@ use hh_runs::{RunKey, Summary};
 use hh_states::{CreditKey, PostingKey, ResultKey};
 use std::marker::Model;
 
-/// What is written into the tables for a new run (profile): its summary, the rows of its accounts, its
-/// credits and its postings, each under its key.
+/// What is written into the tables for a new run: its summary, the rows of its accounts, its credits and
+/// its postings, each under its key.
 #[derive(Debug, Drop)]
 pub struct RunChange {
     key: RunKey,
@@ -73,28 +73,28 @@ impl RunChange {
         self.summary
     }
 
-    /// The rows of the run's accounts, as they were handed over.
+    /// The rows of the run's accounts, in the order in which they were given.
     pub fn results(&self) -> &[(ResultKey, AccountRow)]
         ensures { result.now ≡ self.now.results }
     {
         &self.results
     }
 
-    /// The run's credits, as they were handed over: energy in ticks.
+    /// The run's credits, in the order in which they were given: energy in ticks.
     pub fn credits(&self) -> &[(CreditKey, Ticks)]
         ensures { result.now ≡ self.now.credits }
     {
         &self.credits
     }
 
-    /// The run's postings, as they were handed over, in pence.
+    /// The run's postings, in the order in which they were given, in pence.
     pub fn postings(&self) -> &[(PostingKey, Pence)]
         ensures { result.now ≡ self.now.postings }
     {
         &self.postings
     }
 
-    /// The rows of the run's accounts, its credits and its postings, handed on without a copy.
+    /// The rows of the run's accounts, its credits and its postings. They are moved, not copied.
     pub fn into_rows(self) -> RunRows
         ensures results { result.results.items ≡ self.results }
         ensures credits { result.credits.items ≡ self.credits }
@@ -108,7 +108,7 @@ impl RunChange {
     }
 }
 
-/// What a new run writes but for its summary, each row under its key (profile).
+/// What a new run writes besides its summary, each row under its key.
 #[derive(Debug, Drop)]
 pub struct RunRows {
     /// The rows of its accounts.

@@ -8,7 +8,7 @@ use hh_rows::SettlementPeriod;
 use hh_time::Day;
 use std::alloc::{AllocError, Global};
 
-/// The Settlement Periods of a day, from the first on. `Err` only where memory is refused.
+/// The Settlement Periods of a day, from the first on. `Err` only if memory is refused.
 pub fn periods_of(alloc: Global, day: &Day) -> Result<Vec<SettlementPeriod>, AllocError>
     ensures { IfOk result (λ periods. periods.items ≡ periods_on day.now.date day.now.count) }
 {

@@ -29,32 +29,33 @@ use hh_rules::Register;
 use hh_runs::{RunKey, RunKind, Summary};
 use hh_time::{Day, SettlementDate};
 
-/// The tables of an office. A call that reads leaves them as they are, and so does one that fails.
-/// `Memory` is answered where memory was refused, `Store` where the store refuses for another cause
-/// or holds what no office wrote.
+/// The tables of an office. Neither a call that reads nor a call that fails changes them. `Memory` is
+/// answered if memory was refused. `Store` is answered if the store refuses for another reason, or has
+/// content that no office wrote.
 pub trait Tables {
     /// What the tables contain.
     ghost content: { Self → Content };
 
-    /// They stand: no fault of a disk has shut them, and no wrong answer of it was taken as true. Once they
-    /// do not they never do again, and no call can tell it.
+    /// The tables are open: no fault of a disk has shut them, and no wrong answer of the disk was taken as
+    /// true. Tables that are not open never are again, and no call can tell it.
     ghost is_open: { Self → Bool };
 
-    /// Their disk has returned what was written, as far as calls have asked it.
+    /// Their disk has returned what was written, as far as calls have asked for it.
     ghost is_honest: { Self → Type 0 };
 
-    /// What a crash leaves of tables: of a database its trees, as a file is found to have them when it is
-    /// opened again; of tables in memory their content, which tells nothing of a machine.
+    /// What a crash leaves of tables. For a database these are its trees, as they are found in the file
+    /// when it is opened again. For tables in memory this is their content, which says nothing about a
+    /// machine.
     ghost Left: { Type 0 };
 
     /// What a crash may leave, if it comes now.
     ghost may_leave: { Self → Left → Type 0 };
 
-    /// What is left holds the tables of an office, and this is what they contain.
+    /// What is left has the tables of an office, with this content.
     ghost holds: { Left → Content → Type 0 };
 
-    /// How often they have refused for another cause than memory. The count never falls, and at its
-    /// greatest nothing more is said of it.
+    /// How often they have refused for another reason than memory. The count never falls. At the greatest
+    /// count nothing more is said about it.
     ghost refusals: { Self → ℕ };
 
     /// The settings that the office was made with.
@@ -67,7 +68,7 @@ pub trait Tables {
         ensures refusals_counted { IsTrue (is_open self.new) → AreReached (content self.old)
             → CountsRefusal result (refusals self.old) (refusals self.new) };
 
-    /// What is registered of a party, if it is registered (profile).
+    /// What is registered of a party, if it is registered.
     fn party(&mut self, party: &PartyId) -> Result<Option<PartyRegistration>, StoreFault>
         ensures value { IsTrue (is_open self.new) → IfOk result (λ found.
             found ≡ party_in (content self.old) party.now) }
@@ -77,7 +78,7 @@ pub trait Tables {
         ensures refusals_counted { IsTrue (is_open self.new) → AreReached (content self.old)
             → CountsRefusal result (refusals self.old) (refusals self.new) };
 
-    /// What is registered of a unit, if it is registered (profile).
+    /// What is registered of a unit, if it is registered.
     fn unit(&mut self, unit: &UnitId) -> Result<Option<UnitRegistration>, StoreFault>
         ensures value { IsTrue (is_open self.new) → IfOk result (λ found.
             found ≡ unit_in (content self.old) unit.now) }
@@ -87,8 +88,8 @@ pub trait Tables {
         ensures refusals_counted { IsTrue (is_open self.new) → AreReached (content self.old)
             → CountsRefusal result (refusals self.old) (refusals self.new) };
 
-    /// The seller and the buyer of a reference, which its first accepted row fixed, if there was
-    /// one (Section P in shape).
+    /// The seller and the buyer of a reference, if an accepted row has fixed them. The reference's first
+    /// accepted row did so (Section P in shape).
     fn reference(&mut self, reference: &Reference) -> Result<Option<Counterparties>, StoreFault>
         ensures value { IsTrue (is_open self.new) → IfOk result (λ found.
             found ≡ reference_in (content self.old) reference.now) }
@@ -98,7 +99,7 @@ pub trait Tables {
         ensures refusals_counted { IsTrue (is_open self.new) → AreReached (content self.old)
             → CountsRefusal result (refusals self.old) (refusals self.new) };
 
-    /// Whether a registered party has the key (profile).
+    /// Whether a registered party has the key.
     fn key_known(&mut self, key: &[u8]) -> Result<bool, StoreFault>
         ensures value { IsTrue (is_open self.new) → IfOk result (λ known.
             known ≡ is_key_known (content self.old) key.now) }
@@ -108,7 +109,7 @@ pub trait Tables {
         ensures refusals_counted { IsTrue (is_open self.new) → AreReached (content self.old)
             → CountsRefusal result (refusals self.old) (refusals self.new) };
 
-    /// The accepted file of a kind and name, if there is one (profile).
+    /// The accepted file of a kind and name, if there is one.
     fn file(&mut self, kind: FileKind, name: &FileName) -> Result<Option<KeptFile>, StoreFault>
         ensures value { IsTrue (is_open self.new) → IfOk result (λ found.
             found ≡ file_in (content self.old) kind name.now) }
@@ -118,8 +119,8 @@ pub trait Tables {
         ensures refusals_counted { IsTrue (is_open self.new) → AreReached (content self.old)
             → CountsRefusal result (refusals self.old) (refusals self.new) };
 
-    /// A register that judges these rows, and is changed by them, as one of everything that is
-    /// registered and in force would (profile).
+    /// A register that judges these rows, and is changed by them, as a register of everything that is
+    /// registered and in force would.
     fn register(&mut self, rows: &[Row]) -> Result<Register, StoreFault>
         ensures serves { IsTrue (is_open self.new)
             → IfOk result (ServesFor rows.now (whole_register (content self.old))) }
@@ -144,10 +145,11 @@ pub trait Tables {
         ensures refusals_counted { IsTrue (is_open self.new) → AreReached (content self.old)
             → CountsRefusal result (refusals self.old) (refusals self.new) };
 
-    /// What the Settlement Periods of a day are settled from: the first that has no price, if there is one;
-    /// the first in which a unit of the date has no reading, if there is one, with the first such unit by
-    /// the bytes of its id; and where neither is missing, what each is settled from (Section T in shape),
-    /// or, where the rows as they stand settle it to what the latest run has, that (profile).
+    /// What the Settlement Periods of a day are settled from (Section T in shape). It has the first period
+    /// that has no price, if there is one. It has the first period in which a unit of the date has no
+    /// reading, if there is one, with the first such unit by the bytes of its id. If neither is missing,
+    /// it has for each period what it is settled from; or, if the rows as they are now settle it as the
+    /// latest run did, that settlement (profile).
     fn day_data(&mut self, day: &Day) -> Result<DayData, StoreFault>
         ensures value { IsTrue (is_open self.new) → IsTrue (content self.old).is_in_step
             → IfOk result (IsDayData (content self.old).registered
@@ -158,7 +160,7 @@ pub trait Tables {
         ensures refusals_counted { IsTrue (is_open self.new) → AreReached (content self.old)
             → CountsRefusal result (refusals self.old) (refusals self.new) };
 
-    /// The runs of a date with their summaries, in the order of their kinds (profile).
+    /// The runs of a date with their summaries, in the order of their kinds.
     fn runs(&mut self, date: SettlementDate) -> Result<Vec<(RunKind, Summary)>, StoreFault>
         ensures value { IsTrue (is_open self.new) → IfOk result (λ runs.
             runs.items ≡ runs_in (content self.old) date) }
@@ -168,8 +170,8 @@ pub trait Tables {
         ensures refusals_counted { IsTrue (is_open self.new) → AreReached (content self.old)
             → CountsRefusal result (refusals self.old) (refusals self.new) };
 
-    /// The rows of a run's accounts, by Settlement Period, then by account; none where the run is not
-    /// there (profile).
+    /// The rows of a run's accounts, by Settlement Period, then by account. None if the run does not
+    /// exist.
     fn results(&mut self, run: &RunKey) -> Result<Vec<(PeriodNumber, AccountRow)>, StoreFault>
         ensures value { IsTrue (is_open self.new) → IfOk result (λ rows.
             rows.items ≡ results_in (content self.old) run.now) }
@@ -179,8 +181,7 @@ pub trait Tables {
         ensures refusals_counted { IsTrue (is_open self.new) → AreReached (content self.old)
             → CountsRefusal result (refusals self.old) (refusals self.new) };
 
-    /// What the runs have posted to an account, in pence, by the dates of the runs, then by their kinds
-    /// (profile).
+    /// What the runs have posted to an account, in pence, by the dates of the runs, then by their kinds.
     fn postings(&mut self, account: &Account) -> Result<Vec<(RunKey, Pence)>, StoreFault>
         ensures value { IsTrue (is_open self.new) → IfOk result (λ rows.
             rows.items ≡ postings_in (content self.old) account.now) }
@@ -190,14 +191,14 @@ pub trait Tables {
         ensures refusals_counted { IsTrue (is_open self.new) → AreReached (content self.old)
             → CountsRefusal result (refusals self.old) (refusals self.new) };
 
-    /// Writes the results of a run as comma-separated values: its rows as the tables hold them, in the
-    /// order of `results`, and nothing else; or a beginning of that. Of a run that is not there no more is
-    /// promised than that the tables stay (profile).
+    /// Writes the results of a run as comma-separated values, from its rows in the tables, in the order of
+    /// `results`. Writes nothing else. A call that fails may have written a beginning. For a run that does
+    /// not exist, it is only promised that the tables stay the same.
     ///
     /// # Errors
     ///
-    /// `Memory` where memory was refused, `Store` where the store refuses for another cause or holds what
-    /// no office wrote, `Write` only where the output failed or took nothing in this call.
+    /// `Memory` if memory was refused. `Store` if the store refuses for another reason, or has content that
+    /// no office wrote. `Write` only if the output failed or took nothing in this call.
     fn export<S: Sink>(&mut self, run: &RunKey, out: &mut S) -> Result<(), OutputFault>
         ensures writes { IsTrue (is_open self.new)
             → IfSome (export_in (content self.old) run.now) (λ text.
@@ -209,12 +210,13 @@ pub trait Tables {
         ensures refusals_counted { IsTrue (is_open self.new) → AreReached (content self.old)
             → CountsReportRefusal result (refusals self.old) (refusals self.new) };
 
-    /// Writes the day report of a run, from its rows as the tables hold them, and nothing else; or a
-    /// beginning of it. Of a run that is not there no more is promised than that the tables stay (profile).
+    /// Writes the day report of a run, from its rows in the tables. Writes nothing else. A call that fails
+    /// may have written a beginning. For a run that does not exist, it is only promised that the tables
+    /// stay the same.
     ///
     /// # Errors
     ///
-    /// As of `export`.
+    /// The same as for `export`.
     fn day_report<S: Sink>(&mut self, run: &RunKey, out: &mut S) -> Result<(), OutputFault>
         ensures writes { IsTrue (is_open self.new)
             → IfSome (day_report_in (content self.old) run.now) (λ text.
@@ -226,13 +228,13 @@ pub trait Tables {
         ensures refusals_counted { IsTrue (is_open self.new) → AreReached (content self.old)
             → CountsReportRefusal result (refusals self.old) (refusals self.new) };
 
-    /// Writes the balances of both accounts of each registered party, in order, as comma-separated values,
-    /// and nothing else; or a beginning of that. A balance is the sum of all that runs have posted to the
-    /// account, in pence, 0 where nothing was posted (profile).
+    /// Writes the balances of both accounts of each registered party, in order, as comma-separated values.
+    /// Writes nothing else. A call that fails may have written a beginning. A balance is the sum of all
+    /// that runs have posted to the account, in pence, or 0 if nothing was posted (profile).
     ///
     /// # Errors
     ///
-    /// As of `export`.
+    /// The same as for `export`.
     fn balances<S: Sink>(&mut self, out: &mut S) -> Result<(), OutputFault>
         ensures writes { IsTrue (is_open self.new)
             → Outputs (change S.taken S.failures out.old out.new)
@@ -244,8 +246,8 @@ pub trait Tables {
         ensures refusals_counted { IsTrue (is_open self.new) → AreReached (content self.old)
             → CountsReportRefusal result (refusals self.old) (refusals self.new) };
 
-    /// Writes what an accepted file changes, whole or not at all. Of a change that the machine does
-    /// not make, no more is promised than that a failure leaves the tables as they were (profile).
+    /// Writes what an accepted file changes, whole or not at all. For a change that the machine would not
+    /// make, it is only promised that a failure leaves the tables as they were.
     fn apply_load(&mut self, change: LoadChange) -> Result<(), StoreFault>
         ensures ok { IsTrue (is_open self.new)
             → (midnight : Midnights) → IsLoadFrom midnight (content self.old) change
@@ -258,8 +260,8 @@ pub trait Tables {
         ensures refusals_counted { IsTrue (is_open self.new) → AreReached (content self.old)
             → CountsRefusal result (refusals self.old) (refusals self.new) };
 
-    /// Writes what a new run changes, whole or not at all. Of a change that the machine does not make,
-    /// no more is promised than that a failure leaves the tables as they were (profile).
+    /// Writes what a new run changes, whole or not at all. For a change that the machine would not make, it
+    /// is only promised that a failure leaves the tables as they were.
     fn apply_run(&mut self, change: RunChange) -> Result<(), StoreFault>
         ensures ok { IsTrue (is_open self.new)
             → (midnight : Midnights) → IsRunFrom midnight (content self.old) change
@@ -272,8 +274,8 @@ pub trait Tables {
         ensures refusals_counted { IsTrue (is_open self.new) → AreReached (content self.old)
             → CountsRefusal result (refusals self.old) (refusals self.new) };
 
-    /// Does nothing, but carries for a proof that while tables stand, whatever a crash leaves holds what they
-    /// contain, and that there is something that it may leave.
+    /// Two facts for proofs: while tables are open, whatever a crash leaves has their content, and there is
+    /// something that a crash may leave. The call does nothing.
     fn shows_left(&self)
         ensures holds { LeavesContent is_open may_leave holds self.now (content self.now) }
         ensures some { IsTrue (is_open self.now) → (left : Left) × may_leave self.now left };

@@ -1,6 +1,7 @@
-//! Tables in a database tried from outside: tests of what no clause of theirs says.
+//! Tables in a database, tested from outside. The tests cover what no clause says.
 //!
-//! They stand in a crate of their own, since the tests of a crate are proved with all of it once more.
+//! They are in a crate of their own, because the tests of a crate are proved with all of the crate once
+//! more.
 #![tactic(auto)]
 
 #[cfg(test)]

@@ -1,4 +1,4 @@
-//! What no clause says: that with ample memory the database of an office is made, and taken over again.
+//! Tests of what no clause says: with ample memory the database of an office is made, and taken over again.
 
 use hh_names::OperatorKey;
 use hh_rows::{LeadMinutes, Settings};
@@ -48,7 +48,7 @@ fn rounds<S: Rising>(
     ([first, second, third, last], connection)
 }
 
-/// Whether an office's database is taken over once this was done to it.
+/// Whether an office's database is taken over after this was done to it.
 fn adopted<S: Rising>(
     alloc: Global,
     mut connection: Connection<S>,

@@ -1,8 +1,8 @@
-//! The same shares, found another way: for each account, those that come before it are counted.
+//! The same shares, computed in another way: for each account, those that come before it are counted.
 
 use std::alloc::{AllocError, Global};
 
-/// Weights that count, of which the sum isn't 0 where there are any.
+/// Weights that count. If there are any, their sum isn't 0.
 #[derive(Clone, Copy)]
 struct Parts {
     size: u128,
@@ -30,7 +30,7 @@ impl Parts {
         count
     }
 
-    /// The pence that the whole parts leave.
+    /// The pence that the whole parts leave over.
     fn left(&self, weights: &[u64]) -> u128 {
         let mut left = self.size;
         for weight in weights {

@@ -1,7 +1,7 @@
-//! Numbers, shares, settled periods, runs and reports tried from outside: tests of what no clause of theirs says. What a
-//! settled period comes to by its rows is tested through `settle`.
+//! Tests of numbers, shares, settled periods, runs and reports, for what no clause of their crates says.
+//! The rows of a settled period are tested through `settle`.
 //!
-//! They stand in a crate of their own, since the tests of a crate are proved with all of it once more.
+//! They are in a crate of their own, because a crate with tests is proved twice.
 #![tactic(auto)]
 
 #[cfg(test)]

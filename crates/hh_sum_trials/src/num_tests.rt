@@ -1,4 +1,4 @@
-//! What no clause says: that each call succeeds, and what the words of the clauses come to.
+//! What no clause says: that each call succeeds, and what definitions in the clauses mean for examples.
 
 use hh_num::*;
 use std::test::Fail;
@@ -47,6 +47,23 @@ fn writes_decimal_texts(rt: HostRuntime) -> Result<(), Fail> {
         assert_eq!(rt; &out[2..], text);
     }
     reads_back();
+    Ok(())
+}
+
+#[test]
+fn writes_fields(rt: HostRuntime) -> Result<(), Fail> {
+    let written: [(i64, u8, usize, &[u8]); 4] = [
+        (-1, b' ', 20, b"        -0.0000000001"),
+        (0, b',', 0, b",0.0000000000"),
+        (i64::MIN, b' ', 20, b" -922337203.6854775808"),
+        (1, b'|', 39, b"|                           0.0000000001"),
+    ];
+    for (ticks, mark, width, text) in written {
+        let mut out = Vec::from_slice(rt.alloc(), b"x")?;
+        Ticks::of(ticks).write_field(mark, width.min(39), &mut out)?;
+        assert_eq!(rt; &out[..1], b"x".as_slice());
+        assert_eq!(rt; &out[1..], text);
+    }
     Ok(())
 }
 

@@ -1,5 +1,5 @@
-//! What no clause says: that reports are written whole where memory and the sink allow it, whatever pieces the sink
-//! takes. Their texts are tested through `settle`.
+//! What no clause says: that reports are written whole if memory and the sink allow it, whatever pieces
+//! the sink takes. Their texts are tested through `settle`.
 
 use hh_calc::AccountRow;
 use hh_devices::MemorySink;
@@ -80,7 +80,7 @@ enum Report {
     Results,
 }
 
-/// What comes of it that a report of the worked rows is written.
+/// The answer to writing a report of the worked rows.
 fn written(
     alloc: Global,
     report: Report,
@@ -99,12 +99,12 @@ fn holds_whole(sink: &MemorySink, text: &[u8]) -> bool {
     sink.taken() == text && sink.failures() == 0
 }
 
-/// Whether a sink has taken so many bytes of this text, and no others.
+/// Whether a sink has taken the first `count` bytes of this text, and no others.
 fn holds_front(sink: &MemorySink, text: &[u8], count: usize) -> bool {
     sink.taken().len() == count && text.starts_with(sink.taken())
 }
 
-/// Whether a sink that takes a byte a call takes this text of a report.
+/// Whether a sink that takes one byte in a call takes this text of a report.
 fn is_whole_by_bytes(
     alloc: Global,
     report: Report,
@@ -116,7 +116,8 @@ fn is_whole_by_bytes(
     Some(done && holds_whole(&sink, text))
 }
 
-/// Whether a sink that fails after so many bytes takes just these of this text of a report, and the failure is told.
+/// Whether a sink that fails after `count` bytes takes exactly these of a report's text, and the failure
+/// is told.
 fn is_cut_after(
     alloc: Global,
     report: Report,
@@ -131,8 +132,8 @@ fn is_cut_after(
     Some(told && sink.failures() == 1 && holds_front(&sink, text, count))
 }
 
-/// Whether a report of this size goes into a sink that has just room for it, into one that takes it in pieces, and
-/// into those that fail up to where they do.
+/// Whether a report of this size is written into a sink that has exactly room for it, into one that takes
+/// it in pieces, and into sinks that fail after one of `counts` bytes, up to where they fail.
 fn is_taken(alloc: Global, report: Report, size: usize, counts: &[usize]) -> Option<bool> {
     let rows = worked_rows(alloc)?;
     let mut sink = MemorySink::with_room(alloc, size).ok()?;
@@ -172,13 +173,18 @@ fn posting(name: &str, pence: i64) -> Option<(Account, Pence)> {
     Some((Account::read(name.as_bytes())?, Pence::new(pence)?))
 }
 
-/// What comes of it that these balances are written, where GENCO's account was posted 30 and 8 pence.
-fn balances_written(alloc: Global, sink: &mut MemorySink) -> Option<Result<(), ReportFault>> {
+/// The answer to writing balances. The first and the last of these amounts are posted to GENCO's account,
+/// and the one between to SUPCO's.
+fn balances_written(
+    alloc: Global,
+    [first, other, last]: [i64; 3],
+    sink: &mut MemorySink,
+) -> Option<Result<(), ReportFault>> {
     let parties = [PartyId::read(b"GENCO")?, PartyId::read(b"SUPCO")?];
     let postings = [
-        posting("GENCO-P", 30)?,
-        posting("SUPCO-C", -38)?,
-        posting("GENCO-P", 8)?,
+        posting("GENCO-P", first)?,
+        posting("SUPCO-C", other)?,
+        posting("GENCO-P", last)?,
         posting("NEWCO-P", 7)?,
     ];
     Some(write_balances(alloc, &parties, &postings, sink))
@@ -186,12 +192,29 @@ fn balances_written(alloc: Global, sink: &mut MemorySink) -> Option<Result<(), R
 
 #[test]
 fn balances_are_exported(rt: HostRuntime) -> Result<(), Fail> {
+    let amounts = [30, -38, 8];
     let mut sink = MemorySink::with_room(rt.alloc(), 63)?.in_pieces(1);
-    assert_eq!(rt; balances_written(rt.alloc(), &mut sink), Some(Ok(())));
+    assert_eq!(rt;
+        balances_written(rt.alloc(), amounts, &mut sink),
+        Some(Ok(()))
+    );
     assert!(rt; holds_whole(&sink, BALANCES.as_bytes()));
     let mut cut = MemorySink::with_room(rt.alloc(), 62)?;
-    let told = balances_written(rt.alloc(), &mut cut);
+    let told = balances_written(rt.alloc(), amounts, &mut cut);
     assert_eq!(rt; told, Some(Err(ReportFault::Write)));
     assert!(rt; holds_front(&cut, BALANCES.as_bytes(), 62));
+    Ok(())
+}
+
+/// The balances of two parties, one of which fits no `i64`.
+const LARGE_BALANCES: &str =
+    "account,moved_pence\nGENCO-P,9223372036854775808\nGENCO-C,0\nSUPCO-P,0\nSUPCO-C,-9223372036854775808\n";
+
+#[test]
+fn balances_of_any_size_are_exported(rt: HostRuntime) -> Result<(), Fail> {
+    let mut sink = MemorySink::with_room(rt.alloc(), 200)?;
+    let told = balances_written(rt.alloc(), [i64::MAX, i64::MIN, 1], &mut sink);
+    assert_eq!(rt; told, Some(Ok(())));
+    assert!(rt; holds_whole(&sink, LARGE_BALANCES.as_bytes()));
     Ok(())
 }

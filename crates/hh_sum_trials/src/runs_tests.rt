@@ -1,4 +1,5 @@
-//! What no clause says: what the words of the clauses come to, and that with ample memory runs post.
+//! What no clause says: what definitions in the clauses mean for examples, and that with ample memory runs
+//! post.
 
 use hh_names::{Account, Fault, Refusal};
 use hh_runs::*;
@@ -44,7 +45,7 @@ fn kinds_follow_in_order(rt: HostRuntime) -> Result<(), Fail> {
     Ok(())
 }
 
-/// Day nets of these accounts, in pence; `None` where a text names no account, a net is too large, or
+/// Day nets of these accounts, in pence. `None` if a text names no account, a net is too large, or
 /// memory is refused.
 fn nets(alloc: Global, pence: &[(&str, i64)]) -> Option<DayNetTable> {
     let mut nets = DayNetTable::new(alloc);
@@ -55,7 +56,7 @@ fn nets(alloc: Global, pence: &[(&str, i64)]) -> Option<DayNetTable> {
     Some(nets)
 }
 
-/// Whether a run with these nets, after one with those, posts these pence to these accounts.
+/// Whether a run with the new nets, after one with the old ones, posts these pence to these accounts.
 fn posts(alloc: Global, old: &[(&str, i64)], new: &[(&str, i64)], wanted: &[(&str, i64)]) -> bool {
     let (Some(old), Some(new)) = (nets(alloc, old), nets(alloc, new)) else {
         return false;
@@ -66,7 +67,7 @@ fn posts(alloc: Global, old: &[(&str, i64)], new: &[(&str, i64)], wanted: &[(&st
     }
 }
 
-/// Whether these are the postings of so many pence to these accounts.
+/// Whether these are the postings of the wanted pence to the wanted accounts.
 fn are_postings(postings: &[Posting], wanted: &[(&str, i64)]) -> bool {
     postings.len() == wanted.len()
         && postings.iter().zip(wanted).all(|pair| {

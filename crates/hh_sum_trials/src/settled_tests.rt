@@ -1,5 +1,5 @@
-//! What no clause says: that a period is settled, and to what figures, by the contract volumes in force and by the net
-//! volumes of its accounts. What else a settled period comes to is tested through `settle`.
+//! What no clause says: that a period is settled, and with what figures, by the contract volumes in force
+//! and by the net volumes of its accounts. The rest of a settled period is tested through `settle`.
 
 use hh_calc::*;
 use hh_names::{Account, Contract, Counterparties, Reading, UnitId};
@@ -19,7 +19,7 @@ fn accounts(alloc: Global) -> Option<Vec<Account>> {
     Some(accounts)
 }
 
-/// A unit without subsidiaries, by its id, its lead account, its metered kWh and its loss multiplier.
+/// A unit without subsidiaries, from its id, its lead account, its metered kWh and its loss multiplier.
 fn unit(alloc: Global, id: &str, lead: &str, metered: i64, tlm: i64) -> Option<UnitData> {
     let reading = Reading {
         metered: Kwh::new(metered)?,
@@ -88,12 +88,12 @@ fn trading(alloc: Global, contracts: Contracts) -> Option<PeriodData> {
     ))
 }
 
-/// A period of these contracts alone, at no price.
+/// A period with these contracts and nothing else, at no price.
 fn contracts_alone(alloc: Global, contracts: Contracts) -> Option<PeriodData> {
     Some(PeriodData::new(accounts(alloc)?, Vec::new(alloc), contracts, Price::new(0)?))
 }
 
-/// A period, settled, if it may be.
+/// A period, settled, if it may be settled.
 fn settled(alloc: Global, period: &PeriodData) -> Result<Option<PeriodResult>, CalcFault> {
     if period.is_ready() {
         Ok(Some(settle_period(alloc, period)?))
@@ -102,7 +102,7 @@ fn settled(alloc: Global, period: &PeriodData) -> Result<Option<PeriodResult>, C
     }
 }
 
-/// What an account's row shows of contracts, the imbalance, the charge and the share.
+/// The contracts, the imbalance, the charge and the share that an account's row shows.
 fn figures(row: &AccountRow) -> [i64; 4] {
     [
         row.contracts.units(),
@@ -112,7 +112,7 @@ fn figures(row: &AccountRow) -> [i64; 4] {
     ]
 }
 
-/// Whether a settled period shows these figures of its accounts.
+/// Whether the accounts of a settled period have these figures.
 fn shows(period: &PeriodResult, wanted: &[[i64; 4]; 4]) -> bool {
     period
         .accounts()
@@ -158,7 +158,7 @@ fn nets_settle_as_rows_do(rt: HostRuntime) -> Result<(), Fail> {
     Ok(())
 }
 
-/// How a period of contracts alone ends: settled, or too large.
+/// Whether a period of contracts alone is too large to be settled.
 fn is_too_large(alloc: Global, contracts: Contracts) -> Result<bool, Fail> {
     let period = contracts_alone(alloc, contracts).ok_or("period")?;
     match settled(alloc, &period) {

@@ -1,11 +1,11 @@
-//! What no clause says: that shares are given, and what the words of the clauses come to.
+//! What no clause says: that shares are given, and what definitions in the clauses mean for examples.
 
 use crate::counted::counted;
 use hh_share::*;
 use std::alloc::{AllocError, Global};
 use std::test::Fail;
 
-/// The shares of a total by weights, of which there is at least one where there is a total.
+/// The shares of a total by weights. If the total isn't 0, there must be a weight.
 fn shares_by(alloc: Global, total: i64, weights: &[u64]) -> Result<Option<Vec<i64>>, AllocError> {
     if total != 0 && weights.is_empty() {
         return Ok(None);
@@ -13,7 +13,7 @@ fn shares_by(alloc: Global, total: i64, weights: &[u64]) -> Result<Option<Vec<i6
     Ok(Some(apportion(alloc, total, weights)?))
 }
 
-/// Whether a total is apportioned so.
+/// Whether a total is apportioned into these shares.
 fn gives(alloc: Global, total: i64, weights: &[u64], wanted: &[i64]) -> Result<bool, AllocError> {
     match shares_by(alloc, total, weights)? {
         Some(shares) => Ok(shares.as_slice() == wanted),
@@ -37,7 +37,7 @@ fn worked_shares(rt: HostRuntime) -> Result<(), Fail> {
         (i64::MAX, &[0, u64::MAX], &[0, i64::MAX]),
         // The first period: the weights in ticks, the residual in pence.
         (5_050, &[995_000_000_000, 984_900_000_000], &[2_538, 2_512]),
-        // Four accounts with no weight, as where all units are of interconnectors.
+        // Four accounts with no weight, as when all units are interconnector units.
         (5_050, &[0, 0, 0, 0], &[1_263, 1_263, 1_262, 1_262]),
     ];
     for (total, weights, wanted) in cases {
@@ -54,7 +54,7 @@ fn many_weights_of_the_greatest_size(rt: HostRuntime) -> Result<(), Fail> {
         *share = 2;
     }
     assert!(rt; gives(rt.alloc(), 1_000, &weights, &wanted)?);
-    // 608 pence are left over the 800 equal parts of 2^63.
+    // 800 equal parts of 2^63 pence leave 608 pence over.
     let mut wanted = vec![in rt.alloc(); -11_529_215_046_068_469; 800]?;
     for share in wanted[..608].iter_mut() {
         *share = -11_529_215_046_068_470;
@@ -89,14 +89,14 @@ fn one_penny_each_to_the_first(rt: HostRuntime) -> Result<(), Fail> {
     Ok(())
 }
 
-/// The next of a row of numbers that look like chance.
+/// The next of a sequence of pseudo-random numbers.
 fn next(state: u64) -> u64 {
     let state = state ^ (state << 13);
     let state = state ^ (state >> 7);
     state ^ (state << 17)
 }
 
-/// A weight: often 0 or small, so that remainders are often equal, and now and then as large as may be.
+/// A weight: often 0 or small, so that remainders are often equal, and sometimes the greatest possible.
 fn weight_of(state: u64) -> u64 {
     match state % 8 {
         0 => 0,
@@ -107,7 +107,7 @@ fn weight_of(state: u64) -> u64 {
     }
 }
 
-/// A total of either sign, and one that is a few pence, or as large as may be.
+/// A total of either sign, of a few pence or the greatest possible.
 fn total_of(state: u64) -> i64 {
     let size = match state % 6 {
         0 => 0,

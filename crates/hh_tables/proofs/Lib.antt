@@ -1,3 +1,4 @@
+pub mod BehindLaws
 pub mod MergeLaws
 pub mod OrderLaws
 pub mod RowLaws

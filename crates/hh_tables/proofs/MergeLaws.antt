@@ -1,4 +1,4 @@
--- The merge: a row whose key is between those of two lists that make up a table goes to the end of the first.
+-- The merge: two lists make up a table, and a row whose key is between theirs is put at the end of the first list.
 use Rattle.std.proofs.Common.{◌≡◌, ℕ, zero, suc, ◌+◌, ◌<◌, ◌≤◌, List, [], ◌∷◌, ◌++◌, length, get_or, take, drop, Bool, true, false, cond, refl, sym, ap, subst, ◌∙◌, Ordering, arith, one-add}
 use Rattle.std.specs.Prelude.{T, IsTrue}
 use Rattle.std.specs.Cmp.{IsTotalOrder, alike_right, tied_back, tied_itself, upto}
@@ -50,12 +50,12 @@ above_this Less e = cc
 above_this Equal e = cc
 above_this Greater e = refl
 
--- what holds of each part of a list holds of the whole
+-- if all elements of two lists pass a test, so do those of the joined list
 all_append : {X : Type 0} (p : X → Bool) (xs ys : List X) → T (list_all p xs) → T (list_all p ys) → T (list_all p (xs ++ ys))
 all_append p [] ys g h = h
 all_append p (x ∷ xs) ys g h = both _ _ (first _ _ g) (all_append p xs ys (second _ _ g) h)
 
-take_drop : {X : Type 0} (n : ℕ) (xs : List X) → take n xs ++ drop n xs ≡ xs
+pub take_drop : {X : Type 0} (n : ℕ) (xs : List X) → take n xs ++ drop n xs ≡ xs
 take_drop zero xs = refl
 take_drop (suc n) [] = refl
 take_drop (suc n) (x ∷ xs) = ap (λ l. x ∷ l) (take_drop n xs)
@@ -65,15 +65,15 @@ module _ {K V : Type 0} (R : K → K → Ordering) where
   below_front k [] ys h = tt
   below_front k (x ∷ xs) ys h = both _ _ (first _ _ h) (below_front k xs ys (second _ _ h))
 
-  sorted_front : (xs ys : List (K × V)) → T (is_sorted R (xs ++ ys)) → T (is_sorted R xs)
+  pub sorted_front : (xs ys : List (K × V)) → T (is_sorted R (xs ++ ys)) → T (is_sorted R xs)
   sorted_front [] ys h = tt
   sorted_front (x ∷ xs) ys h = both _ _ (below_front x.0 xs ys (first _ _ h)) (sorted_front xs ys (second _ _ h))
 
-  sorted_back : (xs ys : List (K × V)) → T (is_sorted R (xs ++ ys)) → T (is_sorted R ys)
+  pub sorted_back : (xs ys : List (K × V)) → T (is_sorted R (xs ++ ys)) → T (is_sorted R ys)
   sorted_back [] ys h = h
   sorted_back (x ∷ xs) ys h = sorted_back xs ys (second _ _ h)
 
-  -- a row below all of the second list goes into the first
+  -- a row below the whole second list goes into the first
   put-append : (row : K × V) (xs ys : List (K × V)) → T (below_all R row.0 ys) → put R row.0 row.1 (xs ++ ys) ≡ put R row.0 row.1 xs ++ ys
   put-append row [] [] h = refl
   put-append row [] (y ∷ ys) h = ap (λ r. by_order r (row ∷ y ∷ ys) ((y.0, row.1) ∷ ys) (y ∷ put R row.0 row.1 ys)) (less _ (first _ _ h))
@@ -84,7 +84,7 @@ module _ {K V : Type 0} (R : K → K → Ordering) where
         | Greater ↦ ap (λ l. x ∷ l) (put-append row xs ys h)
       ]
 
-  -- a test of keys that all keys pass
+  -- all keys still pass a test after a row is put whose key passes it
   all-put : (p : K → Bool) (row : K × V) (es : List (K × V)) → T (p row.0) → T (list_all (λ e. p e.0) es) → T (list_all (λ e. p e.0) (put R row.0 row.1 es))
   all-put p row [] t h = both _ _ t tt
   all-put p row (e ∷ es) t h = elim (R row.0 e.0) as (λ r. T (list_all (λ e. p e.0) (by_order r (row ∷ e ∷ es) ((e.0, row.1) ∷ es) (e ∷ put R row.0 row.1 es)))) [
@@ -97,11 +97,11 @@ module _ {K V : Type 0} (R : K → K → Ordering) where
   put_all-append [] more es = refl
   put_all-append (row ∷ rows) more es = put_all-append rows more (put R row.0 row.1 es)
 
-  -- the first rows are up to a key
+  -- the first rows of a list are up to a key
   abbrev pub AreFirstUpTo : K → List (K × V) → ℕ → Type 0
   AreFirstUpTo key rows count = (k : ℕ) (d : K × V) → k < count → IsTrue (is_up_to R key (get_or rows k d))
 
-  -- no key of merged rows is above those of the rows that are still to come
+  -- no key of the merged rows is above those of the rows still to come
   abbrev pub AreReached : List (K × V) → ℕ → List (K × V) → Type 0
   AreReached rows i merged = (j : ℕ) (d : K × V) → i ≤ j → j < length rows → AreUpTo R (get_or rows j d).0 merged
 
@@ -116,7 +116,7 @@ module _ {K V : Type 0} (R : K → K → Ordering) where
       let rest : length rows ≡ prefix_len (is_up_to R key) rows = all_up_to key rows (length rows) (omega arith) (λ k d lt. before (suc k) d (omega arith)) in
       ap suc rest ∙ sym (one-add _) ∙ ap (λ b. cond b (1 + prefix_len (is_up_to R key) rows) 0) (sym (before zero row (omega arith)))
 
-  -- the front that is up to a key
+  -- each row before the first that is above a key is up to the key
   front_up_to : (k : K) (es : List (K × V)) → T (list_all (is_up_to R k) (take (prefix_len (is_up_to R k) es) es))
   front_up_to k [] = tt
   front_up_to k (e ∷ es) = elim (is_up_to R k e) as (λ b. is_up_to R k e ≡ b → T (list_all (is_up_to R k) (take (cond b (1 + prefix_len (is_up_to R k) es) 0) (e ∷ es)))) [
@@ -125,7 +125,7 @@ module _ {K V : Type 0} (R : K → K → Ordering) where
   ] refl
 
 module _ {K V : Type 0} {R : K → K → Ordering} (o : IsTotalOrder R) where
-  -- and what follows it is above
+  -- and the rows after them are above it
   below_rest : (k : K) (es : List (K × V)) → T (is_sorted R es) → T (below_all R k (drop (prefix_len (is_up_to R k) es) es))
   below_rest k [] h = tt
   below_rest k (e ∷ es) h = elim (R e.0 k) as (λ r. R e.0 k ≡ r → T (below_all R k (drop (cond (is_le r) (1 + prefix_len (is_up_to R k) es) 0) (e ∷ es)))) [
@@ -136,7 +136,7 @@ module _ {K V : Type 0} {R : K → K → Ordering} (o : IsTotalOrder R) where
         both _ _ (is_less _ q) (below_less o k e.0 es q (first _ _ h))
   ] refl
 
-  -- what is up to a key is up to each later one
+  -- rows up to a key are up to each later key
   up_to_later : (k j : K) (es : List (K × V)) → is_gt (R k j) ≡ false → T (list_all (is_up_to R k) es) → T (list_all (is_up_to R j) es)
   up_to_later k j [] le h = tt
   up_to_later k j (e ∷ es) le h = both _ _ (up_to_this _ (upto o e.0 k j (not_above _ (first _ _ h)) le)) (up_to_later k j es le (second _ _ h))
@@ -163,7 +163,7 @@ module _ {K V : Type 0} {R : K → K → Ordering} (o : IsTotalOrder R) where
     put_is_up_to reached new is =
         subst (AreUpTo R row.0) (sym is) (true_from _ (all-put R (λ k. is_le (R k row.0)) row (merged ++ take n rest) (up_to_itself o row.0) (from_true _ (front_is_up_to reached))))
 
-  -- all rows but the last are below a key that the last does not pass
+  -- if the last row is not above a key, all rows before it are below the key
   below_by_last : (k : K) (es : List (K × V)) (e : K × V) → T (is_sorted R (es ++ e ∷ [])) → is_gt (R e.0 k) ≡ false → T (list_all (λ x. is_lt (R x.0 k)) es)
   below_by_last k [] e h le = tt
   below_by_last k (x ∷ es) e h le = both _ _ (is_less _ (below_last x.0 es (first _ _ h))) (below_by_last k es e (second _ _ h) le)
@@ -177,8 +177,8 @@ module _ {K V : Type 0} {R : K → K → Ordering} (o : IsTotalOrder R) where
       below_last x [] h = through x (less _ (first _ _ h)) (R e.0 k) refl le
       below_last x (y ∷ es) h = below_last x es (second _ _ h)
 
-  -- a row goes behind all rows that are below it
-  put_beyond : (row : K × V) (es rest : List (K × V)) → T (list_all (λ x. is_lt (R x.0 row.0)) es) → put R row.0 row.1 (es ++ rest) ≡ es ++ put R row.0 row.1 rest
+  -- a row is put behind all rows that are below it
+  pub put_beyond : (row : K × V) (es rest : List (K × V)) → T (list_all (λ x. is_lt (R x.0 row.0)) es) → put R row.0 row.1 (es ++ rest) ≡ es ++ put R row.0 row.1 rest
   put_beyond row [] rest h = refl
   put_beyond row (e ∷ es) rest h =
       ap (λ r. by_order r (row ∷ e ∷ (es ++ rest)) ((e.0, row.1) ∷ (es ++ rest)) (e ∷ put R row.0 row.1 (es ++ rest))) (o.antisymm row.0 e.0 ∙ ap ordering_reverse (less _ (first _ _ h)))
@@ -192,7 +192,7 @@ module _ {K V : Type 0} {R : K → K → Ordering} (o : IsTotalOrder R) where
   put_first row old [] is none = sym (ap (put R row.0 row.1) is)
   put_first row old (e ∷ es) is none = absurd (omega arith)
 
-  -- A row at the end: in the place of the last, or behind it.
+  -- A row put at the end, in the place of the last row or behind it.
   module _ (row : K × V) (old es : List (K × V)) (e : K × V) (is : old ≡ es ++ e ∷ []) (rising : IsTable R old) (reached : AreUpTo R row.0 old) where
     below_row : T (list_all (λ x. is_lt (R x.0 row.0)) es)
     below_row = below_by_last row.0 es e (subst (λ l. T (is_sorted R l)) is (from_true _ rising)) (up_to_last row.0 es e (subst (λ l. T (list_all (is_up_to R row.0) l)) is (from_true _ reached)))
@@ -209,7 +209,7 @@ module _ {K V : Type 0} {R : K → K → Ordering} (o : IsTotalOrder R) where
         ∙ ap (λ r. es ++ by_order r (row ∷ e ∷ []) ((e.0, row.1) ∷ []) (e ∷ row ∷ [])) (o.antisymm row.0 e.0 ∙ ap ordering_reverse below)
         ∙ sym (append_assoc es (e ∷ []) (row ∷ [])))
 
-  -- One more row is merged: the rows so far are put into the table, and the next keys are not passed.
+  -- One more row is merged: the rows so far are put into the table, and no later key is below theirs.
   module _ (rows : List (K × V)) (sorted : IsSortedByKey (λ e. e.0) R rows) (i : ℕ) (row : K × V) (inside : i < length rows) (at : row ≡ get_or rows i row) where
     pub put_more : (table before after : List (K × V)) → before ≡ put_all R (take i rows) table → after ≡ put R row.0 row.1 before → after ≡ put_all R (take (i + 1) rows) table
     put_more table before after so_far is =
@@ -227,7 +227,7 @@ module _ {K V : Type 0} {R : K → K → Ordering} (o : IsTotalOrder R) where
   pub put_all_is_table : (rows es : List (K × V)) → IsTable R es → IsTable R (put_all R rows es)
   put_all_is_table rows es rising = true_from _ (is_sorted-put_all o rows es (from_true _ rising))
 
-  -- what sorted rows that are lent make of a table that is lent
+  -- sorted rows put into a table; both are lent
   pub put_all_lent : (rows sorted lent_rows es lent table : List (K × V)) → IsStableByKey (λ e. e.0) R rows sorted → lent_rows ≡ sorted → lent ≡ es → es ≡ table → IsTable R es
       → put_all R lent_rows lent ≡ put_all R rows table
   put_all_lent rows sorted lent_rows es lent table stable rows_are is seen rising =

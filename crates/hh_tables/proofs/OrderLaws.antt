@@ -1,4 +1,4 @@
--- What rises in a list: the keys of a table's rows, and by them what a binary search asks of the rows.
+-- The keys of a table's rows rise; this is what a binary search requires of the rows.
 use Rattle.std.proofs.Common.{◌≡◌, ℕ, zero, suc, ◌+◌, ◌<◌, ◌≤◌, List, [], ◌∷◌, length, get_or, true, false, refl, sym, ap, subst, ◌∙◌, Ordering, arith, inl, inr}
 use Rattle.std.specs.Prelude.{T}
 use Rattle.std.specs.Cmp.{IsTotalOrder}
@@ -14,7 +14,7 @@ use Rattle.hh_tables.proofs.RowLaws.{both, first, second, is_less, less}
 pub is_less_by : (r : Ordering) → is_lt r ≡ true → r ≡ Less
 is_less_by r is = less r (subst T (sym is) tt)
 
--- the tests of a search, by the number of an order
+-- of two orderings, the one with the lesser number is Less if the other is
 lt_by_index : (a b : Ordering) → ordering_index a ≤ ordering_index b → is_lt b ≡ true → is_lt a ≡ true
 lt_by_index Less b h k = refl
 lt_by_index a Equal h k = cc
@@ -30,7 +30,7 @@ le_by_index Greater Less h k = absurd (omega (arith, h))
 le_by_index Greater Equal h k = absurd (omega (arith, h))
 
 module _ {E : Type 0} (order : E → Ordering) where
-  -- what a search for the first that is not below may ask, and for the first that is above
+  -- what the searches require: for the first row that is not below, and for the first that is above
   pub below_partitions : (es : List E) → IsNonDecreasingBy (λ e. ordering_index (order e)) es → IsPartitionedBy (λ e. is_lt (order e)) es
   below_partitions es rising i j d le inside is = lt_by_index (order (get_or es i d)) (order (get_or es j d)) (rising i j d le inside) is
 
@@ -50,11 +50,11 @@ module _ {K V : Type 0} (R : K → K → Ordering) where
   rises (e ∷ es) h zero (suc j) d lt in' = below_at e.0 es (first _ _ h) j d (omega (arith, in'))
   rises (e ∷ es) h (suc i) (suc j) d lt in' = rises es (second _ _ h) i j d (omega (arith, lt)) (omega (arith, in'))
 
-  -- each key before a place is below the one behind it
+  -- each key before a place is below the key after it
   abbrev pub RisesUpTo : List (K × V) → ℕ → Type 0
   RisesUpTo es place = (j : ℕ) (d : K × V) → suc j < place → R (get_or es j d).0 (get_or es (suc j) d).0 ≡ Less
 
-  -- one key more is below the one behind it
+  -- the same with one more key that is below the key after it
   pub rises_one_more : (es : List (K × V)) (i place : ℕ) (x y : K × V) → i + 1 ≡ place → place < length es → RisesUpTo es place → R (get_or es i x).0 (get_or es place y).0 ≡ Less
       → RisesUpTo es (place + 1)
   rises_one_more es i place x y is in' so_far next j d low = elim (cases_lt (suc j) place) [
@@ -67,7 +67,7 @@ module _ {K V : Type 0} (R : K → K → Ordering) where
         ∙ next
   ]
 
-  -- where one isn't, the keys don't rise
+  -- if one key is not below the next, the keys don't rise
   pub not_sorted_at : (es : List (K × V)) (i place : ℕ) (x y : K × V) → i + 1 ≡ place → place < length es → is_lt (R (get_or es i x).0 (get_or es place y).0) ≡ false → is_sorted R es ≡ false
   not_sorted_at es i place x y is in' not_next = elim (is_sorted R es) as (λ b. is_sorted R es ≡ b → b ≡ false) [
     | false ↦ λ e. refl
@@ -78,7 +78,7 @@ module _ {K V : Type 0} (R : K → K → Ordering) where
       true_is_not_false : true ≡ false → ⊥
       true_is_not_false e = cc
 
-  -- keys of which each is below the one behind it rise
+  -- keys rise if each is below the next
   module _ (o : IsTotalOrder R) where
     below_next : (k : K) (es : List (K × V)) → ((d : K × V) → 0 < length es → R k (get_or es 0 d).0 ≡ Less) → T (is_sorted R es) → T (below_all R k es)
     below_next k [] next h = tt

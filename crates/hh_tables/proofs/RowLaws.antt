@@ -1,5 +1,5 @@
--- Tables by what stands under each key: rows that are put into one in another order make the same of it, where those of one
--- key keep theirs.
+-- A table is known by the row that it has under each key. So rows put in another order make the same table, if those of
+-- one key keep their order.
 use Rattle.std.proofs.Common.{◌≡◌, List, [], ◌∷◌, Bool, true, false, cond, refl, sym, ap, subst, ◌∙◌, Option, Some, None, Ordering}
 use Rattle.std.specs.Prelude.{◌≢◌, ◌&&◌, not, T}
 use Rattle.std.specs.Cmp.{IsTotalOrder, alike_right, tied_itself}
@@ -43,7 +43,7 @@ same_some : {A : Type 0} (x y : A) → Some x ≡ Some y → x ≡ y
 same_some x y e = cc
 
 module _ {K V : Type 0} (R : K → K → Ordering) (test : K × V → Bool) where
-  -- the rows that pass a test are above what all rows are above
+  -- the rows that pass a test are above a key that all rows are above
   below-filter : (k : K) (es : List (K × V)) → T (below_all R k es) → T (below_all R k (filter test es))
   below-filter k [] h = tt
   below-filter k (e ∷ es) h = elim (test e) as (λ b. T (below_all R k (cond b (e ∷ filter test es) (filter test es)))) [
@@ -65,7 +65,7 @@ module _ {K V : Type 0} (R : K → K → Ordering) where
   row_at q [] = None
   row_at q (e ∷ es) = cond (eq_by_cmp R q e.0) (Some e) (row_at q es)
 
--- what stands under a key after a row of it, and after several; the key stays as it first came
+-- the row under a key after a row of that key is put, and after several are; the key stays the one that came first
 abbrev renewed : {K V : Type 0} → K × V → Option (K × V) → Option (K × V)
 renewed row None = Some row
 renewed row (Some e) = Some (e.0, row.1)
@@ -74,7 +74,7 @@ abbrev renewed_by : {K V : Type 0} → List (K × V) → Option (K × V) → Opt
 renewed_by [] old = old
 renewed_by (row ∷ rows) old = renewed_by rows (renewed row old)
 
--- the three places of a row beside the first of a table: in its place, and behind it
+-- a row beside the first row of a table: before it, in its place, or behind it
 tied_place : {K V : Type 0} (b : Bool) (row e : K × V) (rest : Option (K × V)) → cond b (Some (e.0, row.1)) rest ≡ cond b (renewed row (cond b (Some e) rest)) (cond b (Some e) rest)
 tied_place true row e rest = refl
 tied_place false row e rest = refl
@@ -86,7 +86,7 @@ later_place true false row e rest apart = refl
 later_place false true row e rest apart = refl
 later_place false false row e rest apart = refl
 
--- not less, either way round, is equal
+-- two keys are equal if neither is less than the other
 tied_either_way : (r : Ordering) → (not (is_lt r) && not (is_lt (ordering_reverse r))) ≡ is_eq r
 tied_either_way Less = refl
 tied_either_way Equal = refl
@@ -101,7 +101,7 @@ module _ {K V : Type 0} {R : K → K → Ordering} (o : IsTotalOrder R) where
   below_tied x y [] p h = tt
   below_tied x y (e ∷ es) p h = both _ _ (is_less _ (o.congr x y e.0 p ∙ less _ (first _ _ h))) (below_tied x y es p (second _ _ h))
 
-  -- a key below all keys of a table is not there
+  -- a key below all keys of a table has no row
   row_at-below : (q : K) (es : List (K × V)) → T (below_all R q es) → row_at R q es ≡ None
   row_at-below q [] h = refl
   row_at-below q (e ∷ es) h = ap (λ r. cond (is_eq r) (Some e) (row_at R q es)) (less _ (first _ _ h)) ∙ row_at-below q es (second _ _ h)
@@ -128,7 +128,7 @@ module _ {K V : Type 0} {R : K → K → Ordering} (o : IsTotalOrder R) where
       apart : Greater ≡ Equal → ⊥
       apart e = cc
 
-  -- behind first rows of one key the same stands under each key
+  -- after first rows of equal keys, both tables have the same row under each key
   rest_alike : (q : K) (e f : K × V) (es fs : List (K × V)) → R e.0 f.0 ≡ Equal → T (below_all R e.0 es) → T (below_all R f.0 fs)
       → row_at R q (e ∷ es) ≡ row_at R q (f ∷ fs) → row_at R q es ≡ row_at R q fs
   rest_alike q e f es fs p g h is =
@@ -137,7 +137,7 @@ module _ {K V : Type 0} {R : K → K → Ordering} (o : IsTotalOrder R) where
         | false ↦ λ t same. same
       ] refl (is ∙ ap (λ r. cond (is_eq r) (Some f) (row_at R q fs)) (sym (alike_right o e.0 f.0 q p)))
 
-  -- two tables that have the same row under each key are one
+  -- two tables that have the same row under each key are equal
   same_rows : (es fs : List (K × V)) → T (is_sorted R es) → T (is_sorted R fs) → ((q : K) → row_at R q es ≡ row_at R q fs) → es ≡ fs
   same_rows [] [] g h is = refl
   same_rows [] (f ∷ fs) g h is = absurd (some_is_not_none f (sym (row_at-first f fs) ∙ sym (is f.0)))
@@ -158,7 +158,7 @@ module _ {K V : Type 0} {R : K → K → Ordering} (o : IsTotalOrder R) where
   is_sorted-put_all [] es h = h
   is_sorted-put_all (row ∷ rows) es h = is_sorted-put_all rows (put R row.0 row.1 es) (is_sorted-put R o row.0 row.1 es h)
 
-  -- under a key stands what its own rows make of it
+  -- the row under a key depends only on the rows of that key that were put
   row_at-put_all : (q : K) (rows es : List (K × V)) → T (is_sorted R es) → row_at R q (put_all R rows es) ≡ renewed_by (filter (λ e. eq_by_cmp R q e.0) rows) (row_at R q es)
   row_at-put_all q [] es h = refl
   row_at-put_all q (row ∷ rows) es h =
@@ -170,7 +170,7 @@ module _ {K V : Type 0} {R : K → K → Ordering} (o : IsTotalOrder R) where
   ties_at : (q : K) (v : V) (e : K × V) → ties (λ x y. is_lt (R x.0 y.0)) (q, v) e ≡ eq_by_cmp R q e.0
   ties_at q v e = ap (λ r. not (is_lt (R q e.0)) && not (is_lt r)) (o.antisymm e.0 q) ∙ tied_either_way (R q e.0)
 
-  -- a stable sort leaves the rows of each key as they came
+  -- a stable sort keeps the order of the rows of each key
   rows_of_key : (v : V) (q : K) (xs ys : List (K × V)) → IsStableByKey (λ e. e.0) R xs ys → filter (λ e. eq_by_cmp R q e.0) ys ≡ filter (λ e. eq_by_cmp R q e.0) xs
   rows_of_key v q xs ys stable =
       let now : filter (λ e. eq_by_cmp R q e.0) ys ≡ filter (ties (λ x y. is_lt (R x.0 y.0)) (q, v)) ys = λ i. filter (λ e. sym (ties_at q v e) i) ys in
@@ -182,7 +182,7 @@ module _ {K V : Type 0} {R : K → K → Ordering} (o : IsTotalOrder R) where
   all_rows_of_key q (x ∷ xs) ys stable = rows_of_key x.1 q (x ∷ xs) ys stable
   all_rows_of_key q [] (y ∷ ys) stable = rows_of_key y.1 q [] (y ∷ ys) stable
 
-  -- so that sorted rows make the same table
+  -- so sorted rows make the same table
   pub put_all-sorted : (xs ys es : List (K × V)) → IsStableByKey (λ e. e.0) R xs ys → T (is_sorted R es) → put_all R ys es ≡ put_all R xs es
   put_all-sorted xs ys es stable h =
       same_rows _ _ (is_sorted-put_all ys es h) (is_sorted-put_all xs es h)

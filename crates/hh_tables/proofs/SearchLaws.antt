@@ -1,4 +1,4 @@
--- Where a binary search among the rows of a table ends, and what stands there.
+-- Where a binary search among the rows of a table ends, and which row is there.
 use Rattle.std.proofs.Common.{◌≡◌, ℕ, zero, suc, ◌+◌, ◌<◌, List, [], ◌∷◌, length, get_or, set, false, cond, refl, sym, ap, subst, ◌∙◌, arith, Some, None, Ordering, inl, inr}
 use Rattle.std.specs.Prelude.{T, insert}
 use Rattle.std.specs.Cmp.{IsTotalOrder, alike_right, eq_by_cmp_equiv, tied_back}
@@ -16,12 +16,12 @@ use Rattle.hh_tables.proofs.OrderLaws.{below_at, rises}
 use Rattle.hh_tables.proofs.RowLaws.{first, second}
 
 module _ {K V : Type 0} {R : K → K → Ordering} (o : IsTotalOrder R) where
-  -- a binary search may be made
+  -- the rows are in the order that a binary search requires
   pub searchable : (es : List (K × V)) → IsTable R es → (k : K) → IsNonDecreasingBy (λ row. ordering_index (R row.0 k)) es
   searchable es rising k = searchable_from_sorted o (λ row. row.0) es k (λ j d low high.
       ap is_lt (o.antisymm (get_or es (j + 1) d).0 (get_or es j d).0 ∙ ap ordering_reverse (rises R es (from_true _ rising) j (j + 1) d (omega arith) high)))
 
-  -- a row at which it ends is the one of its key
+  -- if a search ends at a row, that row is the one of its key
   found_sorted : (es : List (K × V)) → T (is_sorted R es) → (k : K) (i : ℕ) (d : K × V) → i < length es → R (get_or es i d).0 k ≡ Equal → find R k es ≡ Some (get_or es i d).1
   found_sorted [] h k i d in' is = absurd (omega arith)
   found_sorted (e ∷ es) h k zero d in' is = ap (λ r. cond (is_eq r) (Some e.1) (find R k es)) (tied_back o e.0 k is)
@@ -32,7 +32,7 @@ module _ {K V : Type 0} {R : K → K → Ordering} (o : IsTotalOrder R) where
   found : (es : List (K × V)) → IsTable R es → (k : K) (i : ℕ) (row : K × V) → i < length es → row ≡ get_or es i row → ((d : K × V) → R (get_or es i d).0 k ≡ Equal) → Some row.1 ≡ find R k es
   found es rising k i row in' is here = ap (λ (e : K × V). Some e.1) is ∙ sym (found_sorted es (from_true _ rising) k i row in' (here row))
 
-  -- a place between the lower and the higher keys has no row of the key
+  -- no row has the key if its place is between the lower and the higher keys
   none_of : (es : List (K × V)) (k : K) → ((j : ℕ) (d : K × V) → j < length es → is_eq (R (get_or es j d).0 k) ≡ false) → find R k es ≡ None
   none_of [] k apart = refl
   none_of (e ∷ es) k apart =
@@ -44,7 +44,7 @@ module _ {K V : Type 0} {R : K → K → Ordering} (o : IsTotalOrder R) where
     | inr le ↦ ap is_eq (above j d le in')
   ]))
 
-  -- a row that is put where its key was found, or between the lower and the higher keys
+  -- a row put where its key was found, or between the lower and the higher keys
   put_found : (es : List (K × V)) → T (is_sorted R es) → (k : K) (v : V) (i : ℕ) (d : K × V) → i < length es → R (get_or es i d).0 k ≡ Equal → set es i ((get_or es i d).0, v) ≡ put R k v es
   put_found [] h k v i d in' is = absurd (omega arith)
   put_found (e ∷ es) h k v zero d in' is = ap (λ r. by_order r ((k, v) ∷ e ∷ es) ((e.0, v) ∷ es) (e ∷ put R k v es)) (sym (tied_back o e.0 k is))
@@ -61,7 +61,7 @@ module _ {K V : Type 0} {R : K → K → Ordering} (o : IsTotalOrder R) where
       ap (λ l. e ∷ l) (put_missed es k v i ((λ j d low high. below (suc j) d (omega arith) (omega arith)), (λ j d low high. above (suc j) d (omega arith) (omega arith))))
       ∙ ap (λ r. by_order r ((k, v) ∷ e ∷ es) ((e.0, v) ∷ es) (e ∷ put R k v es)) (sym (o.antisymm k e.0 ∙ ap ordering_reverse (below zero e (omega arith) (omega arith))))
 
-  -- the same of a list that is lent for the search
+  -- the same for a list that is lent for the search
   module _ (lent es table : List (K × V)) (is : lent ≡ es) (seen : es ≡ table) (rising : IsTable R es) (k : K) where
     pub found_in : (i : ℕ) (row : K × V) → HoldsAt (λ e. R e.0 k ≡ Equal) lent i → i < length lent → row ≡ get_or es i row → Some row.1 ≡ find R k table
     found_in i row here in' at =

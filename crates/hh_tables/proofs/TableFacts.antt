@@ -1,4 +1,4 @@
--- What an insertion into a tree makes of its table, and that putting back undoes it.
+-- The table after an insertion into a tree, and that the insertion can be undone.
 use Rattle.std.proofs.Common.{◌≡◌, ◌+◌, List, [], ◌∷◌, length, refl, sym, ap, subst, ◌∙◌, cond, Bool, true, false, Ordering, arith}
 use Rattle.std.specs.Prelude.{Option, Some, None, is_some, unwrap_or, Result, Ok, Err, OnOk, OnErr, T}
 use Rattle.std.specs.Option.{MatchOption}
@@ -16,11 +16,11 @@ true_from : (b : Bool) → T b → b ≡ true
 true_from true h = refl
 true_from false h = absurd h
 
--- a table stays one
+-- a table stays a table
 pub put_table : {K V : Type 0} {R : K → K → Ordering} → IsTotalOrder R → (k : K) (v : V) (es new : List (K × V)) → IsTable R es → new ≡ insert_entry R es k v → IsTable R new
 put_table {K} {V} {R} o k v es new h e = subst (λ rows. IsTable R rows) (sym (e ∙ insert_entry-put R k v es)) (true_from (is_sorted R (put R k v es)) (is_sorted-put R o k v es (subst T (sym h) tt)))
 
--- what an insertion changed is put back
+-- undoing an insertion
 module _ {K V : Type 0} {R : K → K → Ordering} (o : IsTotalOrder R) (k : K) (v : V) where
   ties : is_at (R k) k ≡ true
   ties = (eq_by_cmp_equiv o).refl k
@@ -52,7 +52,7 @@ module _ {K V : Type 0} {R : K → K → Ordering} (o : IsTotalOrder R) (k : K) 
   put_back_undoes es new back (Some w) was is more undone =
       undone ∙ ap (λ rows. set_value (is_at (R k)) rows w) is ∙ restored w es (sym was) (let n : length (insert_entry R es k v) ≡ length es + 0 = ap length (sym is) ∙ more in omega arith)
 
--- the same where an insertion may have failed
+-- the same, if the insertion may have failed
 pub put_ends : {K V E : Type 0} (R : K → K → Ordering) (k : K) (v : V) (es table new : List (K × V)) (r : Result (Unit {0}) E) → es ≡ table
     → OnOk r (new ≡ insert_entry R es k v) → OnOk r (new ≡ put R k v table)
 put_ends R k v es table new (Ok _) is done = done ∙ insert_entry-put R k v es ∙ ap (put R k v) is

@@ -1,4 +1,4 @@
--- Tables: to put a row into a table is to append it to the list and look back at the last row of each key.
+-- Two ways to the same table: putting a row into a table, or adding it to the list and taking the last row of each key.
 use Rattle.std.proofs.Common.{◌≡◌, List, [], ◌∷◌, ◌++◌, Bool, true, false, cond, refl, sym, ap, ◌∙◌, reverse, Option, Some, None, Ordering}
 use Rattle.std.specs.Prelude.{◌||◌, ◌≢◌, is_some, T}
 use Rattle.std.specs.BTreeMap.{insert_entry, is_at}
@@ -36,7 +36,7 @@ swapped true true x y z apart = absurd (apart refl refl)
 swapped true false x y z apart = refl
 swapped false b x y z apart = refl
 
--- a test that holds only where one before it does is never reached
+-- a test is never reached if it holds only when an earlier test does
 hidden : {A : Type 0} (a b : Bool) (x y z : A) → (b ≡ true → a ≡ true) → cond a x z ≡ cond a x (cond b y z)
 hidden true b x y z within = refl
 hidden false false x y z within = refl
@@ -56,7 +56,7 @@ or_swap true false c = refl
 or_swap false b c = refl
 
 module _ {K V : Type 0} {R : K → K → Ordering} (o : IsTotalOrder R) where
-  -- a table has at each key what the first row of the key in the list is
+  -- the table finds under each key the first row of the key in the list
   pub find-in_key_order : (es : List (K × V)) (q : K) → find R q (in_key_order R es) ≡ find R q es
   find-in_key_order [] q = refl
   find-in_key_order (e ∷ es) q =
@@ -66,7 +66,7 @@ module _ {K V : Type 0} {R : K → K → Ordering} (o : IsTotalOrder R) where
   is_sorted-in_key_order [] = tt
   is_sorted-in_key_order (e ∷ es) = is_sorted-put R o e.0 e.1 (in_key_order R es) (is_sorted-in_key_order es)
 
-  -- whether a key stands in a list with one more row
+  -- whether a key is in a list with one more row
   is_some-find-append : (es : List (K × V)) (e : K × V) (q : K) → is_some (find R q (es ++ e ∷ [])) ≡ (eq_by_cmp R q e.0 || is_some (find R q es))
   is_some-find-append [] e q = is_some-cond (eq_by_cmp R q e.0) e.1 None
   is_some-find-append (x ∷ es) e q =
@@ -75,7 +75,7 @@ module _ {K V : Type 0} {R : K → K → Ordering} (o : IsTotalOrder R) where
       ∙ or_swap (eq_by_cmp R q x.0) (eq_by_cmp R q e.0) (is_some (find R q es))
       ∙ ap (λ b. eq_by_cmp R q e.0 || b) (sym (is_some-cond (eq_by_cmp R q x.0) x.1 (find R q es)))
 
-  -- one more row: what is found under its key is the row, and under each other key what was found before
+  -- one more row: its key has the row, and each other key has what it had before
   module _ (e : K × V) (q : K) where
     goal_at : Option V → Option V → Type 0
     goal_at now before = now ≡ cond (eq_by_cmp R q e.0) (Some e.1) before
@@ -117,7 +117,7 @@ module _ {K V : Type 0} {R : K → K → Ordering} (o : IsTotalOrder R) where
       found_alike (e ∷ es) q x t = ap (λ b. cond b (Some e.1) (find R q es)) ((eq_by_cmp_equiv o).congr q x e.0 t) ∙ ap (cond (eq_by_cmp R x e.0) (Some e.1)) (found_alike es q x t)
 
   module _ (exact : (x y : K) → R x y ≡ Equal → x ≡ y) where
-    -- To look back over a list with one more row is to put the row into the table.
+    -- The table of a list with one more row is the table of the list with the row put into it.
     pub table_of_last-append : (es : List (K × V)) (e : K × V) → table_of_last R (es ++ e ∷ []) ≡ put R e.0 e.1 (table_of_last R es)
     table_of_last-append es e =
         same_entries R o exact _ _
@@ -126,7 +126,7 @@ module _ {K V : Type 0} {R : K → K → Ordering} (o : IsTotalOrder R) where
         (λ q. find-in_key_order (latest R (es ++ e ∷ [])) q ∙ find-latest-append e q es
         ∙ sym (find-put R o q e.0 e.1 (table_of_last R es) ∙ ap (cond (eq_by_cmp R q e.0) (Some e.1)) (find-in_key_order (latest R es) q)))
 
-    -- Of the first row of each key, one more row is put only where its key is new.
+    -- If each key keeps its first row, one more row is put only if its key is new.
     pub table_of_first-append : (es : List (K × V)) (e : K × V) →
         table_of_first R (es ++ e ∷ []) ≡ cond (is_some (find R e.0 (table_of_first R es))) (table_of_first R es) (put R e.0 e.1 (table_of_first R es))
     table_of_first-append es e =
@@ -135,7 +135,7 @@ module _ {K V : Type 0} {R : K → K → Ordering} (o : IsTotalOrder R) where
         ∙ elim (is_some (find R e.0 (table_of_first R es))) as (λ b. in_key_order R (cond b (latest R (reverse es)) (e ∷ latest R (reverse es))) ≡ cond b (table_of_first R es) (put R e.0 e.1 (table_of_first R es))) [ true ↦ refl | false ↦ refl ]
 
 module _ {K V : Type 0} (R : K → K → Ordering) where
-  -- no key stands twice
+  -- no key occurs twice
   abbrev pub AreDistinct : List (K × V) → Type 0
   AreDistinct [] = Unit {0}
   AreDistinct (e ∷ es) = (find R e.0 es ≡ None) × AreDistinct es

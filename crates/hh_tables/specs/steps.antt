@@ -1,3 +1,3 @@
--- What contracts of private functions alone cite: the steps of proofs. No public contract names any of it, through whatever definition.
+-- Definitions that only contracts of private functions use, for the steps of proofs. No public contract depends on them.
 pub mod Merges
 pub mod Trees

@@ -1,8 +1,9 @@
 //! Tables in memory, kept as lists of rows in the order of their keys.
 
-ghost use Rattle.std.specs.Prelude.{◌≡◌, ◌<◌, ◌≤◌, ◌++◌, [], length, true, IfOk, IfSome, IsSome, OnErr, OnOk, Some};
+ghost use Rattle.std.specs.Prelude.{◌≡◌, ◌<◌, ◌≤◌, ◌++◌, ◌&&◌, [], length, take, true, IfOk, IfSome, IsSome, OnErr, OnOk, Some};
 ghost use Rattle.std.specs.Option.{option_copied};
 ghost use Rattle.std.specs.FinMap.{find, is_sorted, put};
+ghost use Rattle.std.specs.FinMap.Entries.{below_all};
 ghost use Rattle.std.specs.List.{prefix_len, HoldsAt};
 ghost use Rattle.std.specs.declared.cmp.Ordering.TheVariants.{Equal};
 ghost use Rattle.std.specs.List.Sorted.{IsSortedByKey, IsStableByKey};
@@ -13,8 +14,9 @@ ghost use Rattle.hh_tables.specs.Tables.{IsTable, put_all};
 use std::alloc::{AllocError, Global};
 use std::marker::Model;
 
-/// Rows of columns under keys, at most one under each, kept as a list. One row is put where it belongs;
-/// for many a new table is made. Contracts see the list of the rows, in the order of their keys.
+/// Rows of columns under keys, at most one under each, kept as a list. `put_row` changes the list in
+/// place; for many rows `with_rows` makes a new table. Contracts see the list of the rows, in the order
+/// of their keys.
 #[derive(Drop)]
 pub struct ListTable<K: Ord, V> {
     rows: Vec<(K, V)>,
@@ -55,7 +57,7 @@ impl<K: Ord + Copy, V> ListTable<K, V> {
         &self.rows
     }
 
-    /// The columns of the row under a key, if there is one, where they lie.
+    /// The columns of the row under a key, if there is one, without a copy.
     pub fn find(&self, key: &K) -> Option<&V>
         ensures value { option_copied result ≡ find K.cmp key.now self.now }
         ensures rising { IsTable K.cmp self.now }
@@ -68,7 +70,8 @@ impl<K: Ord + Copy, V> ListTable<K, V> {
 }
 
 impl<K: Ord + Copy, V: Drop> ListTable<K, V> {
-    /// The table of these rows, handed on without a copy, if their keys rise. It takes one comparison a row.
+    /// The table of these rows, if their keys rise. Takes the list over without a copy, and makes one
+    /// comparison a row.
     pub fn of_rows(rows: Vec<(K, V)>) -> Option<Self>
         ensures value { IfSome result (λ table. table ≡ rows.items) }
         ensures rises { IsSome result → IsTable K.cmp rows.items }
@@ -81,7 +84,7 @@ impl<K: Ord + Copy, V: Drop> ListTable<K, V> {
         }
     }
 
-    /// Puts a row into the table, in the place of the one under its key if there is one. `Err` only where
+    /// Puts a row into the table, replacing the row under its key if there is one. `Err` only if
     /// memory is refused: the table is then as it was.
     pub fn put_row(&mut self, key: K, value: V) -> Result<(), AllocError>
         ensures ok { OnOk result (self.new ≡ put K.cmp key value self.old) }
@@ -96,9 +99,9 @@ impl<K: Ord + Copy, V: Drop> ListTable<K, V> {
 }
 
 impl<K: Ord + Copy, V: Copy> ListTable<K, V> {
-    /// Puts a row into the table, in the place of the one under its key if there is one. That is looked
-    /// for at this place first, which may be any; where the place is the row's, that takes one comparison.
-    /// `Err` only where memory is refused: the table is then as it was.
+    /// Puts a row into the table, replacing the row under its key if there is one. Looks for that row at
+    /// this place first, which may be any; if it is there, that takes one comparison. `Err` only if
+    /// memory is refused: the table is then as it was.
     pub fn put_near(&mut self, place: usize, key: K, value: V) -> Result<(), AllocError>
         ensures ok { OnOk result (self.new ≡ put K.cmp key value self.old) }
         ensures err { OnErr result (self.new ≡ self.old) }
@@ -110,7 +113,7 @@ impl<K: Ord + Copy, V: Copy> ListTable<K, V> {
         self.put_row(key, value)
     }
 
-    /// Whether the row at a place is that of a key.
+    /// Whether the row at a place has this key.
     fn is_at(&self, place: usize, key: &K) -> bool
         ensures inside { result ≡ true → place < length self.now }
         ensures same { result ≡ true
@@ -130,15 +133,15 @@ impl<K: Ord + Copy, V: Copy> ListTable<K, V> {
         self.find(key).copied()
     }
 
-    /// How many rows have keys below a key, which is the place of its row if there is one.
+    /// How many rows have lower keys than this one. If the key has a row, this is its place.
     pub fn count_below(&self, key: &K) -> usize
         ensures { IsPlaceOf K.cmp key.now self.now result }
     {
         self.rows.partition_point(|row| row.0.cmp(key).is_lt())
     }
 
-    /// The columns of the row under a key, if there is one. It is looked for at this place first, which may
-    /// be any; where the place is the row's, that takes one comparison.
+    /// The columns of the row under a key, if there is one. Looks for the row at this place first, which
+    /// may be any; if it is there, that takes one comparison.
     pub fn get_near(&self, place: usize, key: &K) -> Option<V>
         ensures { result ≡ find K.cmp key.now self.now }
     {
@@ -148,8 +151,8 @@ impl<K: Ord + Copy, V: Copy> ListTable<K, V> {
         self.get(key)
     }
 
-    /// A new table: this one, with rows in the place of those of their keys. Of several rows of one key
-    /// the last counts. `Err` only where memory is refused.
+    /// A new table: this one with rows put into it, each replacing the row of its key. Of several rows of
+    /// one key the last counts. `Err` only if memory is refused.
     pub fn with_rows(&self, alloc: Global, rows: Vec<(K, V)>) -> Result<ListTable<K, V>, AllocError>
         ensures { IfOk result (λ table. table ≡ put_all K.cmp rows.items self.now) }
     {
@@ -157,9 +160,43 @@ impl<K: Ord + Copy, V: Copy> ListTable<K, V> {
         let rows = merged(alloc, &self.rows, &sorted)?;
         Ok(ListTable { rows })
     }
+
+    /// Whether these rows come behind those of the table: their keys rise, and all are above those of the
+    /// table. Makes one comparison a row.
+    pub fn come_behind(&self, rows: &[(K, V)]) -> bool
+        ensures { result ≡ is_sorted K.cmp (self.now ++ rows.now) }
+    {
+        match self.rows.last() {
+            Some(last) => are_rising_above(&last.0, rows),
+            None => are_rising(rows),
+        }
+    }
+
+    /// Moves rows that come behind those of the table to its end. An empty table takes their list over.
+    /// `Err` only if memory is refused: the table is then as it was.
+    pub fn put_behind(&mut self, rows: Vec<(K, V)>) -> Result<(), AllocError>
+        requires behind { IsTable K.cmp (self.old ++ rows.items) }
+        ensures ok { OnOk result (self.new ≡ put_all K.cmp rows.items self.old) }
+        ensures at_end { OnOk result (self.new ≡ self.old ++ rows.items) }
+        ensures err { OnErr result (self.new ≡ self.old) }
+    {
+        if self.rows.is_empty() {
+            self.rows = rows;
+            return Ok(());
+        }
+        let mut rows = rows;
+        self.rows.append(&mut rows)
+    }
+
+    /// Keeps only the first `length` rows. Takes no memory, and can't fail.
+    pub fn truncate(&mut self, length: usize)
+        ensures { self.new ≡ take length self.old }
+    {
+        self.rows.truncate(length);
+    }
 }
 
-/// Whether the keys of rows rise, so that none stands twice.
+/// Whether the keys of rows rise, so that no key occurs twice.
 fn are_rising<K: Ord, V>(rows: &[(K, V)]) -> bool
     ensures { result ≡ is_sorted K.cmp rows.now }
 {
@@ -171,18 +208,31 @@ fn are_rising<K: Ord, V>(rows: &[(K, V)]) -> bool
     true
 }
 
-/// Rows in the order of their keys, those of one key in the order in which they came.
+/// Whether the keys of rows rise, and all are above a key.
+fn are_rising_above<K: Ord, V>(key: &K, rows: &[(K, V)]) -> bool
+    ensures { result ≡ (below_all K.cmp key.now rows.now && is_sorted K.cmp rows.now) }
+{
+    match rows.first() {
+        Some(first) => key.cmp(&first.0).is_lt() && are_rising(rows),
+        None => true,
+    }
+}
+
+/// The rows in the order of their keys. Rows of one key stay in the order in which they came.
 fn in_order_of_keys<K: Ord + Copy, V: Copy>(rows: Vec<(K, V)>) -> Result<Vec<(K, V)>, AllocError>
     ensures sorted { IfOk result (λ sorted. IsSortedByKey (λ row. row.0) K.cmp sorted.items) }
     ensures stable { IfOk result (λ sorted.
         IsStableByKey (λ row. row.0) K.cmp rows.items sorted.items) }
 {
+    if are_rising(&rows) {
+        return Ok(rows);
+    }
     let mut sorted = rows;
     sorted.sort_by_key(|row| row.0)?;
     Ok(sorted)
 }
 
-/// The rows of a table with rows put into it that stand in the order of their keys.
+/// The rows of a table after rows are put into it. These are in the order of their keys.
 fn merged<K: Ord + Copy, V: Copy>(
     alloc: Global,
     table: &[(K, V)],
@@ -221,7 +271,7 @@ fn put_next<'a, K: Ord + Copy, V: Copy>(
     Ok(high)
 }
 
-/// How many rows stand before the first whose key is above this one.
+/// How many rows come before the first whose key is above this one.
 fn count_up_to<K: Ord + Copy, V: Copy>(rows: &[(K, V)], key: &K) -> usize
     ensures count { result ≡ prefix_len (is_up_to K.cmp key.now) rows.now }
     ensures within { result ≤ length rows.now }

@@ -46,7 +46,7 @@ impl<K: Ord + Copy, V: Copy> TreeTable<K, V> {
         self.rows.get(key).copied()
     }
 
-    /// Puts a row into the table, in the place of the one under its key if there is one. `Err` only where
+    /// Puts a row into the table, replacing the row under its key if there is one. `Err` only if
     /// memory is refused: the table is then as it was.
     pub fn put(&mut self, key: K, value: V) -> Result<(), AllocError>
         ensures ok { OnOk result (self.new ≡ put K.cmp key value self.old) }
@@ -56,8 +56,8 @@ impl<K: Ord + Copy, V: Copy> TreeTable<K, V> {
         Ok(())
     }
 
-    /// Puts two rows into the table, one after the other, each in the place of the one under its key if
-    /// there is one, or neither. `Err` only where memory is refused: the table is then as it was.
+    /// Puts two rows into the table, one after the other, each replacing the row under its key if there
+    /// is one. `Err` only if memory is refused: the table is then as it was.
     pub fn put_two(&mut self, first: (K, V), second: (K, V)) -> Result<(), AllocError>
         ensures ok { OnOk result (self.new ≡ put_all K.cmp (first ∷ second ∷ []) self.old) }
         ensures err { OnErr result (self.new ≡ self.old) }
@@ -65,7 +65,7 @@ impl<K: Ord + Copy, V: Copy> TreeTable<K, V> {
         put_two_into(&mut self.rows, first, second)
     }
 
-    /// The rows with their keys, in the order of the keys. `Err` only where memory is refused.
+    /// The rows with their keys, in the order of the keys. `Err` only if memory is refused.
     pub fn rows(&self, alloc: Global) -> Result<Vec<(K, V)>, AllocError>
         ensures { IfOk result (λ rows. rows.items ≡ self.now) }
     {
@@ -77,8 +77,8 @@ impl<K: Ord + Copy, V: Copy> TreeTable<K, V> {
     }
 }
 
-/// Puts a row into each of two tables, in the place of the one under its key if there is one, or into
-/// neither. `Err` only where memory is refused: both tables are then as they were.
+/// Puts a row into each of two tables, replacing the row under its key if there is one. `Err` only if
+/// memory is refused: both tables are then as they were.
 pub fn put_both<K: Ord + Copy, V: Copy, L: Ord + Copy, W: Copy>(
     first: &mut TreeTable<K, V>,
     row: (K, V),
@@ -93,7 +93,7 @@ pub fn put_both<K: Ord + Copy, V: Copy, L: Ord + Copy, W: Copy>(
     put_into_both(&mut first.rows, row, &mut second.rows, second_row)
 }
 
-/// Puts a row into each of two trees, or into neither where memory is refused.
+/// Puts a row into each of two trees. If memory is refused, both are left as they were.
 fn put_into_both<K: Ord + Copy, V: Copy, L: Ord + Copy, W: Copy>(
     first: &mut BTreeMap<K, V>,
     row: (K, V),
@@ -113,7 +113,7 @@ fn put_into_both<K: Ord + Copy, V: Copy, L: Ord + Copy, W: Copy>(
     Ok(())
 }
 
-/// Puts two rows into a tree, one after the other, or neither where memory is refused.
+/// Puts two rows into a tree, one after the other. If memory is refused, it is left as it was.
 fn put_two_into<K: Ord + Copy, V: Copy>(
     rows: &mut BTreeMap<K, V>,
     first: (K, V),
@@ -130,7 +130,7 @@ fn put_two_into<K: Ord + Copy, V: Copy>(
     Ok(())
 }
 
-/// Puts back what stood under a key, or takes the key out where nothing did.
+/// Restores the row that a key had before, or takes the key out if it had none.
 fn put_back<K: Ord + Copy, V: Copy>(map: &mut BTreeMap<K, V>, key: &K, before: Option<V>)
     requires { IsSome before → IsSome (get K.cmp map.old key.now) }
     ensures { PutsBack K.cmp key.now before map.old.entries map.new.entries }

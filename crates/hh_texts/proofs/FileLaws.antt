@@ -1,4 +1,4 @@
--- The rows that a file of a kind reads as are rows of the kind.
+-- The rows that are read from a file of a kind are rows of that kind.
 use Rattle.std.proofs.Common.{◌≡◌, ℕ, ◌+◌, ◌-◌, ◌≤◌, Vec, Bool, true, false, cond, List, [], ◌∷◌, length, Option, Some, None, Result, Ok, Err, refl, subst, arith, lit≤, ltb, eqb}
 use Rattle.std.specs.Prelude.{ℤ, find, pos, int_le, nat_le, nat_lt, slice_index, take, drop, unsigned_abs, option_map, option_and_then, IfOk, IsTrue}
 use Rattle.std.specs.List.{AllByRecursion}
@@ -34,7 +34,7 @@ use Rattle.hh_texts.specs.Files.{contract_row, file_rows, kind_forms, kind_row, 
 use Rattle.hh_texts.specs.Records.{records_of}
 use Rattle.hh_texts.specs.Rows.{FileForm, at_row, form_under, row_with, rows_by, rows_from, rows_of, rows_under, same_fields}
 
--- the value of what is tested, where it passes
+-- the value of a test that passes
 kept_by : {A : Type 0} (b : Bool) (x y : A) → cond b (Some x) None ≡ Some y → (b ≡ true) × (x ≡ y)
 kept_by true x y e = (refl, same_Some x y e)
 kept_by false x y e = cc e
@@ -128,7 +128,7 @@ read_as x = Ok x
 made : (P : Row → Type 0) (x r : Row) → read_as x ≡ read_as r → P x → P r
 made P x r e holds = let same : x ≡ r = cc e in subst P same holds
 
--- What holds of each row that is made of columns that read holds of the row that a record reads as: of three columns,
+-- If each row made of columns that read has a property, so has the row that a record reads as: for three columns,
 three_read : {A B C : Type 0} (P : Row → Type 0) (a : Option A) (b : Option B) (c : Option C) (make : A → B → C → Row)
     → ((x : A) (y : B) (z : C) → a ≡ Some x → b ≡ Some y → c ≡ Some z → P (make x y z))
     → (r : Row) → (in_column 1 a >>= λ x. in_column 2 b >>= λ y. in_column 3 c >>= λ z. read_as (make x y z)) ≡ Ok r → P r
@@ -137,7 +137,7 @@ three_read P (Some x) None c make holds r e = cc e
 three_read P (Some x) (Some y) None make holds r e = cc e
 three_read P (Some x) (Some y) (Some z) make holds r e = made P (make x y z) r e (holds x y z refl refl refl)
 
--- of four, of which the third goes by the second,
+-- for four, of which the third is read by the value of the second,
 four_read : {A B C D : Type 0} (P : Row → Type 0) (a : Option A) (b : Option B) (c : B → Option C) (d : Option D) (make : A → C → D → Row)
     → ((x : A) (y : B) (z : C) (u : D) → a ≡ Some x → b ≡ Some y → c y ≡ Some z → d ≡ Some u → P (make x z u))
     → (r : Row) → (in_column 1 a >>= λ x. in_column 2 b >>= λ y. in_column 3 (c y) >>= λ z. in_column 4 d >>= λ u. read_as (make x z u)) ≡ Ok r → P r
@@ -153,7 +153,7 @@ four_read P (Some x) (Some y) c d make holds r e = third (c y) refl e
         fourth None is_none k = cc k
         fourth (Some u) is_last k = made P (make x z u) r k (holds x y z u refl refl is is_last)
 
--- and of six, of which the sixth goes by the fifth.
+-- and for six, of which the sixth is read by the value of the fifth.
 six_read : {A B C D E F : Type 0} (P : Row → Type 0) (a : Option A) (b : Option B) (c : Option C) (d : Option D) (e : Option E) (f : E → Option F)
     (make : A → B → C → D → E → F → Row)
     → ((x : A) (y : B) (z : C) (u : D) (v : E) (w : F) → a ≡ Some x → b ≡ Some y → c ≡ Some z → d ≡ Some u → e ≡ Some v → f v ≡ Some w → P (make x y z u v w))
@@ -272,11 +272,11 @@ row_reads kind.Prices = price_reads
 row_reads kind.Contracts = contract_reads
 row_reads kind.Reallocations = reallocation_reads
 
--- rows from number n on, of which this holds, are not too many
+-- the rows from number n on have the property, and are not too many
 abbrev AreFew : {X : Type 0} → (X → Type 0) → ℕ → List X → Type 0
 AreFew P n xs = (length xs + n ≤ most_rows + 1) × AllByRecursion P xs
 
--- What holds of each row that a record reads as holds of the rows of records, which are not too many.
+-- If each row that a record reads as has a property, so have the rows of records, and they are not too many.
 module _ {X : Type 0} (P : X → Type 0) (row_of : List (List ℕ) → Result X ℕ) (reads : (fields : List (List ℕ)) (x : X) → row_of fields ≡ Ok x → P x) where
   one_more : (n : ℕ) (front : Result X ℕ) (behind : Result (List X) Fault) (xs : List X) → ((x : X) → front ≡ Ok x → P x)
       → ((ys : List X) → behind ≡ Ok ys → AreFew P (n + 1) ys) → row_with (at_row n front) behind ≡ Ok xs → AreFew P n xs
@@ -287,7 +287,7 @@ module _ {X : Type 0} (P : X → Type 0) (row_of : List (List ℕ) → Result X 
       let same : x ∷ ys ≡ xs = cc e in
       subst (AreFew P n) same (omega arith, (first x refl, rest.1))
 
-  -- what the records behind one come to, which is not past the last row
+  -- the rows of the records after a number, which is not past the last row
   abbrev Behind : ℕ → ℕ → List (List (List ℕ)) → Type 0
   Behind columns n records = n ≤ most_rows → (ys : List X) → rows_from columns row_of (n + 1) records ≡ Ok ys → AreFew P (n + 1) ys
 
@@ -307,14 +307,14 @@ module _ {X : Type 0} (P : X → Type 0) (row_of : List (List ℕ) → Result X 
       past others true is h = cc h
       past others false is h = of_columns others (eqb (length fields) columns) (ltb-false most_rows n is) h
 
--- What holds of each row that a record of each of these forms reads as holds of the rows of a file of one of them, which are not too
--- many.
+-- If each row that a record of each of these forms reads as has a property, so have the rows of a file of one of the forms, and they
+-- are not too many.
 module _ {X : Type 0} (P : X → Type 0) where
-  -- it holds of each row that a record of a form reads as
+  -- each row that a record of a form reads as has the property
   abbrev Reads : FileForm X → Type 0
   Reads form = (fields : List (List ℕ)) (x : X) → form.row fields ≡ Ok x → P x
 
-  -- of a form that is found among several, as of each of them
+  -- a form that is found among several has it if each of them has it
   found_reads : (test : FileForm X → Bool) (forms : List (FileForm X)) (form : FileForm X) → AllByRecursion Reads forms → find test forms ≡ Some form → Reads form
   found_reads test [] form all e = cc e
   found_reads test (f ∷ forms) form all e =
@@ -349,7 +349,7 @@ file_reads k body rows e =
     let read = all_read (IsRowOf k) (kind_forms k) (row_reads k, tt) body rows e in
     record { small = read.0; few = read.1; each = read.2 }
 
--- so it is of what reading it gives
+-- this holds for what reading the file gives
 pub read_fits : (k : FileKind) (body : List ℕ) (result : Result (Vec Row Global) Fault) → Gives faults (λ (rows : Vec Row Global). rows.items) result (file_rows k body)
     → IfOk result (λ (rows : Vec Row Global). IsFileOf k body rows.items)
 read_fits k body (Err fault) gives = tt

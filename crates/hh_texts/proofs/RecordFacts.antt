@@ -1,4 +1,4 @@
--- One record after the other.
+-- The records of a text, one after another.
 use Rattle.std.proofs.Common.{◌≡◌, ℕ, zero, suc, ◌+◌, ◌<◌, ◌≤◌, Bool, true, false, cond, List, [], ◌∷◌, ◌++◌, length, Option, Some, None, MatchBool, IsSome, refl, sym, ap, arith, add-one, Bor, unwrap_or}
 use Rattle.std.proofs.lemmas.Bool.Decides.{nat_tests}
 use Rattle.csv.specs.Machine.{Read, next_record, step, is_end, ends_at_end, fields_after, field_after}
@@ -8,14 +8,14 @@ use Rattle.csv.specs.declared.parser.State.TheVariants as st
 use Rattle.csv.specs.declared.reader.Reader.{Reader}
 use Rattle.hh_texts.specs.Records.{records_left, left_of, unread, IsReading}
 
--- 1 in the middle of a record, where the end of the text ends it
+-- 1 in the middle of a record, which the end of the text ends
 abbrev open_ends : State → ℕ
 open_ends s = cond (ends_at_end s) 1 0
 
 open_ends-le : (s : State) → open_ends s ≤ 1
 open_ends-le s = elim (ends_at_end s) as (λ b. cond b 1 0 ≤ 1) [ true ↦ omega arith | false ↦ omega arith ]
 
--- the byte that ends a record leaves none open
+-- after a byte that ends a record, no record is open
 quiet : (s : State) (c : ℕ) → is_end (step default_config s c).1 ≡ true → open_ends (step default_config s c).0 ≡ 0
 quiet st.StartRecord c h = grind (arith, nat_tests)
 quiet st.StartField c h = grind (arith, nat_tests)
@@ -60,7 +60,7 @@ records_from-spent (suc n) s [] h = go (ends_at_end s) h
     go true e = absurd (omega arith)
     go false e = refl
 
--- turns past what the text needs find nothing more
+-- more turns than the text needs find nothing more
 records_from-turns : (n m : ℕ) (s : State) (xs : List ℕ) → length xs + open_ends s ≤ n → length xs + open_ends s ≤ m
     → records_from default_config n s xs ≡ records_from default_config m s xs
 unfolding records_from
@@ -89,7 +89,7 @@ pub records_left-end : (s : State) (xs : List ℕ) → next_record default_confi
 unfolding records_from
 records_left-end s xs h = rw (add-one, h) refl
 
--- what a read shows, in the words of the records that are left
+-- a read shows the first of the records that are left
 left-read : (cfg : _) (s s2 : State) (old new : Option (List ℕ)) (found : Bool) (fields : List (List ℕ)) → cfg ≡ default_config → IsSome old → ReadsNext cfg s old new found fields s2
     → MatchBool found (records_left s (unwrap_or old []) ≡ fields ∷ records_left s2 (unwrap_or new [])) (records_left s (unwrap_or old []) ≡ [])
 left-read cfg s s2 None new found fields e known r = cc known

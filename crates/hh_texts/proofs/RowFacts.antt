@@ -1,4 +1,4 @@
--- Row after row.
+-- The rows of a file, one after another.
 use Rattle.std.proofs.Common.{◌≡◌, ℕ, zero, suc, ◌+◌, ◌<◌, ◌≤◌, Bool, true, false, cond, List, [], ◌∷◌, ◌++◌, length, Some, None, drop, Result, Ok, Err, ◌≢◌, refl, sym, ap, ◌∙◌, arith, append-nil, append_assoc, ltb, eqb, nat_eq, not, ◌&&◌, map, get_or, Bor, add-one}
 use Rattle.std.specs.Prelude.{Option, find, option_map}
 use Rattle.std.proofs.lemmas.Bool.Decides.{nat_tests}
@@ -20,7 +20,7 @@ behind-more : {Row : Type 0} (front : List Row) (row : Row) (rows : Result (List
 behind-more front row (Ok rows) = ap Ok (append_assoc front (row ∷ []) rows)
 behind-more front row (Err e) = refl
 
--- What all the rows are, from the rows in front and the records that are left.
+-- All the rows, from the rows in front and the records that are left.
 pub all-end : {Row : Type 0} (columns n : ℕ) (row_of : List (List ℕ) → Result Row ℕ) (front : List Row) (left : List (List (List ℕ))) (all : Result (List Row) Fault)
     → behind front (rows_from columns row_of n left) ≡ all → left ≡ [] → all ≡ Ok front
 unfolding rows_from
@@ -62,7 +62,7 @@ all-row columns n row_of front row left rest fields all h e few same read =
 pub names-columns : (header : List (Bor (List ℕ))) (names : List (List ℕ)) → map (λ name. name.now) header ≡ names → length names ≡ length header
 names-columns header names e = ap length (sym e) ∙ length-map header (λ name. name.now)
 
--- A record against the names, field by field.
+-- A record compared with the names, field by field.
 pub same_fields-drop : (fields : List (List ℕ)) (names : List (Bor (List ℕ))) (i : ℕ) (field name : List ℕ) (d : Bor (List ℕ)) → i < length names → field_at fields i ≡ Some field → name ≡ (get_or names i d).now
     → same_fields (drop i fields) (drop i (map (λ name. name.now) names))
     ≡ (pointwise nat_eq field name && same_fields (drop (i + 1) fields) (drop (i + 1) (map (λ name. name.now) names)))
@@ -78,7 +78,7 @@ field_at-none [] i lt h = omega arith
 field_at-none (f ∷ fs) zero lt h = cc h
 field_at-none (f ∷ fs) (suc i) lt h = field_at-none fs i (omega arith) h
 
--- a file by its records, and those by the form that has the header
+-- the rows of a file, by its records and the form that has its header
 pub rows_of-records : {Row : Type 0} (forms : List (FileForm Row)) (bytes : List ℕ) (records : List (List (List ℕ))) → length bytes ≤ 1048576 → records ≡ records_of bytes
     → rows_of forms bytes ≡ rows_under forms records
 unfolding rows_of
@@ -95,12 +95,12 @@ pub rows_under-form : {Row : Type 0} (forms : List (FileForm Row)) (fields : Lis
 unfolding rows_under
 rows_under-form forms fields records rest form e h = rw e (ap (λ o. rows_by o rest) (sym h))
 
--- a map after another
+-- a map after another map
 pub option_map-twice : {X Y Z : Type 0} (f : Y → Z) (h : X → Y) (o : Option X) → option_map (λ x. f (h x)) o ≡ option_map f (option_map h o)
 option_map-twice f h None = refl
 option_map-twice f h (Some x) = refl
 
--- the first of what a map gives
+-- the first element that passes after a map
 pub find-map : {X Y : Type 0} (test : Y → Bool) (f : X → Y) (xs : List X) → find test (map f xs) ≡ option_map f (find (λ x. test (f x)) xs)
 find-map test f [] = refl
 find-map test f (x ∷ xs) = elim (test (f x)) as (λ b. cond b (Some (f x)) (find test (map f xs)) ≡ option_map f (cond b (Some x) (find (λ y. test (f y)) xs))) [
@@ -108,7 +108,7 @@ find-map test f (x ∷ xs) = elim (test (f x)) as (λ b. cond b (Some (f x)) (fi
   | false ↦ find-map test f xs
 ]
 
--- a field that is not its name decides, and one that is leaves it to the rest
+-- a field that differs from its name decides; after one that doesn't, the rest decides
 pub same_fields-differ : (fields : List (List ℕ)) (names : List (Bor (List ℕ))) (i : ℕ) (field name : List ℕ) (d : Bor (List ℕ)) → i < length names → field_at fields i ≡ Some field → name ≡ (get_or names i d).now
     → true ≡ not (pointwise nat_eq field name) → same_fields (drop i fields) (drop i (map (λ n. n.now) names)) ≡ false
 same_fields-differ fields names i field name d lt h e other = same_fields-drop fields names i field name d lt h e ∙ go (pointwise nat_eq field name) other

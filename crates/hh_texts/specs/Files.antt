@@ -23,7 +23,7 @@ kind_header kind.Prices = codes "date" ∷ codes "period" ∷ codes "price" ∷ 
 kind_header kind.Contracts = codes "reference" ∷ codes "seller" ∷ codes "buyer" ∷ codes "date" ∷ codes "period" ∷ codes "mwh" ∷ []
 kind_header kind.Reallocations = codes "unit" ∷ codes "account" ∷ codes "date" ∷ codes "period" ∷ codes "percent" ∷ codes "fixed_mwh" ∷ []
 
--- the row that a record of parties reads as, or the first column that doesn't read
+-- the row that a record of parties reads as, or the first column that cannot be read
 unfoldable pub party_row : List (List ℕ) → Result Row ℕ
 party_row fields = do
   party ← column fields 1 party_value
@@ -84,7 +84,7 @@ reallocation_row fields = do
   fixed ← column fields 6 volume_value
   Ok (row.Reallocation (record { key = record { unit_period = record { unit = unit; at = record { date = date; period = period } }; account = account }; reallocation = record { percent = percent; fixed = fixed } }))
 
--- the row that a record of a kind reads as, or the first column that doesn't read
+-- the row that a record of a kind reads as, or the first column that cannot be read
 abbrev pub kind_row : FileKind → List (List ℕ) → Result Row ℕ
 kind_row kind.Parties = party_row
 kind_row kind.Units = unit_row

@@ -13,7 +13,7 @@ use Rattle.hh_texts.specs.Rows.{FileForm, rows_of}
 abbrev pub period_meter_header : List (List ℕ)
 period_meter_header = codes "unit" ∷ codes "account" ∷ codes "metered_mwh" ∷ codes "tlm" ∷ codes "balancing_mwh" ∷ []
 
--- the row that a record of meter volumes reads as, or the first column that doesn't read
+-- the row that a record of meter volumes reads as, or the first column that cannot be read
 unfoldable pub period_meter_row : List (List ℕ) → Result PeriodMeterRow ℕ
 period_meter_row fields = do
   unit ← column fields 1 unit_value
@@ -35,7 +35,7 @@ period_meter_rows = rows_of (period_meter_form ∷ [])
 abbrev pub period_contract_header : List (List ℕ)
 period_contract_header = codes "reference" ∷ codes "seller" ∷ codes "buyer" ∷ codes "mwh" ∷ []
 
--- the row that a record of contract volumes reads as, or the first column that doesn't read
+-- the row that a record of contract volumes reads as, or the first column that cannot be read
 unfoldable pub period_contract_row : List (List ℕ) → Result PeriodContractRow ℕ
 period_contract_row fields = do
   reference ← column fields 1 reference_value

@@ -11,7 +11,7 @@ use Rattle.hh_texts.specs.Records.{records_of}
 abbrev pub same_fields : List (List ℕ) → List (List ℕ) → Bool
 same_fields a b = pointwise (pointwise nat_eq) a b
 
--- the row that a record reads as, or the fault at its first column that doesn't read
+-- the row that a record reads as, or the fault at its first column that cannot be read
 abbrev pub at_row : {Row : Type 0} → ℕ → Result Row ℕ → Result Row Fault
 at_row number (Ok row) = Ok row
 at_row number (Err column) = Err (field_fault number column)
@@ -22,7 +22,7 @@ row_with (Err fault) rows = Err fault
 row_with (Ok row) (Err fault) = Err fault
 row_with (Ok row) (Ok rows) = Ok (row ∷ rows)
 
--- the rows of records that are numbered from this number on, each of so many columns
+-- the rows of records, numbered from this number on; each record has so many columns
 unfoldable pub rows_from : {Row : Type 0} → ℕ → (List (List ℕ) → Result Row ℕ) → ℕ → List (List (List ℕ)) → Result (List Row) Fault
 rows_from columns row_of number [] = Ok []
 rows_from columns row_of number (fields ∷ records) =
@@ -30,7 +30,7 @@ rows_from columns row_of number (fields ∷ records) =
     else if length fields == columns then row_with (at_row number (row_of fields)) (rows_from columns row_of (number + 1) records)
     else Err (row_fault BadRecord number)
 
--- A form of file: the columns that its header names, and the row that a record under it reads as, or the first column that doesn't
+-- A form of file: the columns that its header names, and the row that a record under it reads as, or the first column that cannot be
 -- read.
 pub record FileForm (Row : Type 0) : Type 0 where
   pub header : List (List ℕ)
@@ -40,12 +40,12 @@ pub record FileForm (Row : Type 0) : Type 0 where
 abbrev pub form_under : {Row : Type 0} → List (List ℕ) → List (FileForm Row) → Option (FileForm Row)
 form_under first forms = find (λ form. same_fields first form.header) forms
 
--- the rows of the records under a header, by the form that has it
+-- the rows of the records under a header, by the form that has this header
 abbrev pub rows_by : {Row : Type 0} → Option (FileForm Row) → List (List (List ℕ)) → Result (List Row) Fault
 rows_by None records = Err (plain_fault BadHeader)
 rows_by (Some form) records = rows_from (length form.header) form.row 1 records
 
--- the rows of records, the first of which is to be the header of one of these forms
+-- the rows of records, the first of which must be the header of one of these forms
 unfoldable pub rows_under : {Row : Type 0} → List (FileForm Row) → List (List (List ℕ)) → Result (List Row) Fault
 rows_under forms [] = Err (plain_fault BadHeader)
 rows_under forms (first ∷ records) = rows_by (form_under first forms) records

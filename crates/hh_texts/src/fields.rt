@@ -6,7 +6,7 @@ ghost use Rattle.hh_texts.specs.Fields.{field};
 
 use csv::ByteRecord;
 
-/// The field at a place, from 0, and nothing past the last.
+/// The field at a place, counted from 0, or an empty text past the last field.
 pub fn field_in(fields: &ByteRecord, place: usize) -> &[u8]
     ensures { result.now ≡ field (fields_of fields.now) place }
 {

@@ -63,7 +63,7 @@ impl Form for FileKind {
     }
 }
 
-/// The row of a record of parties, or the first column that doesn't read.
+/// The row of a record of parties, or the first column that cannot be read.
 #[tactic(auto, unfolding(crate::specs::Files::party_row))]
 fn read_party(fields: &ByteRecord) -> Result<Row, u32>
     ensures { result ≡ party_row (fields_of fields.now) }
@@ -79,7 +79,7 @@ fn read_party(fields: &ByteRecord) -> Result<Row, u32>
     }))
 }
 
-/// The row of a record of units, or the first column that doesn't read.
+/// The row of a record of units, or the first column that cannot be read.
 #[tactic(auto, unfolding(crate::specs::Files::unit_row))]
 fn read_unit(fields: &ByteRecord) -> Result<Row, u32>
     ensures { result ≡ unit_row (fields_of fields.now) }
@@ -98,7 +98,7 @@ fn read_unit(fields: &ByteRecord) -> Result<Row, u32>
     Ok(Row::Unit(UnitRow { unit, registration }))
 }
 
-/// The row of a record of meter volumes, or the first column that doesn't read.
+/// The row of a record of meter volumes, or the first column that cannot be read.
 #[tactic(auto, unfolding(crate::specs::Files::meter_row))]
 fn read_meter(fields: &ByteRecord) -> Result<Row, u32>
     ensures { result ≡ meter_row (fields_of fields.now) }
@@ -117,7 +117,7 @@ fn read_meter(fields: &ByteRecord) -> Result<Row, u32>
     }))
 }
 
-/// The row of a record of prices, or the first column that doesn't read.
+/// The row of a record of prices, or the first column that cannot be read.
 #[tactic(auto, unfolding(crate::specs::Files::price_row))]
 fn read_price(fields: &ByteRecord) -> Result<Row, u32>
     ensures { result ≡ price_row (fields_of fields.now) }
@@ -129,7 +129,7 @@ fn read_price(fields: &ByteRecord) -> Result<Row, u32>
     Ok(Row::Price(PriceRow { at, price }))
 }
 
-/// The row of a record of contracts, or the first column that doesn't read.
+/// The row of a record of contracts, or the first column that cannot be read.
 #[tactic(auto, unfolding(crate::specs::Files::contract_row))]
 fn read_contract(fields: &ByteRecord) -> Result<Row, u32>
     ensures { result ≡ contract_row (fields_of fields.now) }
@@ -149,7 +149,7 @@ fn read_contract(fields: &ByteRecord) -> Result<Row, u32>
     }))
 }
 
-/// The row of a record of reallocations, or the first column that doesn't read.
+/// The row of a record of reallocations, or the first column that cannot be read.
 #[tactic(auto, unfolding(crate::specs::Files::reallocation_row))]
 fn read_reallocation(fields: &ByteRecord) -> Result<Row, u32>
     ensures { result ≡ reallocation_row (fields_of fields.now) }
@@ -174,10 +174,10 @@ fn read_reallocation(fields: &ByteRecord) -> Result<Row, u32>
 
 /// The rows of a file of a kind, or the first fault in it, in the order of `read_rows`.
 ///
-/// A field is in the grammar and range of its column (profile); an empty `to` is 2099-12-31, and a
-/// `to` before `from` is a fault of the column `to`. Of each row only its own fields are judged,
-/// not what is registered or in force. So the rows of a file that reads are rows of its kind, each field
-/// in its grammar and range, and there are no more rows and bytes than there may be.
+/// A field must be in the grammar and range of its column (profile). An empty `to` is 2099-12-31. A
+/// `to` before `from` is a fault of the column `to`. Only the fields of each row are judged, not what is
+/// registered or in force. So the rows of a file that can be read are rows of its kind, each field is in
+/// its grammar and range, and there are no more rows and bytes than there may be.
 pub fn read_file(alloc: Global, kind: FileKind, bytes: &[u8]) -> Result<Vec<Row>, Fault>
     ensures rows { Gives faults (λ rows. rows.items) result (file_rows kind bytes.now) }
     ensures fits { IfOk result (λ rows. IsFileOf kind bytes.now rows.items) }

@@ -18,6 +18,9 @@ pub const MOST_BYTES: usize = 1_048_576;
 /// The most rows that a file may have, without its header.
 pub const MOST_ROWS: u32 = 20_000;
 
+/// How many bytes a row of a file is likely to have at least. Room for the rows is made by this.
+const LIKELY_BYTES: usize = 32;
+
 /// A form of file: its header, and the row that a record under it reads as.
 pub trait Form {
     type Row: Drop;
@@ -25,20 +28,20 @@ pub trait Form {
     /// What contracts see of it.
     ghost form: { Self → FileForm Self.Row };
 
-    /// The names of the columns, of which the first record consists.
+    /// The names of the columns, which are the fields of the first record.
     fn header(&self) -> &'static [&'static str]
         ensures { map (λ name. name.now) result.now ≡ (form self.now).header };
 
-    /// The row that a record of as many fields reads as, or the first column, from 1, that
-    /// doesn't read.
+    /// The row that a record of as many fields reads as, or the first column, counted from 1, that
+    /// cannot be read.
     fn read_row(&self, fields: &ByteRecord) -> Result<Self::Row, u32>
         requires { length (fields_of fields.now) ≡ length (form self.now).header }
         ensures { result ≡ (form self.now).row (fields_of fields.now) };
 }
 
-/// The rows of a file of one of these forms, the first whose header the file has, or the first fault
-/// in it: `FileTooLarge`, then `BadHeader`, then by row, from 1 without the header, `TooManyRows`,
-/// `BadRecord` and `BadField`. `Memory` may come in the place of any answer.
+/// The rows of a file, by the first of these forms whose header the file has, or the first fault in it.
+/// `FileTooLarge` is tested first, then `BadHeader`, and then by row, from 1 without the header,
+/// `TooManyRows`, `BadRecord` and `BadField`. `Memory` may be answered instead of anything else.
 pub fn read_rows<F: Form>(alloc: Global, forms: &[F], bytes: &[u8]) -> Result<Vec<F::Row>, Fault>
     ensures rows { Gives faults (λ rows. rows.items) result
         (rows_of (map F.form forms.now) bytes.now) }
@@ -53,9 +56,15 @@ pub fn read_rows<F: Form>(alloc: Global, forms: &[F], bytes: &[u8]) -> Result<Ve
         return Err(Fault::of(Refusal::BadHeader));
     }
     match form_under(&header, forms) {
-        Some(form) => rows_under(alloc, form, &mut reader),
+        Some(form) => rows_under(alloc, form, likely_rows(bytes), &mut reader),
         None => Err(Fault::of(Refusal::BadHeader)),
     }
+}
+
+/// For how many rows room is made at first, by the bytes of a file. If the file has other rows, this only
+/// costs time or memory.
+fn likely_rows(bytes: &[u8]) -> usize {
+    (bytes.len() / LIKELY_BYTES).min(MOST_ROWS as usize)
 }
 
 /// The first of these forms whose header is this record.
@@ -84,10 +93,12 @@ fn has_fields(fields: &ByteRecord, names: &[&str]) -> bool
     true
 }
 
-/// The rows of the records that are left to a reader, numbered from 1.
+/// The rows of the records that a reader has left, numbered from 1. Room for `room` of them is made at
+/// first.
 fn rows_under<F: Form>(
     alloc: Global,
     form: &F,
+    room: usize,
     reader: &mut Reader<&[u8]>,
 ) -> Result<Vec<F::Row>, Fault>
     requires { IsReading reader.old }
@@ -97,7 +108,7 @@ fn rows_under<F: Form>(
     ensures few { IfOk result (λ rows. length rows.items ≤ most_rows) }
 {
     let columns = form.header().len();
-    let mut rows = Vec::new(alloc);
+    let mut rows = Vec::with_capacity(alloc, room)?;
     let mut fields = ByteRecord::new(alloc);
     for row in 1..=MOST_ROWS {
         if !next_record(reader, &mut fields)? {

@@ -1,4 +1,4 @@
-//! The files of the market as rows: CSV under a header, each row of one form.
+//! The files of the market as rows: CSV with a header, and rows of one form.
 #![tactic(auto)]
 
 mod fields;

@@ -17,9 +17,9 @@ use std::alloc::Global;
 pub struct PeriodMeterRow {
     /// The BM Unit.
     pub unit: UnitId,
-    /// The account of its Lead Party that the unit's energy is credited to.
+    /// The account of its Lead Party to which the unit's energy is credited.
     pub lead: Account,
-    /// What it metered, its loss multiplier and its balancing volume.
+    /// Its metered volume, its loss multiplier and its balancing volume.
     pub reading: Reading,
 }
 

@@ -7,7 +7,7 @@ ghost use Rattle.hh_texts.specs.Records.{IsReading, left_of, records_of};
 use csv::{ByteRecord, Reader, ReaderBuilder};
 use std::alloc::{AllocError, Global};
 
-/// A reader of the records of these bytes, of whatever length each is.
+/// A reader of the records of these bytes. Records may have any number of fields.
 pub fn records_in(alloc: Global, bytes: &[u8]) -> Reader<&[u8]>
     ensures reading { IsReading result }
     ensures all { left_of result ≡ records_of bytes.now }
@@ -18,7 +18,7 @@ pub fn records_in(alloc: Global, bytes: &[u8]) -> Reader<&[u8]>
         .from_reader(alloc, bytes)
 }
 
-/// The next record into `fields`, and whether there was one.
+/// Reads the next record into `fields`, and answers whether there was one.
 pub fn next_record(reader: &mut Reader<&[u8]>, fields: &mut ByteRecord) -> Result<bool, AllocError>
     requires { IsReading reader.old }
     ensures reading { IfOk result (λ found. IsReading reader.new) }

@@ -25,7 +25,7 @@ first_2001 = record { year = pos 2001; month = 1; day = 1; year_in = search rule
 last_2099 : Date
 last_2099 = record { year = pos 2099; month = 12; day = 31; year_in = search rules; month_in = search rules; day_in = search rules }
 
--- an accepted date lies from 2001-01-01 to 2099-12-31 by its day number too
+-- the day number of an accepted date is that of a date from 2001-01-01 to 2099-12-31
 pub from_2001 : (d : Date) → pos 2001 ≤ℤ d.year → pos 11_323 ≤ℤ epoch_day d
 unfolding first_2001
 from_2001 d h =

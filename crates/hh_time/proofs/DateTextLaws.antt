@@ -30,7 +30,7 @@ tens n h = is_digit (n / 10) (omega arith)
 ones : (n : ℕ) → is_ascii_digit (48 + n % 10) ≡ true
 ones n = is_digit (n % 10) (omega arith)
 
--- the test is passed, and the number is that of the parts
+-- a text of this form passes the test, and its number is that of its parts
 dashed_value : (a b c d : ℕ) → a < 100 → b < 100 → c < 100 → d < 100 → date_value (dashed a b c d) ≡ civil_day (a * 100 + b) c d
 unfolding date_value
 dashed_value a b c d ha hb hc hd =
@@ -58,7 +58,7 @@ size_of : (z : ℤ) → pos 0 ≤ℤ z → pos (unsigned_abs z) ≡ z
 size_of (pos n) h = refl
 size_of (negsuc n) h = absurd (omega (arith, signed_arith))
 
--- an accepted date is named by its text
+-- the text of an accepted date reads as that date
 value_of_date : (x : Date) → IsAccepted x → date_value (text_of x) ≡ Some (unsigned_abs (epoch_day x))
 value_of_date x h =
     let year : pos (unsigned_abs x.year) ≡ x.year = size_of x.year (omega (arith, signed_arith)) in

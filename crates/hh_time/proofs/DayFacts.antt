@@ -14,7 +14,7 @@ gap a b ha hb =
     let f : FitsSigned w64 (b -ℤ a) = omega (arith, signed_arith) in
     rw (to_z-of_z w64 a fa, to_z-of_z w64 b fb) (to_z-of_z w64 (b -ℤ a) f)
 
--- an accepted date has as many periods as half hours lie from its midnight to the next
+-- an accepted date has as many periods as there are half hours from its midnight to the next
 pub count_is : (midnight : Midnights) (d : ℕ) (start end : ℤ) → 11_323 ≤ d → d ≤ 47_481
     → start ≡ midnight d → end ≡ midnight (d + 1) → IsBetween (pos 0) (pos 5_000_000_000) start
     → IsBetween (pos (86_400 * (d + 1)) -ℤ pos 93_600) (pos (86_400 * (d + 1)) +ℤ pos 93_600) end

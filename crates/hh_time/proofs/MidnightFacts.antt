@@ -20,7 +20,7 @@ is_instant zone d n e h =
     let range : IsOffsetSeconds offset.seconds = offset.in_range in
     omega (arith, signed_arith, civil_nanos-parts (midnight_of d))
 
--- and less than 26 hours from midnight in UTC
+-- and it is less than 26 hours from midnight in UTC
 pub is_near : (zone : TimeZone) (d : Date) (n : ℕ) → epoch_day d ≡ pos n
     → IsBetween (pos (86_400 * n) -ℤ pos 93_600) (pos (86_400 * n) +ℤ pos 93_600) (start_of zone d)
 is_near zone d n e =

@@ -27,11 +27,11 @@ half_hours seconds =
     else if int_eq seconds (pos (1800 * 50)) then Some 50
     else None
 
--- how many periods a date has; none where it is not accepted, or where its length is another
+-- how many periods a date has; none if it is not accepted, or if its day has another length
 abbrev pub count_of : Midnights → ℕ → Option ℕ
 count_of midnight d = if is_accepted d then half_hours (midnight (d + 1) -ℤ midnight d) else None
 
--- how many periods a date has, 0 where it has none
+-- how many periods a date has, 0 if it has no Settlement Day
 abbrev pub period_count : Midnights → ℕ → ℕ
 period_count midnight d = unwrap_or (count_of midnight d) 0
 

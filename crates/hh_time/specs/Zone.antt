@@ -18,6 +18,6 @@ start_of zone date = int_div (picked_instant zone (midnight_of date)) (pos 1_000
 unfoldable pub midnight_in : TimeZone → Midnights
 midnight_in zone n = start_of zone (date_on n)
 
--- how many periods a date has in a zone, where it has any
+-- how many periods a date has in a zone, if it has a Settlement Day
 abbrev pub count_in : TimeZone → ℕ → Option ℕ
 count_in zone = count_of (midnight_in zone)

@@ -35,7 +35,7 @@ impl Model for SettlementDate {
 }
 
 impl SettlementDate {
-    /// The date so many days after 1970-01-01, if it is 11,323 to 47,481.
+    /// The date `days` days after 1970-01-01, if `days` is 11,323 to 47,481.
     pub fn new(days: u16) -> Option<SettlementDate>
         ensures { SomeIff result (IsTrue (is_accepted days)) days }
     {
@@ -61,7 +61,7 @@ impl SettlementDate {
         self.days
     }
 
-    /// The Settlement Day's date that this date is, if it is accepted.
+    /// The Settlement Day's date for this date of the calendar, if it is accepted.
     pub fn of_date(date: Date) -> Option<SettlementDate>
         ensures number { IfSome result (λ d. epoch_day date ≡ pos d) }
         ensures accepted { IsSome result ↔ IsAccepted date }
@@ -69,7 +69,7 @@ impl SettlementDate {
         SettlementDate::of_number(date.to_plain().to_unix_epoch_day())
     }
 
-    /// The date so many days after 1970-01-01, if it is accepted.
+    /// The date `number` days after 1970-01-01, if it is accepted.
     fn of_number(number: i32) -> Option<SettlementDate>
         ensures number { IfSome result (λ d. pos d ≡ number) }
         ensures accepted { IsSome result ↔ IsBetween (pos 11_323) (pos 47_481) number }
@@ -87,7 +87,7 @@ impl SettlementDate {
     }
 }
 
-/// The date so many days after 1970-01-01.
+/// The date `days` days after 1970-01-01.
 pub(crate) fn calendar_date(days: u16) -> Date
     ensures value { result ≡ date_on days }
     ensures number { epoch_day result ≡ pos days }
@@ -98,8 +98,8 @@ pub(crate) fn calendar_date(days: u16) -> Date
     }
 }
 
-/// Days since 1970-01-01 of an accepted date, which lies from 2001-01-01 to 2099-12-31; `OutOfRange`
-/// of another (profile).
+/// Days since 1970-01-01 of an accepted date, which is from 2001-01-01 to 2099-12-31. `OutOfRange`
+/// for any other (profile).
 pub fn day_number(date: Date) -> Result<i32, TimeFault>
     ensures number { IfOk result (λ n. n ≡ epoch_day date) }
     ensures accepted { IsOk result ↔ IsAccepted date }
@@ -109,7 +109,7 @@ pub fn day_number(date: Date) -> Result<i32, TimeFault>
     Ok(i32::from(date.number()))
 }
 
-/// The accepted date so many days after 1970-01-01; `OutOfRange` where the number is not 11,323 to
+/// The accepted date `number` days after 1970-01-01. `OutOfRange` if `number` is not 11,323 to
 /// 47,481 (profile).
 pub fn date_at(number: i32) -> Result<Date, TimeFault>
     ensures date { IfOk result (λ date. IsAccepted date × (epoch_day date ≡ number)) }

@@ -26,7 +26,7 @@ pub struct Day {
 }
 
 impl Day {
-    /// The Settlement Day of a date in a zone; none where it has not 46, 48 or 50 half hours (profile).
+    /// The Settlement Day of a date in a zone; none if it doesn't have 46, 48 or 50 half hours (profile).
     pub fn of(date: SettlementDate, zone: &TimeZone<'_>) -> Option<Day>
         ensures date { IfSome result (λ day. day.date ≡ date) }
         ensures start { IfSome result (λ day. day.start ≡ midnight_in (plain_zone zone.now) date) }
@@ -40,7 +40,7 @@ impl Day {
         Some(Day { date, start, count })
     }
 
-    /// Whether the day has the period of that number; periods are numbered from 1 (profile).
+    /// Whether the day has the period of that number. Periods are numbered from 1.
     pub fn has_period(&self, period: u8) -> bool
         ensures value { result ≡ (nat_le 1 period && nat_le period self.now.count) }
         ensures has { (midnight : Midnights) → count_of midnight self.now.date ≡ Some self.now.count
@@ -69,8 +69,8 @@ impl Day {
     }
 }
 
-/// The Settlement Day of a date in a zone. `OutOfRange` where the date is not from 2001-01-01 to
-/// 2099-12-31, `OddDay` where it is and has not 46, 48 or 50 half hours (profile).
+/// The Settlement Day of a date in a zone. `OutOfRange` if the date is not from 2001-01-01 to
+/// 2099-12-31. `OddDay` if it is, but doesn't have 46, 48 or 50 half hours (profile).
 pub fn day_of(date: Date, zone: &TimeZone<'_>) -> Result<Day, TimeFault>
     ensures date { IfOk result (λ day. pos day.date ≡ epoch_day date) }
     ensures start { IfOk result (λ day. day.start ≡ midnight_in (plain_zone zone.now) day.date) }
@@ -100,7 +100,7 @@ pub fn period_start(day: &Day, period: u8) -> i64
 
 /// The instant before which a notification of the period has to come, in seconds since
 /// 1970-01-01T00:00:00Z: the period's start less the lead, which is at most 1,440 minutes (profile).
-/// At that second it is late.
+/// A notification at that second is late.
 pub fn deadline(day: &Day, period: u8, lead_minutes: u16) -> i64
     requires from { 1 ≤ period }
     requires to { period ≤ day.now.count }
@@ -112,7 +112,7 @@ pub fn deadline(day: &Day, period: u8, lead_minutes: u16) -> i64
     period_start(day, period) - 60 * i64::from(lead_minutes)
 }
 
-/// How many periods of half an hour last so many seconds, if a Settlement Day can have them.
+/// How many half-hour periods a number of seconds has, if a Settlement Day can have that many.
 fn half_hours(seconds: i64) -> Option<u8>
     ensures { result ≡ half_hours seconds }
 {

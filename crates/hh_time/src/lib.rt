@@ -1,4 +1,4 @@
-//! Settlement Days: their dates, their periods, and the deadlines of these.
+//! Settlement Days: their dates, periods and deadlines.
 #![tactic(auto)]
 
 mod date;

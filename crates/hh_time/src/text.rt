@@ -10,8 +10,8 @@ ghost use Rattle.hh_time.specs.Zone.{IsAccepted};
 use crate::date::SettlementDate;
 use jiff::civil::Date;
 
-/// The date from 2001-01-01 to 2099-12-31 that a text of the form `YYYY-MM-DD` names; none where it
-/// names none (profile).
+/// The date that a text of the form `YYYY-MM-DD` names. None for any other text, and for a date that
+/// is not from 2001-01-01 to 2099-12-31 (profile).
 pub fn read_date(text: &[u8]) -> Option<Date>
     ensures date { IfSome result (λ date. IsAccepted date × (text.now ≡ text_of date)) }
     ensures none { IfNone result ((date : PlainDate) → IsAccepted date
@@ -31,8 +31,8 @@ pub fn read_date(text: &[u8]) -> Option<Date>
 }
 
 impl SettlementDate {
-    /// The date that a text of the form `YYYY-MM-DD` names; none where it names none that is accepted
-    /// (profile).
+    /// The date that a text of the form `YYYY-MM-DD` names. None for any other text, and for a date
+    /// that is not accepted (profile).
     pub fn read(text: &[u8]) -> Option<SettlementDate>
         ensures some { IfSome result (λ d. text.now ≡ date_text d) }
         ensures none { IfNone result ((d : ℕ) → IsTrue (is_accepted d)
@@ -56,8 +56,8 @@ impl SettlementDate {
     }
 }
 
-/// The text of an accepted date names that date, and a text names no other date than the one whose
-/// text it is: so what is written is read back.
+/// The text of an accepted date reads as that date, and a text that reads as a date is the text of that
+/// date. So each date that is written is read back.
 pub fn dates_read_back()
     ensures spelled { (d : ℕ) → IsTrue (is_accepted d) → date_value (date_text d) ≡ Some d }
     ensures one_date { (text : List ℕ) (d : ℕ) → date_value text ≡ Some d → text ≡ date_text d }
@@ -72,7 +72,7 @@ struct Parts {
     day: u8,
 }
 
-/// The parts of a text of the form `NNNN-NN-NN`; none where it has another form.
+/// The parts of a text of the form `NNNN-NN-NN`, or none if it has another form.
 fn parts_of(text: &[u8]) -> Option<Parts>
     ensures some { IfSome result (λ p. IsDashed text.now p.century p.year p.month p.day) }
     ensures none { IfNone result ((a b c d : ℕ) → ¬ (IsDashed text.now a b c d)) }

@@ -20,7 +20,7 @@ pub fn london() -> TimeZone<'static>
 }
 
 /// The instant of the local midnight at which a date begins in a zone, in seconds since
-/// 1970-01-01T00:00:00Z. Where the zone skips or repeats midnight, it is the instant that `jiff`'s
+/// 1970-01-01T00:00:00Z. If the zone skips or repeats midnight, it is the instant that `jiff`'s
 /// compatible conversion picks (profile).
 pub fn midnight(date: SettlementDate, zone: &TimeZone<'_>) -> i64
     ensures value { result ≡ midnight_in (plain_zone zone.now) date }
@@ -29,7 +29,8 @@ pub fn midnight(date: SettlementDate, zone: &TimeZone<'_>) -> i64
     midnight_on(date.number(), zone)
 }
 
-/// The instant of local midnight so many days after 1970-01-01. It is less than 26 hours from midnight in UTC.
+/// The instant of local midnight `days` days after 1970-01-01. It is less than 26 hours from midnight in
+/// UTC.
 pub(crate) fn midnight_on(days: u16, zone: &TimeZone<'_>) -> i64
     ensures value { result ≡ midnight_in (plain_zone zone.now) days }
     ensures near { IsBetween (pos (86_400 * days) -ℤ pos 93_600)

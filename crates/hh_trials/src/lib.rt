@@ -1,7 +1,9 @@
-//! The store, the office and replies tried from outside: what no clause of theirs says and no program shows. What programs
-//! show, the office's answers and the bytes of its replies, is tested through `settle`, and connections in `hh_serve_trials`.
+//! The store, the office and replies, tested from outside: what no clause says and no program shows. What
+//! programs show, namely the office's answers and the bytes of its replies, is tested through `settle`, and
+//! connections in `hh_serve_trials`.
 //!
-//! They stand in a crate of their own, since the tests of a crate are proved with all of it once more.
+//! They are in a crate of their own, because the tests of a crate are proved with all of the crate once
+//! more.
 #![tactic(auto)]
 
 #[cfg(test)]

@@ -1,4 +1,5 @@
-//! What no clause says: that `run_all`, and the calls for each report, which no program makes, answer where memory is ample.
+//! Tests of what no clause says: `run_all` and the calls for each report, which no program makes, answer if
+//! memory is ample.
 
 use hh_devices::MemorySink;
 use hh_names::{Account, OperatorKey, Refusal};
@@ -14,7 +15,7 @@ use std::test::Fail;
 /// The operator's key.
 const OPERATOR: &[u8] = b"op-settle001";
 
-/// What a reply says, by a letter: of runs, of a balance, or that the request is forbidden.
+/// What a reply says, as a letter: it tells runs or a balance, or forbids the request.
 fn letter_of(reply: &Reply) -> u8 {
     match reply {
         Reply::Runs(_) => b'r',
@@ -32,7 +33,8 @@ fn request(alloc: Global, key: &[u8], action: Action) -> Result<Request, Fail> {
     })
 }
 
-/// The runs of a date, a balance with nobody's key, and that balance with the operator's.
+/// Requests for the runs of a date, for a balance with a key that nobody has, and for that balance with the
+/// operator's key.
 fn requests(alloc: Global) -> Result<Vec<(i64, Request)>, Fail> {
     let date = SettlementDate::read(b"2024-07-01").ok_or("date")?;
     let account = Account::read(b"GENCO-P").ok_or("account")?;
@@ -55,7 +57,7 @@ fn new_office(alloc: Global) -> Option<Office<'static, PlainTables>> {
     Some(Office::new(alloc, PlainTables::new(alloc, settings), london()))
 }
 
-/// Whether these replies say what these letters stand for.
+/// Whether these replies say what these letters mean.
 fn say(replies: &[Reply], letters: &[u8]) -> bool {
     replies.len() == letters.len()
         && replies
@@ -64,7 +66,7 @@ fn say(replies: &[Reply], letters: &[u8]) -> bool {
             .all(|pair| letter_of(pair.0) == *pair.1)
 }
 
-/// Whether an office's replies to these requests say what these letters stand for.
+/// Whether an office's replies to these requests say what these letters mean.
 fn are_answered(
     office: &mut Office<'_, PlainTables>,
     requests: &[(i64, Request)],
@@ -84,7 +86,7 @@ fn requests_are_run_in_order(rt: HostRuntime) -> Result<(), Fail> {
     Ok(())
 }
 
-/// Whether a report is refused because its run is not there.
+/// Whether a report is refused because its run does not exist.
 fn lacks_its_run(done: Result<(), ReportStop>) -> bool {
     match done {
         Err(ReportStop::Refused(fault)) => fault.refusal == Refusal::NoRun,
@@ -92,7 +94,7 @@ fn lacks_its_run(done: Result<(), ReportStop>) -> bool {
     }
 }
 
-/// Whether an office without runs tells so of the reports of one, and writes the balances.
+/// Whether an office without runs refuses the reports of a run for that, and writes the balances.
 fn are_reported(
     office: &mut Office<'_, PlainTables>,
     date: SettlementDate,

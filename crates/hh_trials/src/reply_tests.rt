@@ -1,5 +1,5 @@
-//! What no clause says: that with ample memory those replies are written which no program is sure to write. The others are
-//! tested through `settle`.
+//! Tests of what no clause says: with ample memory those replies are written that no program is sure to
+//! write. The others are tested through `settle`.
 
 use hh_devices::MemorySink;
 use hh_names::{Fault, Refusal};
@@ -7,12 +7,12 @@ use hh_replies::*;
 use hh_requests::Reply;
 use std::test::Fail;
 
-/// The reply where the store fails, which no program's does.
+/// The reply if the store fails, as no program's store does.
 const STORE_FAILED: &[u8] =
     b"HTTP/1.1 503 Service Unavailable\r\nContent-Type: application/json\r\nContent-Length: 29\r\n\
     Connection: close\r\n\r\n{\"name\":\"Store\",\"refused\":91}";
 
-/// The reply where memory is refused.
+/// The reply if memory is refused.
 const MEMORY_REFUSED: &[u8] =
     b"HTTP/1.1 503 Service Unavailable\r\nContent-Type: application/json\r\nContent-Length: 30\r\n\
     Connection: close\r\n\r\n{\"name\":\"Memory\",\"refused\":90}";

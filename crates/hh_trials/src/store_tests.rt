@@ -1,4 +1,4 @@
-//! What no clause says: which refusals the faults of a store are.
+//! Tests of what no clause says: which refusals tell the faults of a store.
 
 use hh_names::{Fault, Refusal};
 use hh_store::StoreFault;

@@ -89,7 +89,7 @@ by_parts path ([] ∷ name ∷ first ∷ second ∷ third ∷ rest) body x is as
 has_route : (path body : List ℕ) (x : Action) → action_at (parts_of path) body ≡ Some x → Routed path (parts_of path) body x
 has_route path body x asks = by_parts path (parts_of path) body x (sym (join_with_byte-slice_split 47 path)) asks
 
--- ---- what a path asks for by a route whose word it begins with, its parts ask for
+-- ---- what a path asks for by the route whose word it begins with, its parts ask for
 asks_same : (way : Route) (parts : List (List ℕ)) (body : List ℕ) (x : Action) → action_of way ([] ∷ name_of way ∷ parts) body ≡ Some x
     → action_at ([] ∷ name_of way ∷ parts) body ≡ Some x
 asks_same way [] body x asks = absurd (none-some x asks)
@@ -111,7 +111,7 @@ asks_so way path body x (rest, is) asks =
     ap (λ (p : List (List ℕ)). action_at p body) parts
     ∙ asks_same way (parts_of rest) body x (sym (ap (λ (p : List (List ℕ)). action_of way p body) parts) ∙ asks)
 
--- ---- what is asked of a path whose route was looked for
+-- ---- what a path asks for, after its route was looked up
 module _ (path body : List ℕ) (found : Option Route) (known : (way : Route) → IsPathOf way path → found ≡ Some way) where
   pub asks_nothing : found ≡ None → None ≡ action_at (parts_of path) body
   asks_nothing is = by (action_at (parts_of path) body) refl

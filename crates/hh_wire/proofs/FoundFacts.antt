@@ -1,4 +1,4 @@
--- What `matchit` finds is a row, and the path begins with the bytes that the row writes out.
+-- What `matchit` finds is a row, and the path begins with the bytes that the row spells.
 use Rattle.std.proofs.Common.{◌≡◌, ◌⊎◌, ℕ, zero, suc, ◌-◌, List, [], ◌∷◌, ◌++◌, length, Option, Some, None, Bool, true, false, cond, inl, inr, refl, sym, ◌==◌, ltb, true≢false}
 use Rattle.std.proofs.lemmas.Bool.{and_parts, eqb-true}
 use Rattle.std.proofs.lemmas.Option.{none-some, same_Some}
@@ -7,7 +7,7 @@ use Rattle.std.specs.Prelude.{nat_lt}
 use Rattle.matchit.specs.Rows.{RowsOf, param_token, catch_all_token}
 use Rattle.matchit.specs.Seek.{step, or_else, own, seek, first, param_step, has_slash, segment, same_text, with_suffix, longest_suffix}
 
--- a path begins with what a pattern writes out before its first parameter
+-- a path begins with what a pattern spells before its first parameter
 abbrev pub Begins : List ℕ → List ℕ → Type 0
 Begins [] path = Unit {0}
 Begins (x ∷ t) [] = nat_lt x 256 ≡ true → ⊥

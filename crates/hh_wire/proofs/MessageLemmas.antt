@@ -1,4 +1,4 @@
--- What is read behind a head is what the bytes ask.
+-- What is read after a head is what the bytes ask.
 use Rattle.std.proofs.Common.{◌≡◌, ◌∙◌, ℕ, List, ◌++◌, length, take, drop, Option, Some, None, IfSome, Result, Ok, Err, inl, inr, append_assoc, refl, sym, ap, subst, arith}
 use Rattle.std.proofs.lemmas.List.{length-map, length-take}
 use Rattle.std.specs.Io.KnownBytes.{Consumes, prepend_known}
@@ -33,7 +33,7 @@ field_count : (bytes : List ℕ) (headers : List HeaderSpan) (count : ℕ) (fiel
 field_count bytes headers count fields are =
     sym (length-map fields name_and_value) ∙ sym (ap length are) ∙ length-map (take count headers) (header_bytes bytes)
 
--- what came behind the front of what was taken, and more, was taken
+-- if a front was taken and then more, both were taken together
 consumes_joined : (old mid new : Option (List ℕ)) (front behind given : List ℕ) → Consumes old mid (front ++ behind) → Consumes (prepend_known behind mid) new given
     → Consumes old new (front ++ given)
 consumes_joined None mid new front behind given taken more = tt
@@ -46,7 +46,7 @@ consumes_joined (Some bytes) (Some rest) (Some left) front behind given taken mo
 abbrev pub stopped : Stop → Result Request Stop
 stopped stop = Err stop
 
--- A head was found at the front of a buffer, and its heading and what came behind it are known.
+-- A head was found at the beginning of a buffer. Its heading is known, and so is what came after it.
 module _ (buffer : List ℕ) (headers : List HeaderSpan) (read : ℕ) (spans : RequestSpans) (most : length buffer ≡ 8192) (room : length headers ≡ 32)
     (h : Heading) (behind : List ℕ) (says : (head : RequestHead) → IsRequestAt (take read buffer) headers spans head → h ≡ heading_of head)
     (follows : behind ≡ drop spans.len (take read buffer)) where
@@ -84,7 +84,7 @@ module _ (buffer : List ℕ) (headers : List HeaderSpan) (read : ℕ) (spans : R
       let (head, front, same) = found_front bytes rest found in
       by_cause cause _ _ _ _ (head, behind ++ rest, front, ap asks_head same) (is_message bytes rest found _) comes
 
-  -- where a read behind it failed, all that the source had given is that head with too little of its body
+  -- if a read after it failed, all that the source had given is that head with too little of its body
   lacking_read : (old mid new : Option (List ℕ)) → FindsHead old mid buffer headers read spans → HasGiven (LacksBody h) (prepend_known behind mid) new → HasGiven Awaits old new
   lacking_read old mid new found (given, consumed, lacks) =
       let (head, at) = found.head in

@@ -1,4 +1,4 @@
--- Bytes ask one thing at most.
+-- Bytes ask at most one thing.
 use Rattle.std.proofs.Common.{◌≡◌, ◌∙◌, ℕ, ◌<◌, List, [], ◌++◌, length, inl, inr, sym, ap, arith}
 use Rattle.std.proofs.lemmas.List.{length-append}
 use Rattle.httparse.proofs.GrammarLemmas.{request_unique}
@@ -12,7 +12,7 @@ some_bytes : (h : RequestHead) → 0 < length (print_request h)
 unfolding print_request
 some_bytes h = simp length-append (omega arith)
 
--- no head stands at the front of no bytes
+-- no head is at the beginning of no bytes
 none_ahead : (bytes : List ℕ) → bytes ≡ [] → (h : RequestHead) (rest : List ℕ) → IsFront bytes h rest → ⊥
 none_ahead bytes empty h rest is =
     let none : length (print_request h ++ rest) ≡ 0 = ap length (sym is.reads.1 ∙ empty) in

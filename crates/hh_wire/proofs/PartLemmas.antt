@@ -11,7 +11,7 @@ use Rattle.hh_wire.specs.Routes.{parts_of}
 abbrev is_slash : ℕ → Bool
 is_slash b = b == 47
 
--- all that stands behind a place
+-- all that is after a place
 the_rest : (n : ℕ) (text : List ℕ) → take (length text - n) (drop n text) ≡ drop n text
 the_rest n text = take_all (length text - n) (drop n text) (omega (arith, length-drop n text))
 
@@ -34,7 +34,7 @@ module _ (path : List ℕ) where
   pub cut_part : (end : ℕ) → Some end ≡ position is_slash path → parts_of path ≡ take end path ∷ parts_of (take (length path - (end + 1)) (drop (end + 1) path))
   cut_part end is = (cut end is).1 ∙ ap (λ rest. take end path ∷ parts_of rest) (sym (the_rest (end + 1) path))
 
-  -- where there is none, the path is the one part
+  -- if there is no slash, the path has only one part
   pub uncut : None ≡ position is_slash path → parts_of path ≡ path ∷ []
   uncut is = elim (nat_lt (position_or_len is_slash path) (length path)) as (λ b. nat_lt (position_or_len is_slash path) (length path) ≡ b
       → None ≡ cond b (Some (position_or_len is_slash path)) None → parts_of path ≡ path ∷ []) [
@@ -44,6 +44,6 @@ module _ (path : List ℕ) where
             slice_split_none is_slash path (λ k d in'. fails_before_first is_slash path k d (omega arith))
       ] refl is
 
-  -- there is some part
+  -- there is at least one part
   pub some_part : 0 < length (parts_of path)
   some_part = omega (arith, length-slice_split is_slash path)

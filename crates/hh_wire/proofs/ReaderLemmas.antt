@@ -1,4 +1,4 @@
--- What the readers of paths' parts read is some ASCII with no slash.
+-- The texts that the readers of a path's parts accept are ASCII, not empty, and have no slash.
 use Rattle.std.proofs.Common.{◌≡◌, ◌∙◌, ℕ, zero, suc, ◌+◌, ◌-◌, ◌/◌, ◌%◌, ◌<◌, ◌≤◌, List, [], ◌∷◌, length, take, drop, Option, Some, None, Bool, true, false, ◌&&◌, cond, refl, sym, ap, subst, arith, true≢false}
 use Rattle.std.proofs.lemmas.Bool.{and_from, and_parts, eqb-true, ne_eqb, not_from_false}
 use Rattle.std.proofs.lemmas.Bool.Decides.{nat_tests}
@@ -113,7 +113,7 @@ account_of None party a e = absurd (none-some a e)
 account_of (Some s) None a e = absurd (none-some a e)
 account_of (Some s) (Some p) a e = (s, p, refl, refl)
 
--- all of a text passes a test if its front, the byte behind it and its rest do
+-- all of a text passes a test if its front, the byte after it and the rest do
 all_of : (test : ℕ → Bool) (text : List ℕ) (i : ℕ) → i < length text → list_all test (take i text) ≡ true → test (slice_index text i) ≡ true → list_all test (drop (suc i) text) ≡ true
     → list_all test text ≡ true
 all_of test [] i inside front middle rest = absurd (omega arith)

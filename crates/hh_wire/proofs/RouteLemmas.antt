@@ -83,7 +83,7 @@ parts_below true word path below (xs, ys, h, k, is) =
 is_text : (way : Route) (path : List ℕ) → IsPathOf way path → IsUtf8 path
 is_text way path is = IsUtf8-from_ascii path (all_ascii is_below below path (parts_below (has_two way) (word_of way) path (word_below way) is))
 
--- ---- what follows of the answers of the router
+-- ---- what follows from the answers of the router
 pub no_text : (path : List ℕ) → ¬ (IsUtf8 path) → (way : Route) → IsPathOf way path → None ≡ Some way
 no_text path not_text way is = absurd (not_text (is_text way path is))
 

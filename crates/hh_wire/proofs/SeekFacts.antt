@@ -1,4 +1,4 @@
--- What `matchit` finds among rows that write out a word and have one or two parameters behind it.
+-- What `matchit` finds among rows that spell a word and have one or two parameters after it.
 use Rattle.std.proofs.Common.{◌≡◌, ◌∙◌, ℕ, zero, suc, ◌+◌, ◌-◌, ◌<◌, List, [], ◌∷◌, ◌++◌, length, drop, Option, Some, None, Bool, true, false, ◌&&◌, not, cond, refl, sym, ap, arith, ◌==◌, ltb, nat_eq, true≢false}
 use Rattle.std.proofs.Math.Seq.{drop-length, drop-append_seam}
 use Rattle.std.proofs.lemmas.Bool.{and_left, and_parts, and_right}
@@ -25,12 +25,12 @@ drop_slash zero xs h = h
 drop_slash (suc n) [] h = refl
 drop_slash (suc n) (b ∷ xs) h = drop_slash n xs (slash_parts b xs h).1
 
--- a segment with no slash is all that there is
+-- a segment without a slash is all that there is
 segment_whole : (xs : List ℕ) → has_slash xs ≡ false → segment xs ≡ xs
 segment_whole [] h = refl
 segment_whole (b ∷ xs) h = let parts = slash_parts b xs h in rw parts.0 (ap (λ (t : List ℕ). b ∷ t) (segment_whole xs parts.1))
 
--- and no slash ends it
+-- and it does not end with a slash
 no_slash_ends : (xs : List ℕ) → has_slash xs ≡ false → pointwise nat_eq (47 ∷ []) xs ≡ false
 no_slash_ends [] h = refl
 no_slash_ends (b ∷ xs) h =
@@ -48,7 +48,7 @@ segment_slash : (xs rest : List ℕ) → has_slash xs ≡ false → segment (xs 
 segment_slash [] rest h = refl
 segment_slash (b ∷ xs) rest h = let parts = slash_parts b xs h in rw parts.0 (ap (λ (t : List ℕ). b ∷ t) (segment_slash xs rest parts.1))
 
--- which cuts its suffix
+-- the slash cuts off its suffix
 cuts_slash : (xs : List ℕ) → 0 < length xs → cuts (xs ++ 47 ∷ []) (47 ∷ []) ≡ true
 cuts_slash xs h =
     let long : length (xs ++ 47 ∷ []) ≡ length xs + 1 = length-append xs (47 ∷ []) in
@@ -80,7 +80,7 @@ module _ {K : Type 0} where
   or_else_none None = refl
   or_else_none (Some k) = refl
 
-  -- a byte that every row writes out
+  -- a byte that every row spells
   seek_byte : (rs : RowsOf K) (b : ℕ) (p : List ℕ) → step param_token rs ≡ [] → step catch_all_token rs ≡ [] → seek 0 rs (b ∷ p) ≡ seek 0 (step b rs) p
   unfolding seek
   seek_byte rs b p h k =
@@ -95,7 +95,7 @@ module _ {K : Type 0} where
   is_empty [] = true
   is_empty (r ∷ rs) = false
 
-  -- each of them writes out the word
+  -- each of them spells the word
   abbrev pub is_written : List ℕ → RowsOf K → Bool
   is_written [] rs = true
   is_written (b ∷ w) rs = is_empty (step param_token rs) && (is_empty (step catch_all_token rs) && is_written w (step b rs))

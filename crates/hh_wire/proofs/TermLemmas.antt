@@ -24,7 +24,7 @@ size_is h t size holds is small =
     let known : size ≡ saturated (length_of h) = is ∙ ap (λ (o : Option ℕ). unwrap_or o 0) holds.length ∙ unwrap_saturated (length_given h) in
     omega arith
 
--- a head that keeps the rules and whose body is whole asks with its body
+-- if a head keeps the rules and its body is whole, it asks with its body
 pub asks_whole : (h : Heading) (t : Terms) (size : ℕ) (rest body : List ℕ) → HoldsTerms h t → size ≡ unwrap_or t.length 0 → size ≤ 1_048_576
     → (size ≤ length rest) × (body ≡ take size rest) → asked_by h rest ≡ asked_with h body
 asks_whole h t size rest body holds is small whole =
@@ -33,7 +33,7 @@ asks_whole h t size rest body holds is small whole =
     let enough : nat_lt (length rest) (length_of h) ≡ false = grind (arith, nat_tests) in
     rw (holds.kept, fits, enough) (ap (asked_with h) (ap (λ (n : ℕ). take n rest) same ∙ sym whole.1))
 
--- so what comes of its body comes of the bytes behind it
+-- so what comes of its body comes of the bytes after it
 pub comes_whole : (known : Option (List ℕ)) (h : Heading) (t : Terms) (size : ℕ) (behind body : List ℕ) (result : Result Request Stop) → HoldsTerms h t → size ≡ unwrap_or t.length 0
     → size ≤ 1_048_576 → IfSome known (λ rest. (size ≤ length (behind ++ rest)) × (body ≡ take size (behind ++ rest))) → ReadsBehind h (asked_with h body) result
     → IfSome known (λ rest. ReadsBehind h (asked_by h (behind ++ rest)) result)
@@ -41,7 +41,7 @@ comes_whole None h t size behind body result holds is small whole comes = tt
 comes_whole (Some rest) h t size behind body result holds is small whole comes =
     subst (λ (m : Message). ReadsBehind h m result) (sym (asks_whole h t size (behind ++ rest) body holds is small whole)) comes
 
--- a refusal of what a head asks ends the reading as such
+-- if what a head asks is refused, reading ends with that refusal
 pub comes_refused : (h : Heading) (message : Message) (cause : RequestRefusal) (result : Result Request Stop) → IsErrAnd result (λ stop. stop ≡ Refused cause)
     → Asks h message (Err cause) → ReadsBehind h message result
 comes_refused h message cause (Ok request) is asks = absurd is

@@ -22,7 +22,7 @@ most_body_bytes = 1_048_576
 abbrev pub Message : Type 0
 Message = Result Incoming Refused
 
--- the refusal of a request whose head was read
+-- the refusal of a request after its head was read
 abbrev pub refusal_message : Heading → RequestRefusal → Message
 refusal_message h cause = Err (record { cause = cause; head_only = asks_head h })
 
@@ -48,49 +48,49 @@ asked_by h rest =
 abbrev pub no_head : Message
 no_head = Err (record { cause = refusal.BadRequest; head_only = false })
 
--- what the bytes of a connection ask: nothing where there are none, what their head asks with what follows it, or a bad request
+-- what the bytes of a connection ask: nothing if there are none, or what their head asks with what follows it, or a bad request
 abbrev pub IsMessage : List ℕ → Message → Type 0
 IsMessage bytes message =
     ((bytes ≡ []) × (message ≡ Ok Closed))
     ⊎ (((head : RequestHead) × (rest : List ℕ) × IsFront bytes head rest × (message ≡ asked_by (heading_of head) rest))
     ⊎ ((bytes ≢ []) × HasNoFront bytes × (message ≡ no_head)))
 
--- the rest of a body is still to come behind a head that keeps the rules, and it is not too long
+-- a head keeps the rules, and the rest of its body, which is not too long, is still to come
 pub record LacksBody (h : Heading) (rest : List ℕ) : Type 0 where
   pub kept : is_bad h ≡ false
   pub small : length_of h ≤ most_body_bytes
   pub lacks : length rest < length_of h
 
--- bytes wait for the rest of a body
+-- bytes lack the rest of a body
 abbrev pub AwaitsBody : List ℕ → Type 0
 AwaitsBody bytes = (head : RequestHead) × (rest : List ℕ) × IsFront bytes head rest × LacksBody (heading_of head) rest
 
--- bytes wait for more: what follows them decides what they ask
+-- bytes need more: what follows them decides what they ask
 abbrev pub Awaits : List ℕ → Type 0
 Awaits bytes = AwaitsHead bytes ⊎ AwaitsBody bytes
 
--- one fact for the refusal of memory, another for any other
+-- one fact for the refusal for memory, another for any other refusal
 abbrev pub ByCause : RequestRefusal → Type 0 → Type 0 → Type 0
 ByCause refusal.Memory memory other = memory
 ByCause cause memory other = other
 
--- bytes begin with a head, which asks for the head of a reply alone or not
+-- bytes begin with a head, and `head_only` says whether it asks only for the head of a reply
 abbrev pub AsksHead : List ℕ → Bool → Type 0
 AsksHead bytes head_only = (head : RequestHead) × (rest : List ℕ) × IsFront bytes head rest × (head_only ≡ asks_head (heading_of head))
 
--- what was answered is what the bytes ask; memory may be refused in its place, and where a read failed nothing is said of them
+-- what was answered is what the bytes ask; memory may be refused in its place; if a read failed, nothing is said about the bytes
 abbrev pub Reads : List ℕ → Result Incoming WireFault → Type 0
 Reads bytes (Ok incoming) = IsMessage bytes (Ok incoming)
 Reads bytes (Err fault.Read) = Unit {0}
 Reads bytes (Err (fault.Refused r)) = ByCause r.cause (AsksHead bytes r.head_only) (IsMessage bytes (Err r))
 
--- a call counts one failure where it answers that a read failed, and none elsewhere
+-- a call counts one failure if it answers that a read failed, and otherwise none
 abbrev pub CountsRead : Result Incoming WireFault → ℕ → ℕ → Type 0
 CountsRead (Ok incoming) old new = new ≡ old
 CountsRead (Err fault.Read) old new = Failed old new
 CountsRead (Err (fault.Refused r)) old new = new ≡ old
 
--- where a read failed, what the source had given till then waits for more
+-- if a read failed, what the source had given until then needs more
 abbrev pub FailsAwaiting : Result Incoming WireFault → Option (List ℕ) → Option (List ℕ) → Type 0
 FailsAwaiting (Ok incoming) old new = Unit {0}
 FailsAwaiting (Err fault.Read) old new = HasGiven Awaits old new

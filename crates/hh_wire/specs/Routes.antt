@@ -13,7 +13,7 @@ use Rattle.hh_requests.specs.declared.request.Action.TheVariants as ask
 abbrev pub parts_of : List ℕ → List (List ℕ)
 parts_of path = slice_split (λ b. b == 47) path
 
--- a value of two, where both are there
+-- what is made from two values, if both are there
 abbrev pub of_both : {A B C : Type 0} → (A → B → C) → Option A → Option B → Option C
 of_both make (Some a) (Some b) = Some (make a b)
 of_both make _ _ = None
@@ -41,7 +41,7 @@ action_at ([] ∷ word ∷ part ∷ []) body = one_part word part
 action_at ([] ∷ word ∷ first ∷ second ∷ []) body = two_parts word first second body
 action_at _ body = None
 
--- the method that a path has
+-- the method of a path
 abbrev pub method_of : Action → List ℕ
 method_of (ask.Load upload) = codes "POST"
 method_of (ask.Run run) = codes "POST"

@@ -1,4 +1,4 @@
-//! Bodies of a known length.
+//! Bodies whose length is known.
 
 ghost use Rattle.std.specs.Prelude.{◌≡◌, ◌<◌, ◌≤◌, ◌++◌, length, IfOk, IfSome, OnErr};
 ghost use Rattle.std.specs.Io.KnownBytes.{prepend_known};
@@ -13,13 +13,13 @@ use hh_heads::fill;
 use hh_replies::RequestRefusal;
 use std::alloc::Global;
 
-/// Reads a body of that length, whose first bytes came with its head. What follows the body is
-/// left, and nothing is read where the body is whole.
+/// Reads a body of this length. Its first bytes came with its head. Bytes after the body are left, and
+/// nothing is read if the body is whole already.
 ///
 /// # Errors
 ///
-/// `BadRequest` where the source ends before the body does, `Memory` where no room is given, `Read`
-/// where a call of the source failed.
+/// `BadRequest`: the source ends before the body does. `Memory`: memory for the body is refused. `Read`: a
+/// call of the source failed.
 pub(crate) fn read_body<S: Source>(
     alloc: Global,
     source: &mut S,
@@ -41,7 +41,7 @@ pub(crate) fn read_body<S: Source>(
     }
 }
 
-/// Fills a buffer with the bytes at hand and then from a source. Answers whether there were enough.
+/// Fills a buffer with the bytes at hand, and then from a source. Answers whether there were enough.
 fn fill_body<S: Source>(
     source: &mut S,
     at_hand: &[u8],

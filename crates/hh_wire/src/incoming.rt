@@ -9,13 +9,13 @@ use hh_requests::Request;
 /// What a client sent.
 #[derive(Debug, Drop)]
 pub enum Incoming {
-    /// Nothing: it closed before its first byte.
+    /// Nothing: it closed before it sent a byte.
     Closed,
     /// A request to the office.
     Asked(Request),
 }
 
-/// Why no request comes of a connection (profile).
+/// Why no request comes from a connection.
 #[derive(Debug, Drop)]
 pub enum WireFault {
     /// A call of the source failed.

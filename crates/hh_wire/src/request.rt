@@ -25,17 +25,17 @@ use std::alloc::Global;
 /// The most bytes of a body (profile).
 const MOST_BODY_BYTES: u64 = 1_048_576;
 
-/// Reads a request to the office from what a client sends, in pieces of any lengths (profile). It
-/// reads no further once the request is whole or refused. Memory is taken for the body, the key and,
-/// where they aren't at hand yet, the routes alone.
+/// Reads a request to the office from what a client sends, in pieces of any lengths (profile). It reads no
+/// further once the request is whole or refused. Memory is taken only for the body, for the key, and for
+/// the routes if they aren't made yet.
 ///
 /// # Errors
 ///
-/// `Refused` where the bytes are no request, with the first of these causes: `BadRequest` for a
-/// head that is none, is cut, has more than 8,192 bytes or 32 headers, or breaks a rule;
-/// `BodyTooLarge`; `BadRequest` for a cut body; `NoRoute`; `BadMethod`; `LengthRequired`. Once a
-/// head was read `Memory` may come in the place of any answer. `Read` comes where a call of the
-/// source failed in this call, and then the bytes before it waited for more.
+/// `Refused`: the bytes are no request. The first of these causes is told. `BadRequest`: there is no head,
+/// or it is not complete, has more than 8,192 bytes or more than 32 headers, or breaks a rule.
+/// `BodyTooLarge`. `BadRequest`: the body is not complete. `NoRoute`. `BadMethod`. `LengthRequired`. After
+/// a head was read, `Memory` may take the place of any answer. `Read`: a call of the source failed in this
+/// call, and the bytes before it needed more.
 pub fn read_request<S: Source>(
     alloc: Global,
     routes: &mut Routes,
@@ -63,13 +63,13 @@ pub fn read_request<S: Source>(
     }
 }
 
-/// What bytes ask is one thing: no two messages are those of the same bytes.
+/// Bytes ask one thing: no two messages belong to the same bytes.
 pub fn message_is_one()
     ensures { (bytes : List ℕ) (first second : Message)
         → IsMessage bytes first → IsMessage bytes second → first ≡ second }
 {}
 
-/// Reads what a head asks: its body, if it has one.
+/// Reads what a head asks, with its body if it has one.
 fn read_behind<S: Source>(
     alloc: Global,
     routes: &mut Routes,
@@ -114,7 +114,7 @@ fn request_with(
     })
 }
 
-/// What a head asks for with a body, or the cause for which that is refused. It takes no memory.
+/// What a head asks for with a body, or why that is refused. It takes no memory.
 fn action_asked(
     router: &Router<Route>,
     head: &WholeHead<'_>,

@@ -14,8 +14,8 @@ use hh_time::SettlementDate;
 use http::Method;
 use matchit::Router;
 
-/// What a path asks for with a body (profile), or `None` where there is no such path, or a part of
-/// it does not read. Only a file that is sent has a use for the body.
+/// What a path asks for with a body (profile). It is `None` if there is no such path, or if a part of it
+/// can't be read. Only a file that is sent uses the body.
 pub(crate) fn action_at(router: &Router<Route>, target: &[u8], body: Bytes) -> Option<Action>
     requires { router.now ≡ rows }
     ensures { result ≡ action_at (parts_of target.now) body }
@@ -26,7 +26,7 @@ pub(crate) fn action_at(router: &Router<Route>, target: &[u8], body: Bytes) -> O
     }
 }
 
-/// What a path of a route asks for with a body, or `None` where a part of it does not read.
+/// What a path with this route asks for with a body, or `None` if a part of it can't be read.
 fn action_of(route: Route, target: &[u8], body: Bytes) -> Option<Action>
     ensures { result ≡ action_of route (parts_of target.now) body }
 {
@@ -38,7 +38,7 @@ fn action_of(route: Route, target: &[u8], body: Bytes) -> Option<Action>
     }
 }
 
-/// The method that a path of this action has (profile).
+/// The method of a path with this action (profile).
 pub(crate) fn method_of(action: &Action) -> Method
     ensures { result ≡ method_of action.now }
 {
@@ -51,7 +51,7 @@ pub(crate) fn method_of(action: &Action) -> Method
     }
 }
 
-/// What the one part of a path of a route asks for.
+/// What the only part of a path with this route asks for.
 fn one_part(route: Route, part: &[u8]) -> Option<Action>
     ensures { result ≡ one_part_of route part.now }
 {
@@ -66,7 +66,7 @@ fn one_part(route: Route, part: &[u8]) -> Option<Action>
     }
 }
 
-/// What the two parts of a path of a route ask for.
+/// What the two parts of a path with this route ask for.
 fn two_parts(route: Route, first: &[u8], second: &[u8], body: Bytes) -> Option<Action>
     ensures { result ≡ two_parts_of route first.now second.now body }
 {
@@ -92,8 +92,7 @@ fn two_parts(route: Route, first: &[u8], second: &[u8], body: Bytes) -> Option<A
     }
 }
 
-/// The first part of a path and what follows the slash behind it, or `None` where there is one
-/// part.
+/// The first part of a path and what follows the slash after it, or `None` if there is only one part.
 fn split_part(path: &[u8]) -> Option<(&[u8], &[u8])>
     ensures several { IfSome result (λ parts.
         parts_of path.now ≡ parts.0.now ∷ parts_of parts.1.now) }
@@ -103,14 +102,14 @@ fn split_part(path: &[u8]) -> Option<(&[u8], &[u8])>
     Some((&path[..end], &path[end + 1..]))
 }
 
-/// Where the first slash of a path stands.
+/// The place of the first slash of a path.
 fn first_slash(path: &[u8]) -> Option<usize>
     ensures { result ≡ position (λ b. b == 47) path.now }
 {
     path.iter().position(|byte| *byte == b'/')
 }
 
-/// The one part that a path is, or `None` where it has several.
+/// The only part of a path, or `None` if it has several.
 fn only_part(path: &[u8]) -> Option<&[u8]>
     ensures single { IfSome result (λ part. parts_of path.now ≡ part.now ∷ []) }
     ensures several { IfNone result (1 < length (parts_of path.now)) }

@@ -26,8 +26,8 @@ pub(crate) enum Route {
     RunsOfDate,
 }
 
-/// The routes of the office, which a server has at hand from one request to the next. They are made for
-/// the first request that asks for one of them.
+/// The routes of the office. A server keeps them from one request to the next. They are made for the first
+/// request that needs them.
 #[derive(Drop)]
 pub struct Routes {
     router: Option<Router<Route>>,
@@ -45,12 +45,12 @@ impl Model for Routes {
 }
 
 impl Routes {
-    /// The routes, which aren't made yet. That takes no memory.
+    /// The routes, not made yet. That takes no memory.
     pub fn new() -> Routes {
         Routes { router: None }
     }
 
-    /// Hands over the router, which is made if it isn't at hand. `Err` only where memory is refused.
+    /// Takes the router out, and makes it first if it isn't made yet. `Err` only if memory is refused.
     pub(crate) fn take(&mut self, alloc: Global) -> Result<Router<Route>, AllocError>
         ensures { IfOk result (λ router. router ≡ rows) }
     {
@@ -60,7 +60,7 @@ impl Routes {
         }
     }
 
-    /// Has the router at hand again.
+    /// Puts the router back.
     pub(crate) fn put_back(&mut self, router: Router<Route>)
         requires { router ≡ rows }
     {
@@ -83,18 +83,18 @@ pub(crate) fn route_at(router: &Router<Route>, target: &[u8]) -> Option<Route>
     }
 }
 
-/// A router with the routes of the office (profile).
+/// A router with the routes of the office.
 fn office_router(alloc: Global) -> Result<Router<Route>, AllocError>
     ensures { IfOk result (λ router. router ≡ rows) }
 {
-    // No route is ill-formed or conflicts with another, so memory alone is refused.
+    // No route is ill-formed or conflicts with another, so only memory can be refused.
     match build_router(alloc) {
         Ok(router) => Ok(router),
         Err(_) => Err(AllocError),
     }
 }
 
-/// The same, with the error of the router.
+/// Builds the router, or tells its error.
 fn build_router(alloc: Global) -> Result<Router<Route>, InsertError>
     ensures rows { IfOk result (λ router. router ≡ rows) }
     ensures memory { IfErr result (λ error. error ≡ InsertError.OutOfMemory) }

@@ -63,7 +63,7 @@ impl Stop {
     ghost use Rattle.hh_wire.specs.steps.Behind.{fault_behind};
     ghost use Rattle.hh_heads.specs.Heads.{heading_in};
 
-    /// The fault of a request whose head was read.
+    /// The fault of a request after its head was read.
     pub fn behind(self, head: &WholeHead<'_>) -> WireFault
         ensures { result ≡ fault_behind (heading_in head.now) self }
     {

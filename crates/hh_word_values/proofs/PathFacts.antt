@@ -1,4 +1,4 @@
--- What follows the last of a byte, and bytes that are text.
+-- What follows the last place of a byte, and bytes that are text.
 use Rattle.std.proofs.Common.{◌≡◌, ℕ, ◌-◌, ◌<◌, ◌≤◌, List, length, get_or, take, drop, true, false, cond, refl, sym, ap, ◌∙◌, arith, Some, None, eq-eqb, ne_eqb}
 use Rattle.std.specs.Prelude.{◌==◌, not}
 use Rattle.std.specs.List.{after_last, suffix_len}
@@ -8,7 +8,7 @@ use Rattle.std.proofs.lemmas.List.Sums.{suffix_len_is}
 use Rattle.std.proofs.lemmas.Str.{IsUtf8-from_is_utf8, is_utf8-from_IsUtf8}
 use Rattle.hh_word_values.specs.Values.{path_value}
 
--- what follows the last of a byte begins behind a place that has it, where no later place does
+-- what follows the last place of a byte begins after a place that has it, if no later place has it
 pub behind_last_is : (text : List ℕ) (byte start : ℕ) → start ≤ length text → ((k : ℕ) → start ≤ k → k < length text → get_or text k 0 ≡ byte → ⊥)
     → (0 < start → get_or text (start - 1) 0 ≡ byte) → take (length text - start) (drop start text) ≡ after_last (λ b. b == byte) text
 behind_last_is text byte start inside later last =

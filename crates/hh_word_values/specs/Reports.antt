@@ -16,14 +16,14 @@ run_key_from _ _ = None
 abbrev pub run_key_value : List ℕ → List ℕ → Option RunKey
 run_key_value date kind = run_key_from (date_value date) (run_kind_value kind)
 
--- the report of a run that a form asks for: `day` or `csv`
+-- the report about a run that a form asks for: `day` or `csv`
 abbrev pub run_form_value : List ℕ → RunKey → Option Report
 run_form_value form run =
     if bytes_eq form (codes "day") then Some (Day run)
     else if bytes_eq form (codes "csv") then Some (Results run)
     else None
 
--- the report that a form asks for: of a run where one is named, else `balances`
+-- the report that a form asks for: about a run if one is named, otherwise `balances`
 abbrev pub form_value : List ℕ → Option RunKey → Option Report
 form_value form (Some run) = run_form_value form run
 form_value form None = if bytes_eq form (codes "balances") then Some Balances else None

@@ -1,4 +1,4 @@
--- What words of a command mean: moments, keys, paths and the names of what lies there.
+-- What words of a command mean: moments, keys, paths and the names of files at paths.
 use Rattle.std.specs.Prelude.{ℕ, ℤ, ◌==◌, List, Option, Some, None, if◌then◌else◌}
 use Rattle.std.specs.List.{after_last}
 use Rattle.std.specs.Str.{is_utf8}
@@ -18,10 +18,10 @@ either None other = other
 unfoldable pub shown_key_value : List ℕ → Option (List ℕ)
 shown_key_value word = either (operator_key_value word) (access_key_value word)
 
--- the path that a text is
+-- the path that a word is
 abbrev pub path_value : List ℕ → Option (List ℕ)
 path_value word = if is_utf8 word then Some word else None
 
--- the name of what lies at a path: what follows the last `/`
+-- the name of the file at a path: what follows the last `/`
 unfoldable pub path_name : List ℕ → Option (List ℕ)
 path_name path = word_value is_file_name_byte 1 64 (after_last (λ b. b == 47) path)

@@ -8,7 +8,7 @@ use hh_num::read_natural;
 /// The most connections that one command may serve (profile).
 pub const MOST_CONNECTIONS: u32 = 1_000_000;
 
-/// The port that a word is, in digits alone: 0 to 65,535 (profile).
+/// Reads a port, written only in digits: 0 to 65,535 (profile).
 #[tactic(auto, unfolding(crate::specs::Connections::port_value))]
 pub fn read_port(word: &[u8]) -> Option<u16>
     ensures { result ≡ port_value word.now }
@@ -16,7 +16,7 @@ pub fn read_port(word: &[u8]) -> Option<u16>
     u16::try_from(read_natural(word)?).ok()
 }
 
-/// The count of connections that a word is, in digits alone: 0 to 1,000,000 (profile).
+/// Reads a count of connections, written only in digits: 0 to 1,000,000 (profile).
 #[tactic(auto, unfolding(crate::specs::Connections::count_value))]
 pub fn read_count(word: &[u8]) -> Option<u32>
     ensures { result ≡ count_value word.now }

@@ -1,11 +1,11 @@
-//! Texts of others, cut so that one line shows them.
+//! Texts from outside, cut so that one line can show them.
 
 use std::fmt;
 
 /// The most bytes of a text that are kept.
 const MOST_BYTES: usize = 40;
 
-/// The first bytes of a text as it stands, at most 40, how many it has, and whether more follow.
+/// The first bytes of a text as they are, at most 40, how many bytes it has, and whether more follow.
 #[derive(Clone, Copy, Debug, PartialEq, Eq)]
 pub struct CutText {
     bytes: [u8; MOST_BYTES],
@@ -14,7 +14,7 @@ pub struct CutText {
 }
 
 impl CutText {
-    /// The text that these bytes are, cut behind the first 40.
+    /// The text of these bytes, cut after the first 40.
     pub fn of(bytes: &[u8]) -> CutText {
         let kept = bytes.len().min(MOST_BYTES);
         let mut first = [0; MOST_BYTES];
@@ -26,7 +26,7 @@ impl CutText {
         }
     }
 
-    /// A text that begins with these bytes, of which the others are not shown.
+    /// A text that begins with these bytes and whose other bytes are not shown.
     pub fn beginning(bytes: &[u8]) -> CutText {
         CutText {
             is_cut: true,
@@ -34,20 +34,20 @@ impl CutText {
         }
     }
 
-    /// How many bytes it was made of.
+    /// How many bytes it was made from.
     pub fn len(&self) -> usize {
         self.len
     }
 
-    /// Whether it was made of none.
+    /// Whether it was made from no bytes.
     pub fn is_empty(&self) -> bool {
         self.len == 0
     }
 }
 
-/// The text stands in double quotes, with `..` in the place of what was cut off. A byte that is not
-/// printable ASCII is shown as `\r`, `\n`, `\t` or by its number, as `\xE2`; a double quote and a
-/// backslash have a backslash before them.
+/// The text is in double quotes, with `..` in the place of what was cut off. A byte that is not printable
+/// ASCII is shown as `\r`, `\n`, `\t` or by its number, as `\xE2`. A double quote or a backslash has a
+/// backslash before it.
 impl fmt::Display for CutText {
     fn fmt<W: fmt::Write>(&self, f: &mut fmt::Formatter<W>) -> fmt::Result {
         f.write_str("\"")?;
@@ -58,7 +58,7 @@ impl fmt::Display for CutText {
     }
 }
 
-/// A byte of a text in double quotes.
+/// Writes a byte of a text in double quotes.
 fn write_byte<W: fmt::Write>(f: &mut fmt::Formatter<W>, byte: u8) -> fmt::Result {
     match byte {
         b'\r' => f.write_str("\\r"),

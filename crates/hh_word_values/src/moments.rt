@@ -5,7 +5,7 @@ ghost use Rattle.hh_word_values.specs.Values.{moment_value};
 
 use hh_num::read_fixed;
 
-/// The moment that a word is, in whole seconds since 1970-01-01T00:00:00Z (profile).
+/// Reads a moment, in whole seconds since 1970-01-01T00:00:00Z (profile).
 pub fn read_moment(word: &[u8]) -> Option<i64>
     ensures { result ≡ moment_value word.now }
 {

@@ -1,4 +1,4 @@
-//! Paths, and the names of what lies there.
+//! Paths, and the names of files at paths.
 
 ghost use Rattle.std.specs.Prelude.{◌≡◌, ◌==◌};
 ghost use Rattle.std.specs.List.{after_last};
@@ -7,7 +7,7 @@ ghost use Rattle.hh_word_values.specs.Values.{path_name, path_value};
 
 use hh_names::FileName;
 
-/// The path that a word is, if it is text (UTF-8; profile).
+/// Reads a path, if the word is text (UTF-8; profile).
 pub fn read_path(word: &[u8]) -> Option<&str>
     ensures { option_copied result ≡ path_value word.now }
 {
@@ -17,7 +17,8 @@ pub fn read_path(word: &[u8]) -> Option<&str>
     }
 }
 
-/// The name by which the file at a path is registered, if what follows the last `/` is one (profile).
+/// The name by which the file at a path is registered: what follows the last `/`, if that is a name
+/// (profile).
 #[tactic(auto, unfolding(crate::specs::Values::path_name))]
 pub fn read_path_name(path: &[u8]) -> Option<FileName>
     ensures { result ≡ path_name path.now }
@@ -25,7 +26,7 @@ pub fn read_path_name(path: &[u8]) -> Option<FileName>
     FileName::read(behind_last(path, b'/'))
 }
 
-/// What follows the last of a byte, or all where there is none.
+/// What follows the last place of a byte, or all if the text does not have it.
 fn behind_last(text: &[u8], byte: u8) -> &[u8]
     ensures { result.now ≡ after_last (λ b. b == byte) text.now }
 {

@@ -7,7 +7,7 @@ use hh_requests::Report;
 use hh_runs::{RunKey, RunKind};
 use hh_time::SettlementDate;
 
-/// The run that a date and a kind name, if each is one (profile).
+/// The run that a date and a kind name, if each of them can be read (profile).
 pub fn read_run_key(date: &[u8], kind: &[u8]) -> Option<RunKey>
     ensures { result ≡ run_key_value date.now kind.now }
 {
@@ -17,7 +17,7 @@ pub fn read_run_key(date: &[u8], kind: &[u8]) -> Option<RunKey>
     })
 }
 
-/// The report that a form asks for (profile): `day` and `csv` of the run that is named, `balances` where
+/// The report that a form asks for (profile): `day` and `csv` about the run that is named, `balances` if
 /// none is.
 pub fn read_report(form: &[u8], run: Option<RunKey>) -> Option<Report>
     ensures { result ≡ form_value form.now run }
@@ -29,7 +29,7 @@ pub fn read_report(form: &[u8], run: Option<RunKey>) -> Option<Report>
     }
 }
 
-/// The report of a run that a form asks for.
+/// The report about a run that a form asks for.
 fn read_report_of(form: &[u8], run: RunKey) -> Option<Report>
     ensures { result ≡ run_form_value form.now run }
 {

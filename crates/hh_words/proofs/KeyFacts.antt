@@ -1,4 +1,4 @@
--- What stands behind a text in front of another.
+-- The rest of a text after another text.
 use Rattle.std.proofs.Common.{◌≡◌, ◌∙◌, sym, ap, refl, ℕ, List, Option, Some, None, Bor, true, false, drop, length, option_map, if◌then◌else◌}
 use Rattle.std.proofs.Math.Dec.{eqb}
 use Rattle.std.proofs.lemmas.Bool.Decides.{Decides-eqb}

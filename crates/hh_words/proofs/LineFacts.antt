@@ -1,4 +1,4 @@
--- What `clap` answers, and the command that the words are.
+-- What `clap` answers, and the command that the words form.
 use Rattle.std.proofs.Common.{◌≡◌, ◌≢◌, ◌∙◌, sym, ap, refl, true, List, [], ◌∷◌, Option, None, inl, inr}
 use Rattle.clap.specs.Words.{App, HasKind, HasMatchesOf, IsAmong, Kinds, Text, fault_of, is_simple, is_simple_and_free, kind_of, subcommand_of, subcommand_rows_of}
 use Rattle.clap.specs.declared.error.Error.{Error}
@@ -18,7 +18,7 @@ settle-free : is_simple_and_free settle_app ≡ true
 unfolding settle_app
 settle-free = refl
 
--- where it parses the words, the command is what the subcommand was given
+-- if `clap` parses the words, the command is given by the subcommand's values
 pub line_value-parsed : (app : App) (words : List Text) (m : ArgMatches) (line : Option Line) → app ≡ settle_app
     → (is_simple_and_free app ≡ true → fault_of app words ≡ []) → HasMatchesOf app words m → line ≡ given_line (subcommand_rows_of m)
     → line_value words ≡ line
@@ -34,7 +34,7 @@ faultless-among : (kind : ErrorKind) (kinds : Kinds) (line : Option Line) → Is
 faultless-among kind [] line h = absurd h
 faultless-among kind (x ∷ xs) line h = refl
 
--- where it finds a fault, there is no command
+-- if `clap` finds a fault, there is no command
 pub line_value-refused : (app : App) (words : List Text) (e : Error) → app ≡ settle_app
     → (is_simple_and_free app ≡ true → HasKind (fault_of app words) e) → kind_of e ≢ OutOfMemory
     → line_value words ≡ None
@@ -51,7 +51,7 @@ among-some : (kind : ErrorKind) (kinds : Kinds) → IsAmong kind kinds → kinds
 among-some kind [] among = absurd among
 among-some kind (x ∷ xs) among = λ none. cc none
 
--- where it finds a fault, the words that are told wrong have one
+-- if `clap` finds a fault, the words that are told as wrong have a fault
 pub tells_usage-refused : (app : App) (words : List Text) (e : Error) (fault : WordsFault) → app ≡ settle_app
     → (is_simple_and_free app ≡ true → HasKind (fault_of app words) e) → (kind_of e ≡ OutOfMemory → fault ≡ Memory)
     → TellsUsage words fault

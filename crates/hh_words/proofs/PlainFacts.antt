@@ -1,4 +1,4 @@
--- Words among which none of the options stands that are taken off: they stay as they are.
+-- Words without any of the options that are removed are kept as they are.
 use Rattle.std.proofs.Common.{◌≡◌, ◌∙◌, ◌&&◌, ◌||◌, ap, refl, sym, Bool, true, false, not, List, [], ◌∷◌, Option, Some, None, codes, drop, length, option_and_then, option_map, if◌then◌else◌}
 use Rattle.std.proofs.Math.Bool.{true≢false}
 use Rattle.std.proofs.Math.Dec.{eqb}
@@ -75,7 +75,7 @@ plain_explain words h = has_none is_explain no_explain (drop 1 words) h
 pub plain_strict : (words : List Text) → is_plain words ≡ true → (is_script (drop 1 words) && has_option is_strict (drop 1 words)) ≡ false
 plain_strict words h = both_false (is_script (drop 1 words)) (has_option is_strict (drop 1 words)) (has_none is_strict no_strict (drop 1 words) h)
 
--- and all words are left
+-- and all words are kept
 pub plain_left : (words : List Text) → is_plain words ≡ true → words_left words ≡ words
 plain_left [] h = refl
 plain_left (name ∷ words) h = ap (λ l. name ∷ l) (without_none (is_taken (is_script words)) (not_taken (is_script words)) words h)
@@ -125,7 +125,7 @@ plain_names_none (name ∷ command ∷ words) h =
     by_command (bytes_eq command (codes "load") || bytes_eq command (codes "run") || bytes_eq command (codes "report"))
     (bytes_eq command (codes "init") || bytes_eq command (codes "script")) words (plain_first (is_option command) (no_options words) h).1
 
--- nothing that is seen as nothing
+-- if the view of a value is None, so is the value
 pub none_seen : {A B : Type 0} (f : A → B) (r : Option A) → option_map f r ≡ None → r ≡ None
 none_seen f None h = refl
 none_seen f (Some x) h = absurd (cc h)

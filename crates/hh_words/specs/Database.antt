@@ -1,4 +1,4 @@
--- What the commands on a database file ask for there.
+-- What the commands on a database file ask for.
 use Rattle.std.specs.Prelude.{ℕ, ℤ, List, Option, Some, None, bytes_eq, codes, option_and_then, option_map, if◌then◌else◌}
 use Rattle.clap.specs.Words.{Row, Text, first_of}
 use Rattle.hh_requests.specs.declared.report.Report.{Report}
@@ -40,7 +40,7 @@ whole_run _ _ _ = None
 unfoldable pub given_run : List Row → Option Task
 given_run rows = whole_run (given_moment rows) (given_key rows) (run_named (first_of (codes "DATE") rows) (first_of (codes "KIND") rows))
 
--- the report in a form: of a run where DATE and KIND are given, of none where neither is
+-- the report of a form: about a run if DATE and KIND are given, and about no run if neither is
 abbrev pub report_asked : Text → Option Text → Option Text → Option Report
 report_asked form None None = form_value form None
 report_asked form date kind = option_and_then (λ run. form_value form (Some run)) (run_named date kind)
@@ -69,7 +69,7 @@ unfoldable pub given_serve : List Row → Option Task
 given_serve rows = whole_serve (given_moment rows) (required_value port_value (first_of (codes "port") rows))
     (count_given (first_of (codes "count") rows))
 
--- a subcommand on a database file, by its name, and what it was given beside the file's path
+-- the task of a subcommand on a database file, given its name and the values beside the file's path
 abbrev pub given_task : Text → List Row → Option Task
 given_task name rows =
     if bytes_eq name (codes "init") then given_init rows

@@ -7,7 +7,7 @@ use Rattle.hh_rows.specs.declared.settings.Settings.{Settings}
 use Rattle.hh_word_values.specs.Connections.{count_value}
 use Rattle.hh_word_values.specs.Values.{moment_value, shown_key_value}
 
--- a value that has to be given, and to be on its grammar
+-- a value that must be given, and must be in its grammar
 abbrev pub required_value : {A : Type 0} → (Text → Option A) → Option Text → Option A
 required_value value None = None
 required_value value (Some text) = value text
@@ -36,7 +36,7 @@ settings_from _ _ = None
 abbrev pub settings_given : Option Text → Option Text → Option Settings
 settings_given key minutes = settings_from (required_value operator_key_value key) (minutes_given minutes)
 
--- the same of what a subcommand was given
+-- the settings of a new office, by what a subcommand was given
 abbrev pub given_settings : List Row → Option Settings
 given_settings rows = settings_given (first_of (codes "operator-key") rows) (first_of (codes "lead-minutes") rows)
 

@@ -3,19 +3,19 @@ use Rattle.std.specs.Prelude.{List, [], ◌∷◌, Some, codes, fold, true}
 use Rattle.clap.specs.Words.{App, Rule, Text, new_app, new_rule, with_rule, with_subcommand}
 use Rattle.clap.specs.declared.builder.ArgAction.TheVariants.{Set}
 
--- a word that stands in its place, or is left out
+-- a word that is given at its place, or left out
 abbrev pub optional_positional : Text → Rule
 optional_positional id = record (new_rule id) { action = Some Set }
 
--- a required word that stands in its place
+-- a required word that is given at its place
 abbrev pub positional : Text → Rule
 positional id = record (new_rule id) { required = true; action = Some Set }
 
--- a value that stands behind its name
+-- a value that is given after its name
 abbrev pub option : Text → Rule
 option id = record (new_rule id) { long = Some id; action = Some Set }
 
--- the same, and required
+-- a required value that is given after its name
 abbrev pub required_option : Text → Rule
 required_option id = record (option id) { required = true }
 
@@ -56,7 +56,7 @@ abbrev pub serve_app : App
 serve_app = command (codes "serve")
     (required_option (codes "db") ∷ required_option (codes "port") ∷ option (codes "count") ∷ option (codes "at") ∷ [])
 
--- the program, which asks for a subcommand
+-- the program, which needs a subcommand
 abbrev pub settle_start : App
 settle_start = let a : App = new_app (codes "settle") in
     record { top = record a.top { subcommand_required = true }; subs = [] }
@@ -69,6 +69,6 @@ with_command program subcommand = with_subcommand program subcommand.top
 abbrev pub program : List App → App
 program subcommands = fold with_command settle_start subcommands
 
--- the program, as it is
+-- the program
 unfoldable pub settle_app : App
 settle_app = program (period_app ∷ script_app ∷ init_app ∷ load_app ∷ run_app ∷ report_app ∷ serve_app ∷ [])

@@ -13,7 +13,7 @@ use Rattle.hh_words.specs.declared.words.Command.TheVariants.{Period, Script, On
 use Rattle.hh_words.specs.declared.words.WordsFault.{WordsFault}
 use Rattle.hh_words.specs.declared.words.WordsFault.TheVariants.{Memory, Wrong}
 
--- a command with its values; that on a database file has the file's path first
+-- a command with its values; a command on a database file has the file's path first
 pub data Line : Type 0 where
   PeriodCommand : Text → Text → Text → Line
   ScriptCommand : Settings → Text → Line
@@ -39,7 +39,7 @@ abbrev pub database_line : Option Text → Option Task → Option Line
 database_line (Some path) (Some task) = Some (DatabaseCommand path task)
 database_line _ _ = None
 
--- what another subcommand was given
+-- the command of another subcommand, given its values
 abbrev pub given_database : Text → List Row → Option Line
 given_database name rows = database_line (first_of (codes "db") rows) (given_task name rows)
 
@@ -48,7 +48,7 @@ abbrev pub new_script_line : Option Settings → Option Text → Option Line
 new_script_line (Some settings) (Some file) = Some (ScriptCommand settings file)
 new_script_line _ _ = None
 
--- a script over the office of a database file: no key of the operator and no minutes, since that office has its own
+-- a script over the office of a database file is given no key of the operator and no minutes, because that office has its own
 abbrev pub database_script_line : Text → Option Text → Option Text → Option Text → Option Line
 database_script_line path None None (Some file) = Some (DatabaseCommand path (ToRunScript file))
 database_script_line path _ _ _ = None
@@ -62,7 +62,7 @@ script_line (Some path) key minutes file = database_script_line path key minutes
 unfoldable pub given_script : List Row → Option Line
 given_script rows = script_line (first_of (codes "db") rows) (first_of (codes "operator-key") rows) (first_of (codes "lead-minutes") rows) (first_of (codes "FILE") rows)
 
--- a subcommand by its name, and what it was given
+-- the command of a subcommand, given its name and its values
 abbrev pub given_command : Text → List Row → Option Line
 given_command name rows =
     if bytes_eq name (codes "period") then given_period rows
@@ -74,12 +74,12 @@ abbrev pub given_line : Option (Text × List Row) → Option Line
 given_line None = None
 given_line (Some given) = given_command given.0 given.1
 
--- nothing, where `clap` finds a fault
+-- a command, if `clap` finds no fault
 abbrev pub faultless : Kinds → Option Line → Option Line
 faultless [] line = line
 faultless (kind ∷ kinds) line = None
 
--- the command that the words are by `clap`'s grammar, the program's own name in front
+-- the command that the words form by `clap`'s grammar, after the program's own name
 unfoldable pub line_value : List Text → Option Line
 line_value words = faultless (fault_of settle_app words) (given_line (subcommand_of settle_app words))
 
@@ -91,16 +91,16 @@ usage = codes "usage: settle period METER CONTRACTS PRICE\n       settle script 
 abbrev pub EndsWithUsage : Text → Type 0
 EndsWithUsage text = (front : Text) × (text ≡ front ++ usage)
 
--- words in which `clap` finds no fault have a value off its grammar, and what tells them wrong ends with how the program is used
+-- if `clap` finds no fault in words that are wrong, a value is off its grammar, and the text that is told ends with how the program is used
 abbrev pub TellsUsage : List Text → WordsFault → Type 0
 TellsUsage words (Wrong text) = fault_of settle_app words ≡ [] → EndsWithUsage (string_bytes text)
 TellsUsage words Memory = Unit {0}
 
--- what the program tells of its version
+-- what the program tells about its version
 abbrev pub version : Text
 version = codes "settle 1.0.0, tables of version 1\n"
 
--- words that ask for it: `--version` alone, behind the program's own name
+-- words that ask for the version: only `--version` after the program's own name
 abbrev pub asks_version : List Text → Bool
 asks_version (name ∷ word ∷ []) = bytes_eq word (codes "--version")
 asks_version _ = false

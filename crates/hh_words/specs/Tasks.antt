@@ -12,7 +12,7 @@ use Rattle.hh_words.specs.declared.database.ReportWords.{ReportWords}
 use Rattle.hh_words.specs.declared.database.RunWords.{RunWords}
 use Rattle.hh_words.specs.declared.database.ServeWords.{ServeWords}
 
--- a file to be loaded: when, by whom, of which kind, where it lies, and the name by which it is registered
+-- a file to be loaded: when, by whom, of which kind, its path, and the name by which it is registered
 pub record LoadTask : Type 0 where
   pub at : Option ℤ
   pub key : Text

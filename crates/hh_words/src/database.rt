@@ -16,7 +16,7 @@ use hh_word_values::{read_path_name, read_port, read_report, read_run_key};
 /// A command on a database file.
 #[derive(Clone, Copy, Debug, PartialEq, Eq)]
 pub struct DatabaseWords<'a> {
-    /// Where the database file lies.
+    /// The path of the database file.
     pub path: &'a str,
     pub task: DatabaseTask<'a>,
 }
@@ -34,7 +34,7 @@ pub enum DatabaseTask<'a> {
     Report(ReportWords<'a>),
     /// Serves connections.
     Serve(ServeWords),
-    /// Runs the lines of the script that lies there.
+    /// Runs the lines of the script at this path.
     Script(&'a str),
 }
 
@@ -46,7 +46,7 @@ pub struct LoadWords<'a> {
     /// The key that is shown, in the grammar of the operator's key or of a party's.
     pub key: &'a [u8],
     pub kind: FileKind,
-    /// Where the file lies.
+    /// The path of the file.
     pub path: &'a str,
     /// The name by which the file is registered: what follows the path's last `/`.
     pub name: FileName,
@@ -80,8 +80,8 @@ pub struct ServeWords {
     pub count: u32,
 }
 
-/// What a subcommand does on a database file, if it does anything there and its values are on their
-/// grammars.
+/// The task of a subcommand on a database file. It is `None` if the subcommand has none, or if its values
+/// are off their grammars.
 pub(crate) fn database_task<'a>(name: &str, given: &ArgMatches<'a>) -> Option<DatabaseTask<'a>>
     ensures { option_map task_of result ≡ given_task name.now (rows_of (found_of given.now)) }
 {
@@ -147,7 +147,7 @@ fn report_of<'a>(given: &ArgMatches<'a>) -> Option<DatabaseTask<'a>>
     }))
 }
 
-/// The report that a form asks for, of the run of a date and a kind where both are given.
+/// The report that a form asks for. It is about the run of a date and a kind if both are given.
 fn asked_of(form: &str, date: Option<&str>, kind: Option<&str>) -> Option<Report>
     ensures { result ≡ report_asked form.now (option_map (λ text. text.now) date.entry)
         (option_map (λ text. text.now) kind.entry) }

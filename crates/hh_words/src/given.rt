@@ -1,4 +1,4 @@
-//! The values that a subcommand was given, each with its grammar.
+//! The values that a subcommand was given, each read by its grammar.
 
 ghost use Rattle.std.specs.Prelude.{◌≡◌, option_map};
 ghost use Rattle.std.specs.Option.{option_copied};
@@ -28,7 +28,7 @@ pub(crate) fn settings_of(given: &ArgMatches<'_>) -> Option<Settings>
     })
 }
 
-/// The minutes that were given, or as many as where none are.
+/// The minutes that were given, or the usual ones if none were.
 fn minutes_of(text: Option<&str>) -> Option<LeadMinutes>
     ensures { result ≡ minutes_given (option_map (λ text. text.now) text.entry) }
 {
@@ -45,7 +45,7 @@ pub(crate) fn key_of<'a>(given: &ArgMatches<'a>) -> Option<&'a [u8]>
     read_shown_key(value_of(given, "key")?.as_bytes())
 }
 
-/// The moment that was given, if one was. There is no outer value where it is off its grammar.
+/// The moment that was given, if one was. The outer value is `None` if it is off its grammar.
 pub(crate) fn moment_of(given: &ArgMatches<'_>) -> Option<Option<i64>>
     ensures { result ≡ given_moment (rows_of (found_of given.now)) }
 {
@@ -55,7 +55,7 @@ pub(crate) fn moment_of(given: &ArgMatches<'_>) -> Option<Option<i64>>
     }
 }
 
-/// The count of connections that was given, or the most.
+/// The count of connections that was given, or the greatest if none was.
 pub(crate) fn count_of(text: Option<&str>) -> Option<u32>
     ensures { result ≡ count_given (option_map (λ text. text.now) text.entry) }
 {

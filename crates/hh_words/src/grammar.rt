@@ -10,31 +10,31 @@ use crate::values::Value;
 use clap::{Arg, ArgAction, Command as Grammar};
 use std::alloc::{AllocError, Global};
 
-/// How a word is given.
+/// How a value is given.
 #[derive(Clone, Copy)]
 pub(crate) enum Form {
-    /// In its place.
+    /// At its place.
     Placed,
-    /// In its place, or not at all.
+    /// At its place, and may be left out.
     PlacedIfAny,
-    /// Behind its name.
+    /// After its name.
     Named,
-    /// Behind its name, or not at all.
+    /// After its name, and may be left out.
     NamedIfAny,
 }
 
-/// A word of a command: how it is given, its name, what it is, and the grammar of its value.
+/// A word of a command: how its value is given, its name, what it is, and the grammar of its value.
 #[derive(Clone, Copy)]
 pub(crate) struct Word<'a> {
     pub(crate) form: Form,
     pub(crate) name: &'a str,
-    /// One line, as it is told in help and of a value that is off its grammar.
+    /// One line that is told in help, and about a value that is off its grammar.
     pub(crate) help: &'a str,
     pub(crate) value: Value,
 }
 
-/// A subcommand: its name, what it does, its words, and what help tells of the options that are
-/// taken off the words before.
+/// A subcommand: its name, what it does, its words, and what help tells about the options that are removed
+/// before `clap` reads the words.
 #[derive(Clone, Copy)]
 pub(crate) struct Subcommand<'a> {
     pub(crate) name: &'a str,
@@ -85,12 +85,12 @@ const RUN_KIND: Word<'static> = Word {
     value: Value::RunKind,
 };
 
-/// What help tells of the options of each command.
+/// What help tells about the options of each command.
 const OPTIONS: &str = "\
 More options:
       --explain  Explains a refusal or a fault on one line more";
 
-/// The same of the commands that are shown a key.
+/// What help tells about the options of the commands that are shown a key.
 const KEY_OPTIONS: &str = "\
 More options:
       --key-file <PATH>  File of which the first line is the key, in the place of --key
@@ -255,13 +255,13 @@ pub(crate) const SUBCOMMANDS: [Subcommand<'static>; 7] = [
     PERIOD, SCRIPT, INIT, LOAD, RUN, REPORT, SERVE,
 ];
 
-/// What help tells of the options of the program.
+/// What help tells about the options of the program.
 const PROGRAM_OPTIONS: &str = "\
 More options:
       --version  Prints the version
       --explain  With any command: explains a refusal or a fault on one line more";
 
-/// The grammar of the program, which asks for a subcommand.
+/// The grammar of the program, which needs a subcommand.
 #[tactic(auto, unfolding(crate::specs::Grammar::settle_app))]
 pub(crate) fn settle_grammar<'a>(alloc: Global) -> Result<Grammar<'a>, AllocError>
     ensures app { IfOk result (λ c. app_of c ≡ settle_app) }
@@ -270,7 +270,7 @@ pub(crate) fn settle_grammar<'a>(alloc: Global) -> Result<Grammar<'a>, AllocErro
     program_grammar(alloc, &SUBCOMMANDS)
 }
 
-/// The grammar of a program that asks for one of these subcommands.
+/// The grammar of a program that needs one of these subcommands.
 fn program_grammar<'a>(
     alloc: Global,
     subcommands: &[Subcommand<'a>],
@@ -305,7 +305,7 @@ fn subcommand_grammar<'a>(
     Ok(grammar)
 }
 
-/// A word, as `clap` has it.
+/// A word as an argument of `clap`.
 fn arg_of<'a>(alloc: Global, word: Word<'a>) -> Arg<'a>
     ensures rule { rule_of result ≡ word_rule word.entry }
     ensures own { result.global ≡ false }

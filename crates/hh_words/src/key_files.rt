@@ -1,4 +1,4 @@
-//! The options that name a file with a key, in the place of the key itself.
+//! The options that name a file with a key, instead of the key itself.
 
 ghost use Rattle.std.specs.Prelude.{◌≡◌, ◌==◌, ◌++◌, ◌∷◌, [], IfOk, None, OnOk, map, option_map, string_bytes, true};
 ghost use Rattle.std.specs.List.{before_first};
@@ -10,14 +10,14 @@ use crate::options::{push_all, push_word};
 use hh_word_values::read_path;
 use std::alloc::{AllocError, Global};
 
-/// The option for a key that a command has.
+/// The option by which a command is given a key.
 #[derive(Clone, Copy)]
 struct KeyOption {
-    /// What stands in front of the key.
+    /// The text before the key.
     key: &'static str,
     /// The option that names a file with the key.
     file: &'static str,
-    /// What stands in front of the file's path.
+    /// The text before the file's path.
     path: &'static str,
 }
 
@@ -35,9 +35,9 @@ const OPERATOR_KEY: KeyOption = KeyOption {
     path: "--operator-key-file=",
 };
 
-/// The path of the first file with a key that a line of words names, the program's own name in
-/// front: by `--key-file` of `load`, `run` and `report`, by `--operator-key-file` of `init` and
-/// `script`. From a word `--` on none is named.
+/// The path of the first file with a key that a line of words names. The line begins with the program's own
+/// name. `load`, `run` and `report` name such a file by `--key-file`, and `init` and `script` by
+/// `--operator-key-file`. From a word `--` on, no word names one.
 pub fn file_with_key(words: &[String]) -> Option<&str>
     ensures path { option_map (λ path. path.now) result
         ≡ file_with_key (map string_bytes words.now) }
@@ -48,8 +48,8 @@ pub fn file_with_key(words: &[String]) -> Option<&str>
     path_named(key_option(command.as_str())?, rest)
 }
 
-/// The words with `--key=KEY` or `--operator-key=KEY` in the place of each file with a key that
-/// they name.
+/// The words, with `--key=KEY` or `--operator-key=KEY` in the place of each word that names a file with a
+/// key.
 pub fn with_key(alloc: Global, words: &[String], key: &str) -> Result<Vec<String>, AllocError>
     ensures { IfOk result (λ keyed.
         map string_bytes keyed.items ≡ with_key key.now (map string_bytes words.now)) }
@@ -70,15 +70,15 @@ pub fn with_key(alloc: Global, words: &[String], key: &str) -> Result<Vec<String
     Ok(keyed)
 }
 
-/// The key in a file: its first line, without a LF or CRLF behind it; nothing, where that is not
-/// text (UTF-8).
+/// The key in a file: its first line, without the LF or CRLF after it. It is empty if that is not text
+/// (UTF-8).
 pub fn key_in_file(bytes: &[u8]) -> &str
     ensures { result.now ≡ key_written bytes.now }
 {
     text_or_nothing(first_line(bytes))
 }
 
-/// The text that these bytes are, if they are one (UTF-8).
+/// The text of these bytes, or an empty text if they are not text (UTF-8).
 fn text_or_nothing(bytes: &[u8]) -> &str
     ensures { result.now ≡ text_or_nothing bytes.now }
 {
@@ -99,7 +99,7 @@ fn first_line(bytes: &[u8]) -> &[u8]
     }
 }
 
-/// What stands before the first line feed, or all where there is none.
+/// The bytes before the first line feed, or all if there is none.
 fn before_line_feed(bytes: &[u8]) -> &[u8]
     ensures { result.now ≡ before_first (λ b. b == 10) bytes.now }
 {
@@ -107,7 +107,7 @@ fn before_line_feed(bytes: &[u8]) -> &[u8]
     &bytes[..end]
 }
 
-/// The option for a key that a command has.
+/// The option by which a command is given a key.
 fn key_option(command: &str) -> Option<KeyOption>
     ensures { option_map texts_of result ≡ key_option command.now }
 {
@@ -118,7 +118,7 @@ fn key_option(command: &str) -> Option<KeyOption>
     }
 }
 
-/// The path of the first file that words name before a word `--`.
+/// The path of the first file that words name, before a word `--`.
 fn path_named(option: KeyOption, words: &[String]) -> Option<&str>
     ensures { option_map (λ path. path.now) result
         ≡ path_named (texts_of option) (map string_bytes words.now) }
@@ -136,7 +136,7 @@ fn path_named(option: KeyOption, words: &[String]) -> Option<&str>
     None
 }
 
-/// The path that a word names, by itself or with the first of those behind it.
+/// The path that a word names, by itself or together with the word after it.
 fn path_at<'a>(option: KeyOption, word: &'a str, words: &'a [String]) -> Option<&'a str>
     ensures { option_map (λ path. path.now) result
         ≡ path_at (texts_of option) word.entry.now (map string_bytes words.entry.now) }
@@ -154,7 +154,7 @@ fn names_file(option: KeyOption, word: &str, next: &str) -> bool
     word == option.file && (next == "-" || !next.starts_with("-"))
 }
 
-/// What stands in a word behind a text in front.
+/// The rest of a word after a text, if it begins with that.
 #[tactic(auto, using(crate::proofs::KeyFacts::behind_stripped))]
 fn behind<'a>(front: &str, word: &'a str) -> Option<&'a str>
     ensures { option_map (λ text. text.now) result ≡ behind front.now word.entry.now }
@@ -192,7 +192,7 @@ fn push_with(
     Ok(())
 }
 
-/// Adds a word, or the key in the place of one that names a file by itself.
+/// Adds a word, or the key if the word names a file by itself.
 fn push_word_with(
     alloc: Global,
     keyed: &mut Vec<String>,
@@ -210,7 +210,7 @@ fn push_word_with(
     }
 }
 
-/// Adds a key behind its option.
+/// Adds a key after its option.
 fn push_key(
     alloc: Global,
     keyed: &mut Vec<String>,

@@ -1,4 +1,4 @@
-//! The options that are taken off the words before `clap` reads them.
+//! The options that are removed from the words before `clap` reads them.
 
 ghost use Rattle.std.specs.Prelude.{◌≡◌, ◌++◌, ◌∷◌, [], IfOk, OnOk, false, map, string_bytes, true};
 ghost use Rattle.std.specs.Str.{bytes_eq};
@@ -7,17 +7,17 @@ ghost use Rattle.hh_words.specs.PlainWords.{is_plain};
 
 use std::alloc::{AllocError, Global};
 
-/// What the options that are taken off the words ask for.
+/// What the options that are removed from the words ask for.
 #[derive(Clone, Copy, Debug, PartialEq, Eq)]
 pub struct Options {
-    /// Whether it is explained why something is refused.
+    /// Whether refusals are explained.
     pub explain: bool,
     /// Whether a script stops at the first line that is refused or fails.
     pub strict: bool,
 }
 
-/// Takes `--explain` off a line of words, the program's own name in front, and `--strict` off one
-/// whose command is `script`. From a word `--` on all words stay.
+/// Removes `--explain` from a line of words, which begins with the program's own name, and `--strict` if
+/// the command is `script`. From a word `--` on, all words are kept.
 pub fn take_options(alloc: Global, words: &[String]) -> Result<(Options, Vec<String>), AllocError>
     ensures explain { IfOk result (λ taken.
         taken.0.explain ≡ asks_explain (map string_bytes words.now)) }
@@ -26,7 +26,7 @@ pub fn take_options(alloc: Global, words: &[String]) -> Result<(Options, Vec<Str
     ensures words { IfOk result (λ taken.
         map string_bytes taken.1.items ≡ words_left (map string_bytes words.now)) }
 
-    // Words among which no option stands stay as they are.
+    // Words without these options are kept as they are.
     ensures plain { is_plain (map string_bytes words.now) ≡ true → IfOk result (λ taken.
         (taken.0.explain ≡ false) × (taken.0.strict ≡ false)
         × (map string_bytes taken.1.items ≡ map string_bytes words.now)) }
@@ -51,7 +51,7 @@ pub fn take_options(alloc: Global, words: &[String]) -> Result<(Options, Vec<Str
     Ok((options, left))
 }
 
-/// Whether the command is `script`, by the words behind the program's own name.
+/// Whether the command is `script`, given the words after the program's own name.
 fn is_script(words: &[String]) -> bool
     ensures { result ≡ is_script (map string_bytes words.now) }
 {
@@ -65,7 +65,7 @@ fn is_script(words: &[String]) -> bool
     false
 }
 
-/// Whether an option stands among words, before a word `--`.
+/// Whether words include an option before a word `--`.
 fn has_option(words: &[String], option: &str) -> bool
     ensures { result ≡ has_option (λ word. bytes_eq word option.now) (map string_bytes words.now) }
 {
@@ -82,7 +82,7 @@ fn has_option(words: &[String], option: &str) -> bool
     false
 }
 
-/// Adds the words but for those that are taken off.
+/// Adds the words, except for those that are removed.
 fn push_without(
     alloc: Global,
     left: &mut Vec<String>,
@@ -105,7 +105,7 @@ fn push_without(
     Ok(())
 }
 
-/// Whether a word before any word `--` is taken off.
+/// Whether a word is removed that comes before any word `--`.
 fn is_taken(word: &str, script: bool) -> bool
     ensures { result ≡ is_taken script word.now }
 {

@@ -1,4 +1,4 @@
-//! The grammars of the words' values.
+//! The grammars of the values of words.
 
 use hh_names::OperatorKey;
 use hh_rows::{FileKind, LeadMinutes};
@@ -6,10 +6,10 @@ use hh_runs::RunKind;
 use hh_time::SettlementDate;
 use hh_word_values::{read_count, read_moment, read_path_name, read_port, read_shown_key};
 
-/// Which grammar the value of a word has.
+/// The grammar of the value of a word.
 #[derive(Clone, Copy)]
 pub(crate) enum Value {
-    /// None that is judged here: any text.
+    /// Any text; it is not judged here.
     Any,
     OperatorKey,
     LeadMinutes,

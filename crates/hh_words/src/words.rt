@@ -27,7 +27,7 @@ pub const USAGE: &str = "usage: settle period METER CONTRACTS PRICE
        --key-file PATH and --operator-key-file PATH take the key from a file
        with any command: [--explain]\n";
 
-/// What the program tells of its version.
+/// What the program tells about its version.
 pub const VERSION: &str = "settle 1.0.0, tables of version 1\n";
 
 /// What the program is to do.
@@ -56,10 +56,10 @@ pub struct ScriptWords<'a> {
     pub file: &'a str,
 }
 
-/// Why the words give no command.
+/// Why the words form no command.
 #[derive(Debug, Drop)]
 pub enum WordsFault {
-    /// The words are no command, or a call for help. The text is for the user.
+    /// The words form no command, or ask for help. The text is for the user.
     Wrong(String),
     /// Memory was refused.
     Memory,
@@ -75,14 +75,13 @@ impl From<AllocError> for WordsFault {
     }
 }
 
-/// Reads a line of words, the program's own name in front.
+/// Reads a line of words, which begins with the program's own name.
 ///
 /// # Errors
 ///
-/// `Wrong` where the words are no command by `clap`'s grammar, or call for help, with a text of
-/// `clap`'s; and where a value is off its grammar, or what `script` or `report` is given doesn't go
-/// together, with a line that tells it, an empty line and `USAGE`. `Memory` where memory was
-/// refused.
+/// `Wrong` with a text from `clap`: the words form no command by `clap`'s grammar, or ask for help. `Wrong`
+/// with a line that tells the reason, an empty line and `USAGE`: a value is off its grammar, or the values
+/// of `script` or `report` don't go together. `Memory`: memory was refused.
 pub fn read_words<'a>(alloc: Global, words: &'a [String]) -> Result<Command<'a>, WordsFault>
     ensures command { IfOk result (λ command.
         line_value (map string_bytes words.entry.now) ≡ Some (line_of command)) }
@@ -100,8 +99,7 @@ pub fn read_words<'a>(alloc: Global, words: &'a [String]) -> Result<Command<'a>,
     }
 }
 
-/// Whether the words ask for the program's version: `--version` alone, the program's own name in
-/// front.
+/// Whether the words ask for the program's version: only `--version` after the program's own name.
 pub fn asks_version(words: &[String]) -> bool
     ensures { result ≡ asks_version (map string_bytes words.now) }
 {
@@ -153,7 +151,7 @@ fn period_of<'a>(given: &ArgMatches<'a>) -> Option<Command<'a>>
     }))
 }
 
-/// A command on a database file, which needs the file's path.
+/// A command on a database file. It needs the file's path.
 fn database_of<'a>(name: &str, given: &ArgMatches<'a>) -> Option<Command<'a>>
     ensures { option_map line_of result ≡ given_database name.now (rows_of (found_of given.now)) }
 {
@@ -164,7 +162,7 @@ fn database_of<'a>(name: &str, given: &ArgMatches<'a>) -> Option<Command<'a>>
     }
 }
 
-/// A script over a new office, or over that of a database file, which has its own key and minutes.
+/// A script over a new office, or over the office of a database file, which has its own key and minutes.
 #[tactic(auto, unfolding(crate::specs::Lines::given_script))]
 fn script_of<'a>(given: &ArgMatches<'a>) -> Option<Command<'a>>
     ensures { option_map line_of result ≡ given_script (rows_of (found_of given.now)) }

@@ -1,4 +1,4 @@
-//! What is told of words in which `clap` finds no fault, but which are no command.
+//! What is told about words in which `clap` finds no fault, but which form no command.
 
 ghost use Rattle.std.specs.Prelude.{IfOk, string_bytes};
 ghost use Rattle.hh_words.specs.Lines.{EndsWithUsage};
@@ -15,7 +15,7 @@ use std::alloc::{AllocError, Global};
 enum Wrong<'a> {
     /// They don't go together, as this text tells.
     Company(&'static str),
-    /// This one is off the grammar of its word.
+    /// This one is off its grammar.
     Value(Word<'static>, &'a str),
 }
 
@@ -60,7 +60,7 @@ fn wrong_value<'a>(words: &'static [Word<'static>], given: &ArgMatches<'a>) -> O
     None
 }
 
-/// What is wrong with the values that a command was given side by side.
+/// What is wrong with the values of a command taken together.
 fn wrong_company(name: &str, given: &ArgMatches<'_>) -> Option<&'static str> {
     match name {
         "script" => wrong_script(given),
@@ -69,7 +69,7 @@ fn wrong_company(name: &str, given: &ArgMatches<'_>) -> Option<&'static str> {
     }
 }
 
-/// What is wrong with the options of a script side by side.
+/// What is wrong with the options of a script taken together.
 fn wrong_script(given: &ArgMatches<'_>) -> Option<&'static str> {
     let has_key = value_of(given, "operator-key").is_some();
     if value_of(given, "db").is_none() {
@@ -87,7 +87,7 @@ fn wrong_script(given: &ArgMatches<'_>) -> Option<&'static str> {
     }
 }
 
-/// What is wrong with the words of a report side by side.
+/// What is wrong with the words of a report taken together.
 fn wrong_report(given: &ArgMatches<'_>) -> Option<&'static str> {
     match value_of(given, "FORM")? {
         "balances" if value_of(given, "DATE").is_some() => {
@@ -109,8 +109,8 @@ fn push_wrong(text: &mut String, wrong: Option<Wrong<'_>>) -> Result<(), AllocEr
     }
 }
 
-/// Adds which word has which value and what that looks like, and an empty line. Of a key, which is
-/// nobody else's to read, only its length is told.
+/// Adds which word has which value, what the value should look like, and an empty line. If the value is a
+/// key, which nobody else may read, only its length is told.
 fn push_value(text: &mut String, word: Word<'_>, value: &str) -> Result<(), AllocError> {
     text.push_str("error: ")?;
     if let Form::Named | Form::NamedIfAny = word.form {

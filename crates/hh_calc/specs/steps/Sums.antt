@@ -1,4 +1,4 @@
--- The sums of the accounts of a period, as a list in account order, while rows are added to them.
+-- The sums of the accounts of a period in account order, while rows are added to them.
 use Rattle.std.specs.Prelude.{◌≡◌, ℕ, ◌+◌, ◌*◌, ◌^◌, ◌≤◌, unsigned_abs, ℤ, pos, ◌+ℤ◌, List, slice_index_or, slice_set, map, All, Bool, sum_by, if◌then◌else◌}
 use Rattle.hh_num.specs.Totals.{total}
 use Rattle.hh_names.specs.declared.account.Account.{Account}
@@ -12,7 +12,7 @@ use Rattle.hh_calc.specs.Terms.{BmUnit, ContractTerms}
 abbrev pub no_sums : AccountSums
 no_sums = record { credited = pos 0; balancing = pos 0; contracts = pos 0; weight = 0 }
 
--- two accounts' sums, added
+-- the sums of two accounts, added together
 abbrev pub sums_plus : AccountSums → AccountSums → AccountSums
 sums_plus held more = record {
   credited = held.credited +ℤ more.credited;
@@ -38,7 +38,7 @@ balancing_amounts volume = record { credited = pos 0; balancing = volume; contra
 abbrev pub contract_amounts : ℤ → AccountSums
 contract_amounts volume = record { credited = pos 0; balancing = pos 0; contracts = volume; weight = 0 }
 
--- an account's sums after amounts are added to those of one
+-- an account's sums after amounts are added to the sums of an account
 abbrev pub with_amounts : Account → AccountSums → Account → AccountSums → AccountSums
 with_amounts to amounts a held = record {
   credited = held.credited +ℤ of_account a to amounts.credited;
@@ -47,7 +47,7 @@ with_amounts to amounts a held = record {
   weight = held.weight + (if is_same_account to a then amounts.weight else 0);
 }
 
--- an account's sums after credits are added, which weigh or not
+-- an account's sums after credits are added, by whether they weigh
 abbrev pub with_credits : Bool → List CreditRow → Account → AccountSums → AccountSums
 with_credits weighs credits a held = record {
   credited = held.credited +ℤ total (credited_of a) credits;
@@ -101,18 +101,18 @@ with_net_by accounts contracts a held = record {
   weight = held.weight;
 }
 
--- each account's sums have changed so
+-- the sums of each account have changed in this way
 abbrev pub AreChanged : List Account → (Account → AccountSums → AccountSums) → List AccountSums → List AccountSums → Type 0
 AreChanged accounts change old new = (had : Account → AccountSums) → old ≡ map had accounts → new ≡ map (λ a. change a (had a)) accounts
 
--- no sum is greater in size than this
+-- no sum is greater in size than so much
 pub record IsWithin (most : ℕ) (s : AccountSums) : Type 0 where
   pub credited : unsigned_abs s.credited ≤ most
   pub balancing : unsigned_abs s.balancing ≤ most
   pub contracts : unsigned_abs s.contracts ≤ most
   pub weight : s.weight ≤ most
 
--- no sum has grown in size by more than this
+-- no sum has grown in size by more than so much
 abbrev pub AreGrown : ℕ → List AccountSums → List AccountSums → Type 0
 AreGrown growth old new = (most : ℕ) → All (IsWithin most) old → All (IsWithin (most + growth)) new
 
@@ -124,7 +124,7 @@ greatest_credit = 10 ^ 18
 abbrev pub greatest_volume : ℕ
 greatest_volume = 2 * 10 ^ 14
 
--- the greatest sum of an account over as many units as memory holds, in ticks
+-- the greatest sum of an account over as many units as memory can have, in ticks
 abbrev pub greatest_unit_sum : ℕ
 greatest_unit_sum = 19 * 10 ^ 36
 
@@ -132,6 +132,6 @@ greatest_unit_sum = 19 * 10 ^ 36
 abbrev pub greatest_sum : ℕ
 greatest_sum = 4 * 10 ^ 37
 
--- a credit is no greater in size than the greatest
+-- the size of a credit is at most the greatest
 abbrev pub IsCreditSmall : CreditRow → Type 0
 IsCreditSmall c = unsigned_abs c.credited ≤ greatest_credit

@@ -1,4 +1,4 @@
--- What the lines of a script come to over an office, by the content of its tables before and after them.
+-- What comes of the lines of a script over an office, given the content of its tables before and after them.
 use Rattle.std.specs.Prelude.{ℕ, Bool, List, take}
 use Rattle.std.specs.Io.KnownBytes.{Appends}
 use Rattle.hh_devices.specs.DeviceChanges.{DeviceChange}
@@ -13,21 +13,22 @@ use Rattle.hh_session.specs.declared.run.LinesStop.TheVariants.{Line, Output}
 use Rattle.hh_session.specs.Course.{AllDoneButLast, LastNotDone, MayStopBehind, ScriptDoes, cut_after}
 use Rattle.hh_database.specs.Running.{InMarket}
 
--- A host may show this of files and ports. The store may have failed only where this holds. This changes in an output.
+-- `host` is what a host may show about files and ports. The store may have failed only if `fails` holds. `device` is the change of an
+-- output.
 module _ (host : HostView) (fails : Type 0) (device : DeviceChange) (old new : Content) where
-  -- The steps were run, and what they write went out. `may` says which steps may have been done, and which may not.
+  -- The steps were run, and what they write was written. `may` says which steps may have been done, and which may not.
   abbrev pub RunsOver : (List Step → Bool → Type 0) → List Step → Type 0
   RunsOver may steps = InMarket (λ midnight. (s : State) → StandsFor midnight old s
       → (text : List ℕ) × (t : State)
       × ScriptDoes host fails midnight may s steps text t × Appends device.old device.new text × StandsFor midnight new t)
 
-  -- the first of the steps were run, the last of them was cut short, and a beginning of what they write went out
+  -- only the first of the steps were run, the last of these was cut short, and a beginning of what they write was written
   abbrev pub StopsOver : Bool → List Step → Type 0
   StopsOver strict steps = InMarket (λ midnight. (s : State) → StandsFor midnight old s
       → (count : ℕ) × (text : List ℕ) × (t : State)
       × ScriptDoes host fails midnight (AllDoneButLast strict) s (cut_after count steps) text t × AppendsFront device.old device.new text × StandsFor midnight new t)
 
-  -- the steps were not run to their end: the output failed; or they are strict, and those up to a line were run, the first that was not done
+  -- the steps were not run to their end: the output failed; or they are strict, and only those up to a line were run, the first not done
   abbrev pub EarlyBetween : Bool → List Step → LinesStop → Type 0
   EarlyBetween strict steps Output = StopsOver strict steps
   EarlyBetween strict steps (Line number) = MayStopBehind strict steps number × RunsOver LastNotDone (take number steps)

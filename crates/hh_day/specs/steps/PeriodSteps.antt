@@ -11,8 +11,8 @@ use Rattle.hh_states.specs.Readiness.{AreTermsConsistent}
 use Rattle.hh_store.specs.DayReads.{IsPeriodOf}
 use Rattle.hh_store.specs.declared.day_data.PeriodState.{PeriodState}
 
--- A Settlement Period is settled by this, by whatever is registered and in force, where what it is settled from fits together;
--- there is no settlement exactly where it would pass a limit.
+-- A Settlement Period with this state has this outcome. It is the same for all that is registered and in force from which the state was
+-- read, if what the period is settled from fits together. There is no settlement exactly if it would pass a limit.
 abbrev pub SettlesPeriod : SettlementPeriod → PeriodState → Option (SettlementPeriod × Settled) → Type 0
 SettlesPeriod at state outcome =
     (tables : Registered) → IsPeriodOf tables at state → AreTermsConsistent (terms_at tables at)

@@ -13,14 +13,14 @@ use Rattle.hh_errands.specs.declared.errand.ErrandStop.{ErrandStop}
 use Rattle.hh_errands.specs.declared.errand.ErrandStop.TheVariants as stop
 use Rattle.hh_errands.specs.Errands.{ReportComes, begun}
 
--- A report came so, and this changed in an output. The store may have failed only where this holds.
+-- `report` came, and `device` is the change of an output. The store may have failed only if `fails` holds.
 module _ (fails : Type 0) (device : DeviceChange) (report : Result (List ℕ) Refusal) where
   abbrev pub ReportEnds : Result Unit ErrandStop → Type 0
   ReportEnds (Ok _) = (text : List ℕ) × ReportComes fails report (Ok text) × Appends device.old device.new text
   ReportEnds (Err stop.Output) = (text : List ℕ) × ReportComes fails report (Ok text) × AppendsFront device.old device.new text
   ReportEnds (Err why) = ReportComes fails report (Err why) × AppendsFront device.old device.new (begun report)
 
--- so it is of the report that the machine's state gives, in each state that an office stands for
+-- the command ends with the report that the machine's state gives, in each state that the office represents
 abbrev pub EndsReport : Type 0 → OfficeView → DeviceChange → ReportStep → Result Unit ErrandStop → Type 0
 EndsReport fails office device asked result =
     (s : State) → Stands office s → ReportEnds fails device (report_for (midnight_of office) s asked.key asked.report) result

@@ -7,8 +7,8 @@ use Rattle.hh_desk.specs.Serving.{ServesAll}
 use Rattle.hh_errands.specs.declared.errand.Serving.{Serving}
 use Rattle.hh_errands.specs.Errands.{TellAt}
 
--- Connections were awaited, as many as were asked for, and each that came was served. The store may have failed only where this holds, and
--- an office was the one before and is the other after. What came of awaiting connections leads from one state of a listener to another.
+-- As many connections were awaited as were asked for, and each that came was served. The store may have failed only if `fails` holds. `old`
+-- is the office before the call, and `new` after it. What came of awaiting connections leads from one state of the listener to another.
 pub record ServesAt (fails : Type 0) (old new : OfficeView) {L : Type 0} (leads : L → List Arrival → L → Type 0) (listener listener' : L) (serve : Serving) : Type 0 where
   pub arrivals : List Arrival
   pub readings : List ClockReading

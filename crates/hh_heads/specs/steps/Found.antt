@@ -1,4 +1,4 @@
--- What the parser of requests says of the bytes that it was given.
+-- What the parser of requests says about the bytes that it was given.
 use Rattle.std.specs.Prelude.{ℕ, List}
 use Rattle.httparse.specs.Grammar.{HasNoRequest, MayBecomeRequest}
 use Rattle.httparse.specs.Spans.{IsRequestOf, IsRequestWithin, RequestOverflows}
@@ -6,7 +6,7 @@ use Rattle.httparse.specs.declared.spans.HeaderSpan.{HeaderSpan}
 use Rattle.hh_heads.specs.declared.front.Parsed.{Parsed}
 use Rattle.hh_heads.specs.declared.front.Parsed.TheVariants.{Whole, Part, Refused}
 
--- what the parser says of bytes, with room for so many headers
+-- what the parser says about bytes, with room for `room` headers
 abbrev pub Parses : List ℕ → ℕ → List HeaderSpan → Parsed → Type 0
 Parses bytes room headers (Whole spans) = IsRequestWithin bytes headers spans × IsRequestOf bytes headers spans
 Parses bytes room headers Part = HasNoRequest bytes × MayBecomeRequest bytes

@@ -14,14 +14,14 @@ use Rattle.hh_database.specs.declared.stop.DatabaseStop.TheVariants as database
 use Rattle.hh_database.specs.Running.{EarlyOver, WritesOver}
 use Rattle.hh_kept_office.specs.Places.{Connected, LeavesConnected}
 
--- why a script is not run, or not to its end, over a database
+-- why a script is not run over a database, or not to its end
 abbrev pub stop_of : DatabaseStop → ScriptStop
 stop_of (database.Early why) = script.Early why
 stop_of (database.Refused fault) = script.Refused (store_fault fault)
 
--- A host may show this of files and ports, this changes in an output, and a script lies in a file. The tables that were taken over have
--- this content. The script was run over them, in a database that was connected so before and is so after it; or not to its end; or the
--- script cannot be had, and then nothing was run and nothing written.
+-- `host` is what a host may show about files and ports. `device` is the change of an output. `file` is the path of a script. The tables
+-- that were taken over have this content. The script was run over them, in a database as it was before and as it is after the script. Or it
+-- was not run to its end. Or it cannot be had, and then nothing was run and nothing was written.
 abbrev pub RunsFileOver : HostView → DeviceChange → List ℕ → Bool → Content → Connected → Connected → Result Unit ScriptStop → Type 0
 RunsFileOver host device file strict content taken left (Ok x) =
     (steps : List Step) × IsScript host file steps × (IsTrue left.is_open → WritesOver host ⊤ device left.committed steps content (AllDone strict))

@@ -1,4 +1,4 @@
--- What the Settlement Periods of a date have in common.
+-- What all Settlement Periods of a date have in common.
 use Rattle.std.specs.Prelude.{◌≡◌, ℕ, ◌==◌, ℤ, filter_map, Option, None, if◌then◌else◌}
 use Rattle.hh_rows.specs.declared.keys.ContractKey.{ContractKey}
 use Rattle.hh_rows.specs.declared.rows.ContractRow.{ContractRow}
@@ -16,7 +16,7 @@ pub record IsRollOf (tables : Registered) (date : ℕ) (roll : DayRoll) : Type 0
   pub units : roll.units.items ≡ units_on tables date
   pub contracts : roll.contracts.items ≡ filter_map (row_on tables date) tables.contracts
 
--- the same but for the contracts
+-- the same without the contracts
 pub record IsHeadOf (tables : Registered) (date : ℕ) (roll : DayRoll) : Type 0 where
   pub accounts : roll.accounts.items ≡ accounts_on tables date
   pub units : roll.units.items ≡ units_on tables date

@@ -1,7 +1,9 @@
--- Contracts in force by a walk over the table: those of an account on a date, and then those of each Settlement Period.
-use Rattle.std.specs.Prelude.{ℕ, ℤ, Bool, ◌==◌, ◌||◌, Option, Some, None, if◌then◌else◌}
+-- Contracts in force, found by going through the table: those of an account on a date, and those of each Settlement Period.
+use Rattle.std.specs.Prelude.{◌≡◌, ℕ, ◌+◌, ◌<◌, ◌==◌, ℤ, Bool, ◌||◌, List, filter, get_or, length, map, Option, Some, None, if◌then◌else◌}
+use Rattle.std.specs.Global.{Vec}
 use Rattle.std.specs.FinMap.{find}
 use Rattle.hh_names.specs.declared.account.Account.{Account}
+use Rattle.hh_names.specs.declared.values.Contract.{Contract}
 use Rattle.hh_names.specs.declared.values.Counterparties.{Counterparties}
 use Rattle.hh_names.specs.Accounts.{bytes_cmp, is_same_account}
 use Rattle.hh_rows.specs.declared.keys.ContractKey.{ContractKey}
@@ -23,6 +25,15 @@ abbrev pub contract_on : Registered → Account → ℕ → ContractKey × ℤ �
 contract_on tables a date e =
     if e.0.at.date == date then row_that_names a e (find bytes_cmp e.0.reference tables.references) else None
 
--- whether a row is of the Settlement Period of this number
+-- whether a row is of the Settlement Period with this number
 abbrev pub is_in_period : ℕ → ContractRow → Bool
 is_in_period period r = r.key.at.period == period
+
+-- the contracts of those rows that are of a Settlement Period
+abbrev pub period_contracts : List ContractRow → ℕ → List Contract
+period_contracts rows period = map (λ r. r.contract) (filter (is_in_period period) rows)
+
+-- these are the contracts of rows in the Settlement Periods 1 to 50, each period's at its place
+pub record AreByPeriod (rows : List ContractRow) (periods : List (Vec Contract)) : Type 0 where
+  pub count : length periods ≡ 50
+  pub each : (place : ℕ) (d : Vec Contract) → place < 50 → (get_or periods place d).items ≡ period_contracts rows (place + 1)

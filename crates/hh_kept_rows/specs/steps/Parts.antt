@@ -1,5 +1,5 @@
 -- A part of a register while it is filled from the whole one, table by table.
-use Rattle.std.specs.Prelude.{◌≡◌, ◌≤ℤ◌, pos, ◌⊎◌, [], All, Bool, true, false, Option, Some, None}
+use Rattle.std.specs.Prelude.{◌≡◌, ◌≤ℤ◌, ℕ, pos, ◌⊎◌, List, [], All, Bool, true, false, Option, Some, None}
 use Rattle.std.specs.Ordering.{is_gt}
 use Rattle.std.specs.BTreeSet.{BTreeSet, contains}
 use Rattle.std.specs.FinMap.{find}
@@ -22,15 +22,15 @@ use Rattle.hh_rules.specs.RegisterView.{AgreesOn, AgreesOnParty, AgreesOnUnit, R
 abbrev pub with_reallocations : Table ReallocationKey Reallocation → RegisterView → RegisterView
 with_reallocations rows part = with_tables (record (tables_in part) { reallocations = rows }) part
 
--- what a table has under each key is nothing, or what the whole one has
+-- under each key a table has nothing, or what the whole one has
 abbrev pub IsPartOfTable : {K V : Type 0} → (K → K → Ordering) → Table K V → Table K V → Type 0
 IsPartOfTable {K} R whole part = (k : K) → (find R k part ≡ None) ⊎ (find R k part ≡ find R k whole)
 
--- what a table has under each key is what it had, or what the whole one has
+-- under each key a table has what it had, or what the whole one has
 abbrev pub GrowsTable : {K V : Type 0} → (K → K → Ordering) → Table K V → Table K V → Table K V → Type 0
 GrowsTable {K} R whole old new = (k : K) → (find R k new ≡ find R k old) ⊎ (find R k new ≡ find R k whole)
 
--- the part closes notifications when the whole does, counts all parties and units, and has nothing but what the whole has, and
+-- notifications close for the part when they do for the whole; it counts all parties and units, and has only what the whole has, and
 -- no reallocations
 pub record IsPartOf (whole part : RegisterView) : Type 0 where
   pub lead_minutes : part.lead_minutes ≡ whole.lead_minutes
@@ -44,7 +44,7 @@ pub record IsPartOf (whole part : RegisterView) : Type 0 where
   pub contracts : IsPartOfTable contract_key_cmp (tables_in whole).contracts (tables_in part).contracts
   pub reallocations : (tables_in part).reallocations ≡ []
 
--- the part gets nothing but what the whole has, and no reallocations
+-- the part gets only what the whole has, and no reallocations
 pub record Grows (whole : Registered) (old new : RegisterView) : Type 0 where
   pub lead_minutes : new.lead_minutes ≡ old.lead_minutes
   pub party_count : new.standing.party_count ≡ old.standing.party_count
@@ -57,7 +57,11 @@ pub record Grows (whole : Registered) (old new : RegisterView) : Type 0 where
   pub contracts : GrowsTable contract_key_cmp whole.contracts (tables_in old).contracts (tables_in new).contracts
   pub reallocations : (tables_in new).reallocations ≡ (tables_in old).reallocations
 
--- the part has of the whole what a row names and the row in force of its key, reallocations apart
+-- the part has all units of the whole
+abbrev pub AgreesOnUnits : Registered → Registered → Type 0
+AgreesOnUnits whole part = (unit : List ℕ) → AgreesOnUnit whole part unit
+
+-- the part has the same as the whole for what a row names and for the row in force of its key, without the reallocations
 abbrev pub AgreesOnNames : Registered → Registered → Row → Type 0
 AgreesOnNames whole part (row.Party r) = AgreesOn whole part (row.Party r)
 AgreesOnNames whole part (row.Unit r) = AgreesOn whole part (row.Unit r)
@@ -67,7 +71,7 @@ AgreesOnNames whole part (row.Contract r) = AgreesOn whole part (row.Contract r)
 AgreesOnNames whole part (row.Reallocation r) =
     AgreesOnParty whole part r.key.account.party × AgreesOnUnit whole part r.key.unit_period.unit
 
--- whether a reallocation is of a unit in a Settlement Period that is named
+-- whether the unit and Settlement Period of a reallocation are named
 abbrev pub is_named_in : BTreeSet UnitPeriod → ReallocationKey × Reallocation → Bool
 is_named_in named e = contains unit_period_cmp named e.0.unit_period
 

@@ -1,4 +1,4 @@
--- What a crash may leave behind the parts of a request.
+-- What a crash may leave after the parts of a request.
 use Rattle.std.specs.Prelude.{List, Option, Result, Ok, Err}
 use Rattle.hh_names.specs.declared.fault.Fault.{Fault}
 use Rattle.hh_calc.specs.Terms.{Settled}
@@ -14,23 +14,23 @@ use Rattle.hh_office.specs.Views.{OfficeView}
 use Rattle.hh_office.specs.steps.Loads.{Accepts, WritesLoad}
 use Rattle.hh_office.specs.steps.Settling.{IsRunMade, WritesRun}
 
--- this holds behind a part of a request, unless the request is given up for it
+-- `holds` is true after a part of a request, unless the request is given up for it
 abbrev pub IfTold : {A : Type 0} → Result A Fault → Type 0 → Type 0
 IfTold (Ok x) holds = holds
 IfTold (Err fault) holds = UnlessFailed fault holds
 
--- a load makes this content of an office's
+-- a load makes this content from the office's content
 abbrev pub IsLoadedContent : OfficeView → LoadWrites → Content → Type 0
 IsLoadedContent office load content = WritesLoad office (with_content office content) load
 
--- a file for which this is written, and that is accepted, makes this content of an office's
+-- an accepted file, for which this is written, makes this content from the office's content
 abbrev pub IsAcceptedContent : OfficeView → LoadWrites → Content → Type 0
 IsAcceptedContent office load content = Accepts office (with_content office content) load (loaded_reply load.file)
 
--- a run makes this content of an office's
+-- a run makes this content from the office's content
 abbrev pub IsRunContent : OfficeView → RunWrites → Content → Type 0
 IsRunContent office run content = WritesRun office (with_content office content) run
 
--- a run of these settled periods makes this content of an office's
+-- a run of these settled periods makes this content from the office's content
 abbrev pub IsMadeContent : OfficeView → RunKey → List (SettlementPeriod × Settled) → Option RunKey → Content → Type 0
 IsMadeContent office key day former content = (given : Reply) × IsRunMade office (with_content office content) key day former given

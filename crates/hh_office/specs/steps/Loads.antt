@@ -1,4 +1,4 @@
--- What the office writes for a file that it accepts, and what that comes to.
+-- What the office writes for a file that it accepts, and what comes of it.
 use Rattle.std.specs.Prelude.{◌≡◌, ℤ, length, IsTrue, Result, Ok, Err}
 use Rattle.hh_time.specs.Days.{Midnights}
 use Rattle.hh_names.specs.declared.fault.Fault.{Fault}
@@ -18,12 +18,12 @@ use Rattle.hh_office.specs.Transitions.{Transition}
 use Rattle.hh_office.specs.Promises.{MakesTransition, Stands, UnlessFailed}
 use Rattle.hh_office.specs.Views.{OfficeView, midnight_of}
 
--- where a file is sent, its name is in its grammar
+-- if a file is sent, its name is in its grammar
 abbrev pub NamesItsFile : Action → Type 0
 NamesItsFile (ask.Load upload) = IsTrue (is_file_name upload.name)
 NamesItsFile _ = Unit {0}
 
--- what the rows of a new file come to in a state, or the first fault in it
+-- the judged rows of a new file in a state, or the first fault in them
 abbrev pub judged_upload : Midnights → State → ℤ → Upload → Result FileRowsView Fault
 judged_upload midnight s moment upload = elim (file_rows upload.kind upload.body) [
   | Err fault ↦ Err fault
@@ -35,12 +35,12 @@ abbrev pub Answers : Result FileRowsView Fault → Result FileRowsView Fault →
 Answers (Ok judged) outcome = outcome ≡ Ok judged
 Answers (Err fault) outcome = UnlessFailed fault (outcome ≡ Err fault)
 
--- a new file is judged as in each state that the office stands for
+-- a new file is judged as in each state that the office represents
 abbrev pub Judges : OfficeView → ℤ → Upload → Result FileRowsView Fault → Type 0
 Judges office moment upload result =
     (s : State) → Stands office s → Answers result (judged_upload (midnight_of office) s moment upload)
 
--- what is written for a file whose rows come to these
+-- what is written for a file whose rows were judged
 abbrev pub writes_of : Upload → FileRowsView → LoadWrites
 writes_of upload judged = record {
   key = key_of upload;
@@ -49,7 +49,7 @@ writes_of upload judged = record {
   references = judged.references;
 }
 
--- what is written makes the tables, for each load for which the machine writes this, those of the state after it
+-- for each load for which the machine writes this, what is written makes the tables of the state after the load
 abbrev pub WritesLoad : OfficeView → OfficeView → LoadWrites → Type 0
 WritesLoad old new writes =
     (s : State) (load : Load) → Stands old s → CanLoad (midnight_of old) s load → writes ≡ load_writes (midnight_of old) s load
@@ -59,7 +59,7 @@ WritesLoad old new writes =
 abbrev pub accepted : OfficeView → State → Load → LoadWrites → Transition
 accepted office s load writes = record { reply = loaded_reply writes.file; state = after_load (midnight_of office) s load }
 
--- what is written makes the transition of each load for which the machine writes this
+-- for each load for which the machine writes this, what is written makes the load's transition
 abbrev pub Accepts : OfficeView → OfficeView → LoadWrites → Reply → Type 0
 Accepts old new writes given =
     (s : State) (load : Load) → Stands old s → CanLoad (midnight_of old) s load → writes ≡ load_writes (midnight_of old) s load

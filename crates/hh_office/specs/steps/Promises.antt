@@ -1,4 +1,4 @@
--- What the parts of a request answer, in each state that the office may stand for.
+-- What the parts of a request answer, in each state that the office may represent.
 use Rattle.std.specs.Prelude.{◌≡◌, Bool, Result, Ok, Err, MatchBool}
 use Rattle.hh_time.specs.Days.{Midnights}
 use Rattle.hh_names.specs.declared.fault.Fault.{Fault}
@@ -14,11 +14,11 @@ abbrev pub reply_of : Result Reply Fault → Reply
 reply_of (Ok given) = given
 reply_of (Err fault) = reply.Refused fault
 
--- the answer to a part of a request and the tables after it make the machine's transition in each state that the office stands for
+-- the answer to a part of a request, and the tables after it, make the machine's transition in each state that the office represents
 abbrev pub MakesInEachState : OfficeView → OfficeView → Result Reply Fault → (Midnights → State → Transition) → Type 0
 MakesInEachState old new result transition = (s : State) → Stands old s → MakesTransition old new (reply_of result) (transition (midnight_of old) s)
 
--- the office tells what is so in each state that it stands for
+-- the office tells what is true in each state that it represents
 abbrev pub TellsTruly : OfficeView → Bool → (Midnights → State → Bool) → Type 0
 TellsTruly office told is_so = (s : State) → Stands office s → told ≡ is_so (midnight_of office) s
 
@@ -26,6 +26,6 @@ TellsTruly office told is_so = (s : State) → Stands office s → told ≡ is_s
 abbrev pub RepliesAs : Result Reply Fault → Reply → Type 0
 RepliesAs result expected = MatchBool (is_given_up (reply_of result)) (Unit {0}) (reply_of result ≡ expected)
 
--- The office answers this and stays as it is: in each state that it stands for it is the reply, unless the request was given up.
+-- The office stays as it is, and answers what the reply is in each state that it represents, unless the request was given up.
 abbrev pub TellsInEachState : OfficeView → OfficeView → Result Reply Fault → (Midnights → State → Reply) → Type 0
 TellsInEachState old new result reply = MakesInEachState old new result (λ midnight s. unchanged s (reply midnight s))

@@ -1,4 +1,4 @@
--- How a run that is ordered is made from the tables, step by step.
+-- How a run is made from the tables, step by step.
 use Rattle.std.specs.Prelude.{◌≡◌, ℕ, ℤ, List, [], map, true, false, Option, Some, None, Result, Ok, Err, option_map}
 use Rattle.std.specs.FinMap.{find}
 use Rattle.std.specs.Option.{option_or}
@@ -30,27 +30,27 @@ use Rattle.hh_day.specs.NewRuns.{IsWrittenFor, day_in}
 use Rattle.hh_office.specs.Promises.{Stands, UnlessFailed}
 use Rattle.hh_office.specs.Views.{OfficeView, midnight_of}
 
--- the refusal of a further run of a date that has these runs, for the order of runs
+-- the fault by which the order of runs refuses a further run on a date that has these runs
 abbrev pub order_fault : List (RunKind × Summary) → RunKind → Option Fault
 order_fault runs kind = option_map plain_fault (first_met (order_refusals (map (λ r. r.0) runs) kind))
 
--- What is kept of a run among those of its date; where it is not there, it is refused for the order of runs or it may be made.
+-- What is kept of a run among those of its date. If it does not exist, the order of runs refuses it, or it may be made.
 abbrev pub TellsOrder : List (RunKind × Summary) → RunKind → Result (Option Summary) Fault → Type 0
 TellsOrder runs kind (Ok found) = (found ≡ find run_kind_cmp kind runs) × (found ≡ None → order_fault runs kind ≡ None)
 TellsOrder runs kind (Err fault) =
     UnlessFailed fault ((find run_kind_cmp kind runs ≡ None) × (order_fault runs kind ≡ Some fault))
 
--- a run may be made on its date, for the order of runs
+-- by the order of runs, a run may be made on its date
 abbrev pub IsNext : Content → RunKey → Type 0
 IsNext content key =
     (find run_kind_cmp key.kind (runs_in content key.date) ≡ None) × (order_fault (runs_in content key.date) key.kind ≡ None)
 
--- what Settlement Periods lack: the first price, else the first reading
+-- what Settlement Periods lack: the first missing price, or otherwise the first missing reading
 abbrev pub lack_fault : Registered → List SettlementPeriod → Option Fault
 lack_fault tables periods =
     option_or (option_map (period_fault MissingPrice) (missing_price tables periods)) (option_map missing_meter_fault (missing_meter tables periods))
 
--- nothing is missing for these Settlement Periods, and they are settled by these, one for each
+-- nothing is missing for these Settlement Periods, and `states` is what they are settled from, one for each
 abbrev pub LacksNothing : Registered → List SettlementPeriod → List PeriodState → Type 0
 LacksNothing tables periods states = (lack_fault tables periods ≡ None) × ArePeriodsOf tables periods states
 
@@ -68,7 +68,7 @@ abbrev pub IsEarly : Midnights → ℤ → ℕ → Fault → Type 0
 IsEarly midnight moment date fault = (is_over midnight date moment ≡ false) × (fault ≡ plain_fault DayNotOver)
 
 module _ (office : OfficeView) (moment : ℤ) (date : ℕ) where
-  -- the Settlement Periods of a date are settled so in each state that the office stands for, and nothing is against it
+  -- the Settlement Periods of a date are settled as `day` in each state that the office represents, and nothing speaks against it
   abbrev pub SettlesIn : List (SettlementPeriod × Settled) → Type 0
   SettlesIn day = (s : State) → Stands office s
       → (settle_fault (midnight_of office) s moment date ≡ None) × (day ≡ day_in (midnight_of office) s date)
@@ -78,19 +78,19 @@ module _ (office : OfficeView) (moment : ℤ) (date : ℕ) where
   RefusesIn fault = (s : State) → Stands office s
       → UnlessFailed fault (settle_fault (midnight_of office) s moment date ≡ Some fault)
 
--- what is written makes the tables, for each run for which the machine writes this, those of the state after it
+-- for each run for which the machine writes this, what is written makes the tables of the state after the run
 abbrev pub WritesRun : OfficeView → OfficeView → RunWrites → Type 0
 WritesRun old new writes =
     (s : State) (moment : ℤ) (key : RunKey) → Stands old s → CanRun (midnight_of old) s moment key
     → writes ≡ run_writes (midnight_of old) s key → new ≡ record old { content = tables_of (midnight_of old) (after_run s key) }
 
--- the rows of the run of a date before a new one, in the tables of an office; none where there is none
+-- the rows of a date's run before a new one, in the tables of an office; none if there is no such run
 abbrev pub rows_before : Content → Option RunKey → List (ℕ × AccountRow)
 rows_before content None = []
 rows_before content (Some run) = results_in content run
 
--- A run of these settled periods is made, where this is the latest run of its date: what is written for it goes into the tables,
--- and the reply is its summary.
+-- A run of these settled periods is made. `former` is the latest run of its date. What is written for the run goes into the tables, and the
+-- reply is the run's summary.
 pub record IsRunMade (old new : OfficeView) (key : RunKey) (day : List (SettlementPeriod × Settled)) (former : Option RunKey)
     (given : Reply) : Type 0 where
   pub writes : RunWrites

@@ -1,4 +1,4 @@
--- The lines of settled figures, without the lines of what was read.
+-- The lines of settled figures, without the lines of the inputs.
 use Rattle.std.specs.Prelude.{ℕ, List, ◌++◌}
 use Rattle.std.specs.List.{flat_map}
 use Rattle.hh_calc.specs.Formulas.{residual}

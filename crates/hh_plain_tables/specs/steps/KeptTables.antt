@@ -1,9 +1,9 @@
--- Tables in memory: those that a load changes are made anew, and then take the place of those before.
+-- Tables in memory: the tables that a load changes are made anew, and then replace the old ones.
 use Rattle.std.specs.Prelude.{unwrap_or}
 use Rattle.hh_rules.specs.History.{Registered}
 use Rattle.hh_plain_tables.specs.declared.changed_tables.ChangedTables.{ChangedTables}
 
--- what is registered and in force with each table that was made anew in the place of the one before
+-- what is registered and in force, with the tables that were made anew
 abbrev pub with_changed : ChangedTables → Registered → Registered
 with_changed changed tables = record {
   parties = unwrap_or changed.parties tables.parties;

@@ -8,7 +8,7 @@ use Rattle.hh_rules.specs.Percents.{percent_of_others}
 use Rattle.hh_num.specs.Quantities.{hundred_percent}
 use Rattle.hh_rules.specs.Refusals.{Standing, most_parties, most_units}
 
--- with the row no limit is passed
+-- the row would take no number above its limit
 abbrev pub HasRoomFor : Bool → Row → Standing → Type 0
 HasRoomFor in_time (row.Party r) standing =
     find bytes_cmp r.party standing.tables.parties ≡ None → standing.party_count < most_parties

@@ -1,4 +1,4 @@
--- What the lines of a script do, as the functions behind a line tell it.
+-- What the lines of a script do, as the contracts of private functions say it.
 use Rattle.std.specs.Prelude.{◌⊎◌, ℕ, Bool, List}
 use Rattle.std.specs.Io.KnownBytes.{Appends}
 use Rattle.hh_devices.specs.DeviceChanges.{DeviceChange}
@@ -13,24 +13,25 @@ use Rattle.hh_desk.specs.Doing.{IsRefusal, StandsNow, no_memory}
 use Rattle.hh_session.specs.Lines.{told_line}
 use Rattle.hh_session.specs.Course.{StepDoes, cut_short}
 
--- What goes out for a line that came to this: its text, or that of refused memory in the place of a refusal.
+-- `told` came of a line. Its text is written, or the text of refused memory in the place of a refusal.
 module _ (device : DeviceChange) (told : Told) where
-  -- it went out
+  -- the text was written
   abbrev pub TellsLine : Type 0
   TellsLine = Appends device.old device.new (told_line told) ⊎ (IsRefusal told × Appends device.old device.new (told_line no_memory))
 
-  -- a beginning of it went out
+  -- a beginning of the text was written
   abbrev pub BeginsLine : Type 0
   BeginsLine = AppendsFront device.old device.new (told_line told) ⊎ (IsRefusal told × AppendsFront device.old device.new (told_line no_memory))
 
--- What changes in an output. A host may show this of files and ports, and the store may have failed only where this holds.
+-- `device` is the change of an output. `host` is what a host may show about files and ports. The store may have failed only if `fails`
+-- holds.
 module _ (host : HostView) (fails : Type 0) (old new : OfficeView) (device : DeviceChange) where
-  -- a step was run from each state that the office stood for, it was done or not, and what it writes went out
+  -- a step was run from each state that the office represented, it was done or not, and what it writes was written
   abbrev pub RunsStep : Step → Bool → Type 0
   RunsStep step done = (s : State) → Stands old s
       → (text : List ℕ) × (t : State) × StepDoes host fails (midnight_of old) s step done text t × Appends device.old device.new text × StandsNow old new t
 
-  -- a step was run from each state that the office stood for, it was cut short, and a beginning of what it writes went out
+  -- a step was run from each state that the office represented, it was cut short, and a beginning of what it writes was written
   abbrev pub StopsStep : Step → Type 0
   StopsStep step = (s : State) → Stands old s
       → (done : Bool) × (text : List ℕ) × (t : State) × StepDoes host fails (midnight_of old) s (cut_short step) done text t × AppendsFront device.old device.new text × StandsNow old new t

@@ -1,4 +1,4 @@
--- What a line that serves connections does, as the function behind it tells it.
+-- What a line that serves connections does, as the contract of a private function says it.
 use Rattle.std.specs.Prelude.{ℕ, Bool, List}
 use Rattle.std.specs.Io.KnownBytes.{Appends}
 use Rattle.hh_devices.specs.DeviceChanges.{DeviceChange}
@@ -11,14 +11,15 @@ use Rattle.hh_script.specs.declared.serve.ServeLine.{ServeLine}
 use Rattle.hh_desk.specs.Doing.{StandsNow}
 use Rattle.hh_session.specs.Serving.{ServeDoes, awaits_none}
 
--- What changes in an output. A host may show this of files and ports, and the store may have failed only where this holds.
+-- `device` is the change of an output. `host` is what a host may show about files and ports. The store may have failed only if `fails`
+-- holds.
 module _ (host : HostView) (fails : Type 0) (old new : OfficeView) (device : DeviceChange) (line : ServeLine) where
-  -- a line that serves was run from each state that the office stood for, it was done or not, and what it writes went out
+  -- a line that serves was run from each state that the office represented, it was done or not, and what it writes was written
   abbrev pub RunsServing : Bool → Type 0
   RunsServing done = (s : State) → Stands old s
       → (text : List ℕ) × (t : State) × ServeDoes host fails (midnight_of old) s line done text t × Appends device.old device.new text × StandsNow old new t
 
-  -- a beginning of what it writes went out, and it awaited no connection
+  -- a beginning of what it writes was written, and it awaited no connection
   abbrev pub StopsServing : Type 0
   StopsServing = (s : State) → Stands old s
       → (done : Bool) × (text : List ℕ) × (t : State) × ServeDoes host fails (midnight_of old) s (awaits_none line) done text t × AppendsFront device.old device.new text × StandsNow old new t

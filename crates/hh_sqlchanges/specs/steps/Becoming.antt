@@ -1,4 +1,4 @@
--- What one step of a writing makes of the content, and of what stands beside it.
+-- What one step of writing makes of the content, and of what is kept beside it.
 use Rattle.std.specs.Prelude.{◌≡◌, List, ◌++◌}
 use Rattle.hh_tables.specs.Tables.{put_all}
 use Rattle.sqlite.specs.Effect.{Database}
@@ -13,18 +13,18 @@ use Rattle.hh_beside.specs.DayLaws.{HaveTheSame}
 use Rattle.hh_sqlrows.specs.Contents.{beside_in, content_of}
 use Rattle.hh_sqlchanges.specs.Writes.{StaysOffice, StoresRun}
 
--- The database stays an office's with its settings and its mark, and its content becomes what this makes of it, alone.
+-- The database is still an office's with the same settings and mark. Its content is what `effect` makes of it, and nothing else changed.
 pub record Becomes (effect : Content → Content) (old new : Database) : Type 0 where
   pub stays : StaysOffice old new
   pub content : (kept : Settings) → content_of kept new.trees ≡ effect (content_of kept old.trees)
   pub beside : beside_in new.trees ≡ beside_in old.trees
 
--- The rows of a run are written, alone.
+-- The rows of a run are written, and nothing else changed.
 pub record StoresRunAlone (w : RunWrites) (old new : Database) : Type 0 where
   pub stores : StoresRun w old new
   pub beside : beside_in new.trees ≡ beside_in old.trees
 
--- The content stays, and these positions and these touched Settlement Periods stand with those beside it.
+-- The content is as it was. These positions and these touched Settlement Periods are added to what is kept beside it.
 pub record WritesBeside (changed : List (PositionKey × Position)) (periods : List SettlementPeriod) (old new : Database) : Type 0 where
   pub stays : StaysOffice old new
   pub content : (kept : Settings) → content_of kept new.trees ≡ content_of kept old.trees

@@ -1,4 +1,4 @@
--- What rows of a file make of the content, none of them late. References stand apart.
+-- What rows of a file that are not late make of the content. References are not included.
 use Rattle.std.specs.Prelude.{List}
 use Rattle.hh_rows.specs.declared.rows.Row.{Row}
 use Rattle.hh_states.specs.Changes.{put_row, put_rows}

@@ -1,4 +1,4 @@
--- What is selected for a Settlement Day: the contracts of its date with the references of these, and the rows of its units.
+-- What is read for a Settlement Day: the contracts of its date with their references, and the rows of its units.
 use Rattle.std.specs.Prelude.{ℕ, ℤ, List, filter, map}
 use Rattle.std.specs.List.{dedup, flat_map}
 use Rattle.std.specs.Ordering.{is_eq, nat_cmp}
@@ -20,11 +20,11 @@ ids_on date units = map (λ e. e.0) (filter (λ e. holds e.1.range date) units)
 abbrev pub on_date : ℕ → List ℕ → UnitDay
 on_date date unit = record { unit = unit; date = date }
 
--- the references of contracts; one that neighbours share stands once
+-- the references of contracts; if neighbours have the same reference, it is listed once
 abbrev pub references_in : Table ContractKey ℤ → List (List ℕ)
 references_in contracts = dedup bytes_eq (map (λ e. e.0.reference) contracts)
 
--- ---- the part that is selected, table by table
+-- ---- the part that is read, table by table
 
 -- the contracts of a date
 abbrev pub contracts_on : ℕ → Registered → Table ContractKey ℤ
@@ -45,7 +45,7 @@ with_registered date whole part = record part {
   prices = prices_of whole.prices date;
 }
 
--- the part with the readings of a date and the reallocations of those of its units that are effective on it
+-- the part with the readings of a date and the reallocations, of the units that are effective on it
 abbrev pub with_rows_of_units : ℕ → Registered → Registered → Registered
 with_rows_of_units date whole part = record part {
   meters = flat_map (readings_of whole.meters) (map (on_date date) (ids_on date part.units));

@@ -1,4 +1,4 @@
--- What rows of contracts name of the positions, and what of these serves for the rows.
+-- The positions that contract rows name, and which positions suffice for the rows.
 use Rattle.std.specs.Prelude.{◌≡◌, true, Option, Some, None, List, All}
 use Rattle.std.specs.BTreeSet.{BTreeSet, contains}
 use Rattle.hh_tables.specs.Tables.{IsTable, Table}
@@ -20,13 +20,13 @@ abbrev pub buyer_of : Row → Option PositionKey
 buyer_of (row.Contract r) = Some (position_key r r.contract.counterparties.buyer)
 buyer_of _ = None
 
--- a set that has what another has, and the keys of the positions of a contract row's seller and buyer
+-- a set with the keys that another set has, and the keys of the positions of a contract row's seller and buyer
 pub record HasBoth (r : ContractRow) (old new : BTreeSet PositionKey) : Type 0 where
   pub kept : (key : PositionKey) → contains position_key_cmp old key ≡ true → contains position_key_cmp new key ≡ true
   pub seller : contains position_key_cmp new (position_key r r.contract.counterparties.seller) ≡ true
   pub buyer : contains position_key_cmp new (position_key r r.contract.counterparties.buyer) ≡ true
 
--- a part of the positions that has those of each seller and buyer of rows
+-- a part of the positions with the position of each seller and buyer of rows
 pub record ServesPositions (rows : List Row) (whole part : Table PositionKey Position) : Type 0 where
   pub rising : IsTable position_key_cmp part
   pub inside : ArePartOf whole part

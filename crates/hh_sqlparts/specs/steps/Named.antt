@@ -1,4 +1,4 @@
--- What rows name of each table, and what is selected of it by the names.
+-- What rows name in each table, and what is read from it by the names.
 use Rattle.std.specs.Prelude.{◌≡◌, ℕ, ℤ, List, [], ◌∷◌, true, Option, Some, None, option_map, filter, All}
 use Rattle.std.specs.BTreeMap.{is_at}
 use Rattle.std.specs.FinMap.{find}
@@ -20,34 +20,34 @@ use Rattle.hh_rows.specs.Keys.{reallocation_key_cmp, unit_period_cmp}
 use Rattle.hh_sqlrows.specs.OfficeTables.{is_of_unit_on}
 use Rattle.hh_sqlparts.specs.declared.named_names.UnitDay.{UnitDay}
 
--- ---- what of each table a row is judged by; a row of another kind by nothing of it
+-- ---- what a row is judged by in each table; a row of another kind needs nothing from it
 
--- the reference of a contract
+-- the reference of a contract row
 abbrev pub reference_of : Row → Option (List ℕ)
 reference_of (row.Contract r) = Some r.key.reference
 reference_of _ = None
 
--- the volume in force under the key of a contract
+-- the key of a contract row, under which the volume in force is found
 abbrev pub volume_key_of : Row → Option ContractKey
 volume_key_of (row.Contract r) = Some r.key
 volume_key_of _ = None
 
--- the reading under the key of a reading
+-- the key of a meter row, under which its reading is found
 abbrev pub reading_key_of : Row → Option UnitPeriod
 reading_key_of (row.Meter r) = Some r.key
 reading_key_of _ = None
 
--- the price of the Settlement Period of a price
+-- the Settlement Period of a price row, under which its price is found
 abbrev pub price_key_of : Row → Option SettlementPeriod
 price_key_of (row.Price r) = Some r.at
 price_key_of _ = None
 
--- the reallocations of the unit of a reallocation in its Settlement Period
+-- the unit and the Settlement Period of a reallocation row, for which its reallocations are found
 abbrev pub reallocated_of : Row → Option UnitPeriod
 reallocated_of (row.Reallocation r) = Some r.key.unit_period
 reallocated_of _ = None
 
--- ---- the names by which these are selected
+-- ---- the names by which these are read
 
 -- the unit and the date of a key
 abbrev pub unit_day : UnitPeriod → UnitDay
@@ -62,11 +62,11 @@ date_of r = option_map (λ at. at.date) (price_key_of r)
 abbrev pub unit_of : Row → Option (List ℕ)
 unit_of r = option_map (λ at. at.unit) (reallocated_of r)
 
--- what the row names, if it names anything, is among these
+-- what a row names, if it names anything, is in the list
 abbrev pub IsAmong : {N : Type 0} → (N → N → Ordering) → (Row → Option N) → List N → Row → Type 0
 IsAmong R name names r = IfSome (name r) (λ n. list_any (is_at (R n)) names ≡ true)
 
--- ---- what is selected by a name
+-- ---- what is read by a name
 
 -- the entry of a key, if a table has one
 abbrev pub found_entry : {K V : Type 0} → K → Option V → List (K × V)
@@ -89,9 +89,9 @@ prices_of es date = filter (λ e. is_eq (nat_cmp e.0.date date)) es
 abbrev pub reallocations_of : Table ReallocationKey Reallocation → List ℕ → Table ReallocationKey Reallocation
 reallocations_of es unit = filter (λ e. is_eq (bytes_cmp e.0.unit_period.unit unit)) es
 
--- ---- what a part has of a table
+-- ---- what a part of a table has
 
--- under the keys of rows it has what the whole has
+-- under the keys of rows, the part has what the whole has
 abbrev pub FindsNamed : {K V : Type 0} → (K → K → Ordering) → (Row → Option K) → List Row → Table K V → Table K V → Type 0
 FindsNamed R key rows whole part = All (λ r. IfSome (key r) (λ k. find R k part ≡ find R k whole)) rows
 
@@ -99,7 +99,7 @@ FindsNamed R key rows whole part = All (λ r. IfSome (key r) (λ k. find R k par
 abbrev pub reallocated_at : UnitPeriod → Table ReallocationKey Reallocation → Table ReallocationKey Reallocation
 reallocated_at at es = filter (λ e. eq_by_cmp unit_period_cmp e.0.unit_period at) es
 
--- of the units of rows in their Settlement Periods it has the reallocations that the whole has
+-- for the units of rows in their Settlement Periods, the part has the reallocations that the whole has
 abbrev pub HasReallocated : List Row → Table ReallocationKey Reallocation → Table ReallocationKey Reallocation → Type 0
 HasReallocated rows whole part =
     IsTable reallocation_key_cmp part × All (λ r. IfSome (reallocated_of r) (λ at. reallocated_at at part ≡ reallocated_at at whole)) rows

@@ -1,4 +1,4 @@
--- What readings leave, one after the other, each of which was answered.
+-- What readings leave that come one after the other and were each answered.
 use Rattle.std.specs.Prelude.{⊤, Ok}
 use Rattle.sqlite.specs.State.{State}
 use Rattle.hh_sqlparts.specs.Readings.{ReadsSafely}

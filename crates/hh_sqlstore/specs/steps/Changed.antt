@@ -1,4 +1,4 @@
--- A database that a transaction has changed, in the state of its connection.
+-- A database that a transaction has changed, as its connection sees it.
 use Rattle.std.specs.Prelude.{◌≡◌, ◌⊎◌, IsTrue}
 use Rattle.sqlite.specs.Effect.{Database}
 use Rattle.sqlite.specs.State.{HasCleanDisk, State}
@@ -12,28 +12,29 @@ use Rattle.hh_sqlchanges.specs.Writes.{StoresLoad, StoresRun}
 use Rattle.hh_sqlparts.specs.Readings.{OfCommitted, SelectsOnly}
 use Rattle.hh_sqlstore.specs.Leaving.{MayStand}
 
--- the connection was open and is; what there is was committed, and an office, all of which was committed, was changed so
+-- The connection was open and is open. Everything is committed. If the database was an office's and everything was committed, it was
+-- changed as `Change` says.
 pub record IsChangedBy (Change : Database → Database → Type 0) (old new : State) : Type 0 where
   pub was_open : IsTrue old.is_open
   pub is_open : IsTrue new.is_open
   pub settled : new.now ≡ new.committed
   pub changed : IsOffice old.now → Change old.now new.now
 
--- a load is written, and what it changes of what is kept beside the content
+-- a load is written, and what is kept beside the content is changed for it
 abbrev pub KeepsLoad : LoadWrites → Database → Database → Type 0
 KeepsLoad w old new =
     StoresLoad w old new × AreAlike (beside_in new.trees) (beside_with_load w (registered_of old.trees) (beside_in old.trees))
 
--- a run is written, and what it changes of what is kept beside the content
+-- a run is written, and what is kept beside the content is changed for it
 abbrev pub KeepsRun : RunWrites → Database → Database → Type 0
 KeepsRun w old new = StoresRun w old new × AreAlike (beside_in new.trees) (beside_with_run w (beside_in old.trees))
 
--- nothing was changed, where the disk has returned what was written
+-- nothing was changed, if the disk has returned what was written
 abbrev pub ChangesNothing : State → State → Type 0
 ChangesNothing old new = HasCleanDisk new → SelectsOnly old new
 
--- by a disk that has returned what was written, a crash leaves what it would have left before of an office in an open connection, all of
--- which was committed, or that office with such a change
+-- If the disk has returned what was written, and an office was in an open connection with everything committed, a crash leaves what it
+-- would have left before, or that office with such a change.
 abbrev pub MayChange : (Database → Database → Type 0) → State → State → Type 0
 MayChange Change old new =
     IsTrue old.is_open → OfCommitted old (HasCleanDisk new → (trees : Trees) → new.may_leave trees

@@ -1,10 +1,10 @@
--- Positions that are kept in an office's database, in the state of its connection.
+-- Positions that are kept in an office's database, as its connection sees it.
 use Rattle.std.specs.Prelude.{◌≡◌, true, Some, IsTrue}
 use Rattle.sqlite.specs.State.{State}
 use Rattle.hh_sqlrows.specs.Contents.{mark_in}
 use Rattle.hh_sqlstore.specs.Leaving.{IsTakenOver}
 
--- the connection was open and is; what there is was committed, and positions are kept there, as they were or from now on
+-- the connection was open and is open; everything is committed, and positions are kept, as before or from now on
 pub record IsMarked (old new : State) : Type 0 where
   pub was_open : IsTrue old.is_open
   pub is_open : IsTrue new.is_open

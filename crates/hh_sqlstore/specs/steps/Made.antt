@@ -1,4 +1,4 @@
--- An office that was just made, or not, in the state of its connection.
+-- Whether an office was just made, as its connection sees it.
 use Rattle.std.specs.Prelude.{◌≡◌, IsTrue}
 use Rattle.sqlite.specs.State.{HasCleanDisk, State}
 use Rattle.hh_rows.specs.declared.settings.Settings.{Settings}
@@ -10,7 +10,7 @@ pub record IsMadeIn (kept : Settings) (s : State) : Type 0 where
   pub settled : s.now ≡ s.committed
   pub is_new : IsNewOffice kept s.committed
 
--- a connection that is open afterwards was so before, and has what it had, where the disk has returned what was written
+-- a connection that is open afterwards was open before, and its database is as it was, if the disk has returned what was written
 abbrev pub IsUndone : State → State → Type 0
 IsUndone old new =
     HasCleanDisk new → IsTrue new.is_open → IsTrue old.is_open × (new.now ≡ old.now) × (new.committed ≡ old.committed)

@@ -1,4 +1,4 @@
--- Rows that are merged into a table: which keys are reached.
+-- Rows that are merged into a table: which keys the merge has reached.
 use Rattle.std.specs.Prelude.{List, Bool, IsTrue}
 use Rattle.std.specs.List.{list_all}
 use Rattle.std.specs.Ordering.{is_le}

@@ -1,4 +1,4 @@
--- What a head asks for, and the fault behind one that was read.
+-- What a head asks for, and the fault after it was read.
 use Rattle.std.specs.Prelude.{◌≡◌, Result, Ok, Err}
 use Rattle.hh_requests.specs.declared.request.Action.{Action}
 use Rattle.hh_heads.specs.Headings.{Heading, asks_head, key_shown}
@@ -10,12 +10,12 @@ use Rattle.hh_wire.specs.declared.incoming.WireFault.TheVariants as fault
 use Rattle.hh_wire.specs.declared.stop.Stop.{Stop}
 use Rattle.hh_wire.specs.declared.stop.Stop.TheVariants.{Read, Refused}
 
--- the fault of a request whose head was read
+-- the fault of a request after its head was read
 abbrev pub fault_behind : Heading → Stop → WireFault
 fault_behind h Read = fault.Read
 fault_behind h (Refused cause) = fault.Refused (record { cause = cause; head_only = asks_head h })
 
--- the message is that this is asked for, with the head's key, or that it is refused for this cause
+-- a message asks for this with the head's key, or is refused for this cause
 abbrev pub AsksFor : Heading → Message → Result Action RequestRefusal → Type 0
 AsksFor h message (Ok action) = message ≡ Ok (Asked (record { key = key_shown h; action = action }))
 AsksFor h message (Err cause) = message ≡ refusal_message h cause

@@ -15,7 +15,7 @@ name_of route.Balances = codes "balances"
 name_of route.Contracts = codes "contracts"
 name_of route.RunsOfDate = codes "runs"
 
--- two parts stand behind its name, and not one
+-- whether two parts follow the name of a route, and not one
 abbrev pub has_two : Route → Bool
 has_two route.Balances = false
 has_two route.RunsOfDate = false
@@ -32,7 +32,7 @@ is_part_byte b = nat_lt b 128 && not (b == 47)
 abbrev pub is_part : List ℕ → Bool
 is_part part = nat_lt 0 (length part) && list_all is_part_byte part
 
--- a path has one part behind a word, or two
+-- a path has one part after a word, or two
 abbrev pub HasParts : Bool → List ℕ → List ℕ → Type 0
 HasParts false word path = (part : List ℕ) × (is_part part ≡ true) × (path ≡ word ++ part)
 HasParts true word path =
@@ -46,15 +46,15 @@ IsPathOf way path = HasParts (has_two way) (word_of way) path
 abbrev pub BeginsWith : Route → List ℕ → Type 0
 BeginsWith way path = (rest : List ℕ) × (path ≡ word_of way ++ rest)
 
--- what the one part behind a route's name asks for
+-- what the only part after a route's name asks for
 abbrev pub one_part_of : Route → List ℕ → Option Action
 one_part_of way part = if has_two way then None else one_part (name_of way) part
 
--- what the two parts behind it ask for, with a body
+-- what the two parts after a route's name ask for, with a body
 abbrev pub two_parts_of : Route → List ℕ → List ℕ → List ℕ → Option Action
 two_parts_of way first second body = if has_two way then two_parts (name_of way) first second body else None
 
--- what the parts of a path ask for, with a body, where the path has this route
+-- what the parts of a path ask for, with a body, if the path has this route
 abbrev pub action_of : Route → List (List ℕ) → List ℕ → Option Action
 action_of way (root ∷ name ∷ part ∷ []) body = one_part_of way part
 action_of way (root ∷ name ∷ first ∷ second ∷ []) body = two_parts_of way first second body

@@ -15,7 +15,7 @@ route_text route.Balances = codes "/balances/{account}"
 route_text route.Contracts = codes "/contracts/{account}/{date}"
 route_text route.RunsOfDate = codes "/runs/{date}"
 
--- from where to where the names of their parameters stand in them
+-- the places in these texts where the names of their parameters begin and end
 abbrev pub names_of : Route → List (ℕ × ℕ)
 names_of route.Files = (8, 12) ∷ (15, 19) ∷ []
 names_of route.Runs = (7, 11) ∷ (14, 18) ∷ []
@@ -29,7 +29,7 @@ abbrev pub params : Bool → List ℕ
 params false = param_token ∷ []
 params true = param_token ∷ 47 ∷ param_token ∷ []
 
--- a route's word, and its parameters behind it
+-- a route's word, and its parameters after it
 abbrev pub pattern_of : Route → List ℕ
 pattern_of way = word_of way ++ params (has_two way)
 

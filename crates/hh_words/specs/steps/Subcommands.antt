@@ -1,4 +1,4 @@
--- The grammar of a subcommand that is written as its name and its words.
+-- The grammar of a subcommand that is given by its name and its words.
 use Rattle.std.specs.Prelude.{map}
 use Rattle.clap.specs.Words.{App, Rule, Text}
 use Rattle.hh_words.specs.Grammar.{command, option, optional_positional, positional, required_option}
@@ -7,7 +7,7 @@ use Rattle.hh_words.specs.declared.grammar.Form.TheVariants.{Placed, PlacedIfAny
 use Rattle.hh_words.specs.declared.grammar.Subcommand.{Subcommand}
 use Rattle.hh_words.specs.declared.grammar.Word.{Word}
 
--- how a word is given, by its name
+-- the rule for a way in which a value is given
 abbrev pub form_rule : Form → Text → Rule
 form_rule Placed = positional
 form_rule PlacedIfAny = optional_positional

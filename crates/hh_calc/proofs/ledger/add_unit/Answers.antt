@@ -3,7 +3,7 @@ use Rattle.std.specs.Prelude.{All}
 use Rattle.hh_calc.specs.steps.Ready.{IsCreditNamed}
 use Rattle.hh_calc.specs.steps.Sums.{greatest_volume}
 use Rattle.hh_calc.proofs.CreditLaws.{unit_named}
-use Rattle.hh_calc.proofs.LedgerLaws.{appended, unit_added, unit_grown, unit_room}
+use Rattle.hh_calc.proofs.LedgerLaws.{appended, reordered, unit_added, unit_grown, unit_room}
 use Rattle.hh_calc.proofs.ledger.add_unit.Goals as goal
 
 pub add_credits-requires-clause-named : goal.add_credits-requires-clause-named
@@ -31,3 +31,8 @@ returns-clause-grown c =
     let are = appended _ _ _ _ first (c.deref.ensures.value ∙ c.in_ok-push_credits.ensures.credits) in
     unit_grown c.args.unit.now _ are c.args.sums.now c.add_credits.new.sums c.add_to.new.sums c.add_credits.ensures.grown
     (c.add_to.ensures.grown greatest_volume c.amounts_of_balancing.ensures.small)
+
+pub returns-clause-credits : goal.returns-clause-credits
+returns-clause-credits c =
+    reordered _ c.deref_mut.result.now c.put_last_in_place.new.credits _ c.len-first.result _ (c.deref_mut.ensures.value ∙ c.in_ok-push_credits.ensures.credits)
+    c.deref_mut.ensures.len c.put_last_in_place.ensures

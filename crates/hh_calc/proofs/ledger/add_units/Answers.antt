@@ -1,14 +1,15 @@
-use Rattle.std.proofs.Common.{◌∙◌, ◌+◌, ◌*◌, ◌++◌, ap, arith, length, map, take, sym, length-append}
+use Rattle.std.proofs.Common.{[], ◌∙◌, ◌+◌, ◌*◌, arith, length, map, take, length-append}
+use Rattle.std.proofs.lemmas.List.Sorted.{length_permutation, IsPermutation-refl}
 use Rattle.hh_calc.specs.Formulas.{unit_credits, unit_sums}
 use Rattle.hh_calc.specs.Ready.{HasFewSubsidiaries, IsUnitNamed}
 use Rattle.hh_calc.specs.steps.Sums.{greatest_credit, greatest_sum, greatest_unit_sum, greatest_volume}
-use Rattle.hh_calc.proofs.LedgerLaws.{credits_next, none_within, sums_start, units_step}
+use Rattle.hh_calc.proofs.LedgerLaws.{credits_placed, none_within, sums_start, units_step}
 use Rattle.hh_calc.proofs.SumLaws.{all_read, all_within}
 use Rattle.hh_calc.proofs.ledger.add_units.Goals as goal
 
 pub loop-unit-init : goal.loop-unit-init
 loop-unit-init c = record {
-  credits = c.requires.none;
+  credits = rw c.requires.none (IsPermutation-refl []);
   sums = c.requires.start ∙ sums_start c.args.accounts.now;
   small = none_within c.args.accounts.now _ _ c.requires.start;
 }
@@ -28,10 +29,11 @@ loop-unit-preserved c =
     let units = c.args.units.now in
     let unit = c.unit-item.result in
     let i = c.loop-unit.unit-index in
-    let more = c.in_ok-add_unit.ensures.credits in
-    let long = ap length more ∙ length-append c.loop-unit.credits.items (unit_credits unit) in
+    let rows = c.loop-unit.credits.items in
+    let placed = c.in_ok-add_unit.ensures.credits in
+    let long = length_permutation _ _ placed ∙ length-append rows (unit_credits unit) in
     record {
-      credits = more ∙ ap (λ rows. rows ++ unit_credits unit) c.loop-unit.invariant.credits ∙ sym (credits_next units i unit (omega arith) c.unit-item.is);
+      credits = credits_placed units i unit (omega arith) c.unit-item.is rows _ c.loop-unit.invariant.credits placed;
       sums = c.in_ok-add_unit.ensures.added (unit_sums (take i units)) c.loop-unit.invariant.sums
           ∙ (λ j. map (λ a. units_step units i unit (omega arith) c.unit-item.is a j) c.args.accounts.now);
       small = all_within ((length c.loop-unit.credits.items * greatest_credit + i * greatest_volume) + (length (unit_credits unit) * greatest_credit + greatest_volume)) _ _ (omega arith)

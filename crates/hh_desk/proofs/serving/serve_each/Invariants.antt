@@ -4,7 +4,7 @@ use Rattle.hh_desk.specs.GivingUp.{HasRefused}
 use Rattle.hh_desk.specs.Serving.{ServesEach}
 use Rattle.hh_desk.proofs.serving.serve_each.Given as goal
 
--- so many connections were served
+-- the connections so far were served
 abbrev pub invariant-loop : goal.invariant-loop
 invariant-loop g l = record {
   serves : IsSure g.T.Tables.is_open l.office → ServesEach (HasRefused g.T.Tables.refusals l.fn.office l.office) l.fn.office.seen l.office.seen

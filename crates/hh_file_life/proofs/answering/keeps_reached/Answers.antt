@@ -6,7 +6,7 @@ use Rattle.hh_office.specs.steps.Loads.{NamesItsFile}
 use Rattle.hh_office.proofs.OnceLaws.{next_reached}
 use Rattle.hh_file_life.proofs.answering.keeps_reached.Goals as goal
 
--- what sends no file names none
+-- an action that sends no file names none
 names_none : (action : Action) → ((upload : Upload) → action ≡ ask.Load upload → ⊥) → NamesItsFile action
 names_none (ask.Load upload) other = absurd (other upload refl)
 names_none (ask.Run key) other = tt

@@ -9,7 +9,7 @@ use Rattle.hh_file_life.specs.Life.{LeaveState, LeaveStates}
 use Rattle.hh_file_life.proofs.LifeLaws.{GoesOn}
 use Rattle.hh_file_life.proofs.life.run_all.Given as goal
 
--- the commands so far were run, and there is room for the other replies
+-- the commands so far were run, and there is memory for the other replies
 abbrev pub invariant-commands : goal.invariant-commands
 invariant-commands g l = record {
   honest : AreClean g.D.Disk l.files.log l.files.db → AreClean g.D.Disk l.fn.files.log l.fn.files.db;

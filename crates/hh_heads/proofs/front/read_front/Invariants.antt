@@ -3,7 +3,7 @@ use Rattle.std.specs.Io.KnownBytes.{Consumes}
 use Rattle.httparse.specs.Grammar.{HasNoRequest, MayBecomeRequest}
 use Rattle.hh_heads.proofs.front.read_front.Given as goal
 
--- what was read stands at the front of the buffer, no head is in it yet but one may come, and no call failed
+-- what was read is at the beginning of the buffer, it contains no head yet but one may come, and no call failed
 abbrev pub invariant-loop-read : goal.invariant-loop-read
 invariant-loop-read g l = record {
   in_range : l.read ≤ 8192;

@@ -12,7 +12,7 @@ read_adds (Ok n) mid new a k xs ys read within fits =
     λ old before. read_more old mid new a k n xs ys before read.0 fits within
 read_adds (Err e) mid new a k xs ys read within fits = tt
 
--- the room keeps its length
+-- the length of the room does not change
 within : {E : Type 0} (r : Result ℕ E) (old new : List ℕ) → length new ≡ length old → IfOk r (λ n. n ≤ length old) → IfOk r (λ n. n ≤ length new)
 within (Ok n) old new kept h = omega arith
 within (Err e) old new kept h = tt
@@ -23,7 +23,7 @@ returns-clause-read g c =
     c.args.filled (length c.args.buffer.now - c.args.filled) c.args.buffer.now c.read.new.buffer
     c.read.ensures.bytes (within _ _ _ c.read.auto.buffer c.read.ensures.count) (omega arith)
 
--- where a read gave nothing there was nothing left
+-- if a read gave nothing, nothing was left
 at_end : (mid new : Option (List ℕ)) (n : ℕ) (ys : List ℕ) → Consumes mid new (take n ys) → IsAtEnd new → n ≡ 0 → IsAtEnd mid
 at_end None new n ys taken end none = tt
 at_end (Some xs) None n ys taken end none = absurd taken

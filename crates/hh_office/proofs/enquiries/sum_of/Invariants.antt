@@ -3,7 +3,7 @@ use Rattle.std.specs.Prelude.{unsigned_abs}
 use Rattle.hh_num.specs.Totals.{total}
 use Rattle.hh_office.proofs.enquiries.sum_of.Given as goal
 
--- what the postings so far come to, each of which fits 64 bits
+-- the sum of the postings so far, each of which fits 64 bits
 abbrev pub invariant-loop-posting : goal.invariant-loop-posting
 invariant-loop-posting l = record {
   sum : l.sum ≡ total (λ e. e.1) (take l.posting-index l.postings);

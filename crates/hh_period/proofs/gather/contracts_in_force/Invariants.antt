@@ -5,7 +5,7 @@ use Rattle.hh_period.specs.Rows.{first_refusal, first_refused, period_contract_e
 use Rattle.hh_period.proofs.ContractFacts.{KeepsCounterparties}
 use Rattle.hh_period.proofs.gather.contracts_in_force.Given as goal
 
--- the rows so far are in force, none of them is refused, and each reference has its first counterparties
+-- the table has the contracts of the rows so far, none of these is refused, and each reference has its first counterparties
 abbrev pub invariant-loop-index : goal.invariant-loop-index
 invariant-loop-index l = record {
   entries : l.contracts.entries ≡ table_of_last bytes_cmp (map period_contract_entry (take l.index l.rows));

@@ -7,7 +7,7 @@ use Rattle.hh_session.specs.Course.{AllDone, RunsScript}
 use Rattle.hh_desk.specs.GivingUp.{HasRefused}
 use Rattle.hh_session.proofs.run.run_lines.Given as goal
 
--- the lines so far were run, and all done where they are strict
+-- the lines so far were run, and all were done if they are strict
 abbrev pub invariant-loop-index : goal.invariant-loop-index
 invariant-loop-index g l = record {
   run : IsSure g.T.Tables.is_open l.office → RunsScript (g.H.Host.view l.host) (HasRefused g.T.Tables.refusals l.fn.office l.office)

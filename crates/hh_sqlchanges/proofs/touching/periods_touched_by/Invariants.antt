@@ -4,6 +4,6 @@ use Rattle.hh_beside.specs.DayLaws.{HaveTheSame}
 use Rattle.hh_beside.specs.Keeping.{touched_by}
 use Rattle.hh_sqlchanges.proofs.touching.periods_touched_by.Given as goal
 
--- what the rows so far touch is in the set, and nothing else
+-- the set contains what the rows so far touch, and nothing else
 abbrev pub invariant-loop-row : goal.invariant-loop-row
 invariant-loop-row l = HaveTheSame l.found.keys (filter_map touched_by (take l.row-index l.rows))

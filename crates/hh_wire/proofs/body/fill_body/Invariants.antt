@@ -2,7 +2,7 @@ use Rattle.std.proofs.Common.{◌≡◌, ◌≤◌, ◌-◌, length, take}
 use Rattle.std.specs.Io.KnownBytes.{Consumes, prepend_known}
 use Rattle.hh_wire.proofs.body.fill_body.Given as goal
 
--- what was at hand and what was read stand at the front of the buffer, and no call failed
+-- what was at hand and what was read are at the beginning of the buffer, and no call failed
 abbrev pub invariant-loop-filled : goal.invariant-loop-filled
 invariant-loop-filled g l = record {
   past : length l.at_hand ≤ l.filled;

@@ -11,7 +11,7 @@ use Rattle.hh_wire.specs.declared.router.Route.{Route}
 use Rattle.hh_wire.specs.declared.router.Route.TheVariants as route
 use Rattle.hh_wire.proofs.router.build_router.Goals as goal
 
--- where no row conflicts with a pattern, memory alone is refused
+-- if no row conflicts with a pattern, only memory can be refused
 memory_alone : (p : List ℕ) (rs : RowsOf (RouteOf Route)) (e : InsertError) → nearest p rs ≡ None → Refused p rs e → e ≡ OutOfMemory
 memory_alone p rs OutOfMemory none why = refl
 memory_alone p rs (Conflict with) none why = absurd (none-some why.0 (sym none ∙ why.1))

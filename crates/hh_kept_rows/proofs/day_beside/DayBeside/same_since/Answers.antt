@@ -5,12 +5,12 @@ use Rattle.hh_beside.specs.Beside.{credit_row}
 use Rattle.hh_kept_rows.specs.DayBeside.{IsSameAs, IsSameSince}
 use Rattle.hh_kept_rows.proofs.day_beside.DayBeside.same_since.Goals as goal
 
--- what holds of what was found where something stronger does
+-- a weaker property of what was found follows from a stronger one
 weaker : {X : Type 0} (P Q : X → Type 0) → ((x : X) → P x → Q x) → (o : Option X) → IfSome o P → IfSome o Q
 weaker P Q follows None h = h
 weaker P Q follows (Some x) h = follows x h
 
--- a map over what a map gives
+-- mapping twice
 twice : {X Y Z : Type 0} (f : Y → Z) (g : X → Y) (xs : List X) → map f (map g xs) ≡ map (λ x. f (g x)) xs
 twice f g [] = refl
 twice f g (x ∷ xs) = ap (λ l. f (g x) ∷ l) (twice f g xs)

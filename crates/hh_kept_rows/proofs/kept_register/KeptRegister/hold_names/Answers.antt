@@ -16,15 +16,15 @@ returns-in_ok-hold_party-in-Unit-clause-agrees c lead_minutes part =
     subst (λ r. OnOk c.hold_unit.result (AgreesOnNames whole (tables_in c.hold_unit.new.part) r)) (sym c.in-Unit.is)
     (where_both c.hold_unit.result (λ grows own. (party_grown whole c.hold_party-in-Unit.new.part c.hold_unit.new.part grows c.in-Unit.row.registration.lead.party (c.in_ok-hold_party-in-Unit.ensures.agrees lead_minutes part), own)) c.hold_unit.ensures.grows (c.hold_unit.ensures.agrees lead_minutes held))
 
-pub returns-in_ok-hold_unit-in-Meter-clause-grows : goal.returns-in_ok-hold_unit-in-Meter-clause-grows
-returns-in_ok-hold_unit-in-Meter-clause-grows c = on_ok_weaker c.hold_reading.result (grows_twice c.args.self.now c.args.part.now c.hold_unit-in-Meter.new.part c.hold_reading.new.part c.in_ok-hold_unit-in-Meter.ensures.grows) c.hold_reading.ensures.grows
+pub returns-in_ok-hold_unit_unless-in-Meter-clause-grows : goal.returns-in_ok-hold_unit_unless-in-Meter-clause-grows
+returns-in_ok-hold_unit_unless-in-Meter-clause-grows c = on_ok_weaker c.hold_reading.result (grows_twice c.args.self.now c.args.part.now c.hold_unit_unless.new.part c.hold_reading.new.part c.in_ok-hold_unit_unless-in-Meter.ensures.grows) c.hold_reading.ensures.grows
 
-pub returns-in_ok-hold_unit-in-Meter-clause-agrees : goal.returns-in_ok-hold_unit-in-Meter-clause-agrees
-returns-in_ok-hold_unit-in-Meter-clause-agrees c lead_minutes part =
+pub returns-in_ok-hold_unit_unless-in-Meter-clause-agrees : goal.returns-in_ok-hold_unit_unless-in-Meter-clause-agrees
+returns-in_ok-hold_unit_unless-in-Meter-clause-agrees c lead_minutes part =
     let whole = c.args.self.now in
-    let held = part_grown whole lead_minutes c.args.part.now c.hold_unit-in-Meter.new.part part c.in_ok-hold_unit-in-Meter.ensures.grows in
+    let held = part_grown whole lead_minutes c.args.part.now c.hold_unit_unless.new.part part c.in_ok-hold_unit_unless-in-Meter.ensures.grows in
     subst (λ r. OnOk c.hold_reading.result (AgreesOnNames whole (tables_in c.hold_reading.new.part) r)) (sym c.in-Meter.is)
-    (where_both c.hold_reading.result (λ grows own. (unit_grown whole c.hold_unit-in-Meter.new.part c.hold_reading.new.part grows c.in-Meter.row.key.unit (c.in_ok-hold_unit-in-Meter.ensures.agrees lead_minutes part), own)) c.hold_reading.ensures.grows (c.hold_reading.ensures.agrees lead_minutes held))
+    (where_both c.hold_reading.result (λ grows own. (unit_grown whole c.hold_unit_unless.new.part c.hold_reading.new.part grows c.in-Meter.row.key.unit (c.in_ok-hold_unit_unless-in-Meter.ensures.agrees lead_minutes part), own)) c.hold_reading.ensures.grows (c.hold_reading.ensures.agrees lead_minutes held))
 
 pub returns-in_ok-hold_party-in-Reallocation-clause-grows : goal.returns-in_ok-hold_party-in-Reallocation-clause-grows
 returns-in_ok-hold_party-in-Reallocation-clause-grows c = on_ok_weaker c.hold_unit-in-Reallocation.result (grows_twice c.args.self.now c.args.part.now c.hold_party-in-Reallocation.new.part c.hold_unit-in-Reallocation.new.part c.in_ok-hold_party-in-Reallocation.ensures.grows) c.hold_unit-in-Reallocation.ensures.grows

@@ -6,7 +6,7 @@ use Rattle.hh_rules.specs.RegisterView.{tables_in}
 use Rattle.hh_kept_rows.specs.steps.Parts.{is_named_in, with_reallocations}
 use Rattle.hh_kept_rows.proofs.kept_register.KeptRegister.hold_reallocations.Given as goal
 
--- the reallocations so far that are of what is named are held
+-- the reallocations so far whose unit and Settlement Period are named are held
 abbrev pub invariant-loop-key : goal.invariant-loop-key
 invariant-loop-key l =
     l.part

@@ -1,8 +1,8 @@
 use Rattle.std.proofs.Common.{map, ap, ◌∙◌}
-use Rattle.std.specs.Prelude.{filter, filter_map}
+use Rattle.std.specs.Prelude.{filter_map}
 use Rattle.hh_calc.specs.Terms.{period_terms, Rows}
 use Rattle.hh_states.specs.PeriodSettlement.{unit_at}
-use Rattle.hh_kept_rows.specs.steps.KeptContracts.{is_in_period}
+use Rattle.hh_kept_rows.specs.steps.KeptContracts.{period_contracts}
 use Rattle.hh_kept_rows.proofs.DayLaws.{rows_at}
 use Rattle.hh_kept_rows.proofs.kept_register.KeptRegister.period_data.Goals as goal
 
@@ -12,7 +12,7 @@ returns c =
     let at = c.args.at.now in
     c.new.ensures
     ∙ (λ i. period_terms
-    ((c.in_ok-accounts.ensures.items ∙ c.deref.ensures.value ∙ c.requires.accounts) i)
-    ((c.in_ok-units.ensures ∙ ap (filter_map (unit_at tables at)) (c.deref-2.ensures.value ∙ c.requires.units)) i)
-    (Rows ((c.in_ok-contracts.ensures ∙ ap (λ rows. map (λ r. r.contract) (filter (is_in_period at.period) rows)) (c.deref-3.ensures.value ∙ c.requires.contracts) ∙ ap (map (λ r. r.contract)) (rows_at tables at)) i))
+    ((c.in_ok-accounts.ensures.items ∙ c.deref.ensures.value ∙ c.requires.roll.accounts) i)
+    ((c.in_ok-units.ensures ∙ ap (filter_map (unit_at tables at)) (c.deref-2.ensures.value ∙ c.requires.roll.units)) i)
+    (Rows ((c.requires.contracts ∙ ap (λ rows. period_contracts rows at.period) c.requires.roll.contracts ∙ ap (map (λ r. r.contract)) (rows_at tables at)) i))
     (c.price_at-price.ensures i))

@@ -3,6 +3,6 @@ use Rattle.std.specs.Prelude.{filter}
 use Rattle.hh_rows.specs.DateRanges.{holds}
 use Rattle.hh_kept_rows.proofs.kept_register.KeptRegister.units_on.Given as goal
 
--- the units so far whose range holds the date
+-- the units so far whose range has the date
 abbrev pub invariant-loop-unit : goal.invariant-loop-unit
 invariant-loop-unit l = l.units.items ≡ filter (λ e. holds e.1.range l.date) (take l.unit-index l.unit-items)

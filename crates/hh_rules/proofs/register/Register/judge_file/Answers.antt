@@ -1,6 +1,7 @@
 use Rattle.std.proofs.Common.{◌≡◌, ◌+◌, ◌∙◌, ap, length, sym, subst, Ok, Err, arith, w64}
 use Rattle.std.proofs.lemmas.Int.{to_z-of_z}
 use Rattle.hh_rules.specs.FileRows.{JudgesFile}
+use Rattle.hh_rules.specs.steps.RegisterView.{IsKeptIn}
 use Rattle.hh_rules.proofs.FileLaws.{judged_from_start, refused_but, judged_to_end, judged_but, count_with, passed_on}
 use Rattle.hh_rules.proofs.register.Register.judge_file.Goals as goal
 
@@ -35,5 +36,5 @@ pub loop-index-init : goal.loop-index-init
 loop-index-init c = record {
   judged = judged_from_start c.args.zone.now c.args.self _ c.args.rows.now _ c.in_ok-file.ensures;
   count = ap (λ f. length f.rows + f.late) c.in_ok-file.ensures;
-  kept = tt;
+  kept = subst (IsKeptIn c.args.zone.now) (sym c.nothing-last.ensures) tt;
 }
