@@ -1,4 +1,4 @@
-// Preloaded into a program, sets the machine's clock to a moment before 1970. The other clocks go as they do.
+// Preloaded into a program, it sets the machine's clock to a moment before 1970. The other clocks run as usual.
 #define _GNU_SOURCE
 #include <sys/syscall.h>
 #include <time.h>

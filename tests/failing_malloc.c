@@ -1,14 +1,14 @@
-// Preloaded into a program, refuses memory. Each call that asks for memory is a growth.
+// Preloaded into a program, it refuses memory to the program. Each call that asks for memory is a growth.
 //
-// From outside: the growth with the number FAIL_AT of the environment is refused, counted from 1 where the program begins. The
-// file FAIL_NOTE is made then: where it is missing, no growth had that number.
+// From outside: the environment's FAIL_AT is the number of the growth that is refused, counted from 1 when the program begins.
+// The file FAIL_NOTE is made then. If the file is missing, no growth had that number.
 //
-// From inside, by paths that the program opens and that are not there:
-//   /refused-memory/once/N   growths are counted anew, and the Nth is refused
-//   /refused-memory/on/N     the Nth is refused, and each one behind it
-//   /refused-memory/asked    none is refused any more; the answer is EACCES where one was since such a path, else ENOENT
-// Each of them appends a line to the file FAIL_LOG: how many growths there were since the one before, and how many of them were
-// refused.
+// From inside, by paths that the program opens and that don't exist:
+//   /refused-memory/once/N   growths are counted from 1 again, and the Nth is refused
+//   /refused-memory/on/N     the Nth is refused, and each later one
+//   /refused-memory/asked    none is refused any more; the answer is EACCES if one was refused since such a path, otherwise ENOENT
+// Each of them appends a line to the file FAIL_LOG: how many growths there were since the path before, and how many of them
+// were refused.
 #define _GNU_SOURCE
 #include <dlfcn.h>
 #include <errno.h>
@@ -63,7 +63,7 @@ int posix_memalign(void **out, size_t align, size_t size) {
     return 0;
 }
 
-// Refuses this growth from now on, 0 for none.
+// From now on, this growth is refused. For 0, none is.
 static void count_anew(long number, int more) {
     const char *log = getenv("FAIL_LOG");
     fail_at = 0;

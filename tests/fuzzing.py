@@ -1,5 +1,5 @@
-"""Damaged inputs, tried by `hh_bench mutate` in chunks: which there are, what they come to, and which of them is to
-blame where a promise doesn't hold, or where a chunk ends in another way."""
+"""Damaged inputs, tried by `hh_bench mutate` in chunks: which inputs there are, what comes of them, and which of them is to
+blame if a promise doesn't hold or if a chunk ends in another way."""
 import collections
 import concurrent.futures
 import contextlib
@@ -16,17 +16,17 @@ from programs import BENCH, HOME, SETTLE
 CORPUS = HOME / "tests" / "corpus"
 FILE_KINDS = "parties", "units", "meters", "prices", "contracts", "reallocations"
 TEXT_KINDS = *FILE_KINDS, "request", "script"
-# Inputs of `database` are the files of databases, and those of `log` the logs beside such files.
+# Inputs of `database` are the files of databases. Inputs of `log` are the logs beside such files.
 DATABASE_KINDS = "database", "log"
 KINDS = *TEXT_KINDS, *DATABASE_KINDS
-# A chunk takes a second or a few where all is well: so many inputs of text, or of databases.
+# How many inputs of text, or of databases, a chunk has. It takes a second or a few if all is well.
 CHUNKS = dict.fromkeys(TEXT_KINDS, 20_000) | dict.fromkeys(DATABASE_KINDS, 100)
-# So many seconds of a processor a chunk may take, and so many bytes of memory. It is awaited so many seconds, in which a
-# machine that does much else may give it little.
+# How many seconds of a processor a chunk may take, and how many bytes of memory. It is awaited for longer, because a busy
+# machine may give it little of its time.
 SECONDS = 300
 MEMORY = 1_000_000_000
 PATIENCE = 3_600
-# What stands in the place of a chunk's status, if it is awaited no longer.
+# The status of a chunk that is not awaited any longer.
 TOO_LONG = "took too long"
 OPERATOR = "op-settle001"
 DAY = "2024-07-01"
@@ -48,9 +48,9 @@ MARKET = [
         f"date,period,price\n{DAY},1,50.00000\n" + "".join(f"{DAY},{period},0\n" for period in IDLE),
     ),
 ]
-# So many databases are as an office wrote them.
+# How many databases are as an office wrote them.
 OFFICES = 3
-# So many databases have rows that no office writes, by these values.
+# How many databases have rows that no office writes, with these values.
 DAMAGED = 30
 VALUES = {
     "INT": [-(2**63), -1, 0, 1, 2, 5, 49, 51, 255, 256, 19_905, 65_536, 10_000_001, 2**31, 2**62, 2**63 - 1],
@@ -62,7 +62,7 @@ DEARER = ("prices", f"date,period,price\n{DAY},1,60.00000\n")
 
 @dataclasses.dataclass(frozen=True)
 class Chunk:
-    """So many inputs of a kind, from the first on, which are made from these files."""
+    """A number of inputs of a kind, from `first` on, which are made from these files."""
 
     kind: str
     files: tuple
@@ -80,7 +80,7 @@ class Chunk:
 
 @dataclasses.dataclass
 class Found:
-    """What came of some inputs: how often each answer came, and the inputs that are wrong, with how that shows."""
+    """What came of some inputs: how often each answer came, and which inputs are wrong, with how that shows."""
 
     answers: collections.Counter
     wrong: dict
@@ -91,15 +91,15 @@ class Found:
 
 
 def corpus_of(kind, room):
-    """The files from which the inputs of a kind are made. Logs stand beside files that an office has written."""
+    """The files from which the inputs of a kind are made. Logs are beside files that an office has written."""
     if kind in DATABASE_KINDS:
         return tuple(map(str, databases(room)[: OFFICES if kind == "log" else None]))
     return tuple(map(str, sorted((CORPUS / kind).iterdir())))
 
 
 def databases(room):
-    """Small databases of offices, which are made in the folder if they aren't there: a new one, one that has loaded the
-    market, one that has made two runs of it, and copies of this one with rows that no office writes."""
+    """Small databases of offices, which are made in the folder if they aren't there: a new one, one that has loaded the market,
+    one that has made two runs of it, and copies of this one with rows that no office writes."""
     room = pathlib.Path(room)
     files = [room / "new.db", room / "loaded.db", room / "settled.db"]
     copies = [room / f"damaged-{number:02}.db" for number in range(DAMAGED)]
@@ -114,7 +114,7 @@ def databases(room):
 
 
 def make_database(room, path, depth):
-    """Makes an office, and from the depth 1 on has it load the market, from 2 on with two runs."""
+    """Makes an office. From depth 1 on it loads the market, and from 2 on it makes two runs."""
     settle("init", "--db", path, "--operator-key", OPERATOR)
     for number, (kind, text) in enumerate(MARKET if depth else [], 1):
         load(room, path, kind, text, f"f{number}.csv")
@@ -125,7 +125,7 @@ def make_database(room, path, depth):
 
 
 def damage(path, draw):
-    """Changes some rows of a database: a value, or a row that goes, or one more that is like another but for a value."""
+    """Changes some rows of a database: it changes a value, removes a row, or adds a row that differs from another in one value."""
     with contextlib.closing(sqlite3.connect(path)) as connection:
         for _ in range(draw.randint(1, 5)):
             table = draw.choice([name for (name,) in connection.execute("SELECT name FROM sqlite_schema WHERE type = 'table'")])
@@ -161,7 +161,7 @@ def settle(*words):
 
 
 def call(*words, patience=PATIENCE):
-    """The status of `hh_bench` with these words, or `TOO_LONG`, and what it wrote. It has so much memory and time at most."""
+    """The status of `hh_bench` with these words, or `TOO_LONG`, and what it wrote. Its memory and its time are limited."""
     limits = f'ulimit -c 0; ulimit -t {SECONDS}; ulimit -v {MEMORY // 1024}; exec "$@"'
     limited = ["sh", "-c", limits, "sh", BENCH, *map(str, words)]
     try:
@@ -172,7 +172,7 @@ def call(*words, patience=PATIENCE):
 
 
 def attempt(chunk, patience=PATIENCE):
-    """What came of a chunk, or how it ended, if it wasn't tried to its end."""
+    """What came of a chunk, or how it ended if it wasn't tried to its end."""
     words = "mutate", chunk.kind, chunk.first, chunk.count, *chunk.files
     status, written, told = call(*words, patience=patience)
     found = Found(collections.Counter(), {})
@@ -188,7 +188,7 @@ def attempt(chunk, patience=PATIENCE):
 
 
 def tried(chunk, patience=PATIENCE):
-    """What came of a chunk. Where it wasn't tried to its end it is parted, down to the input that is to blame."""
+    """What came of a chunk. If it wasn't tried to its end, it is divided until the input to blame is found."""
     found, ended = attempt(chunk, patience)
     if found is not None:
         return found
@@ -208,7 +208,7 @@ def chunks_of(kind, files, first, count):
 
 
 def try_all(chunks, patience=PATIENCE):
-    """What came of each of these chunks, as they end, as many at a time as there are processors."""
+    """What came of each of these chunks, as they end. As many are tried at a time as there are processors."""
     with concurrent.futures.ThreadPoolExecutor(os.cpu_count()) as workers:
         attempts = {workers.submit(tried, chunk, patience): chunk for chunk in chunks}
         for done in concurrent.futures.as_completed(attempts):

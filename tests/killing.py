@@ -1,6 +1,6 @@
-"""Services on an office in a database file that are killed at random moments while clients ask them. Beside that office stands
-another: it gets the same requests in the same order, and its services end by themselves. What a kill leaves, and each reply, is
-compared with it."""
+"""Services on an office in a database file that are killed at random moments while clients send requests. Beside that office
+there is another. It gets the same requests in the same order, and its services end by themselves. What a kill leaves, and each
+reply, is compared with it."""
 import collections
 import concurrent.futures
 import contextlib
@@ -25,25 +25,25 @@ from test_desk import OPERATOR
 from test_serving import request
 
 PROGRAM = [SETTLE]
-# So many services of an office are killed, each under so many requests at most, by so many clients at most.
+# How many services of an office are killed, and the most requests and the most clients of each.
 KILLS, MOST_REQUESTS, MOST_CLIENTS = 10, 20, 4
-# Of so many services one is killed while it opens the file, and one finds a disk that becomes full.
+# Of this many services one is killed while it opens the file, and one finds a disk that becomes full.
 OPENING_ONE_OF, FULL_ONE_OF = 6, 8
 MOST_ROOM = 200_000
 # The weight of runs among the requests that are drawn.
 RUNS = 50
 PATIENCE = 60
-# How many seconds a service is taken to open the file, and a request to be answered, before that was seen.
+# How many seconds a service is assumed to take for opening the file, and a request for its answer, before that was measured.
 OPENING, ANSWERING = 0.05, 0.005
 
 
 class Wrong(Exception):
-    """What shows that a promise doesn't hold."""
+    """An observation that shows that a promise doesn't hold."""
 
 
 @dataclasses.dataclass
 class Found:
-    """What came of the kills of an office: where they met its services, how many requests these were to get and how many were
+    """What came of the kills of an office: when they met its services, how many requests these were to get, how many were
     answered 90 or 91, and what is wrong, if anything is."""
 
     seed: int
@@ -55,7 +55,7 @@ class Found:
 
 
 class MoreRuns(Requests):
-    """Requests among which are many runs. Nothing is missing for those of half of the dates."""
+    """Requests with many runs among them. For half of the dates nothing is missing."""
 
     def __init__(self, folder, seed):
         super().__init__(folder, seed)
@@ -75,7 +75,7 @@ class MoreRuns(Requests):
 
 
 def as_sent(asked, enquiry):
-    """What a client sends that asks what a line of a script does; this enquiry, where no client can ask that."""
+    """The bytes by which a client asks what a line of a script does; or this enquiry, if no client can ask that."""
     if isinstance(asked, bytes):
         return asked
     what, *words = asked.split(" ")
@@ -90,7 +90,7 @@ def as_sent(asked, enquiry):
 
 
 def drawn(folder, seed, count):
-    """So many requests as clients send them."""
+    """A number of requests as clients send them."""
     requests, enquiries = MoreRuns(folder, seed), random.Random(seed)
     asked = requests.draw_all(count)
     return [as_sent(one, requests.enquiry(enquiries.choice(ACCOUNTS), enquiries.choice(DATES))) for one in asked]
@@ -104,7 +104,7 @@ def kind_of(sent):
 
 
 def met_in(sent, is_there):
-    """Where a kill has met a service that had this request."""
+    """At which point a kill met a service that had this request."""
     kind = kind_of(sent)
     return f"in {kind}" if kind == "an enquiry" else f"in {kind} that is {'' if is_there else 'not '}there"
 
@@ -126,7 +126,7 @@ def is_put_off(reply):
 
 
 def is_kept(sent, reply):
-    """Whether the request is answered so whenever it is sent again."""
+    """Whether the request gets the same answer whenever it is sent again."""
     return kind_of(sent) != "an enquiry" and reply.startswith(b"HTTP/1.1 200 ")
 
 
@@ -135,7 +135,7 @@ def connect(port):
 
 
 def replied(client, sent):
-    """All of the reply to a request, or what came of it before the service was gone."""
+    """The whole reply to a request, or what came of it before the service was gone."""
     got = b""
     with client, contextlib.suppress(ConnectionError):
         client.sendall(sent)
@@ -145,14 +145,14 @@ def replied(client, sent):
 
 
 def difference(found, wanted):
-    """The tables whose rows are others, with one of these."""
+    """The tables whose rows differ, with one of the rows."""
     tables = [table for table in wanted if found[table] != wanted[table]]
     rows = [sorted(set(found[table]) ^ set(wanted[table])) for table in tables]
     return ", ".join(f"{table} {len(one)} rows, {str(one[:1])[:200]}" for table, one in zip(tables, rows))
 
 
 class Service:
-    """A process that serves the office in a file at a moment. No file that it writes may have more bytes than `most`."""
+    """A process that serves the office in a file, at a given moment. No file that it writes may have more bytes than `most`."""
 
     def __init__(self, database, moment, *options, most=None):
         call = [*PROGRAM, "serve", "--db", str(database), "--port=0", f"--at={moment}", *options]
@@ -175,7 +175,7 @@ class Service:
         return int(told.rpartition(b":")[2])
 
     def ends(self, status=0):
-        """It ends so and says nothing. What it wrote before."""
+        """It ends with this status and says nothing more. Returns what it wrote before."""
         written, told = self.program.communicate(timeout=PATIENCE)
         if (self.program.returncode, told) != (status, b""):
             raise Wrong(f"a service ended with status {self.program.returncode}: {told.decode()}")
@@ -187,7 +187,7 @@ class Service:
 
 
 class Clients:
-    """Clients that send these requests to a service in their order, each when it has its turn, until the service is gone."""
+    """Clients that send these requests to a service in their order, each in its turn, until the service is gone."""
 
     def __init__(self, requests, port, awaited):
         self.requests, self.port, self.awaited = requests, port, awaited
@@ -200,7 +200,7 @@ class Clients:
             self.replies[place] = replied(client, self.requests[place])
 
     def take_turn(self):
-        """The place of the next request, and a connection for it. They are served in the order in which they come."""
+        """The place of the next request, and a connection for it. Connections are served in the order in which they come."""
         with self.turn:
             place = len(self.replies)
             if place == len(self.requests):
@@ -225,7 +225,7 @@ class Office:
         self.told("init", "--operator-key", OPERATOR)
 
     def told(self, name, *words):
-        """What a command on it writes, which is done."""
+        """What a command on it writes. The command must be done."""
         call = [*PROGRAM, name, "--db", str(self.database), *map(str, words)]
         made = subprocess.run(call, stdin=subprocess.DEVNULL, capture_output=True, timeout=PATIENCE)
         if made.returncode or made.stderr:
@@ -243,14 +243,14 @@ class Office:
         return replies
 
     def replied(self, port, sent):
-        """The reply to a client. How long it takes is kept in mind, by what is asked for."""
+        """The reply to a client. How long it takes is remembered for its kind of request."""
         began = time.monotonic()
         reply = replied(connect(port), sent)
         self.answering[kind_of(sent)] += (time.monotonic() - began - self.answering[kind_of(sent)]) / 4
         return reply
 
     def content(self):
-        """All rows in a copy of the file and its log, which is sound. What was left stays as it is."""
+        """All rows in a copy of the file and its log, which must be sound. What was left stays as it is."""
         copy = self.database.parent.with_name(f"{self.database.parent.name}-copy")
         shutil.copytree(self.database.parent, copy)
         with contextlib.closing(sqlite3.connect(copy / "office.db")) as connection:
@@ -263,7 +263,7 @@ class Office:
 
 
 class Trial:
-    """An office whose services are killed, and the one beside it."""
+    """An office whose services are killed, and the office beside it."""
 
     def __init__(self, folder, found):
         self.folder, self.found, self.draw = folder, found, random.Random(found.seed)
@@ -272,12 +272,12 @@ class Trial:
         self.opening = OPENING
 
     def moment(self):
-        """Mostly all dates are over then, else some have yet to come."""
+        """Mostly a moment at which all dates are over, and otherwise one at which some are yet to come."""
         last = len(DATES) - 1
         return after(self.draw.choice((last, last, last, self.draw.randrange(last))))
 
     def kill_once(self):
-        """Kills a service under requests, opens the file again and sends all of them again."""
+        """Kills a service during requests, opens the file again and sends all requests again."""
         requests = [*itertools.islice(self.requests, self.draw.randint(1, MOST_REQUESTS))]
         moment = self.moment()
         right = self.compare(requests, self.kill_under(requests, moment), moment)
@@ -287,10 +287,10 @@ class Trial:
         self.found.kills += 1
         self.found.requests += len(requests)
 
-    # The kill
+    # ---- killing
 
     def kill_under(self, requests, moment):
-        """Kills a service at a random moment. For each request that it may have got, what came of its reply."""
+        """Kills a service at a random moment. Returns for each request that it may have got what came of its reply."""
         with Service(self.killed.database, moment, most=self.most()) as service:
             if not self.draw.randrange(OPENING_ONE_OF):
                 time.sleep(self.draw.random() * self.opening)
@@ -303,7 +303,7 @@ class Trial:
         return clients.replies
 
     def awaited(self, requests):
-        """The place of a request, for a load as often as for a run and for an enquiry."""
+        """The place of a request. Loads, runs and enquiries are equally frequent."""
         places = collections.defaultdict(list)
         for place, sent in enumerate(requests):
             places[kind_of(sent)].append(place)
@@ -316,7 +316,8 @@ class Trial:
         return self.killed.database.stat().st_size + self.draw.randrange(MOST_ROOM)
 
     def ask_and_kill(self, service, clients):
-        """Some clients ask. The service is killed a little after one of the requests has come, by how long such a one takes."""
+        """Some clients send requests. The service is killed shortly after one of the requests has come. The delay depends on
+        how long such a request takes."""
         count = self.draw.randint(1, MOST_CLIENTS)
         with concurrent.futures.ThreadPoolExecutor(count) as pool:
             asking = [pool.submit(clients.ask) for _ in range(count)]
@@ -328,11 +329,11 @@ class Trial:
         for done in asking:
             done.result()
 
-    # What is left
+    # ---- what is left
 
     def compare(self, requests, replies, moment):
-        """Sees that what was answered is there in its order, and of what was not nothing but all of the next. The right replies
-        to what is there, by their places."""
+        """Checks that everything that was answered is there, in order, and that of the other requests only the next may be
+        there, whole. Returns the right replies to what is there, by place."""
         answered = [*itertools.takewhile(is_whole, replies)]
         if any(map(is_whole, replies[len(answered) :])):
             raise Wrong(f"one that came later was answered before {name_of(requests[len(answered)])}")
@@ -349,7 +350,7 @@ class Trial:
         return right
 
     def compare_under_way(self, requests, place, part, left, moment):
-        """Sees whether the request at this place is there, of whose reply a part has come. The right reply, if it is."""
+        """Checks whether the request at this place is there, if a part of its reply has come. Returns the right reply if it is."""
         is_there = bool(part) or left != self.beside.content()
         self.found.met[met_in(requests[place], is_there)] += 1
         if not is_there:
@@ -372,7 +373,7 @@ class Trial:
         if left != wanted:
             raise Wrong(f"the rows are not those of the office beside it: {difference(left, wanted)}")
 
-    # What is done again
+    # ---- what is done again
 
     def compare_told(self, *words):
         """A command on either office tells the same."""
@@ -381,7 +382,7 @@ class Trial:
             raise Wrong(f"{words[0]} tells {told[:200]}, and of the office beside it {wanted[:200]}")
 
     def send_again(self, requests, right):
-        """Sends all requests again, from one on, at another moment. What was done is answered as before."""
+        """Sends all requests from one on again, at another moment. What was done is answered as before."""
         moment, first, is_killed = self.moment(), self.draw.randrange(len(requests)), self.draw.random() < 0.5
         places = [*range(first, len(requests)), *range(first)]
         found = self.killed.asked([requests[place] for place in places], moment, is_killed)
@@ -399,7 +400,7 @@ class Trial:
 
 
 def tried(seed, kills, room):
-    """What came of so many kills of the office of a seed. What is wrong is told, and its folder stays."""
+    """What came of the kills of the office with this seed. What is wrong is told, and its folder is kept."""
     folder, found = pathlib.Path(room) / str(seed), Found(seed)
     try:
         trial = Trial(folder, found)
@@ -414,8 +415,8 @@ def tried(seed, kills, room):
 
 
 def try_all(first, count, room):
-    """What came of so many kills, office by office as they end, as many at a time as there are processors. The first office is
-    that of this seed, and each other one that of the next."""
+    """What came of this many kills, office by office as they end. As many are tried at a time as there are processors. The
+    first office has this seed, and each further one the next seed."""
     kills = [min(KILLS, count - done) for done in range(0, count, KILLS)]
     with concurrent.futures.ThreadPoolExecutor(os.cpu_count()) as workers:
         offices = [workers.submit(tried, seed, some, room) for seed, some in enumerate(kills, first)]

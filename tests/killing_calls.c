@@ -1,5 +1,5 @@
-// Preloaded into a program, kills it at one of its calls that change a file: the one with the number KILL_AT, counted from
-// 1. Where that call writes at a place of a file, half of its bytes are written before.
+// Preloaded into a program, it kills the program at one of its calls that change a file: the call with the number
+// KILL_AT, counted from 1. If that call writes at a place of a file, half of its bytes are written before that.
 #define _GNU_SOURCE
 #include <dlfcn.h>
 #include <signal.h>

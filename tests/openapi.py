@@ -1,5 +1,5 @@
-"""What docs/openapi.yaml says of the office over HTTP, and whether a reply is as it says. Python has no reader of
-YAML, so this reads the part of it that the file keeps to."""
+"""What docs/openapi.yaml says about the office over HTTP, and whether a reply is as it says. Python has no reader of YAML, so
+this reads the part of YAML that the file uses."""
 import json
 import re
 
@@ -10,7 +10,7 @@ WHOLE = re.compile(r"\A-?(0|[1-9][0-9]*)\Z")
 
 
 class Lines:
-    """The lines of a file that are left to read, each with its indent."""
+    """The lines of a file that are still to be read, each with its indentation."""
 
     def __init__(self, text):
         lines = [line for line in text.splitlines() if line.strip()]
@@ -44,7 +44,7 @@ class Lines:
         return found
 
     def behind(self, indent, text):
-        """What stands behind a key: a text on its line or on those below it, or what is indented there."""
+        """What follows a key: a text on its line or on the lines below it, or what is indented there."""
         if text == ">-":
             folded = []
             while self.indent() > indent:
@@ -71,7 +71,7 @@ def flow(text):
 
 
 def shows(example, whole):
-    """Whether a value is what an example shows. A list of an example may have the first items alone."""
+    """Whether a value is what an example shows. A list in an example may have only the first items."""
     if isinstance(example, dict):
         return isinstance(whole, dict) and example.keys() == whole.keys() and all(shows(example[name], whole[name]) for name in example)
     if isinstance(example, list):
@@ -95,7 +95,7 @@ class Description:
         self.parts = self.whole["components"]
 
     def resolved(self, part):
-        """A part, or the one that it refers to."""
+        """A part itself, or the part that it refers to."""
         while "$ref" in part:
             found = self.whole
             for name in part["$ref"].removeprefix("#/").split("/"):
@@ -104,30 +104,30 @@ class Description:
         return part
 
     def operations(self):
-        """Each method and path with what is said of it."""
+        """Each method and path, with what is said about it."""
         for path, methods in self.whole["paths"].items():
             for method, operation in methods.items():
                 yield method.upper(), path, operation
 
     def parameters(self, operation):
-        """The name of each part of an operation's path that varies, with its schema."""
+        """The name and the schema of each part of an operation's path that varies."""
         parts = (self.resolved(part) for part in operation["parameters"])
         return {part["name"]: self.resolved(part["schema"]) for part in parts if part["in"] == "path"}
 
     def example_request(self, path, operation):
-        """The target of an operation's example, and the text that is sent to it; None where none is."""
+        """The target of an operation's example, and the text that is sent to it, or None if there is none."""
         parts = (self.resolved(part) for part in operation["parameters"])
         target = path.format(**{part["name"]: part["example"] for part in parts if part["in"] == "path"})
         contents = operation.get("requestBody", {}).get("content", {})
         return target, next((content["example"] for content in contents.values()), None)
 
     def example_reply(self, response):
-        """What the one content of a response shows as its example."""
+        """What the only content of a response shows as its example."""
         (content,) = self.resolved(response)["content"].values()
         return content["example"]
 
     def examples(self):
-        """Each example with the schema that it is of, and where it stands."""
+        """Each example with its schema, and where it is."""
         for _, path, operation in self.operations():
             for part in map(self.resolved, operation["parameters"]):
                 yield f"{path} {part['name']}", part["schema"], part["example"]
@@ -145,7 +145,7 @@ class Description:
         return scheme["name"]
 
     def path_of(self, target):
-        """The path that a target is one of, if it is one of some; its parts need not read."""
+        """The path to which a target belongs, if it belongs to one. Its parts need not be readable."""
         parts = target.split("/")
         for path in self.whole["paths"]:
             names = path.split("/")
@@ -154,7 +154,7 @@ class Description:
         return None
 
     def response_to(self, method, target, status):
-        """What is said of a reply, which is none of an operation where the path or its method is not there."""
+        """What is said about a reply. It belongs to no operation if the path or its method is not there."""
         path = self.path_of(target)
         methods = self.whole["paths"].get(path, {})
         operation = methods.get(method.lower())
@@ -181,7 +181,7 @@ class Description:
         return found + self.differences(content["schema"], json.loads(body), "body")
 
     def differences(self, schema, value, at):
-        """In what a value is not of a schema."""
+        """In what a value does not fit a schema."""
         schema = self.resolved(schema)
         kinds = {"object": dict, "array": list, "string": str, "integer": int}
         if not isinstance(value, kinds[schema["type"]]):
@@ -199,7 +199,7 @@ class Description:
         return found
 
     def misfits(self, schema, value):
-        """What a text or number breaks of a schema."""
+        """The rules of a schema that a text or number breaks."""
         if value not in schema.get("enum", [value]):
             yield "is none of those that may stand there"
         if "pattern" in schema and not re.search(schema["pattern"], value):

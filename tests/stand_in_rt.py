@@ -1,11 +1,11 @@
-"""Stands in for `rt`: notes each call, and builds a program that prints what it was built from.
+"""A stand-in for `rt`: notes each call, and builds a program that prints what it was built from.
 
-RT_STAND_IN names a folder. Its file `calls` gets a line for each call, and files there tell what a
-crate's call does beside that:
+RT_STAND_IN names a folder. Its file `calls` gets a line for each call. Other files there tell what else
+a crate's call does:
 
     tells-CRATE   prints the file's text
     fails-CRATE   ends with the status in the file, and builds nothing
-    edit-CRATE    writes the file's text over crates/hh_settle/src/main.rt in the midst of the call
+    edit-CRATE    writes the file's text over crates/hh_settle/src/main.rt during the call
     waits-CRATE   makes begun-CRATE, and waits until the file is gone, or until the call is ended
 """
 import os
@@ -20,7 +20,7 @@ PROGRAM = '#!/bin/sh\nprintf "%s|" {source} "$@"\nexit "${{PROGRAM_STATUS:-0}}"\
 
 
 def asked(what, crate):
-    """The text of the file that asks this of a crate's call, None where there is none."""
+    """The text of the file that asks this for a crate's call, or None if there is none."""
     try:
         return (CONTROL / f"{what}-{crate}").read_text()
     except FileNotFoundError:

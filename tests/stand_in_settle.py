@@ -1,5 +1,5 @@
-"""Stands in for `settle` on a file, in tests of what is told of services that are killed. It keeps the files and the runs that
-clients bring, and a row for each line of a file. Where STAND_IN_FAULT names a fault, a kill may find it:
+"""A stand-in for `settle` on a file, in tests of what is told about services that are killed. It keeps the files and the runs
+that clients bring, and a row for each line of a file. If STAND_IN_FAULT names a fault, a kill may find it:
 
     early   a load is answered before it is committed
     half    a load is committed in two parts
@@ -26,7 +26,7 @@ def make(connection):
 
 
 def found(connection, statement, *values):
-    """The first value of the first row, None where there is none."""
+    """The first value of the first row, or None if there is no row."""
     row = connection.execute(statement, values).fetchone()
     return row and row[0]
 
@@ -68,7 +68,7 @@ def read(client):
 
 
 def answer(connection, client):
-    """What a client asks for is done, and replied to. An enquiry tells how many files and runs there are."""
+    """Does what a client asks for, and replies. An enquiry tells how many files and runs there are."""
     method, (what, *names), body = read(client)
     told = b"done"
     if method == "GET":
@@ -83,7 +83,7 @@ def answer(connection, client):
 
 
 def serve(connection, count):
-    """Serves so many clients, one after the other."""
+    """Serves this many clients, one after the other."""
     listener = socket.create_server(("127.0.0.1", 0))
     print(f"listening 127.0.0.1:{listener.getsockname()[1]}", flush=True)
     for _ in range(count):

@@ -1,8 +1,8 @@
-"""A random list of requests over both stores. An office in memory settles each Settlement Period of a run anew, and one in a
-database file settles those that have changed. Each reply is the same, byte by byte, and so are the reports of each run and
-the balances. The file is opened anew for each part of the list. A second file is turned into one of the version before, in
-which no positions are kept, between some parts. What is kept beside the tables is found again from the contracts in force and
-from the rows that were accepted."""
+"""A random list of requests over both stores. An office in memory settles each Settlement Period of a run again, and one in a
+database file settles those that have changed. Each reply is the same, byte by byte, and so are the reports of each run and the
+balances. The file is opened again for each part of the list. Between some parts, a second file is turned into one of the
+version before, in which no positions are kept. What is kept beside the tables is computed again here, from the contracts in
+force and from the rows that were accepted."""
 import collections
 import datetime
 import itertools
@@ -25,10 +25,10 @@ from test_week import is_late, periods
 SEED = 13
 COUNT, PER_CALL = 2_000, 100
 KINDS = ("SF", "R1", "R2", "R3", "RF", "DF")
-# With days on which clocks change, of 46 and 50 periods.
+# Among them are days on which clocks change, of 46 and 50 periods.
 DATES = ("2024-03-30", "2024-03-31", "2024-04-01", "2024-07-01", "2024-07-02", "2024-10-26", "2024-10-27", "2024-10-28")
 EVER = (0, len(DATES) - 1)
-# A range is from one date's place to another's.
+# A range goes from one date's place to another's.
 FIRST_PARTIES = {"ALFA": EVER, "BETA": EVER, "GAMMA": EVER, "DELTA": (3, 4), "ECHO": (0, 2)}
 PARTIES = (*FIRST_PARTIES, "FOXTROT", "GOLF", "HOTEL")
 ACCOUNTS = [f"{party}-{side}" for party in PARTIES for side in "PC"]
@@ -37,11 +37,11 @@ FIRST_UNITS = {"ALFA-P": EVER, "BETA-C": EVER, "GAMMA-P": EVER, "DELTA-C": (3, 4
 INTERCONNECTOR = "GAMMA-P"
 # Sellers and buyers whose references are fixed from the beginning.
 PAIRS = (("ALFA-P", "BETA-C"), ("BETA-P", "GAMMA-C"), ("GAMMA-P", "ALFA-C"), ("ALFA-C", "BETA-P"))
-# The column of a row's date, by kind; its period comes next.
+# The column of a row's date, by kind. Its period is in the next column.
 PLACES = {"meters": 1, "prices": 0, "contracts": 3, "reallocations": 2}
-# Before these parts of the list the second file becomes one of the version before.
+# Before these parts of the list the second file is turned into one of the version before.
 TURNED = (0, 4, 6, 11)
-# How many files of each kind are accepted whose rows all come in time, at least.
+# How many accepted files of each kind have all their rows in time, at least.
 LEAST = {"parties": 20, "units": 20, "meters": 150, "prices": 100, "contracts": 100, "reallocations": 50}
 WITHOUT_POSITIONS = ("DELETE FROM positions", "DELETE FROM touched", "UPDATE marks SET positions = 0")
 BESIDE = ("refs", "contracts", "positions", "touched", "marks")
@@ -73,8 +73,8 @@ def ordered(at, kind, moment):
 
 
 class Requests:
-    """Draws a list of requests: lines of a script, and what clients send as bytes. It keeps in mind what is registered, read
-    and run, so that most requests are in order."""
+    """Draws a list of requests: lines of a script, and what clients send as bytes. It remembers what is registered, read and
+    run, so that most requests are in order."""
 
     def __init__(self, folder, seed):
         self.folder, self.draw = folder, random.Random(seed)
@@ -119,7 +119,7 @@ class Requests:
         return f"load {moment} {key} {kind} {path}"
 
     def moment(self, at):
-        """When a notification comes: mostly before its date, else at the deadline of a period, or after the date."""
+        """When a notification comes: mostly before its date, otherwise at the deadline of a period, or after the date."""
         if self.chance(70):
             return before(at)
         return self.draw.choice((start(at) + 1800 * self.draw.randrange(48) - 3600, after(at)))
@@ -142,7 +142,7 @@ class Requests:
         return f"{name},{name[:-2]},{name[-1]},{marks[name == INTERCONNECTOR]},{DATES[first]},{DATES[last]}"
 
     def range_for(self, name):
-        """A range that holds the one that a party or unit has, or now and then a smaller one."""
+        """A range that includes the one that a party or unit has, or now and then a smaller one."""
         place = self.draw.randrange(len(DATES))
         first, last = self.ranges.get(name, (place, place))
         if self.chance(10) and first < last:
@@ -163,7 +163,7 @@ class Requests:
         return line
 
     def register(self, _):
-        """A party or a unit that joins, widens or stays as it was, or a row that is refused."""
+        """A party or a unit that joins, gets a wider range or stays as it was, or a row that is refused."""
         name = self.draw.choice((*PARTIES, *ACCOUNTS))
         if name in FIRST_UNITS and self.chance(20):
             return [self.load("units", [self.row_of(name, *self.ranges[name], marks=("yes", "no"))])]
@@ -200,10 +200,10 @@ class Requests:
         percent = self.draw.choice(("0", "2.50000", "12.5", "33.33333", "70"))
         return f"{unit},{account},{DATES[at]},{period},{percent},{self.draw.choice((0, 0, self.energy(2000)))}"
 
-    # Rows that change a date. Between two runs of it they are of some periods alone.
+    # Rows that change a date. Between two runs of a date they belong only to some periods.
 
     def some_periods(self, at):
-        """Now and then one that the date doesn't have."""
+        """Now and then there is a period that the date doesn't have."""
         count = self.draw.randint(1, 3)
         return [self.draw.choice(self.changing[at]) if self.draw.randrange(60) else periods(DATES[at]) + 1 for _ in range(count)]
 
@@ -223,7 +223,7 @@ class Requests:
         return [self.price(at, period) for period in self.some_periods(at)]
 
     def contract_rows(self, at):
-        """In some files a row takes the place of the first, or sells what its reference buys."""
+        """In some files a row replaces the first, or sells what its reference buys."""
         sold = [(period, *self.pair_on(at)) for period in self.some_periods(at)]
         rows = [self.contract(at, *words) for words in (*sold, *(sold[:1] if self.chance(25) else ()))]
         if self.chance(3):
@@ -231,7 +231,7 @@ class Requests:
         return rows
 
     def reallocation_rows(self, at):
-        """Mostly of two units, of which more than everything is given away at times."""
+        """Reallocations, mostly of two units. At times more than everything of a unit is given away."""
         units = [self.draw.choice(("ALFA-P", "BETA-C")) if self.chance(60) else self.unit_on(at) for _ in range(3)]
         return [self.reallocation(at, period, unit, self.account_on(at)) for period, unit in zip(self.some_periods(at), units)]
 
@@ -249,7 +249,7 @@ class Requests:
         return [" ".join((what, str(self.moment(at)), *words))]
 
     def load_another(self, at):
-        """Another file under a name that was shown before."""
+        """Another file under a name that was sent before."""
         *_, kind, path = self.draw.choice(self.loads or self.change(at)).split(" ")
         kind = kind if kind in self.rows else "prices"
         return [self.load(kind, self.rows[kind](at), self.moment(at), pathlib.Path(path).name)]
@@ -275,11 +275,11 @@ class Requests:
         return [self.load("meters", [self.meter(at, period, unit) for unit in units for period in all_periods(at)])]
 
     def next_kind(self, at):
-        """The next kind of run. Behind SF one may be left out."""
+        """The next kind of run. After SF one may be left out."""
         return min(self.latest[at] + (2 if self.latest[at] >= 0 and self.chance(15) else 1), len(KINDS) - 1)
 
     def run(self, at, kind):
-        """A run. Where it is made other periods change from now on."""
+        """A run. If it is made, other periods change from now on."""
         latest = self.latest[at]
         if self.is_ready(at) and kind > latest and (kind == 0 or latest >= 0):
             self.latest[at] = kind
@@ -287,7 +287,8 @@ class Requests:
         return ordered(at, kind, after(at))
 
     def order(self, at):
-        """The next run of a date, or what is missing for it; one before the day is over; or one that is there or out of order."""
+        """The next run of a date, or what is missing for it; or one before the day is over; or one that exists or is out of
+        order."""
         if self.chance(10):
             return [ordered(at, self.next_kind(at), start(at) + 1800 * periods(DATES[at]) - 1)]
         if self.chance(50):
@@ -298,7 +299,7 @@ class Requests:
         return [*made, *self.order_behind(at)] if self.chance(20) else made
 
     def order_behind(self, at):
-        """A run right behind another, perhaps with a party that joins between them, which touches nothing."""
+        """A run immediately after another, perhaps with a party that joins between them, which touches nothing."""
         absent = [name for name in PARTIES if name not in self.registered(at)]
         if not absent or self.chance(40):
             return [self.run(at, self.next_kind(at))]
@@ -307,7 +308,7 @@ class Requests:
         return [self.register_as(name, min(first, at), max(last, at)), self.run(at, self.next_kind(at))]
 
     def pass_a_limit(self, at):
-        """Where a date can be run: contracts and a price that make a charge too large, a run, and a price that mends it."""
+        """If a date can be run: contracts and a price that make a charge too large, a run, and a price that corrects it."""
         if not self.is_ready(at) or self.latest[at] == len(KINDS) - 1:
             return []
         period = self.draw.choice(all_periods(at))
@@ -329,7 +330,7 @@ class Requests:
         return [f"report {key} {self.draw.choice(('day', 'csv'))} {DATES[at]} {KINDS[kind]}"]
 
     def visit(self, at):
-        """Some clients, with an enquiry each."""
+        """Some clients, each with an enquiry."""
         return [self.enquiry(self.draw.choice(ACCOUNTS), DATES[at]) for _ in range(5)]
 
     def enquiry(self, account, date):
@@ -380,7 +381,7 @@ def told(script, requests, *words):
 
 
 def heard(output, visits):
-    """The lines that a script writes, and in the place of one that tells a port what its clients are replied."""
+    """The lines that a script writes. In the place of a line that tells a port are the replies to its clients."""
     for line in output:
         if line.startswith(b"listening "):
             yield from (replied(int(line.rpartition(b":")[2]), data) for data in next(visits))
@@ -389,12 +390,12 @@ def heard(output, visits):
 
 
 def first_of(rows):
-    """Some of the rows that are wrong: all would be too many to read."""
+    """Some of the rows that are wrong, because all of them would be too many to read."""
     return sorted(rows)[:5]
 
 
 def nets_of(references, contracts):
-    """What each account sells less what it buys in each Settlement Period by these rows, in kWh, where that isn't 0."""
+    """What each account sells minus what it buys in each Settlement Period by these rows, in kWh, if that isn't 0."""
     ends = {reference: (tuple(row[:2]), tuple(row[2:])) for reference, *row in references}
     nets = collections.Counter()
     for reference, day, period, kwh in contracts:
@@ -405,7 +406,7 @@ def nets_of(references, contracts):
 
 
 class OfficeInFile:
-    """An office in a database file that was asked the list part by part, and what its file held behind each part."""
+    """An office in a database file that was asked the list part by part, and what its file had after each part."""
 
     def __init__(self, room, parts, turned=()):
         self.database = room / "office.db"
@@ -422,8 +423,8 @@ class OfficeInFile:
 
 
 class Outcome:
-    """What replies say of the requests that were asked: what was accepted, refused and run, and which Settlement Periods were
-    touched since the latest run of their date."""
+    """What the replies say about the requests that were asked: what was accepted, refused and run, and which Settlement Periods
+    were touched since the latest run of their date."""
 
     def __init__(self):
         self.files, self.ranges, self.runs, self.touched = set(), {}, collections.defaultdict(dict), set()
@@ -446,7 +447,7 @@ class Outcome:
             self.counts["report", "told"] += 1
 
     def load(self, moment, kind, path, late):
-        """A file that was accepted: by its rows in time, where it is new."""
+        """A file that was accepted. If it is new, its rows in time count."""
         if (kind, path.name) in self.files:
             self.counts["load", "again"] += 1
             return
@@ -460,14 +461,14 @@ class Outcome:
                 self.touched.add((day_number(date), int(period)))
 
     def register(self, kind, row):
-        """A party or a unit, which joins, widens or stays as it was."""
+        """A party or a unit that joins, gets a wider range or stays as it was."""
         dates = row[1:3] if kind == "parties" else row[4:6]
         old = self.ranges.get(row[0])
         self.counts[kind, "joined" if old is None else "widened" if old != dates else "stayed"] += 1
         self.ranges[row[0]] = dates
 
     def run(self, date, kind, accounts):
-        """A run that was made, or that was there."""
+        """A run that was made, or that existed already."""
         runs = self.runs[date]
         if kind in runs:
             self.counts["run", "again"] += 1
@@ -485,7 +486,7 @@ class Outcome:
 
 
 class BothStores(unittest.TestCase):
-    """What is told over tables in memory, over a file, and over one that was turned into one of the version before."""
+    """What is told over tables in memory, over a file, and over a file that was turned into one of the version before."""
 
     @classmethod
     def setUpClass(cls):
@@ -501,7 +502,7 @@ class BothStores(unittest.TestCase):
         cls.of_before = OfficeInFile(room / "before", cls.parts, TURNED)
 
     def outcomes(self):
-        """What came of the requests, behind each part."""
+        """What came of the requests, after each part."""
         outcome, pairs = Outcome(), zip(self.requests, self.in_memory, strict=True)
         for part in self.parts:
             for asked, reply in itertools.islice(pairs, len(part)):
@@ -513,7 +514,7 @@ class BothStores(unittest.TestCase):
         return last
 
     def compare(self, replies):
-        """Names the first request that has another reply, and the first line of it that is another."""
+        """Names the first request with another reply, and the first line of the reply that differs."""
         for number, (asked, wanted, found) in enumerate(zip(self.requests, self.in_memory, replies), 1):
             if found != wanted:
                 pairs = itertools.zip_longest(wanted.splitlines(), found.splitlines())
@@ -522,15 +523,15 @@ class BothStores(unittest.TestCase):
         self.assertEqual(len(replies), len(self.requests))
 
     def test_replies_over_a_file(self):
-        """Of the list, and of the reports behind it."""
+        """The replies to the list, and to the reports after it."""
         self.compare(self.in_file.replies)
 
     def test_replies_over_a_file_of_the_version_before(self):
         self.compare(self.of_before.replies)
 
     def test_loads_and_enquiries_of_the_list(self):
-        """Files of each kind are accepted, in time, late and again, and others are refused for each cause that a row may have
-        but too many."""
+        """Files of each kind are accepted, in time, late and again. Others are refused for each reason that a row may have,
+        except for too many rows."""
         self.assertEqual(len(self.requests) - len(REPORTS), COUNT)
         counts = self.outcome().counts
         for kind, least in LEAST.items():
@@ -547,8 +548,8 @@ class BothStores(unittest.TestCase):
         self.assertGreaterEqual(counts["enquiry", 403] + counts["enquiry", 404], 20)
 
     def test_runs_of_the_list(self):
-        """Of each date some Settlement Periods change between two runs and others don't. Between some runs nothing is touched,
-        and between some accounts join. Runs are told again, and refused for each cause."""
+        """On each date some Settlement Periods change between two runs and others don't. Between some runs nothing is touched,
+        and between some accounts join. Runs are told again, and refused for each reason."""
         outcome = self.outcome()
         counts, later = outcome.counts, outcome.later
         self.assertEqual({date for date, touched, _ in later if 0 < touched < periods(date)}, set(DATES))
@@ -564,7 +565,7 @@ class BothStores(unittest.TestCase):
         self.assertGreaterEqual(counts["report", "told"], 2 * counts["run", "made"] + 50)
 
     def test_units_that_join(self):
-        """Of some dates a later run has more units than the one before."""
+        """On some dates a later run has more units than the one before."""
         units = collections.defaultdict(lambda: collections.defaultdict(set))
         for day, kind, _, unit, *_ in rows_of(self.in_file.database, "credits"):
             units[day][kind].add(unit)
@@ -572,7 +573,7 @@ class BothStores(unittest.TestCase):
         self.assertGreaterEqual(sum(one < other for sets in runs for one, other in itertools.pairwise(sets)), 5)
 
     def test_positions(self):
-        """Behind each part they are what the contracts in force come to, where that isn't 0."""
+        """After each part they are what the contracts in force come to, if that isn't 0."""
         for office in (self.in_file, self.of_before):
             for number, kept in enumerate(office.kept):
                 wanted = nets_of(kept["refs"], kept["contracts"])
@@ -583,8 +584,9 @@ class BothStores(unittest.TestCase):
             self.assertGreater(len(found), 1000)
 
     def test_touched_periods(self):
-        """Of each date that has a run, behind each part: over the file those of rows in time since its latest run, and no
-        other; over the file of the version before these, and perhaps others, since there all count as touched once."""
+        """For each date that has a run, after each part: over the file, the periods of rows in time since the date's latest
+        run, and no others; over the file of the version before, these and perhaps others, because all periods counted as
+        touched once."""
         left = 0
         for number, outcome in enumerate(self.outcomes()):
             dates = [date for date, runs in outcome.runs.items() if runs]
@@ -596,7 +598,7 @@ class BothStores(unittest.TestCase):
         self.assertGreater(left, 1000)
 
     def test_rows_of_both_files(self):
-        """All tables have the same rows, but for what is kept beside them. Each account is credited the sum of its credits."""
+        """All tables have the same rows, except for what is kept beside them. Each account is credited the sum of its credits."""
         contents = [content_of(office.database) for office in (self.in_file, self.of_before)]
         for table in contents[0]:
             if table not in ("positions", "touched"):

@@ -1,4 +1,4 @@
-"""The gate `./check`, tried in a small repository of its own with stand-ins for `rt` and the tests."""
+"""The gate `./check`, tried in a small repository of its own with stand-ins for `rt` and for the tests."""
 import os
 import pathlib
 import shutil
@@ -6,9 +6,9 @@ import subprocess
 import tempfile
 import unittest
 
-from programs import HOME, link_tools
+from programs import HOME, copy_settle, link_tools
 
-# Builds the program, as `rt ci` does, and ends as it is told.
+# Builds the program, as `rt ci` does, and ends as the test says.
 RT = """\
 #!/bin/sh
 cd {home} && mkdir -p crates/hh_settle/out && printf '#!/bin/sh\\necho built\\n' >crates/hh_settle/out/hh_settle
@@ -28,7 +28,8 @@ class Check(unittest.TestCase):
         link_tools(self.tools)
         for folder in ("crates/hh_settle/src", "tests", ".ci"):
             (self.home / folder).mkdir(parents=True)
-        for name in ("check", "settle", ".ci/run"):
+        copy_settle(self.home)
+        for name in ("check", ".ci/run"):
             shutil.copy(HOME / name, self.home / name)
         (self.home / "crates.txt").write_text("hh_settle: clap\n")
         self.source = self.home / "crates" / "hh_settle" / "src" / "main.rt"
@@ -55,7 +56,7 @@ class Check(unittest.TestCase):
             self.assertEqual(made, (0, "256 passed, 0 failed", ["rt ci", "tests"]))
 
     def test_it_tells_how_many_checks_may_run(self):
-        """One for each core at most."""
+        """One for each core, at most."""
         called = self.check('echo "$RT_JOBS" >>calls; echo 1 passed, 0 failed', "echo 1 passed, 0 failed")[2]
         self.assertIn(int(called[1]), range(1, os.cpu_count() + 1))
 
@@ -77,7 +78,7 @@ class Check(unittest.TestCase):
         self.assertEqual(made, (1, "216 passed, 1 failed", ["rt ci"]))
 
     def run_settle(self):
-        """What `./settle` does without `rt`, by which it can't build."""
+        """What `./settle` does without `rt`, so that it can't build."""
         made = subprocess.run([self.home / "settle", "word"], env={"PATH": str(self.tools)}, capture_output=True, text=True)
         return made.returncode, made.stdout
 

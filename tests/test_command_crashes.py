@@ -1,5 +1,5 @@
-"""Commands on an office in a database file that come at once, that are killed, or whose disk is full or memory refused:
-the file is whole. Services that are killed at random moments are in test_kill.py."""
+"""Commands on an office in a database file that run at the same time, that are killed, whose disk is full, or to which memory
+is refused: the file is whole. Services that are killed at random moments are in test_kill.py."""
 import contextlib
 import itertools
 import os
@@ -26,7 +26,7 @@ MOST_CALLS, MOST_ALLOCATIONS = 5000, 1_000_000
 
 
 class Shared(Faults):
-    """Another process has the file: a command is refused, or waits, and the file is unharmed."""
+    """Another process uses the file: a command is refused, or waits, and the file is unharmed."""
 
     def test_a_file_in_use(self):
         with sqlite3.connect(self.database) as connection:
@@ -51,7 +51,7 @@ class Shared(Faults):
         self.assertEqual(self.command("load", *self.commands["load"]), answer(APPLIED))
 
     def test_loads_at_once(self):
-        """Those that are done are in the file, and no others."""
+        """The loads that are done are in the file, and no others."""
         done = {"f5.csv"}
         for number in range(12):
             names = [f"{number}-{side}.csv" for side in "abc"]
@@ -80,7 +80,7 @@ class Shared(Faults):
 
 
 class Ended(Faults):
-    """A test whose commands end before their time, over copies of an office."""
+    """A test whose commands end early, over copies of an office."""
 
     def setUp(self):
         super().setUp()
@@ -88,7 +88,7 @@ class Ended(Faults):
         shutil.copy(self.database, self.base)
 
     def fresh(self, name):
-        """A copy of the office, in a folder of its own, from which all else is taken away."""
+        """A copy of the office, in a folder of its own from which everything else is removed."""
         folder = self.room / name
         shutil.rmtree(folder, ignore_errors=True)
         folder.mkdir()
@@ -96,14 +96,14 @@ class Ended(Faults):
         shutil.copy(self.base, self.database)
 
     def compiled(self, name):
-        """What is preloaded into a program, from its source."""
+        """A library that is preloaded into a program, built from its source."""
         library = str(self.room / f"{name}.so")
         source = str(HOME / "tests" / name)
         subprocess.run(["cc", "-shared", "-fPIC", "-O1", "-o", library, source, "-ldl"], check=True)
         return library
 
     def read_copy(self, name):
-        """What sqlite3 finds in what was left, which stays as it is."""
+        """What sqlite3 finds in what was left. What was left stays as it is."""
         copy = self.room / f"{name}-copy"
         shutil.copytree(self.database.parent, copy)
         self.database, left = copy / "office.db", self.database
@@ -114,7 +114,7 @@ class Ended(Faults):
 
 
 class Killed(Ended):
-    """A command that is killed leaves the office as before it or as after it, and so does one whose disk is full."""
+    """A command that is killed leaves the office as it was before or after the command. So does one whose disk is full."""
 
     def setUp(self):
         super().setUp()
@@ -152,7 +152,8 @@ class Killed(Ended):
                 self.assertEqual(content_of(self.database), after)
 
     def test_a_full_disk(self):
-        """No file grows past some bytes more than the office has: it is refused, and comes again when there is room."""
+        """No file can grow beyond some bytes more than the office has. The command is refused, and done later when there is
+        room."""
         for more in (0, 4096, 40_960):
             self.fresh(f"full{more}")
             before = content_of(self.database)
@@ -168,7 +169,7 @@ class Killed(Ended):
             self.is_sound()
 
     def test_a_refused_office_leaves_nothing(self):
-        """An office for which there is no room is refused, and made once there is room."""
+        """An office for which there is no room is refused, and made later when there is room."""
         self.database = self.room / "new.db"
         for size in (0, 1, 4096, 8192, 20_480, 40_960):
 
@@ -191,13 +192,13 @@ class Killed(Ended):
         serving.communicate(timeout=PATIENCE)
 
     def test_one_that_serves(self):
-        """A service is ended by a signal. What it has answered stays."""
+        """A service is ended by a signal. What it has answered is kept."""
         self.kill_serving()
         self.answers(balances(), "account,moved_pence\nGENCO-P,38\nGENCO-C,0\nSUPCO-P,0\nSUPCO-C,-38")
         self.assertEqual(rows_of(self.database, "runs"), [(TODAY, 0, 48, 4, 5050, 2)])
 
     def test_the_log_of_one_that_was_killed(self):
-        """It has what was answered, and the file has it once another command has ended. `sqlite3` reads both."""
+        """It has what was answered, and the file has it after another command has ended. `sqlite3` reads both."""
         self.kill_serving()
         without, beside = self.room / "without.db", self.room / "beside.db"
         for copy in (without, beside):
@@ -213,22 +214,22 @@ class Killed(Ended):
 
 @unittest.skipUnless(shutil.which("cc"), "no C compiler `cc` is on the path, so no call was cut off")
 class KilledAtEachCall(Ended):
-    """A command, or a service, is killed at each of its calls that change a file, in the midst of what it writes."""
+    """A command or a service is killed at each of its calls that change a file, in the middle of what it writes."""
 
     def setUp(self):
         super().setUp()
         self.preloaded = self.compiled("killing_calls.c")
 
     def environment(self, number):
-        """That of a program which is killed at the call of this number, where it makes so many, and never where it is 0."""
+        """The environment of a program that is killed at the call with this number, if it makes that many, and never for 0."""
         return dict(os.environ, KILL_AT=str(number), LD_PRELOAD=self.preloaded)
 
     def killed(self, number, name, *words):
-        """What a command comes to that is killed so."""
+        """What comes of a command that is killed like this."""
         return self.command(name, *words, env=self.environment(number), timeout=PATIENCE)
 
     def served(self, number, sent):
-        """What a service comes to that is killed so, with what its one client got."""
+        """What comes of a service that is killed like this, with what its only client got."""
         serving = self.start("serve", "--port=0", "--count=1", f"--at={END}", env=self.environment(number))
         told, got = serving.stdout.readline().decode(), b""
         if told:
@@ -237,8 +238,9 @@ class KilledAtEachCall(Ended):
         return serving.returncode, got, wrong
 
     def kill_each(self, name, ask, replies, contents):
-        """Kills what asks an office at each call in turn. What is left is the content behind all replies that came, or behind one
-        more, and all is asked again. `ask` takes the number of a call. Each content but the first is that behind a reply."""
+        """Kills what asks an office at each call in turn. What is left is the content after all replies that came, or after one
+        more, and then everything is asked again. `ask` takes the number of a call. Each content but the first is the one after
+        a reply."""
         beginnings = [b"".join(replies[:count]) for count in range(len(contents))]
         whole = (0, beginnings[-1], b"")
         found = set()
@@ -264,7 +266,7 @@ class KilledAtEachCall(Ended):
         self.fail("it was always killed")
 
     def kill_one(self, name, ask, told):
-        """Kills what asks for one thing, which changes the office and is told so."""
+        """Kills a command that asks for one thing, which changes the office and is told."""
         self.fresh(f"{name}0")
         contents = [content_of(self.database)]
         self.assertEqual(ask(0), (0, told, b""))
@@ -289,7 +291,7 @@ class KilledAtEachCall(Ended):
 
     def test_a_script(self):
         """Each line is there whole or not at all, and so are those before it. One MWh more is sold: GENCO-P has half a megawatt
-        hour too little, and SUPCO-C has 1.51 too much. At 60 pounds 9,060 pence less 3,000 are missing."""
+        hour too little, and SUPCO-C has 1.51 too much. At 60 pounds 9,060 pence minus 3,000 are missing."""
         sold = self.load("contracts", f"C2,GENCO-P,SUPCO-C,{DAY},1,1.000", "c2.csv")
         lines = [self.order("SF"), self.dearer(), self.order("R1"), sold, self.order("R2")]
         told = [SETTLED, APPLIED, DEARER, APPLIED, f"run {DAY} R2 periods 48 accounts 4 residual 6060 postings 2"]
@@ -303,7 +305,7 @@ class KilledAtEachCall(Ended):
         self.kill_each("script", lambda number: self.killed(number, "script", script), replies, contents)
 
     def test_a_new_office(self):
-        """Where it is not whole a command is refused, and nothing but the new office is ever taken over."""
+        """If it is not whole, a command is refused. Nothing but the new office is ever removed."""
         refused = 0
         for number in range(1, MOST_CALLS):
             self.database = self.room / f"new{number}.db"
@@ -327,15 +329,15 @@ class KilledAtEachCall(Ended):
 
 @unittest.skipUnless(shutil.which("cc"), "no C compiler `cc` is on the path, so memory was not refused")
 class RefusedMemory(Ended):
-    """Each allocation of a command is refused in turn, beyond 300 every 61st. It is told by 90, with the office as it was,
-    or does without that memory."""
+    """Each allocation of a command is refused in turn, and after the first 300 every 61st. It is told by 90, with the office as
+    it was, or the command manages without that memory."""
 
     def setUp(self):
         super().setUp()
         self.preloaded, self.note = self.compiled("failing_malloc.c"), self.room / "refused"
 
     def refused(self, number, name, *words):
-        """What a command comes to that is refused the allocation of this number, and whether it makes so many."""
+        """What comes of a command whose allocation with this number is refused, and whether it makes that many."""
         environment = dict(os.environ, FAIL_AT=str(number), FAIL_NOTE=str(self.note), LD_PRELOAD=self.preloaded)
         made = self.command(name, *words, env=environment, timeout=PATIENCE)
         was_refused = self.note.exists()
@@ -377,7 +379,7 @@ class RefusedMemory(Ended):
         self.refuse_each((0, BALANCES.encode(), b""), "report", "--key", OPERATOR, "balances")
 
     def test_a_new_office(self):
-        """Where it is refused there is none."""
+        """If it is refused, there is none."""
         shown = 0
         for number in itertools.chain(range(1, 301), range(361, MOST_ALLOCATIONS, 61)):
             self.database = self.room / f"memory{number}.db"

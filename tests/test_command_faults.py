@@ -1,6 +1,6 @@
-"""How commands on an office in a database file stop: at paths, files that are no office's, inputs, ports, the office and
-outputs; which goes first; and that nothing else is changed. Wrong words are in test_command_words.py, and two commands at
-once and killed ones in test_command_crashes.py."""
+"""How commands on an office in a database file stop: at paths, at files that are no office's, at inputs, at ports, at the
+office and at outputs; which of these comes first; and that nothing else is changed. Wrong words are in test_command_words.py.
+Commands that run at the same time and killed ones are in test_command_crashes.py."""
 import os
 import pathlib
 import shutil
@@ -26,7 +26,7 @@ PATIENCE = 60
 
 
 class Faults(AtAFile):
-    """A test with an office that has loaded the market, and each command on it, which it would do."""
+    """A test with an office that has loaded the market, and each command on it, which would be done."""
 
     def setUp(self):
         super().setUp()
@@ -42,19 +42,19 @@ class Faults(AtAFile):
         }
 
     def each(self, wanted, **how):
-        """Each command ends so."""
+        """Each command ends like this."""
         for name, words in self.commands.items():
             with self.subTest(name):
                 self.assertEqual(self.command(name, *words, timeout=PATIENCE, **how), wanted)
 
     def by_shell(self, streams, name, *words):
-        """A command whose streams a shell sets so."""
+        """A command whose streams a shell sets like this."""
         call = ["sh", "-c", f'exec "$@" {streams}', "sh", SETTLE, name, "--db", str(self.database), *map(str, words)]
         made = subprocess.run(call, stdin=subprocess.DEVNULL, capture_output=True, timeout=PATIENCE)
         return made.returncode, made.stdout, made.stderr
 
     def taken_port(self):
-        """A port on which something else listens."""
+        """A port on which another process listens."""
         taken = socket.socket()
         self.addCleanup(taken.close)
         taken.bind(("127.0.0.1", 0))
@@ -62,7 +62,7 @@ class Faults(AtAFile):
         return taken.getsockname()[1]
 
     def start(self, name, *words, **how):
-        """A command that goes on beside the test."""
+        """A command that runs beside the test."""
         call = [SETTLE, name, "--db", str(self.database), *map(str, words)]
         begun = subprocess.Popen(call, stdin=subprocess.DEVNULL, stdout=subprocess.PIPE, stderr=subprocess.PIPE, **how)
         for clean in (begun.stderr.close, begun.stdout.close, begun.wait, begun.kill):
@@ -71,10 +71,10 @@ class Faults(AtAFile):
 
 
 class Paths(Faults):
-    """What is at a path is looked at once the words are right, before anything else is."""
+    """What is at a path is looked at after the words were found right, and before anything else is."""
 
     def test_what_is_there(self):
-        """No office is made where anything is."""
+        """No office is made if there is anything at the path."""
         before = self.database.read_bytes()
         empty, folder = self.file("empty", b""), str(self.room)
         other = self.file("other", b"kept")
@@ -106,18 +106,18 @@ class Paths(Faults):
         self.assertEqual(self.by_shell(">/dev/full", "init", "--operator-key", OPERATOR), EXISTS)
 
     def test_what_is_below_a_file(self):
-        """Nothing can be there."""
+        """There can be nothing."""
         self.database = self.database / "office.db"
         self.each(NO_FILE)
 
     def test_where_none_can_be_made(self):
-        """In a folder that isn't there: the database refuses, and nothing is made."""
+        """In a folder that isn't there, the database refuses, and nothing is made."""
         path = self.room / "missing" / "office.db"
         self.assertEqual(settle("init", "--db", str(path), "--operator-key", OPERATOR), STORE)
         self.assertFalse(path.parent.exists())
 
     def test_beside_a_log(self):
-        """A log whose database is not there belongs to another, which may come back. It stays as it is."""
+        """A log whose database is not there belongs to another database, which may come back. It stays as it is."""
         log = self.room / "gone.db-wal"
         log.write_bytes(b"kept")
         self.assertEqual(settle("init", "--db", str(self.room / "gone.db"), "--operator-key", OPERATOR), STORE)
@@ -126,7 +126,7 @@ class Paths(Faults):
         self.assertEqual(settle("init", "--db", str(self.room / "gone.db"), "--operator-key", OPERATOR), answer("ready"))
 
     def test_what_cannot_be_looked_at(self):
-        """Nobody knows what is there. Root may look everywhere, so it calls a copy of the program as nobody."""
+        """It is not known what is there. Root may look everywhere, so this calls a copy of the program as nobody."""
         nobody = as_nobody()
         if nobody is None:
             self.skipTest("root may look everywhere, and setpriv doesn't give up its rights here")
@@ -143,7 +143,7 @@ class Paths(Faults):
         self.assertEqual(list(shut.iterdir()), [])
 
     def test_a_relative_path(self):
-        """It is that of the folder in which the command is called."""
+        """It is relative to the folder in which the command is called."""
         self.assertEqual(settle("init", "--db", "here.db", "--operator-key", OPERATOR, cwd=self.room), answer("ready"))
         self.assertEqual(rows_of(self.room / "here.db", "settings"), [(1, 1, 60, OPERATOR)])
         made = settle("report", "--db", "./here.db", "--key", OPERATOR, "balances", cwd=self.room)
@@ -151,7 +151,7 @@ class Paths(Faults):
 
 
 class Foreign(Faults):
-    """Files that hold no office of this version are refused, and stay as they are."""
+    """Files that contain no office of this version are refused, and stay as they are."""
 
     def unharmed(self, data):
         self.database = self.room / "foreign.db"
@@ -182,7 +182,7 @@ class Foreign(Faults):
             self.unharmed(data)
 
     def changed(self, *statements):
-        """The office's file once statements have been run over it is refused, and has its rows still."""
+        """The office's file is refused after statements were run over it, and still has its rows."""
         file = self.room / "changed.db"
         shutil.copy(self.database, file)
         changed_by(file, *statements)
@@ -244,7 +244,7 @@ class Foreign(Faults):
         self.assertEqual(self.command("script", self.room / "missing"), STORE)
 
     def test_files_of_others(self):
-        """Root may write every file, so it calls a copy of the program as nobody."""
+        """Root may write every file, so this calls a copy of the program as nobody."""
         nobody = as_nobody()
         if nobody is None:
             self.skipTest("root may write every file, and setpriv doesn't give up its rights here")
@@ -263,7 +263,7 @@ class Foreign(Faults):
 
 
 class InputsAndTheOffice(Faults):
-    """What a command brings is read before the office is asked, and nothing changes where either stops it."""
+    """What a command brings is read before the office is asked. If either of them stops the command, nothing changes."""
 
     def changes_nothing_by(self, wanted, name, *words):
         before = content_of(self.database)
@@ -285,7 +285,7 @@ class InputsAndTheOffice(Faults):
         self.changes_nothing_by(NO_SOCKET, "serve", f"--port={self.taken_port()}", "--count=1")
 
     def test_keys(self):
-        """Before the file and the run are judged. A party's key allows none of it."""
+        """Before the file and the run are judged. A party's key allows none of them."""
         for key in ("genco0001", "nobody001", "op-settle002", OPERATOR + "0"):
             self.changes_nothing_by(FORBIDDEN, "load", "--key", key, "prices", self.prices)
             self.changes_nothing_by(FORBIDDEN, "load", "--key", key, "units", self.prices)
@@ -296,7 +296,7 @@ class InputsAndTheOffice(Faults):
                 self.changes_nothing_by(FORBIDDEN, "report", "--key", key, *words)
 
     def test_refusals(self):
-        """One of each that tells more than its name or less."""
+        """One refusal of each kind: some tell a row or a unit, others only their name."""
         rows = [
             ("prices", b"x" * 1_048_577, "refused 10 FileTooLarge"),
             ("prices", b"date\n", "refused 12 BadHeader"),
@@ -320,7 +320,7 @@ class InputsAndTheOffice(Faults):
 
 
 class Outputs(Faults):
-    """An output that takes nothing is told last, and what was done stays."""
+    """An output that takes nothing is told last. What was done is kept."""
 
     def test_what_was_done_stays(self):
         self.database, office = self.room / "full.db", self.database
@@ -346,7 +346,7 @@ class Outputs(Faults):
         self.assertEqual(self.by_shell(">/dev/full", "serve", "--port=0"), OUTPUT)
 
     def test_a_script(self):
-        """It stops behind the first line, which was run."""
+        """It stops after the first line, which was run."""
         lines = [f"load {EARLY} {OPERATOR} prices {self.prices}", self.order("SF", END)]
         script = self.file("script", "".join(f"{line}\n" for line in lines))
         self.assertEqual(self.by_shell(">/dev/full", "script", script), OUTPUT)
@@ -369,7 +369,7 @@ class Outputs(Faults):
         self.is_wrong(self.by_shell(">/dev/full", "run", "--key", OPERATOR, DAY, "XX"))
 
     def test_standard_error_that_takes_nothing(self):
-        """The status alone tells it."""
+        """Only the status tells it."""
         for streams in ("2>/dev/full", "2>&-"):
             self.assertEqual(self.by_shell(streams, "report", *self.commands["report"])[::2], (0, b""))
             self.assertEqual(self.by_shell(streams, "report", "--key", "genco0001", "balances"), (1, b"", b""))
@@ -377,7 +377,7 @@ class Outputs(Faults):
             self.assertEqual(self.by_shell(streams, "init", "--operator-key", OPERATOR), (1, b"", b""))
 
     def test_no_streams(self):
-        """The database gets none of their descriptors, or no harm by it."""
+        """The database does not get their descriptors, or is not harmed by getting them."""
         self.assertEqual(self.by_shell("<&- >&- 2>&-", "load", *self.commands["load"]), (1, b"", b""))
         self.is_sound()
         self.assertIn((TODAY, 1, 6_000_000), rows_of(self.database, "prices"))
@@ -388,7 +388,7 @@ class Outputs(Faults):
         self.answers(self.load(*MARKET[0]), LOADED[0])
 
     def test_a_reader_that_ends(self):
-        """Nothing is told but that the output failed, and the office is as it was."""
+        """Only the failure of the output is told, and the office is as it was."""
         self.answers(self.order("SF", END), SETTLED)
         before = content_of(self.database)
         words = words_of(f"report {OPERATOR} day {DAY} SF", self.database)

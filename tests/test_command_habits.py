@@ -1,13 +1,12 @@
-"""What people do with commands on an office in a database file: they give them at a terminal, press Ctrl-C, read the
-first line of a report alone, and send files by standard input. The terminal is a pseudo-terminal, and the script `settle`
-stands in a small repository. Its program is a stand-in that does what its words say, or the built one."""
+"""What people do with commands on an office in a database file: they call them at a terminal, press Ctrl-C, read only the first
+line of a report, and send files by standard input. The terminal is a pseudo-terminal, and the script `settle` is in a small
+repository. Its program is a stand-in that does what its words say, or the built one."""
 import errno
 import fcntl
 import itertools
 import os
 import pty
 import re
-import runpy
 import select
 import shlex
 import signal
@@ -17,20 +16,20 @@ import termios
 import time
 import unittest
 
-from programs import HOME, SETTLE
+from programs import HOME, SETTLE, tool
 from test_command_crashes import Ended
 from test_commands import AtAFile, answer
 from test_database import TODAY, content_of, rows_of
 from test_desk import APPLIED, DAY, EARLY, END, LATE, LOADED, MARKET, OPERATOR, SETTLED, Desk, text_of
 from test_reports import BALANCES, DAY_REPORT, RESULTS, balances, report
-from test_script import INTERRUPTS, OfTheScript, heed_signals
+from test_wrapper import INTERRUPTS, OfTheScript, heed_signals
 
 PATIENCE = 120
 CTRL_C = b"\x03"
 KEPT = "settle: interrupted; what was answered before is kept, and what wasn't may be asked again"
 ANEW = "settle: interrupted; where other commands refuse the file by 91, take it away and begin anew"
 ECHOED = "^C"
-# Does what its words say, one after the other. In what is written `|` stands for the end of a line.
+# Does what its words say, one after the other. In what is written, `|` means the end of a line.
 STAND_IN = """\
 import os, signal, sys, time
 for number in (signal.SIGINT, signal.SIGPIPE, signal.SIGXFSZ):
@@ -62,7 +61,7 @@ for word in sys.argv[1:]:
 
 
 def screen_of(shown):
-    """The lines that stand on a terminal once it has shown this. A letter takes the place of the one that was there."""
+    """The lines that are on a terminal after it has shown this. A letter replaces the one that was at its place."""
     lines, place = [[]], 0
     for letter in shown.decode():
         if letter == "\r":
@@ -91,15 +90,15 @@ class AtATerminal(OfTheScript):
         self.use(f'exec "{sys.executable}" -ISB "{self.stand_in}" "$@" {shlex.join(acts)}')
 
     def use(self, line):
-        """Makes a line of the shell the program, as if it had been built from the sources that are there."""
+        """Makes a line of shell the program, as if it had been built from the sources that are there."""
         program = self.out / "hh_settle"
         program.write_text(f"#!/bin/sh\n{line}\n")
         program.chmod(0o755)
-        script = runpy.run_path(str(self.home / "settle"))
+        script = tool("sources", self.home)
         script["mark_built"](script["sum_of_sources"]())
 
     def begin(self, *words, before=(), turned_off=(), **streams):
-        """Begins a call at a new terminal, which its streams are where nothing else is given."""
+        """Begins a call at a new terminal. Its streams are the terminal, unless something else is given."""
         terminal, end = pty.openpty()
         self.terminal, self.shown = open(terminal, "r+b", buffering=0), b""
 
@@ -121,7 +120,8 @@ class AtATerminal(OfTheScript):
         self.begin(command, "--db", self.office, *acts, **how)
 
     def read_until(self, wanted=None, behind=0):
-        """Reads what is shown until it has this, behind so many bytes, or until all that have the terminal have ended."""
+        """Reads what is shown until it contains this, after a number of bytes, or until all processes at the terminal have
+        ended."""
         until = time.monotonic() + PATIENCE
         while wanted is None or wanted not in self.shown[behind:]:
             left = until - time.monotonic()
@@ -134,7 +134,7 @@ class AtATerminal(OfTheScript):
                     return
 
     def ends(self, status, *lines):
-        """The call ends with this status, and then these lines stand on the terminal."""
+        """The call ends with this status, and then these lines are on the terminal."""
         self.read_until()
         self.assertEqual(self.begun.wait(timeout=PATIENCE), status, self.shown)
         self.assertEqual(screen_of(self.shown), [*lines, ""])
@@ -150,7 +150,7 @@ class AtATerminal(OfTheScript):
 
 
 class Shown(AtATerminal):
-    """How far a command is stands in one line of the terminal while it lasts, and is gone in the end."""
+    """One line of the terminal tells how far a command is while it runs, and is gone in the end."""
 
     def test_a_short_command(self):
         for status in (0, 1, 2):
@@ -195,13 +195,13 @@ class Shown(AtATerminal):
         self.assertRegex(self.shown, rb"\Aone\r\ntwo\r\nthree\r\nsettle: at work, [0-9]+ s")
 
     def test_a_line_that_is_not_ended(self):
-        """Nothing is shown in its midst."""
+        """Nothing is shown in the middle of it."""
         self.on_office("report", "write=half a", "wait=3", "write= line|")
         self.ends(0, "half a line")
         self.assertEqual(self.told(), [])
 
     def test_a_service(self):
-        """Nothing is shown once it listens, nor where that can't be seen."""
+        """Nothing is shown once it listens. Nothing is shown either if that can't be seen."""
         self.on_office("serve", "wait=4", "write=listening 127.0.0.1:8080|", "wait=3", "tell=x|")
         self.ends(0, "listening 127.0.0.1:8080", "x")
         self.assertRegex(self.shown, rb"\A(settle: at work, [0-9]+ s\r *\r)+listening 127\.0\.0\.1:8080\r\nx\r\n\Z")
@@ -216,13 +216,13 @@ class Shown(AtATerminal):
         self.assertEqual(self.told(), [])
 
     def test_a_command_in_the_background(self):
-        """Nothing is shown there, where its user types."""
+        """Nothing is shown for it, because its user is typing."""
         self.on_office("load", "wait=4", "write=hello|", before=["bash", "-c", 'set -m; "$0" "$@" & wait'])
         self.read_until()
         self.assertTrue(self.shown.startswith(b"hello\r\n"), self.shown)  # (bash tells behind it that it was done)
 
     def test_a_narrow_terminal(self):
-        """The line takes no second one."""
+        """The line does not take a second one."""
         self.on_office("load", "wait=4", "write=hello|")
         fcntl.ioctl(self.terminal, termios.TIOCSWINSZ, b"\x18\0\x0c\0\0\0\0\0")  # 24 lines of 12 letters
         self.ends(0, "hello")
@@ -260,7 +260,7 @@ FIRST, SECOND = STAGES[:2]
 
 
 class ShownOfAScript(AtATerminal):
-    """Of a script it is shown which line is at work, by what the program has answered."""
+    """For a script, the terminal shows which line is at work, given what the program has answered."""
 
     def setUp(self):
         super().setUp()
@@ -274,7 +274,7 @@ class ShownOfAScript(AtATerminal):
         self.script.write_text("".join(f"{line}\n" for line in lines))
 
     def goes_through(self, words, *stages, **streams):
-        """Begins a call, whose program writes what comes of each stage once that was shown. Nothing else is shown, and no
+        """Begins a call whose program writes the text of each stage after the stage was shown. Nothing else is shown, and no
         key."""
         steps = [self.room / f"step{number}" for number, _ in enumerate(stages)]
         acts = [(f"await={step}", f"write={text}") for step, (_, text) in zip(steps, stages)]
@@ -294,7 +294,7 @@ class ShownOfAScript(AtATerminal):
         return written
 
     def open_output(self, how):
-        """A file that has a line already, and is written behind it."""
+        """A file that has a line already, and is written after it."""
         path = self.room / "output"
         path.write_text("before\n")
         output = os.open(path, os.O_WRONLY | how)
@@ -310,20 +310,20 @@ class ShownOfAScript(AtATerminal):
         self.goes_through(self.at_a_file, *STAGES[:3])
 
     def test_answers_that_go_into_a_file(self):
-        """They are seen there, behind what it had."""
+        """They are noticed there, after what the file had."""
         for how in (0, os.O_APPEND):
             written = self.goes_through(self.in_memory, *STAGES[:4], stdout=self.open_output(how))
             self.assertEqual((self.room / "output").read_text(), f"before\n{written}")
 
     def test_what_goes_beside_a_file(self):
-        """It is no answer."""
+        """It is not an answer."""
         self.does("write=applied=2 late=0|", "tell=hello|", "wait=4")
         self.begin(*self.in_memory, stdout=self.open_output(0))
         self.ends(0, "hello")
         self.assertEqual(self.stages(), [SECOND[0]])
 
     def test_seconds(self):
-        """They are those of the line."""
+        """They count the time of the line."""
         self.does("wait=5", "write=applied=2 late=0|", "wait=2")
         self.begin(*self.in_memory)
         self.ends(0, "applied=2 late=0")
@@ -347,7 +347,7 @@ class ShownOfAScript(AtATerminal):
         self.assertEqual(rest[-1], FIRST[0])
 
     def test_a_file_that_has_grown(self):
-        """Once a line was answered the file was read, though it may have more bytes by now than were read."""
+        """After a line was answered its file was read, although it may have more bytes by now than were read."""
         self.office.write_bytes(bytes(80_000_000))
         self.does("write=applied=2 late=0|", "wait=4")
         self.begin(*self.at_a_file)
@@ -355,7 +355,7 @@ class ShownOfAScript(AtATerminal):
         self.assertEqual(self.stages(), [SECOND[0]])
 
     def test_a_line_that_serves(self):
-        """Nothing is shown while it awaits connections, and those behind it are counted on."""
+        """Nothing is shown while it awaits connections. The lines after it are counted correctly."""
         self.give(f"serve {EARLY} 0 2", *LINES[2:4])
         listening, served = "listening 127.0.0.1:8080", self.room / "served"
         for streams in ({}, {"stdout": self.open_output(0)}):
@@ -379,7 +379,7 @@ class ShownOfAScript(AtATerminal):
         self.assertEqual(self.stages(), [SECOND[0]])
 
     def test_an_answer_that_is_not_understood(self):
-        """From then on no line is shown."""
+        """After that no line is shown."""
         for words in (self.in_memory, self.at_a_file):
             self.goes_through(words, (FIRST[0], "hello|"), ("at work", "applied=2 late=0|"), ("at work", ""))
 
@@ -388,13 +388,13 @@ class ShownOfAScript(AtATerminal):
         self.goes_through(self.at_a_file, ("at work", ""))
 
     def test_paths(self):
-        """Nothing but printable letters, and of a long path its end."""
+        """Only printable letters are shown, and only the end of a long path."""
         for path, shown in (("r\x1b[2Jö.csv", "r?[2J??.csv"), ("a/" * 30 + "b.csv", ".." + "/a" * 11 + "/b.csv")):
             self.give(f"load {EARLY} {OPERATOR} meters {path}")
             self.goes_through(self.in_memory, (f"line 1 of 1, load meters {shown}", ""))
 
     def test_a_file_that_may_be_typed(self):
-        """Nothing is shown where a line of the script reads it."""
+        """Nothing is shown if a line of the script reads it."""
         self.give(*LINES, f"load {EARLY} {OPERATOR} prices /dev/stdin")
         for words in (self.in_memory, self.at_a_file):
             self.does("wait=4")
@@ -403,7 +403,7 @@ class ShownOfAScript(AtATerminal):
             self.assertEqual(self.shown, b"")
 
     def test_a_script_that_is_no_file(self):
-        """It is the program's alone, and no line is shown. The stand-in never opens the pipe."""
+        """Only the program reads it, and no line is shown. The stand-in never opens the pipe."""
         pipe = self.room / "pipe"
         os.mkfifo(pipe)
         for path in ("/dev/stdin", pipe):
@@ -417,7 +417,7 @@ class ShownOfAScript(AtATerminal):
         self.is_taken_over(*self.in_memory)
 
     def is_taken_over(self, *words, **streams):
-        """The program takes the process over, and nothing is shown."""
+        """The program replaces the process, and nothing is shown."""
         self.does("wait=4" if "stdout" in streams else "wait=0", "process", "write=ended|")
         self.begin(*words, **streams)
         self.read_until()
@@ -425,7 +425,7 @@ class ShownOfAScript(AtATerminal):
         self.assertEqual(self.shown, b"" if "stdout" in streams else f"{self.begun.pid}.ended\r\n".encode())
 
     def test_no_terminal(self):
-        """Nor where the answers can't be seen."""
+        """The same if the answers can't be seen."""
         self.is_taken_over(*self.in_memory, stderr=subprocess.DEVNULL)
         self.is_taken_over(*self.in_memory, stdout=subprocess.DEVNULL)
         self.does("wait=4", "write=hello|", "end=1")
@@ -433,7 +433,7 @@ class ShownOfAScript(AtATerminal):
             self.assertEqual(self.call(*map(str, words)), (1, b"hello\n", ""))
 
     def test_ctrl_c(self):
-        """The office lies in memory, so nothing is told of what is kept."""
+        """The office is in memory, so nothing is told about what is kept."""
         self.does("write=applied=2 late=0|", "wait=60")
         self.begin(*self.in_memory)
         self.read_until(b"settle: line 2 of 10")
@@ -443,13 +443,13 @@ class ShownOfAScript(AtATerminal):
 
 
 class Counted(unittest.TestCase):
-    """How the words of a script are read, and which line is at work by what the program wrote."""
+    """How the words of a script are read, and which line is at work, given what the program wrote."""
 
     def setUp(self):
-        self.settle = runpy.run_path(str(HOME / "settle"))
+        self.settle = {**tool("command_words"), **tool("script_lines"), **tool("progress")}
 
     def count(self, lines, written, size=65_536):
-        """Takes in what was written, in pieces of this size. Gives the line that is shown, without seconds."""
+        """Takes in what was written, in pieces of this size. Returns the line that is shown, without seconds."""
         script = self.settle["Script"]("\n".join(lines).encode(), None)
         progress = self.settle["Progress"](os.getpid(), ["script", "x"], script)
         for place in range(0, len(written), size):
@@ -472,7 +472,7 @@ class Counted(unittest.TestCase):
             self.assertIsNone(self.settle["script_of"](list(map(str, words))))
 
     def test_whole_reports(self):
-        """Each piece of them counts for the same, however it is cut."""
+        """A report counts as one answer, however it is cut."""
         lines = [report("day"), report("csv"), balances(), report("day"), report("csv"), report("csv"), balances(), LINES[0]]
         written = DAY_REPORT + RESULTS + BALANCES + DAY_REPORT + RESULTS + RESULTS + BALANCES
         for size in (1, 10, 100, 1000, 65_536):
@@ -499,7 +499,7 @@ class Counted(unittest.TestCase):
                 self.assertEqual(self.count(lines, f"{written}{text}\n"), "line 3 of 3, load meters rows/m2.csv", text)
 
     def test_reports_that_are_given_up(self):
-        """In a line's midst, which ends with the refusal. Behind a whole line it may be that of the next."""
+        """They end with the refusal in the middle of a line. After a whole line, the refusal may belong to the next line."""
         told = "refused 91 Store\n"
         for line, written in ((report("day"), DAY_REPORT), (report("csv"), RESULTS), (balances(), BALANCES)):
             lines, whole = [line, LINES[1]], written.index("\n", len(written) // 2) + 1
@@ -525,7 +525,7 @@ class Counted(unittest.TestCase):
         self.assertEqual(self.count(LINES[:3], told + APPLIED + "\n"), f"line 3 of 3, run {DAY} SF")
 
     def test_lines_that_are_off_their_form(self):
-        """Where words are in the wrong places a key might be shown."""
+        """If words are in the wrong places, a key might be shown."""
         for line in (
             "",
             "load",
@@ -552,7 +552,7 @@ class CountedOffice(Desk):
         lines = [*self.market(), *wrong, self.order("SF"), self.order("R2", EARLY), *reports, f"serve {END} 0 0", self.dearer()]
         status, written, told = self.run_script("".join(f"{line}\n" for line in lines))
         self.assertEqual((status, told), (0, b""))
-        script = runpy.run_path(str(HOME / "settle"))["Script"]("\n".join(lines).encode(), None)
+        script = tool("script_lines")["Script"]("\n".join(lines).encode(), None)
         for line in written.decode().splitlines():
             self.assertIsNotNone(script.shown, line)
             script.hear(line)
@@ -560,7 +560,7 @@ class CountedOffice(Desk):
 
 
 class NotShown(AtATerminal):
-    """Elsewhere the program takes the process over, and nothing is added."""
+    """In all other cases the program replaces the process, and nothing is added."""
 
     def test_no_terminal(self):
         self.assertEqual(self.call("load", "--db", str(self.office), "wait=4", "write=hello|", "end=1"), (1, b"hello\n", ""))
@@ -572,7 +572,7 @@ class NotShown(AtATerminal):
         return f"{self.begun.pid}.ended".encode()
 
     def test_the_process_is_the_programs(self):
-        """Where standard error is no terminal, where no database is named, and where two terminals are written to."""
+        """If standard error is no terminal, if no database is named, and if two terminals are written to."""
         on_office = "report", "--db", str(self.office)
         self.assertNotIn(self.is_the_program(*on_office), self.shown)
         self.assertNotIn(self.is_the_program("report", f"--db={self.office}"), self.shown)
@@ -593,7 +593,7 @@ class NotShown(AtATerminal):
 
 
 class Interrupted(AtATerminal):
-    """At a terminal a command that is interrupted says so, once, when the program has ended."""
+    """At a terminal, a command that is interrupted tells so, once, after the program has ended."""
 
     def ends_interrupted(self, number, *lines):
         self.ends(-number, *lines)
@@ -620,7 +620,7 @@ class Interrupted(AtATerminal):
         self.ends_interrupted(signal.SIGINT, "one", f"half a line{ECHOED}", KEPT)
 
     def test_each_signal(self):
-        """It comes to the script alone, which passes it on."""
+        """It is sent only to the script, which passes it on."""
         for number in INTERRUPTS:
             self.on_office("serve", "write=listening 127.0.0.1:1|", "wait=60")
             self.read_until(b":1\r\n")
@@ -634,7 +634,7 @@ class Interrupted(AtATerminal):
         self.ends_interrupted(signal.SIGINT, "", ANEW)
 
     def test_a_command_that_was_done(self):
-        """It has answered, so its status is told and no interrupt."""
+        """It has answered, so its status is returned and no interrupt is told."""
         for status in (0, 1):
             self.on_office("load", f"ignore={signal.SIGINT:d}", "write=one|", "wait=1", "write=two|", f"end={status}")
             self.read_until(b"one")
@@ -645,7 +645,7 @@ class Interrupted(AtATerminal):
             self.assertNotIn(b"interrupted", self.shown)
 
     def test_signals_that_are_turned_off(self):
-        """As by nohup."""
+        """As nohup does it."""
         self.on_office("load", "write=one|", "wait=1", "write=two|", turned_off=INTERRUPTS)
         self.read_until(b"one")
         for number in INTERRUPTS:
@@ -658,7 +658,7 @@ class Interrupted(AtATerminal):
             self.ends(-number, "one")
 
     def test_signals_are_as_a_shell_leaves_them(self):
-        """Python turns off some, for itself alone."""
+        """Python turns off some signals, only for itself."""
         for name in ("PIPE", "XFSZ"):
             self.use(f"kill -{name} $$\necho on")
             self.on_office("load")
@@ -675,7 +675,7 @@ class Interrupted(AtATerminal):
 
 
 class Awaited(AtAFile):
-    """A test whose commands wait for bytes of a file, which is a named pipe."""
+    """A test whose commands wait for bytes from a file, which is a named pipe."""
 
     def setUp(self):
         super().setUp()
@@ -687,7 +687,7 @@ class Awaited(AtAFile):
         self.words = ["load", "--db", str(self.database), "--key", OPERATOR, f"--at={EARLY}", "prices", str(self.awaited)]
 
     def give_a_part(self, begun):
-        """Waits until the command reads the file, and gives it a part."""
+        """Waits until the command reads the file, and gives it a part of the bytes."""
         while True:
             try:
                 self.giving = os.open(self.awaited, os.O_WRONLY | os.O_NONBLOCK)
@@ -770,7 +770,7 @@ class InterruptedOffice(AtATerminal, Awaited):
         self.has(self.before)
 
     def test_answers_and_statuses(self):
-        """The program's own, as elsewhere."""
+        """They are the program's own, as elsewhere."""
         on_office = "--db", self.database, "--key", OPERATOR
         for status, text, *words in (
             (1, "refused 51 NoInitialRun", "run", *on_office, f"--at={END}", DAY, "R1"),
@@ -787,7 +787,7 @@ class InterruptedOffice(AtATerminal, Awaited):
 
 
 class InterruptedProgram(Awaited):
-    """The built program alone is ended by a signal. It says nothing, and loses nothing."""
+    """The built program is ended by a signal, without the script. It says nothing, and loses nothing."""
 
     def test_while_it_reads(self):
         for number in INTERRUPTS:
@@ -804,7 +804,7 @@ class InterruptedProgram(Awaited):
 
 
 class InterruptedLoads(Ended):
-    """A load is interrupted early and late: it was done or not, and the file is whole."""
+    """A load is interrupted early and late: it was done or it was not, and the file is whole."""
 
     def test_at_any_time(self):
         days = [f"2024-08-{day:02}" for day in range(1, 21)]
@@ -843,13 +843,13 @@ class FirstLines(AtATerminal, AtAFile):
         self.words = ["report", "--db", str(self.database), "--key", OPERATOR, "csv", DAY, "SF"]
 
     def small_pipe(self):
-        """A pipe that holds less than the report, and the file that reads it."""
+        """A pipe that has room for less than the report, and the file that reads from it."""
         reading, writing = os.pipe()
         fcntl.fcntl(writing, fcntl.F_SETPIPE_SZ, 4096)
         return os.fdopen(reading, "rb", buffering=0), writing
 
     def read_first(self, reader):
-        """Reads the first bytes, as one that wants a line does, and goes away."""
+        """Reads the first bytes, as a reader that wants one line does, and goes away."""
         with reader:
             self.assertTrue(reader.read(100).startswith(b"date,kind,account,period,credited,"))
 
@@ -869,7 +869,7 @@ class FirstLines(AtATerminal, AtAFile):
             self.assertEqual((begun.stderr.read(), begun.wait(timeout=PATIENCE)), (b"fault output\n", 1))
 
     def test_a_report_that_is_read_whole(self):
-        """A short one is in the pipe before anyone goes away: nothing is told."""
+        """A short report is in the pipe before the reader goes away: nothing is told."""
         line = f'"{SETTLE}" report --db "{self.database}" --key {OPERATOR} balances | head -n 1'
         made = subprocess.run(["sh", "-c", line], stdin=subprocess.DEVNULL, capture_output=True, timeout=PATIENCE)
         self.assertEqual((made.returncode, made.stdout, made.stderr), (0, b"account,moved_pence\n", b""))
@@ -883,7 +883,7 @@ class StandardInput(AtAFile):
         self.init()
 
     def given(self, data, name, *words, **how):
-        """A command to which this is given by a pipe."""
+        """A command to which this is given through a pipe."""
         call = [SETTLE, name, "--db", str(self.database), *words]
         made = subprocess.run(call, input=data, capture_output=True, timeout=PATIENCE, **how)
         self.is_sound()
@@ -896,7 +896,8 @@ class StandardInput(AtAFile):
         return [(kind, name) for kind, name, *_ in rows_of(self.database, "files")]
 
     def test_files(self):
-        """By a pipe and from a file. The name is what follows the last `/`, so a second file of a kind is another's."""
+        """Through a pipe and from a file. The name is what follows the last `/`, so a second file of a kind is another file of
+        the same name."""
         (parties, party_rows), (units, unit_rows) = MARKET[:2]
         self.assertEqual(self.load_given(text_of(parties, party_rows), parties, "/dev/stdin"), answer(LOADED[0]))
         with open(self.file("units", text_of(units, unit_rows)), "rb") as file:
@@ -922,7 +923,7 @@ class StandardInput(AtAFile):
         self.assertEqual(self.given(text, "script", "/dev/stdin"), (0, written, b""))
 
     def test_a_dash(self):
-        """It names the file `-` of the folder, and no input is read."""
+        """It names the file `-` in the folder, and standard input is not read."""
         data, folder = text_of(*MARKET[0]), self.room / "folder"
         folder.mkdir()
         self.assertEqual(self.load_given(data, "parties", "-", cwd=folder), answer("fault file"))

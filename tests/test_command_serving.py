@@ -1,5 +1,5 @@
-"""Connections that `settle serve --db` serves: clients of an office in a database file are answered as those of one in
-memory, and what they bring stays in the file."""
+"""Connections that `settle serve --db` serves: clients of an office in a database file get the same answers as clients of one
+in memory, and what they bring is kept in the file."""
 import json
 import subprocess
 import time
@@ -18,8 +18,8 @@ class Serving(AtAFile):
     """Connections are served by `serve --db`, over an office to which a script has been run."""
 
     def serve(self, count, *lines, moment=NEXT_END, before=None, operator=OPERATOR):
-        """Serves so many connections over an office that lines came before. `rest` asks what these lines ask, when it
-        has ended."""
+        """Serves this many connections over an office after these lines were run. After it has ended, `rest` asks what these
+        lines ask."""
         self.init(operator=operator)
         before = [*self.market(), self.order("SF", END), self.dearer(), self.order("R1")] if before is None else before
         self.assertEqual(self.run_script_at("".join(f"{line}\n" for line in before))[::2], (0, b""))
@@ -27,7 +27,7 @@ class Serving(AtAFile):
         self.begin(f"--count={count}", f"--at={moment}")
 
     def begin(self, *options):
-        """Begins to serve, and reads where."""
+        """Begins to serve, and reads on which port."""
         words = [SETTLE, "serve", "--db", str(self.database), "--port", "0", *options]
         self.program = subprocess.Popen(words, bufsize=0, stdout=subprocess.PIPE, stderr=subprocess.PIPE)
         told = self.program.stdout.readline().decode()
@@ -35,7 +35,7 @@ class Serving(AtAFile):
         self.port = int(told.strip().rpartition(":")[2])
 
     def rest(self):
-        """What is told by the lines behind, once all are served."""
+        """What the further lines tell after all connections were served."""
         written, told = self.program.communicate(timeout=60)
         self.assertEqual((self.program.returncode, written, told), (0, b"", b""))
         self.is_sound()
@@ -47,7 +47,7 @@ class Serving(AtAFile):
         self.is_sound()
 
 
-# What clients of an office in memory are answered, byte by byte, clients of one in a file are.
+# Clients of an office in a file get the same answers as clients of one in memory, byte by byte.
 class Replies(Serving, test_serving.Replies):
     pass
 
@@ -57,13 +57,13 @@ class Bytes(Serving, test_serving.Bytes):
 
 
 class Waits(Serving, test_serving.Waits):
-    """How long clients hold up the next one, measured: no longer than docs/http.md says."""
+    """How long clients delay the next one, measured: no longer than docs/http.md says."""
 
-    # What this machine may be late by when it is busy.
+    # By how much this machine may be late when it is busy.
     LATE = 4
 
     def tearDown(self):
-        """The services are still there, each with its file."""
+        """The services are still running, each with its file."""
 
     def begin_service(self, before=None):
         self.offices = getattr(self, "offices", 0) + 1
@@ -71,18 +71,18 @@ class Waits(Serving, test_serving.Waits):
         return super().begin_service(before)
 
     def stalls(self, client):
-        """It sends half a head and then nothing, and is given up without a reply."""
+        """It sends half a head and then nothing, and is dropped without a reply."""
         client.sendall(b"GET /balances/SUPCO-C HTTP/1.1\r\nHost: lo")
         self.assertEqual(self.read(client), b"")
 
     def stays_for_a_while(self, client):
-        """It says nothing for three seconds, and closes."""
+        """It is silent for three seconds, and closes."""
         time.sleep(3)
         client.close()
 
     def test_how_long_others_wait(self):
-        """One that stalls holds them up for ten seconds, and eleven at most; one that sends a byte now and then for thirty, and
-        31 at most. A hundred that connect are all there, and hold them up for as long as they stay."""
+        """A client that stalls delays them for ten seconds, and eleven at most. One that sends a byte now and then delays them
+        for thirty, and 31 at most. A hundred that connect are all served, and delay them for as long as they stay."""
         holds = (self.stalls, 1), (self.sends_now_and_then, 1), (self.stays_for_a_while, 100)
         waits = self.waits_of([(self.begin_service(before=[]), hold, count) for hold, count in holds])
         for wait, least, most in zip(waits, (9, 29, 2), (11, 31, 4)):
@@ -90,7 +90,7 @@ class Waits(Serving, test_serving.Waits):
 
 
 class Kept(Serving, test_serving.Served):
-    """What is served stays."""
+    """What is served is kept."""
 
     def test_the_rows(self):
         self.serve(3, report("csv"), moment=END, before=self.market())
@@ -105,7 +105,7 @@ class Kept(Serving, test_serving.Served):
         self.assertIn(("contracts", "c2.csv", rows, 0, 1), rows_of(self.database, "files"))
 
     def test_balances_before_and_after_each_run(self):
-        """What was posted is read once, and again when a run or a file has come."""
+        """What was posted is read once, and again after a run or a file has come."""
         balances = []
 
         def ask_balances():
@@ -132,7 +132,7 @@ class Kept(Serving, test_serving.Served):
         self.assertEqual(content_of(self.database), before)
 
     def test_without_a_count(self):
-        """It goes on to serve."""
+        """It continues to serve."""
         self.init_market()
         self.begin("--at=5")
         for _ in range(20):
@@ -151,7 +151,8 @@ class Kept(Serving, test_serving.Served):
         self.assertEqual(made, (0, f"listening 127.0.0.1:{self.port}\n".encode(), b""))
 
     def test_the_clock(self):
-        """A request comes when it comes: what is for two days before is late, and what is for two days ahead is not."""
+        """A request counts at the moment when it comes: what is for two days before is late, and what is for two days ahead is
+        not."""
         self.init_market()
         self.begin("--count=3")
         for days, body in ((-2, '{"applied":0,"late":1}'), (2, '{"applied":1,"late":0}')):
@@ -161,8 +162,8 @@ class Kept(Serving, test_serving.Served):
         self.assertEqual(json.loads(got), {"name": "DayNotOver", "refused": 52})
 
     def test_the_moment_of_a_turn(self):
-        """Two clients connect before a deadline. The one whose turn comes at once sends its contract when the deadline has
-        passed, and is in time. The other sends its own at once, and is late, since its turn comes then."""
+        """Two clients connect before a deadline. The first has its turn at once, sends its contract after the deadline has
+        passed, and is in time. The other sends its contract at once, and is late, because its turn comes after the deadline."""
         start, lead, deadline = deadline_ahead()
         date, period = next((date, 1 + (start - midnight(date)) // 1800) for date in map(date_in, (1, 0, -1)) if midnight(date) <= start)
         self.init("--lead-minutes", lead)
@@ -185,8 +186,8 @@ class Kept(Serving, test_serving.Served):
 
 
 def deadline_ahead():
-    """When a Settlement Period begins, and a lead in minutes by which its deadline is seven seconds ahead, or up to a
-    minute more; and this deadline."""
+    """When a Settlement Period begins, a lead in minutes by which its deadline is between seven seconds and a minute ahead, and
+    this deadline."""
     now = time.time()
     start = (int(now) // 1800 + 1) * 1800
     if start - now < 7:

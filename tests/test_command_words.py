@@ -1,4 +1,4 @@
-"""Words that are no command on an office in a database file: they are told before anything is looked for."""
+"""Words that are no command on an office in a database file: this is told before anything is looked for."""
 import os
 import subprocess
 import unittest
@@ -28,7 +28,7 @@ MOMENTS = "", "x", "+5", "5.0", "1e3", " 5", str(2**63), str(-(2**63) - 1)
 
 
 class WrongWords(Faults):
-    """Status 2, before anything is looked for. What is told names each command, where a value is off its grammar."""
+    """Status 2, before anything is looked for. If a value is off its grammar, the text lists the forms of all commands."""
 
     def is_told(self, made, *forms):
         self.is_wrong(made)
@@ -46,7 +46,7 @@ class WrongWords(Faults):
             self.assertFalse(os.path.exists(missing))
 
     def no_command(self, *calls):
-        """The words have not the form of a command."""
+        """The words don't have the form of a command."""
         for words in calls:
             with self.subTest(words):
                 self.is_wrong(settle(*words))
@@ -159,7 +159,7 @@ class WrongWords(Faults):
         )
 
     def test_script(self):
-        """Either a file has the office, with its key and minutes, or the words have what a new one needs."""
+        """Either the office is in a file, with its key and minutes, or the words have what a new one needs."""
         path, key = ("--db", str(self.database)), ("--operator-key", OPERATOR)
         self.off("script", *key, self.script)
         self.off("script", "--lead-minutes=60", self.script)
@@ -181,7 +181,7 @@ class WrongWords(Faults):
             self.assertIn(b"not text (UTF-8)", made.stderr)
 
     def test_numbers_with_zeros_in_front(self):
-        """They are taken, and so is a moment of -0."""
+        """They are accepted, and so is a moment of -0."""
         self.assertEqual(self.command("serve", "--port=000", "--count=00", "--at=-0", timeout=PATIENCE)[::2], (0, b""))
         self.assertEqual(self.command("load", "--key", OPERATOR, "--at=-0005", "prices", self.prices), answer(APPLIED))
         self.database = self.room / "zeros.db"
@@ -189,7 +189,7 @@ class WrongWords(Faults):
         self.assertEqual(rows_of(self.database, "settings"), [(1, 1, 90, OPERATOR)])
 
     def test_words_in_another_order(self):
-        """Options stand before or behind what is in its place, and with `=` or apart."""
+        """Options may come before or after the words that have a place, and with `=` or separately."""
         file = f"--db={self.database}"
         self.assertEqual(settle("load", "prices", self.prices, "--at", "5", f"--key={OPERATOR}", file), answer(APPLIED))
         self.assertEqual(settle("run", DAY, f"--key={OPERATOR}", "SF", file, "--at", str(END))[::2], (0, b""))

@@ -1,6 +1,6 @@
-"""An office in a database file, by the commands `settle init`, `load`, `run`, `report` and `script --db`: each
-is a process of its own that opens the file anew, and Python's `sqlite3` reads what it leaves. What is served over a file
-is in test_command_serving.py, and how commands stop in test_command_faults.py."""
+"""An office in a database file, by the commands `settle init`, `load`, `run`, `report` and `script --db`. Each is a process of
+its own that opens the file again, and Python's `sqlite3` reads what it leaves. What is served over a file is in
+test_command_serving.py, and how commands stop in test_command_faults.py."""
 import contextlib
 import datetime
 import sqlite3
@@ -15,13 +15,13 @@ from test_database import LAST_DAY, NEW_YEAR, TODAY, content_of, rows_of
 from test_desk import APPLIED, DAY, DEADLINE, EARLY, END, IDLE, LATE, LOADED, OPERATOR, Desk, text_of
 from test_reports import BALANCES, DAY_REPORT, JOINS, RESULTS, balances, report
 
-# What a script of more lines than these is run by: one call of `script --db`.
+# A script with more lines than this is run by one call of `script --db`.
 MOST_CALLS = 200
 LAST_MOMENT = 2**63 - 1
 
 
 def words_of(line, database):
-    """The words of the command that asks of an office in a file what a line of a script asks."""
+    """The words of the command that asks an office in a file what a line of a script asks."""
     name, *words = line.split(" ")
     file = ["--db", str(database)]
     if name == "report":
@@ -32,8 +32,7 @@ def words_of(line, database):
 
 
 def answer(text):
-    """How a command ends that tells this: by lines of standard output where it is done, by standard error where it
-    stops."""
+    """How a command ends that tells this: by lines on standard output if it is done, on standard error if it stops."""
     line = f"{text}\n".encode()
     return (1, b"", line) if text.startswith(("refused ", "fault ")) else (0, line, b"")
 
@@ -58,13 +57,13 @@ class AtAFile(Desk):
         self.is_sound()
 
     def asks(self, line):
-        """What comes of a command that asks what a line of a script does. It leaves a sound file."""
+        """What comes of a command that asks what a line of a script does. It must leave a sound file."""
         made = settle(*words_of(line, self.database))
         self.is_sound()
         return made
 
     def answers(self, line, text):
-        """A command that asks what a line of a script does ends so."""
+        """A command that asks what a line of a script does ends like this."""
         self.assertEqual(self.asks(line), answer(text), line)
 
     def is_sound(self):
@@ -72,7 +71,7 @@ class AtAFile(Desk):
             self.assertEqual(connection.execute("PRAGMA integrity_check").fetchall(), [("ok",)])
 
     def changes_nothing(self, line, text):
-        """It ends so, and each row of the file stays."""
+        """It ends like this, and each row of the file is as it was."""
         before = content_of(self.database)
         self.answers(line, text)
         self.assertEqual(content_of(self.database), before)
@@ -95,7 +94,8 @@ def near(number, of):
 
 
 def shares_of(total, weights):
-    """A total by weights: each its quota rounded down, and what is left to those with the largest rests."""
+    """A total divided by weights: each share is the quota rounded down, and what is left goes to those with the largest
+    remainders."""
     parts = [divmod(abs(total) * weight, sum(weights)) for weight in weights]
     left = abs(total) - sum(whole for whole, _ in parts)
     first = sorted(range(len(parts)), key=lambda place: (-parts[place][1], place))[:left]
@@ -103,15 +103,15 @@ def shares_of(total, weights):
     return [sign * (whole + (place in first)) for place, (whole, _) in enumerate(parts)]
 
 
-# What the market's units meter in period 1 in kWh, with the multiplier in its seventh decimal and what the account
-# sells in kWh, by account.
+# What the market's units meter in period 1 in kWh, with the multiplier in its seventh decimal, and what the account sells in
+# kWh, by account.
 FIRST = {("GENCO", 0): (100_000, 9_950_000, 99_000), ("SUPCO", 1): (-98_000, 10_050_000, -99_000)}
 JOINED = {**FIRST, ("NEWCO", 0): (10_000, 10_000_000, 0)}
 
 
 def results_of(kind, metered, price):
-    """The rows of a run of the market's day, in which nothing happens but in period 1: energies in 10^-10 MWh, a kWh at
-    one time a ten-millionth. The price is in its fifth decimal."""
+    """The rows of a run of the market's day, on which nothing happens except in period 1. Energies are in 10^-10 MWh: a kWh
+    times a ten-millionth. The price is in its fifth decimal."""
     accounts = [(party, side) for party in sorted({party for party, _ in metered}) for side in (0, 1)]
     figures = []
     for account in accounts:
@@ -125,10 +125,10 @@ def results_of(kind, metered, price):
 
 
 class WorkedDays(AtAFile):
-    """Days whose figures are worked by hand, as the file has them."""
+    """Days whose figures are worked out by hand, as the file has them."""
 
     def cash(self, kind):
-        """The charge and the share of each account in period 1 of a run, where they are not both 0, and its day net."""
+        """The charge and the share of each account in period 1 of a run, if they are not both 0, and its day net."""
         rows = [row for row in rows_of(self.database, "results") if row[1] == kind]
         first = {f"{row[3]}-{'PC'[row[4]]}": row[9:] for row in rows if row[2] == 1 and any(row[9:])}
         nets = dict.fromkeys(first, 0)
@@ -223,7 +223,7 @@ class WorkedDays(AtAFile):
 
 
 class WorkedFiles(AtAFile):
-    """Files whose replies are worked by hand."""
+    """Files whose replies are worked out by hand."""
 
     def setUp(self):
         super().setUp()
@@ -292,7 +292,7 @@ class WorkedFiles(AtAFile):
 
 
 class ByCommands(Desk):
-    """A test whose scripts are run over offices in new files: each line by a command of its own, or by `script --db`."""
+    """A test whose scripts are run over offices in new files: each line by a command of its own, or all by `script --db`."""
 
     ANEW = True
 
@@ -301,7 +301,7 @@ class ByCommands(Desk):
         self.offices = 0
 
     def run_script(self, text, *options, **how):
-        """What the script would print by itself."""
+        """What the script itself would print."""
         self.offices += 1
         self.database = self.room / f"office{self.offices}.db"
         made = settle("init", "--db", str(self.database), "--operator-key", OPERATOR, *options)
@@ -317,7 +317,7 @@ class ByCommands(Desk):
         return written + told
 
 
-# What the desk's scripts tell, by commands. What is expected is derived beside them.
+# What the desk's scripts tell, by commands. What is expected is derived with those tests.
 class Runs(ByCommands, test_desk.Runs):
     pass
 
@@ -339,14 +339,13 @@ class Texts(ByCommands, test_desk.Texts):
 
 
 class Reports(ByCommands, test_reports.Reports):
-    # (these look at what `settle script` tells of its own)
+    # (these look at what only `settle script` tells)
     test_lines_off_their_form = None
     test_an_output_that_takes_a_part = None
 
 
 class Beside(ByCommands, test_database.Beside):
-    """Lists of requests, drawn at random: by commands and by `script --db` they are answered as by `script`, reports and
-    all."""
+    """Lists of requests, drawn at random: commands and `script --db` give the same answers and reports as `script`."""
 
     test_a_day_beside_the_peer = None
 
@@ -366,7 +365,7 @@ class Scripts(AtAFile):
         return [*self.market(), missing, late, self.order("R1"), self.order("SF"), *asked, self.dearer(), self.order("R1"), *asked]
 
     def test_three_ways(self):
-        """By commands, by `script --db` and by `script` the same lines have the same answers, and the two files the same
+        """By commands, by `script --db` and by `script`, the same lines have the same answers, and both files have the same
         rows."""
         lines = self.lines()
         text = "".join(f"{line}\n" for line in lines)
@@ -387,7 +386,7 @@ class Scripts(AtAFile):
         self.assertEqual({table for table, rows in contents[0].items() if not rows}, {"reallocations", "touched"})
 
     def test_the_tables_stay(self):
-        """A script goes on where a command or another script ended."""
+        """A script continues after a command or another script has ended."""
         self.init()
         *first, last = self.market()
         self.answers(first[0], LOADED[0])
@@ -398,7 +397,7 @@ class Scripts(AtAFile):
         self.answers(report("csv"), RESULTS.removesuffix("\n"))
 
     def test_the_offices_own_lead_minutes(self):
-        """An office is asked, not the words of the script."""
+        """The office's own minutes count, not those of the script's words."""
         for minutes, text in (("60", LATE), ("59", APPLIED)):
             self.database = self.room / f"{minutes}.db"
             self.init("--lead-minutes", minutes)
@@ -428,12 +427,12 @@ class Scripts(AtAFile):
 
 
 def date_in(days):
-    """The date that is so many days ahead by the clock of this machine."""
+    """The date that is this many days ahead by the clock of this machine."""
     return (datetime.datetime.now(datetime.timezone.utc) + datetime.timedelta(days)).date().isoformat()
 
 
 class Clock(AtAFile):
-    """Without `--at` a command comes at the moment that the machine's clock tells."""
+    """Without `--at`, a command comes at the moment that the machine's clock tells."""
 
     def setUp(self):
         super().setUp()
@@ -458,13 +457,13 @@ class Clock(AtAFile):
             self.assertEqual(self.load_now(date_in(days), f"{days}.csv"), answer(text), days)
 
     def test_moments_that_are_given(self):
-        """They count in the clock's place, also those before 1970."""
+        """They count instead of the clock, also those before 1970."""
         for moment, text in ((-5, APPLIED), (-(2**63), APPLIED), (DEADLINE - 1, APPLIED), (DEADLINE, LATE), (LAST_MOMENT, LATE)):
             self.assertEqual(self.load_now(DAY, f"{moment}.csv", f"--at={moment}"), answer(text), moment)
         self.assertEqual(self.load_now(DAY, "apart.csv", "--at", DEADLINE - 1), answer(APPLIED))
 
     def test_the_second(self):
-        """With no lead the periods that have begun are late, and the others are not."""
+        """With a lead of 0 the periods that have begun are late, and the others are not."""
         self.database = self.room / "nolead.db"
         self.init("--lead-minutes", "0")
         self.answers(self.load(*test_desk.MARKET[0]), LOADED[0])
@@ -480,8 +479,8 @@ class Clock(AtAFile):
 
 
 def midnight(date):
-    """When a date begins in the market's zone: by the rule that clocks go forward on the last Sunday of March and back on
-    that of October, both at 01:00Z."""
+    """When a date begins in the market's zone. Clocks go forward on the last Sunday of March and back on that of October, both
+    at 01:00Z."""
     day = datetime.date.fromisoformat(date)
     forward, back = (datetime.date(day.year, month, 31) for month in (3, 10))
     forward, back = (last - datetime.timedelta((last.weekday() + 1) % 7) for last in (forward, back))

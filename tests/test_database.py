@@ -1,5 +1,5 @@
-"""An office in a database file, through `hh_bench office`: scripts over a file are answered as over tables in
-memory, `sqlite3` reads the file and finds what was loaded and settled, and a file that is no office's is refused."""
+"""An office in a database file, through `hh_bench office`. Scripts over a file get the same answers as over tables in memory,
+`sqlite3` reads the file and finds what was loaded and settled, and a file that is no office's is refused."""
 import contextlib
 import csv
 import io
@@ -24,7 +24,8 @@ from test_reports import BALANCES, DAY_REPORT, RESULTS, balances, report
 
 STORE = "refused 91 Store"
 MOST_CALLS = 200
-# Each table with its columns, whole numbers but for those that a word follows. The first so many columns are its key.
+# Each table with its columns. They are whole numbers, unless a word follows. The first columns, as many as the number says, are
+# the key.
 TABLES = {
     "settings": (1, "id version lead_minutes operator_key:TEXT"),
     "parties": (1, "party:TEXT day_from day_to access_key:TEXT"),
@@ -76,7 +77,7 @@ def changed_by(database, *statements):
 
 
 class InAFile(Desk):
-    """A test whose scripts are run over an office in a new file. The two times are taken off what is told."""
+    """A test whose scripts are run over an office in a new file. The two times are removed from what is told."""
 
     ANEW = False
 
@@ -91,7 +92,7 @@ class InAFile(Desk):
         return self.room / f"office{self.offices}.db"
 
     def over(self, database, text, *made, **how):
-        """Runs a script over a file, and takes the two times off what is told."""
+        """Runs a script over a file, and removes the two times from what is told."""
         status, written, told = office(database, self.file("script", text), *made, **how)
         return status, written, re.sub(rb"\A[0-9]+\n[0-9]+\n", b"", told)
 
@@ -120,7 +121,7 @@ class InAFile(Desk):
         return 0, written, b""
 
     def loaded(self, *more):
-        """A file with the market's office, and what is printed for some lines more."""
+        """A file with the market's office, and what is printed for some more lines."""
         database = self.database()
         found = self.replies_over(database, *self.market(), *more, made=(OPERATOR, "60"))
         self.assertEqual(found[:5], LOADED)
@@ -128,12 +129,12 @@ class InAFile(Desk):
 
 
 class Anew(InAFile):
-    """A test whose scripts are run a line a call: each opens the file anew."""
+    """A test whose scripts are run by one call for each line, so each line opens the file again."""
 
     ANEW = True
 
 
-# The desk's tests, over a file. What they expect is derived beside them.
+# The desk's tests, over a file. What they expect is derived there.
 class Runs(InAFile, test_desk.Runs):
     pass
 
@@ -188,7 +189,7 @@ class Positions(InAFile):
         return [period for date, period in rows_of(database, "touched") if date == TODAY]
 
     def positions(self, database, period):
-        """What is kept of the accounts of a Settlement Period: party, side, kWh, and whether the position is lost."""
+        """What is kept for the accounts in a Settlement Period: party, side, kWh, and whether the position is lost."""
         return [row[2:] for row in rows_of(database, "positions") if row[:2] == (TODAY, period)]
 
     def test_what_touches_a_period(self):
@@ -217,8 +218,8 @@ class Positions(InAFile):
         self.assertEqual(self.positions(database, 1), [("GENCO", 0, 98_000, 0), ("SUPCO", 1, -98_000, 0)])
 
     def test_the_greatest_positions(self):
-        """Ten thousand contracts of the greatest volume come to the greatest position that is known. With one kWh more it is
-        lost, and stays so. The Settlement Period is too large either way, as it is in memory."""
+        """Ten thousand contracts of the greatest volume sum to the greatest position that is known. With one kWh more it is
+        lost, and stays lost. In both cases the Settlement Period is too large, as it is in memory."""
         most = self.load("contracts", [f"R{number},GENCO-P,SUPCO-C,{DAY},2,10000.000" for number in range(10_000)], "c2.csv")
         more, none = (
             self.load("contracts", f"{reference},GENCO-P,SUPCO-C,{DAY},2,{volume}", name)
@@ -296,7 +297,7 @@ class Beside(InAFile):
                     self.assertEqual(self.run_script(text), wanted)
 
     def test_a_day_beside_the_peer(self):
-        """A day of 20 parties and 60 units: the tables of the file are those that `bench/peer_office.py` keeps."""
+        """A day of 20 parties and 60 units: the file has the same tables as `bench/peer_office.py` keeps."""
         folder = self.room / "day"
         words = ["--parties=20", "--units=60", "--contracts=20", "--reallocations=10"]
         subprocess.run(["python3", str(HOME / "bench" / "gen_day.py"), str(folder), *words], check=True)
@@ -315,7 +316,7 @@ class Beside(InAFile):
                     self.assertEqual(set(rows_of(database, table)), set(peer["connection"].execute(f"SELECT * FROM {table}")))
 
     def peer_of(self, folder, files):
-        """The peer over tables in memory that has loaded these files."""
+        """The peer over tables in memory, after it has loaded these files."""
         path = str(HOME / "bench" / "peer_office.py")
         with contextlib.redirect_stdout(io.StringIO()):
             with unittest.mock.patch("sys.argv", [path, "init", ":memory:"]):
@@ -385,7 +386,7 @@ class Kept(InAFile):
                 self.assertEqual(rows, wanted.get(table, []))
 
     def test_what_is_settled(self):
-        """The rows of the run are those of the text that was derived by hand, and each unit's credit is its lead's."""
+        """The rows of the run are those of the text that was derived by hand, and each unit's credit goes to its lead account."""
         database, found = self.loaded(self.order("SF", END))
         self.assertEqual(found, [SETTLED])
         results = []
@@ -401,7 +402,7 @@ class Kept(InAFile):
         self.assertEqual(rows_of(database, "credits"), sorted([*credits, *idle]))
 
     def test_a_later_run(self):
-        """It has rows of its own, and those of the first stay."""
+        """It has rows of its own, and those of the first are as they were."""
         database, _ = self.loaded(self.order("SF", END))
         first = content_of(database)
         self.assertEqual(self.replies_over(database, self.dearer(), self.order("R1")), ["applied=1 late=0", DEARER])
@@ -413,7 +414,7 @@ class Kept(InAFile):
         self.assertEqual([row for row in second["postings"] if row[1]], [(TODAY, 1, "GENCO", 0, 7), (TODAY, 1, "SUPCO", 1, -7)])
 
     def test_what_is_in_force_after_many_files(self):
-        """Each key has the row accepted last; a late row fixes its reference alone; a refused file leaves nothing."""
+        """Each key has the row that was accepted last. A late row fixes only its reference. A refused file leaves nothing."""
         draw = random.Random(7)
         database, _ = self.loaded()
         force = {("C1", TODAY, 1): 99_000}
@@ -447,7 +448,7 @@ class Kept(InAFile):
         self.assertEqual("".join(f"{line}\n" for line in self.replies_over(database, report("day"), balances())), DAY_REPORT + BALANCES)
 
     def test_a_copy(self):
-        """The file alone is the whole office: it is copied, and both go on by themselves."""
+        """The file by itself is the whole office: it is copied, and both copies go on independently."""
         database, _ = self.loaded(self.order("SF", END))
         copy = self.room / "copy.db"
         shutil.copy(database, copy)
@@ -456,7 +457,7 @@ class Kept(InAFile):
 
 
 class Bad(InAFile):
-    """Files that are no office's, and disks that fail: the answer is 91, nothing changes, and the next call goes on."""
+    """Files that are no office's, and disks that fail: the answer is 91, nothing changes, and the next call succeeds."""
 
     def refused(self, database, *made):
         """The office is not taken over or made: nothing is printed, and 91 is told."""
@@ -487,7 +488,7 @@ class Bad(InAFile):
             self.unharmed(database)
 
     def test_an_empty_file(self):
-        """No office stands there, so that there is none to take over; and one can be made."""
+        """There is no office in it, so none can be taken over, but one can be made."""
         database = self.database()
         database.write_bytes(b"")
         self.refused(database)
@@ -509,7 +510,7 @@ class Bad(InAFile):
                 self.assertEqual(len(connection.execute("SELECT * FROM sqlite_schema").fetchall()), 1)
 
     def test_an_office_with_other_tables(self):
-        """A table more, a table less, a column more, another key, another declared type."""
+        """One table more, one table fewer, one column more, another key, another declared type."""
         for statements in (
             ["CREATE TABLE more (id INT)"],
             ["DROP TABLE touched"],
@@ -526,8 +527,8 @@ class Bad(InAFile):
                 self.assertEqual(rows_of(database, "meters"), before)
 
     def test_settings_that_are_none(self):
-        """Another version, minutes off their range, keys off their grammar, no settings; no mark, one off its range, and one that
-        says that no positions are kept where there are some."""
+        """Another version, minutes out of their range, keys off their grammar, no settings; no mark, a mark out of its range,
+        and a mark that says that no positions are kept although there are some."""
         database, _ = self.loaded()
         data = database.read_bytes()
         for statement in (
@@ -553,7 +554,7 @@ class Bad(InAFile):
         self.assertEqual(self.replies_over(database, self.load(*MARKET[0], name="f1.csv")), LOADED[:1])
 
     def test_rows_off_their_range(self):
-        """What needs such a row is answered by 91, and all else as ever; no row changes."""
+        """What needs such a row is answered with 91, and everything else as usual. No row changes."""
         whole, _ = self.loaded(self.order("SF", END))
         data = whole.read_bytes()
         for statement, line in (
@@ -577,7 +578,7 @@ class Bad(InAFile):
                 self.assertEqual(content_of(database), before)
 
     def test_a_file_in_use(self):
-        """Another process has it open: it is refused until that ends."""
+        """Another process has it open: it is refused until that process ends."""
         database, _ = self.loaded()
         with contextlib.closing(sqlite3.connect(database)) as connection:
             connection.execute("BEGIN EXCLUSIVE")
@@ -586,7 +587,7 @@ class Bad(InAFile):
         self.assertEqual(len(self.replies_over(database, balances())), 5)
 
     def test_a_file_of_others(self):
-        """Root may write every file, so it calls a copy of the program as nobody."""
+        """Root may write every file, so this calls a copy of the program as nobody."""
         nobody = as_nobody()
         if nobody is None:
             self.skipTest("root may write every file, and setpriv doesn't give up its rights here")
@@ -606,7 +607,7 @@ class Bad(InAFile):
         self.assertEqual(len(self.replies_over(database, balances())), 5)
 
     def limited(self, size):
-        """For the program alone: no file grows past so many bytes, and a write that would is told as failed."""
+        """Only for the program: no file can grow beyond this many bytes, and a write that would is told as failed."""
 
         def limit():
             signal.signal(signal.SIGXFSZ, signal.SIG_IGN)
@@ -615,7 +616,7 @@ class Bad(InAFile):
         return limit
 
     def test_a_full_disk(self):
-        """However early the disk is full: each line is answered or told 91, and later the office has what was answered."""
+        """However early the disk is full, each line is answered or told 91, and later the office has what was answered."""
         whole, _ = self.loaded()
         data = whole.read_bytes()
         rows = [f"U{number},GENCO,P,no,2024-01-01," for number in range(1500)]

@@ -1,4 +1,5 @@
-"""The definitions that must be believed: outside of specs/steps/ each is reached from a contract that a crate offers."""
+"""The definitions that must be believed: each of them, unless it is in specs/steps/, is reached from a contract that a crate
+offers."""
 import collections
 import re
 import unittest
@@ -45,7 +46,8 @@ def offered_names(text, types):
         begins = BLOCK.match(line)
         if begins:
             of = FOR.search(line)
-            # An impl of a trait is offered, too, where the type that the trait is given is: `impl From<Ours> for Theirs`.
+            # An impl of a trait is offered as well if the type that the trait is given is offered: `impl From<Ours> for
+            # Theirs`.
             given = set(NAME.findall(line)) if of else {begins[2]}
             block = (begins[1] == "trait" or of is not None, bool(given & types))
         elif line == "}":

@@ -1,6 +1,5 @@
-"""What an analyst meets at the office's desk, through the built `settle script`: files are loaded, come
-late, twice or wrong, runs are made or refused, and each line is answered. Every script begins with empty
-tables."""
+"""What an analyst meets at the office's desk, through the built `settle script`: files are loaded, or come late, twice or
+wrong; runs are made or refused; and each line is answered. Every script begins with empty tables."""
 import contextlib
 import csv
 import io
@@ -21,7 +20,7 @@ DAY = "2024-07-01"
 # 2024-07-01 begins at 2024-06-30T23:00:00Z. With a lead of 60 minutes period 1 has its deadline at 22:00:00Z.
 START = 1_719_788_400
 DEADLINE = START - 3600
-# 2024-06-29T22:26:40Z, when files come where no test says otherwise.
+# 2024-06-29T22:26:40Z, when files come unless a test says otherwise.
 EARLY = 1_719_700_000
 # 2024-07-01 has 48 periods, so it ends at 2024-07-01T23:00:00Z, and 2024-07-02 a day later.
 END = 1_719_874_800
@@ -50,21 +49,21 @@ MARKET = [
 LOADED = ["applied=2 late=0", "applied=2 late=0", "applied=1 late=0", "applied=96 late=0", "applied=48 late=0"]
 APPLIED = "applied=1 late=0"
 LATE = "applied=0 late=1"
-# What the market settles to. GENCO-P has 0.5 MWh too much and SUPCO-C 0.51, so that at 50 pounds they are paid
-# 2,500 and 2,550 pence. They share these 5,050 by credited energy, 99.5 to 98.49, and get 2,538 and 2,512: what
-# the one pays, 38 pence, the other is paid.
+# What the market settles to. GENCO-P has 0.5 MWh too much and SUPCO-C 0.51, so at 50 pounds they are paid 2,500 and 2,550
+# pence. They share these 5,050 by credited energy, 99.5 to 98.49, and bear 2,538 and 2,512. So one account pays 38 pence, and
+# the other is paid 38.
 SETTLED = f"run {DAY} SF periods 48 accounts 4 residual 5050 postings 2"
 # At 60 pounds they are paid 3,000 and 3,060, and share 3,045 and 3,015. GENCO-P pays 45 pence, 7 more.
 DEARER = f"run {DAY} R1 periods 48 accounts 4 residual 6060 postings 2"
 
 
 def text_of(kind, rows):
-    """A file's bytes, a line a row."""
+    """The bytes of a file, one line for each row."""
     return "".join(f"{line}\n" for line in [HEADERS[kind], *rows]).encode()
 
 
 def told_by_the_peer(folder, files):
-    """What `bench/peer_office.py` tells of SF of these files, and its results: another program's figures, by Python's
+    """What `bench/peer_office.py` tells about SF of these files, and its results: another program's figures, from Python's
     whole numbers."""
     path = str(HOME / "bench" / "peer_office.py")
     with contextlib.redirect_stdout(io.StringIO()):
@@ -92,7 +91,7 @@ class Desk(OfTheProgram):
         self.folders = 0
 
     def path(self, name, data):
-        """A new file of this name, in a folder that no other file is in."""
+        """A new file with this name, in a folder without other files."""
         self.folders += 1
         folder = self.room / str(self.folders)
         folder.mkdir()
@@ -100,8 +99,8 @@ class Desk(OfTheProgram):
         return str(folder / name)
 
     def load(self, kind, rows, name="x.csv", moment=EARLY, key=OPERATOR):
-        """The line of a script that loads a file. Its rows stand under the kind's header; bytes are the
-        whole file."""
+        """The line of a script that loads a file. If rows are given, they follow the kind's header. If bytes are given, they
+        are the whole file."""
         data = rows if isinstance(rows, bytes) else text_of(kind, [rows] if isinstance(rows, str) else rows)
         return f"load {moment} {key} {kind} {self.path(name, data)}"
 
@@ -135,8 +134,8 @@ class Desk(OfTheProgram):
         return found[5:]
 
     def is_wrong(self, made, line=None):
-        """Status 2 with nothing run. The line that is off its form is told by its number, and on a second line by a word of
-        it, of which test_explain.py has the whole text."""
+        """Status 2 with nothing run. The line that is off its form is told by its number, and on a second line by one of its
+        words. The whole text of that is tested in test_explain.py."""
         status, written, told = made
         self.assertEqual((status, written), (2, b""))
         self.assertTrue(told.endswith(b"\n"))
@@ -194,8 +193,8 @@ class Loads(Desk):
         self.assertEqual(self.run_script(line * 5000, cwd=self.room), (0, reply * 5000, b""))
 
     def test_a_day_at_the_markets_size(self):
-        """400 parties, 2,000 units, and all that they are told of in a day: each row is applied, SF and its results are
-        the peer's, and what each account is posted is its net by them."""
+        """400 parties, 2,000 units, and everything that they tell in a day. Each row is applied, SF and its results are the
+        peer's, and what is posted to each account is its net by them."""
         folder = self.room / "day"
         subprocess.run([sys.executable, str(HOME / "bench" / "gen_day.py"), str(folder)], check=True)
         files = [line.split() for line in (folder / "order").read_text().splitlines()]
@@ -248,7 +247,7 @@ class Keys(Desk):
 
 
 class Runs(Desk):
-    """A run settles every period of its date from what is in force then."""
+    """A run settles every period of its date from what is in force at that time."""
 
     def test_the_first_run(self):
         self.assertEqual(self.after_market(self.order("SF", END)), [SETTLED])
@@ -282,20 +281,20 @@ class Runs(Desk):
         self.assertEqual(self.after_market(*lines), wanted)
 
     def test_a_negative_price(self):
-        """The signs of all charges and shares turn, and with them that of the residual."""
+        """The signs of all charges and shares change, and so does that of the residual."""
         lines = [self.order("SF"), self.load("prices", f"{DAY},1,-50.00000", "p2.csv"), self.order("R1")]
         turned = f"run {DAY} R1 periods 48 accounts 4 residual -5050 postings 2"
         self.assertEqual(self.after_market(*lines), [SETTLED, APPLIED, turned])
 
     def test_the_order_of_the_kinds(self):
-        """The first is SF, later kinds may be left out, and none goes back."""
+        """The first is SF, later kinds may be left out, and none may come before an earlier one."""
         final = f"run {DAY} RF periods 48 accounts 4 residual 5050 postings 0"
         lines = [self.order(kind) for kind in ("R1", "SF", "RF", "R2", "R1")]
         none, back = "refused 51 NoInitialRun", "refused 50 RunOrder"
         self.assertEqual(self.after_market(*lines), [none, SETTLED, final, back, back])
 
     def test_kinds_that_are_left_out(self):
-        """RF posts what has changed since SF, which is the latest run before it, and DF what has since RF."""
+        """RF posts what has changed since SF, which is the latest run before it, and DF what has changed since RF."""
         lines = [self.order("SF"), self.dearer(), self.order("RF"), self.order("DF"), f"report {OPERATOR} balances"]
         wanted = [SETTLED, APPLIED, DEARER.replace(" R1 ", " RF "), DEARER.replace(" R1 ", " DF ").replace("postings 2", "postings 0")]
         moved = ["account,moved_pence", "GENCO-P,45", "GENCO-C,0", "SUPCO-P,0", "SUPCO-C,-45"]
@@ -308,18 +307,18 @@ class Runs(Desk):
         self.assertEqual(self.after_market(twice, self.order("SF")), ["applied=2 late=0", dearer])
 
     def test_a_moment_in_milliseconds(self):
-        """A minute before the day begins: too early in seconds, and in milliseconds far behind the day's end."""
+        """A minute before the day begins: too early in seconds, but in milliseconds it would be long after the day's end."""
         lines = [self.order("SF", START - 60), self.order("SF", (START - 60) * 1000)]
         self.assertEqual(self.after_market(*lines), ["refused 52 DayNotOver", SETTLED])
 
     def test_the_end_of_the_day(self):
-        """A day is over at its last second's end."""
+        """A day is over at the end of its last second."""
         lines = [self.order("SF", moment) for moment in (END - 1, -(2**63), END)]
         early = "refused 52 DayNotOver"
         self.assertEqual(self.after_market(*lines), [early, early, SETTLED])
 
     def test_days_on_which_clocks_change(self):
-        """They end after 46 and 50 periods. Nothing is metered, so that nothing is settled."""
+        """They end after 46 and 50 periods. Nothing is metered, so nothing is charged."""
         for date, midnight, periods in (("2024-03-31", 1_711_843_200, 46), ("2024-10-27", 1_729_983_600, 50)):
             end = midnight + 1800 * periods
             numbers = range(1, periods + 1)
@@ -362,7 +361,7 @@ class Runs(Desk):
         self.assertEqual(self.after_market(*lines), wanted)
 
     def test_a_reading_is_missing(self):
-        """The first period with such a unit is told, and of its units the first by their bytes; an id may have 16."""
+        """The first period with such a unit is told, and the first such unit by the bytes of its id. An id may have 16 bytes."""
         date = "2024-07-02"
         long = "ABCDEFGH_-123456"
         prices = [f"{date},{period},0" for period in range(1, 49)]
@@ -387,7 +386,7 @@ class Runs(Desk):
         self.assertEqual(self.after_market(*lines), wanted)
 
     def test_a_period_past_a_limit(self):
-        """Six units of 20,000 MWh each pass the limit of a charge at the greatest price. The first such period is told."""
+        """Six units of 20,000 MWh each exceed the limit of a charge at the greatest price. The first such period is told."""
         units = [f"U{number}" for number in range(6)]
         volumes = {20: 10000, 30: 10000}
         readings = [
@@ -423,7 +422,7 @@ class Runs(Desk):
         self.assertEqual(self.after_market(*lines), wanted)
 
     def test_keys(self):
-        """The operator alone may make a run, or hear of one by ordering it again."""
+        """Only the operator may make a run, or hear about one by ordering it again."""
         keys = "genco0001", "supco0001", "nobody01", "op-settle002"
         lines = [self.order("SF", key=key) for key in keys]
         again = self.order("SF", key="genco0001")
@@ -441,10 +440,10 @@ class Runs(Desk):
 
 
 class Deadlines(Desk):
-    """A notification has to come before the second of its period's deadline."""
+    """A notification must come before the second of its period's deadline."""
 
     def contract(self, number, moment, date=DAY, period=1):
-        """A file of one contract, of another name and volume for each number."""
+        """A file with one contract. The number gives its name and volume."""
         return self.load("contracts", f"C1,GENCO-P,SUPCO-C,{date},{period},{number}.000", f"c{number}.csv", moment)
 
     def test_the_deadlines_second(self):
@@ -467,7 +466,7 @@ class Deadlines(Desk):
                     self.assertEqual(self.after_market(*lines), [APPLIED, LATE])
 
     def test_lead_minutes(self):
-        """None are 60; 0 puts the deadline on the start, and 1440 a day before it."""
+        """The default is 60. With 0 the deadline is the start, and with 1440 it is a day before."""
         for words, lead in (((), 60), (("60",), 60), (("0",), 0), (("1440",), 1440), (("0090",), 90)):
             deadline = START - 60 * lead
             options = [word for minutes in words for word in ("--lead-minutes", minutes)]
@@ -480,8 +479,8 @@ class Deadlines(Desk):
         self.assertEqual(self.after_market(*lines), [APPLIED, LATE, APPLIED])
 
     def test_moments_in_milliseconds(self):
-        """As seconds they are behind each deadline. The name is taken then, and so are the seller and buyer of a new
-        reference; readings and prices count."""
+        """Taken as seconds they are after each deadline. All the same, the file's name is used, the seller and buyer of a new
+        reference are fixed, and readings and prices count."""
         rows = [f"C9,GENCO-P,SUPCO-C,{DAY},1,1.000", "C9,GENCO-P,SUPCO-C,2099-12-31,48,1.000"]
         lines = [
             self.load("contracts", rows, "c.csv", EARLY * 1000),
@@ -512,7 +511,7 @@ class Deadlines(Desk):
         self.assertEqual(self.after_market(*lines), [LATE, APPLIED, "refused 38 OverHundred row 1"])
 
     def test_a_late_row_changes_none_in_force(self):
-        """10 percent are in force, and stay when 100 come late."""
+        """10 percent are in force, and still are after 100 come late."""
         lines = [
             self.load("reallocations", realloc("SUPCO-P", 10), "a"),
             self.load("reallocations", realloc("SUPCO-P", 100), "b", DEADLINE),
@@ -522,7 +521,7 @@ class Deadlines(Desk):
         self.assertEqual(self.after_market(*lines), [APPLIED, LATE, APPLIED, "refused 38 OverHundred row 1"])
 
     def test_the_row_accepted_last_counts_whatever_its_moment(self):
-        """60 percent of the deadline's last second give way to 10 of a day before."""
+        """60 percent of the deadline's last second are replaced by 10 of a day before."""
         lines = [
             self.load("reallocations", realloc("SUPCO-P", 60), "a", DEADLINE - 1),
             self.load("reallocations", realloc("SUPCO-P", 10), "b", EARLY),
@@ -568,7 +567,7 @@ class Repeats(Desk):
         self.assertEqual(self.after_market(line), ["refused 10 FileTooLarge"])
 
     def test_nothing_is_changed_by_them(self):
-        """60 percent give way to 50; the file with the 60 comes again; another 50 have room all the same."""
+        """50 percent replace 60. After the file with the 60 comes again, another 50 can still be given away."""
         lines = [
             self.load("reallocations", realloc("SUPCO-P", 60), "a"),
             self.load("reallocations", realloc("SUPCO-P", 50), "b"),
@@ -590,7 +589,7 @@ class Repeats(Desk):
         self.assertEqual(self.after_market(*lines), [APPLIED, "refused 20 FileChanged", APPLIED, APPLIED])
 
     def test_the_same_bytes_under_another_name(self):
-        """They are another file: 60 percent give way to 10, and are in force again when their bytes come as a third."""
+        """It is another file: 10 percent replace 60, and 60 are in force again when their bytes come as a third file."""
         lines = [
             self.load("reallocations", realloc("SUPCO-P", 60), "a"),
             self.load("reallocations", realloc("SUPCO-P", 10), "b"),
@@ -666,7 +665,7 @@ class Rows(Desk):
         self.refused("reallocations", rows, "refused 38 OverHundred row 2")
 
     def test_four_hundred_parties(self):
-        """Two are registered, so that 398 have room; who is known is taken all the same."""
+        """Two are registered, so there is room for 398. A party that is known is accepted all the same."""
         rows = [f"P{number},2024-01-01,,party{number:03}" for number in range(399)]
         self.refused("parties", rows, "refused 42 TooMany row 399")
         self.refused("parties", [*rows[:398], "GENCO,2023-01-01,,genco0001"], "applied=399 late=0")
@@ -681,8 +680,8 @@ class Whole(Desk):
     """A file is applied whole or not at all."""
 
     def test_a_bad_third_row(self):
-        """After it the file's name is free, and so are the references of the rows before it: C2 is taken
-        with seller and buyer exchanged. Once that is accepted neither is free."""
+        """After it the file's name can still be used, and so can the references of the rows before it: C2 is accepted with
+        seller and buyer exchanged. After that is accepted, neither can be used."""
         bad = [
             f"C2,GENCO-P,SUPCO-C,{DAY},1,1.000",
             f"C3,GENCO-P,SUPCO-C,{DAY},1,1.000",
@@ -762,7 +761,7 @@ class Texts(Desk):
         self.assertEqual(self.after_market(*lines), [APPLIED, APPLIED, bad, bad])
 
     def test_records_and_fields(self):
-        """A record with a field too few or too many, and the first field that is wrong."""
+        """A record with one field too few or too many, and the first field that is wrong."""
         for rows, wanted in (
             (["2024-07-01,1,1", "2024-07-01,2"], "refused 13 BadRecord row 2"),
             (["2024-07-01,1,50,5"], "refused 13 BadRecord row 1"),
@@ -799,8 +798,8 @@ class Texts(Desk):
             self.assertEqual(self.after_market(self.load("meters", data)), [wanted])
 
     def test_marks_and_quotes(self):
-        """A file of readings may begin with one byte order mark, and a field may stand in quotes. What a quote opens and
-        none closes is one field, to the end of the file."""
+        """A file of readings may begin with one byte order mark, and a field may be in quotes. If a quote is opened and never
+        closed, the rest of the file is one field."""
         header, mark = text_of("meters", []), "\ufeff".encode()
         rest = f",{DAY},1,1,1,0\n".encode()
         for data, wanted in (
@@ -836,7 +835,7 @@ class Texts(Desk):
 
 
 class Files(Desk):
-    """What the paths of a script lead to. One that can't be read is told, and the script goes on."""
+    """What the paths of a script lead to. If a file can't be read, that is told, and the script goes on."""
 
     def line(self, path, kind="parties"):
         return f"load {EARLY} {OPERATOR} {kind} {path}"
@@ -849,13 +848,13 @@ class Files(Desk):
         self.assertEqual(self.replies(*lines, *self.market()), ["fault file"] * 4 + LOADED)
 
     def test_an_accepted_file_that_is_gone(self):
-        """A repeat is a repeat by its bytes, so that without them there is none."""
+        """A repeat is known by its bytes. Without them there is no repeat."""
         before = self.load(*MARKET[0], name="f1.csv")
         lines = [before, self.line(self.room / "f1.csv")]
         self.assertEqual(self.replies(*lines), ["applied=2 late=0", "fault file"])
 
     def test_files_of_others(self):
-        """Root may read every file, so it calls a copy of the program as nobody."""
+        """Root may read every file, so this calls a copy of the program as nobody."""
         nobody = as_nobody()
         if nobody is None:
             self.skipTest("root may read every file, and setpriv doesn't give up its rights here")
@@ -1025,7 +1024,7 @@ class WrongWords(Desk):
 
 
 class Streams(Desk):
-    """What is told where standard output takes nothing, or standard error does."""
+    """What is told if standard output or standard error takes nothing."""
 
     def by_shell(self, streams, text):
         words = [SETTLE, "script", "--operator-key", OPERATOR, self.file("script", text)]
@@ -1090,7 +1089,7 @@ class ExampleMarket(Desk):
         return list(zip(lines, written.decode().splitlines(), strict=True))
 
     def check(self, script, lead, others):
-        """Each line is answered by what its file comes to, but for those that `others` answers, by line."""
+        """The answer to each line follows from its file, unless `others` has the answer to that line."""
         first = {}
         for number, (line, reply) in enumerate(self.replies_to(script, lead), 1):
             _, moment, _, kind, path = line.split(" ")
@@ -1108,8 +1107,8 @@ class ExampleMarket(Desk):
             self.check("plain.script", lead, {})
 
     def test_the_day(self):
-        """A changed file, a seller who buys, 110 percent, a price of seven decimals, a party's key and
-        no file: one after the other. With a lead of a day the 110 percent come late."""
+        """A changed file, a seller who buys, 110 percent, a price with seven decimals, a party's key, and a missing file, one
+        after the other. With a lead of a day the 110 percent come late."""
         others = {
             8: "refused 20 FileChanged",
             9: "refused 35 SameAccount row 3",
@@ -1123,7 +1122,7 @@ class ExampleMarket(Desk):
         self.check("day.script", 1440, {line: reply for line, reply in others.items() if line != 11})
 
     def test_line_3_in_milliseconds(self):
-        """All contracts of the plain day are late, and so they stay when the same file comes in time."""
+        """All contracts of the plain day are late, and still are after the same file comes in time."""
         parties, units, contracts = (HOME / self.FOLDER / "plain.script").read_text().splitlines()[:3]
         far = contracts.replace(" 1719568800 ", " 1719568800000 ")
         self.assertNotEqual(far, contracts)

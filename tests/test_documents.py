@@ -1,6 +1,5 @@
-"""Runs the commands of the README, of `examples/` and of the guide, those of each page one after the other in a folder
-with the examples, and compares what they print, word for word; a line of three points stands for lines that a document
-leaves out."""
+"""Runs the commands of the README, of `examples/` and of the guide, those of each page one after the other in a folder with the
+examples, and compares what they print, word for word. A line of three points means lines that a document leaves out."""
 import contextlib
 import csv
 import pathlib
@@ -21,9 +20,8 @@ COMMAND = re.compile(r"\A(?:\./)?settle ([^\n]*)\n\Z")
 
 
 def commands_of(text):
-    """Each command of a document with what it has to print: a block that is one line beginning with
-    `settle` or `./settle`, and the block that comes next, None where there is none. The form of the
-    command, whose words are METER and CONTRACTS, is no call."""
+    """Each command of a document with what it must print: a block of one line that begins with `settle` or `./settle`, and the
+    next block, or None if there is none. The form of the command, with the words METER and CONTRACTS, is not called."""
     blocks = BLOCK.findall(text)
     for block, after in zip(blocks, [*blocks[1:], None]):
         words = COMMAND.match(block)
@@ -52,7 +50,7 @@ class Documents(unittest.TestCase):
                 left.unlink()
 
     def compare(self, words, printed):
-        """Runs a command. Standard error comes behind standard output."""
+        """Runs a command. Standard error is appended to standard output."""
         made = subprocess.run([SETTLE, *shlex.split(words)], cwd=self.room, capture_output=True, text=True)
         told = made.stdout + made.stderr
         if "\n...\n" not in f"\n{printed}":
@@ -62,7 +60,7 @@ class Documents(unittest.TestCase):
         self.assertRegex(told, r"\A" + r"(?:.*\n)+?".join(parts) + r"\Z")
 
     def test_the_office_that_the_readme_serves(self):
-        """The lines for a shell that serve the office and ask it, behind the commands before them."""
+        """The shell lines that serve the office and ask it, after the commands before them."""
         if shutil.which("curl") is None:
             self.skipTest("there is no curl")
         text = (HOME / "README.md").read_text(encoding="utf-8")
@@ -76,8 +74,8 @@ class Documents(unittest.TestCase):
         self.assertEqual((made.stdout.rstrip("\n"), made.stderr), (blocks[at + 1].replace("8080", port).rstrip("\n"), ""))
 
     def test_the_tables_that_the_readme_shows(self):
-        """Its questions to the file, behind the commands before them. Each party's postings come to the balances that it
-        shows, and `results` has a row for each account."""
+        """Its questions to the file, after the commands before them. Each party's postings sum to the balances that it shows,
+        and `results` has a row for each account."""
         text = (HOME / "README.md").read_text(encoding="utf-8")
         blocks = BLOCK.findall(text)
         at = next(place for place, block in enumerate(blocks) if block.startswith("sqlite3 "))
@@ -96,8 +94,7 @@ class Documents(unittest.TestCase):
         self.assertEqual(len(results), len(accounts))
 
     def test_results_in_a_spreadsheet(self):
-        """The guide's lines for a shell leave a file that begins as the guide says, and columns I and J sum to zero in
-        each period."""
+        """The guide's shell lines leave a file that begins as the guide says, and columns I and J sum to zero in each period."""
         blocks = BLOCK.findall((HOME / "docs/guide.md").read_text(encoding="utf-8"))
         lines, begins = next((one, two) for one, two in zip(blocks, blocks[1:]) if "> results.csv" in one)
         made = subprocess.run(["sh", "-e", "-c", lines], cwd=self.room, capture_output=True)
@@ -111,7 +108,7 @@ class Documents(unittest.TestCase):
 
 
     def test_the_lines_of_a_script_that_were_refused(self):
-        """The guide's lines for a shell find them among what is printed."""
+        """The guide's shell lines find them among what is printed."""
         blocks = BLOCK.findall((HOME / "docs/guide.md").read_text(encoding="utf-8"))
         lines, printed = next((one, two) for one, two in zip(blocks, blocks[1:]) if "| grep " in one)
         made = subprocess.run(["sh", "-e", "-c", lines], cwd=self.room, capture_output=True, text=True)

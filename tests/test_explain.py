@@ -1,6 +1,7 @@
 """What `--explain` adds: a line on standard error for each refusal, each fault and each file with late rows, and nothing else.
-By commands on a database file, by lines of scripts, and by `settle period`. And what is told of a script's line that is off
-its form. The texts are put together here, from what a test has written and what docs/formats.md says of each column."""
+It is tested by commands on a database file, by lines of scripts, and by `settle period`. What is told about a script's line
+that is off its form is tested as well. The texts are composed here, from what a test has written and from what docs/formats.md
+says about each column."""
 import os
 import re
 import shutil
@@ -66,14 +67,14 @@ NO_OFFICE = "the database failed, or holds no tables of this version"
 
 
 def shown(text):
-    """A text as it stands: in double quotes, cut behind 40 bytes, and with escapes where a byte isn't printable."""
+    """A text as it is, in double quotes, cut after 40 bytes, and with escapes for bytes that aren't printable."""
     data = text if isinstance(text, bytes) else text.encode()
     letters = (ESCAPES.get(byte) or (chr(byte) if 32 <= byte < 127 else f"\\x{byte:02X}") for byte in data[:SHOWN])
     return '"' + "".join(letters) + ('.."' if len(data) > SHOWN else '"')
 
 
 def row_shown(kind, row):
-    """A row as it stands. Of a party's the key is cut off."""
+    """A row as it is. A party's row is cut before the key."""
     return shown(row) if kind != "parties" else shown(row.rpartition(",")[0] + ",").removesuffix('"') + '.."'
 
 
@@ -87,11 +88,11 @@ def path_in(line):
 
 
 class Explained(Faults):
-    """A test that asks the same without `--explain` and with it: what goes out and the status are the same, and on standard
-    error lines are added."""
+    """A test that asks the same without `--explain` and with it. What is written and the status are the same, and lines are
+    added on standard error."""
 
     def added(self, plain, explained):
-        """The lines that are added behind what was told before."""
+        """The lines that are added after what was told without the option."""
         self.assertEqual(explained[:2], plain[:2])
         self.assertTrue(explained[2].startswith(plain[2]), explained)
         more = explained[2][len(plain[2]) :].decode()
@@ -116,7 +117,7 @@ class Explained(Faults):
         return plain, self.added(plain, self.command(name, "--explain", *words, **how))
 
     def check_commands(self, *asked):
-        """Commands ask what these lines of a script do. Each ends so, and is explained by a line, or isn't."""
+        """Commands ask what these lines of a script do. Each ends as given, and is explained by a line or isn't."""
         for line, text, explanation in asked:
             name, _, _, *words = words_of(line, self.database)
             found = self.by_command(name, *words)
@@ -124,8 +125,8 @@ class Explained(Faults):
             self.is_sound()
 
     def check_script(self, *asked, options=(), before=None):
-        """The same by a script over a new office that has loaded the market. All lines that were explained are told by
-        their numbers."""
+        """The same by a script over a new office that has loaded the market. All lines that are explained are told with their
+        numbers."""
         before = self.market() if before is None else before
         script = "".join(f"{line}\n" for line in [*before, *(line for line, _, _ in asked)])
         plain = self.run_script(script, *options)
@@ -136,12 +137,12 @@ class Explained(Faults):
         self.assertEqual(self.added(plain, explained), wanted)
 
     def check(self, *asked):
-        """Both."""
+        """By commands and by a script."""
         self.check_commands(*asked)
         self.check_script(*asked)
 
     def explained_row(self, kind, row, refusal, what, before=(), number=None):
-        """A file whose last row is refused, with what is told of it and how that is explained."""
+        """A file whose last row is refused, with what is told about it and how that is explained."""
         line = self.load(kind, [*before, row], "refused.csv")
         number = len(before) + 1
         place = at_line(path_in(line), number, number + 1)
@@ -149,7 +150,7 @@ class Explained(Faults):
 
 
 class Rows(Explained):
-    """Each refusal of a row, 30 to 42, of each kind of file that has it."""
+    """Each refusal of a row, 30 to 42, for each kind of file that can get it."""
 
     def test_parties(self):
         shrinks = "the dates from {} to {} don't hold all for which party GENCO is registered"
@@ -224,7 +225,7 @@ class Texts(Explained):
     """What is wrong with a file's text, 10 to 14, and with its name, 20."""
 
     def bad_field(self, kind, data, row, line, column, field):
-        """A file with a field that is off its form, what is told of it, and how that is explained. The key of a party isn't
+        """A file with a field that is off its form, what is told about it, and how that is explained. A party's key isn't
         shown."""
         asked = self.load(kind, data, "refused.csv")
         name = HEADERS[kind].split(",")[column - 1]
@@ -244,7 +245,7 @@ class Texts(Explained):
         self.check(*asked)
 
     def test_fields_near_their_form(self):
-        """Each is shown as it stands, one in quotes as it reads."""
+        """Each is shown as it is; one in quotes is shown as it reads."""
         self.check(
             self.bad_field("prices", [f'{DAY},1,"50,5"'], 1, 2, 3, "50,5"),
             self.bad_field("prices", [f'{DAY},1,"a ""b"" \\"'], 1, 2, 3, 'a "b" \\'),
@@ -263,14 +264,14 @@ class Texts(Explained):
         self.check(*asked)
 
     def test_bytes_that_are_not_printable(self):
-        """Bytes are cut, and not their escapes."""
+        """Bytes are cut off, but never a part of an escape."""
         header = f"{HEADERS['prices']}\n".encode()
         fields = b"\0\x1f\x7f\x80\xff", "50\u20ac\u2028".encode(), b"\t5\x1b[2J", b"\xfe" * 41, b" 50", b"50\x0b", b"!#~50~"
         self.check(*(self.bad_field("prices", header + f"{DAY},1,".encode() + field + b"\n", 1, 2, 3, field) for field in fields))
 
     def test_lines_of_the_file(self):
-        """A row's line is where the row begins. Empty lines count; LF, CRLF and a lone CR end a line; and line ends in quotes
-        are shown."""
+        """A row's line is where the row begins. Empty lines count. LF, CRLF and a lone CR end a line. Line ends in quotes are
+        shown."""
         header = HEADERS["prices"]
         cases = [
             (f"{header}\n{DAY},1,1\n{DAY},2,x\n", 2, 3, "x"),
@@ -302,7 +303,7 @@ class Texts(Explained):
         self.check(*asked)
 
     def test_records(self):
-        """A row with a field too few or too many, and one that a quote makes one field to the end of the file."""
+        """A row with one field too few or too many, and a row that a quote makes one field to the end of the file."""
         asked = []
         for rows, row, count in (
             ([f"{DAY},1"], 1, "2 fields"),
@@ -337,7 +338,7 @@ class Texts(Explained):
         self.check(*asked)
 
     def test_headers_of_parties(self):
-        """They are shown whole where no key stands in the place of the keys."""
+        """They are shown whole if no key is in the place of the keys."""
         asked = []
         for header in ("party,from,to", "party;from;to;key", "party,from,to,Key", f"{HEADERS['parties']},"):
             loads = self.load("parties", f"{header}\n{GOOD['parties']}\n".encode(), "refused.csv")
@@ -346,7 +347,7 @@ class Texts(Explained):
         self.check(*asked)
 
     def test_keys_of_parties_are_not_shown(self):
-        """Not in the place of a header either, nor where they are off their form."""
+        """They are not shown in the place of a header either, nor if they are off their form."""
         for rows in ([HEADERS["parties"], GOOD["parties"], "GENCO,2024-02-01,,secret0001"], ["NEWCO,2024-01-01,,secret0001"], [HEADERS["parties"], "NEWCO,2024-01-01,,secret_001"]):
             line = self.load("parties", "".join(f"{row}\n" for row in rows).encode(), "secret.csv")
             name, _, _, *words = words_of(line, self.database)
@@ -367,7 +368,7 @@ class Texts(Explained):
             self.check((line, "refused 11 TooManyRows", f"{place}; a file has at most 20000 rows"))
 
     def test_a_name_that_is_taken(self):
-        """Which is that of each kind. The market's prices are `f5.csv`."""
+        """The name must be used by a file of the same kind. The market's prices are `f5.csv`."""
         line = self.load("prices", [], "f5.csv")
         told = f"{path_in(line)}: a file of prices named f5.csv was accepted with other bytes; give this one another name"
         self.check((line, "refused 20 FileChanged", told))
@@ -383,7 +384,7 @@ class Texts(Explained):
 
 
     def test_a_path_with_a_line_end(self):
-        """An explanation is one line all the same: characters that control a terminal are shown as such."""
+        """An explanation is still one line: characters that control a terminal are shown by escapes."""
         folder = self.room / "two\nlines\x1b\t\r"
         folder.mkdir()
         (folder / "p.csv").write_bytes(b"x")
@@ -423,7 +424,7 @@ class Runs(Explained):
         self.check(*asked)
 
     def test_what_is_missing(self):
-        """The next day: 47 prices, all 48, and readings of G1, of S1 but one, and the last."""
+        """The next day: 47 prices, all 48 prices, and readings of G1, all readings of S1 but one, and the last one."""
         date = "2024-07-02"
         prices = [f"{date},{period},1" for period in range(1, 49)]
         readings = {unit: [f"{unit},{date},{period},0,1,0" for period in range(1, 49)] for unit in ("G1", "S1")}
@@ -449,7 +450,7 @@ class Runs(Explained):
         )
 
     def test_a_period_past_a_limit(self):
-        """Six units of 20,000 MWh each pass the limit of a charge at the greatest price."""
+        """Six units of 20,000 MWh each exceed the limit of a charge at the greatest price."""
         units = [f"U{number}" for number in range(6)]
         readings = [f"{unit},{DAY},{period},{10000 if period == 20 else 0},2,0" for period in range(1, 49) for unit in units]
         self.check(
@@ -460,7 +461,7 @@ class Runs(Explained):
         )
 
     def test_keys(self):
-        """A party's key, and one of nobody. No key is shown."""
+        """A party's key, and a key that nobody has. No key is shown."""
         for key in ("genco0001", "op-settle002"):
             line = self.load("prices", f"{DAY},1,1", "key.csv", key=key)
             asked = [
@@ -514,7 +515,7 @@ class LateRows(Explained):
         )
 
     def test_rows_of_several_dates(self):
-        """Of 2024-03-31, which has 46 periods, all are late; of 2024-07-01 those up to period 3; of 2024-10-27 none is."""
+        """All periods of 2024-03-31, which has 46, are late; those of 2024-07-01 up to period 3; and none of 2024-10-27."""
         rows = [*self.contracts([46, 1], "2024-10-27"), *self.contracts([4, 3]), *self.contracts([46], "2024-03-31"), *self.contracts([1])]
         rows = [row.replace(row.partition(",")[0], f"D{number}", 1) for number, row in enumerate(rows)]
         self.check(self.late("contracts", rows, "dates.csv", self.THIRD, 3, "rows 4 to 6"))
@@ -532,7 +533,7 @@ class LateRows(Explained):
         self.check((line, "applied=1 late=2", f"{path_in(line)}: late: rows 2 to 3"))
 
     def test_other_leads(self):
-        """With no lead a period's start is the deadline; with a day's it is a day before."""
+        """With a lead of 0 a period's start is the deadline; with a lead of a day the deadline is a day before."""
         rows = self.contracts([1, 2, 3])
         for minutes, late, told in ((0, 1, "row 1"), (29, 1, "row 1"), (30, 2, "rows 1 to 2"), (1440, 3, "rows 1 to 3")):
             asked = self.late("contracts", rows, "lead.csv", DEADLINE + 3600, late, told)
@@ -543,14 +544,14 @@ class LateRows(Explained):
             self.check_commands(asked)
 
     def test_a_repeat(self):
-        """A file that comes again is told as when it was accepted, whatever the moment: the same rows were late."""
+        """A file that comes again is told as it was when it was accepted, whatever the moment: the same rows were late."""
         rows = self.contracts(self.PERIODS)
         moments = self.THIRD, END + 365 * 86_400, EARLY, -1
         self.check(*(self.late("contracts", rows, "again.csv", moment, 4, "rows 2, 5 to 7") for moment in moments))
 
 
 class Unread(Explained):
-    """Files that can't be read, ports that can't be listened on, paths where nothing or something is, and outputs."""
+    """Files that can't be read, ports that can't be listened on, paths at which there is nothing or something, and outputs."""
 
     def test_files(self):
         (self.room / "folder.csv").mkdir()
@@ -626,7 +627,7 @@ class Unread(Explained):
         return self.path("late.csv", text_of("contracts", [f"C1,GENCO-P,SUPCO-C,{DAY},1,1.000"]))
 
     def test_a_script_whose_output_fails(self):
-        """The line whose answer didn't go out isn't explained."""
+        """If the answer to a line was not written, the line isn't explained."""
         lines = [f"load {EARLY} {OPERATOR} prices /missing.csv", balances()]
         path = self.file("cut", "".join(f"{line}\n" for line in lines))
         plain = self.by_shell(">/dev/full", "script", path)
@@ -639,10 +640,10 @@ class Unread(Explained):
 
 
 class Scripts(Explained):
-    """Where the explanations of a script's lines stand."""
+    """Where the explanations of a script's lines are written."""
 
     def test_behind_the_answers(self):
-        """A script writes to both streams, which are one here: the explanations stand behind the answers to all lines."""
+        """If a script writes to both streams, which are one here, the explanations come after the answers to all lines."""
         missing = f"load {EARLY} {OPERATOR} prices {self.room}/missing.csv"
         late = self.load("contracts", f"C1,GENCO-P,SUPCO-C,{DAY},1,1.000", "late.csv", DEADLINE)
         lines = [missing, *self.market(), late, self.order("R1"), self.order("SF"), report("day", "R1")]
@@ -684,7 +685,7 @@ class Scripts(Explained):
         self.assertEqual(added, wanted)
 
     def test_a_path_with_control_characters(self):
-        """An explanation of a line is one line, too."""
+        """An explanation of a line is still one line."""
         path, told = f"{self.room}/a\tb\rc\x1b[2J/p.csv", f"{self.room}/a\\tb\\rc\\x1B[2J/p.csv"
         plain, added = self.by_command("script", self.file("control", f"load {EARLY} {OPERATOR} prices {path}\n"))
         self.assertEqual((plain, added), ((0, b"fault file\n", b""), [f"line 1: {told}: {MISSING}"]))
@@ -697,8 +698,8 @@ class Scripts(Explained):
 
 
 class Pipes(Explained):
-    """A file from a pipe can't be read a second time. What goes out and the status are the same; it is explained by what the
-    refusal means, and that this is so."""
+    """A file from a pipe can't be read a second time. What is written and the status are the same. The explanation tells what
+    the refusal means, and that the file can't be read again."""
 
     def twice(self, data, *words, moment=END, key=OPERATOR):
         made = []
@@ -720,7 +721,7 @@ class Pipes(Explained):
             self.assertEqual(self.twice(data, "prices"), (answer(text), [f"/dev/stdin: {told}; {NOT_AGAIN}"]))
 
     def test_what_each_refusal_means(self):
-        """In words of no row."""
+        """In words that name no row."""
         parties = [f"P{number},2024-01-01,,party{number:03}" for number in range(399)]
         for kind, rows, text, told in (
             ("prices", [f"{DAY},1,1"] * 20_001, "11 TooManyRows", "the file has too many rows"),
@@ -757,7 +758,7 @@ class Pipes(Explained):
             self.assertEqual(self.twice(data, "contracts"), (answer(f"applied=0 late={count}"), [told]))
 
     def test_a_pipe_with_a_name(self):
-        """Nobody writes into it a second time, and the command ends all the same."""
+        """Nobody writes into it a second time, and the command still ends."""
         pipe = self.room / "pipe.csv"
         os.mkfifo(pipe)
         data = self.file("data", text_of("prices", [f"{DAY},1,x"]))
@@ -769,7 +770,7 @@ class Pipes(Explained):
         self.assertEqual(made, (1, b"", told.encode()))
 
     def test_a_file_behind_standard_input(self):
-        """A file that is given as standard input is opened anew by this path, and explained like any other."""
+        """A file that is given as standard input is opened again by this path, and explained like any other."""
         path = self.path("p.csv", text_of("prices", [f"{DAY},1,x"]))
         with open(path, "rb") as file:
             call = [SETTLE, "load", "--db", str(self.database), "--key", OPERATOR, "--explain", "prices", "/dev/stdin"]
@@ -792,7 +793,8 @@ class Period(OfTheProgram):
         return plain, made[0][2][len(plain[2]) :].decode()
 
     def is_explained(self, meter, contracts, price, text, told):
-        """A period of these files is refused so, and explained so; `{meter}` and `{contracts}` stand for the paths."""
+        """A period of these files is refused with this, and explained by this text, with the paths for `{meter}` and
+        `{contracts}`."""
         paths = {"meter": self.file("meter.csv", meter), "contracts": self.file("contracts.csv", contracts)}
         found = self.explained(*paths.values(), "--", price)
         self.assertEqual(found, (answer(text), f"{told.format(**paths)}\n"))
@@ -836,13 +838,13 @@ class Period(OfTheProgram):
         self.is_explained(METER_HEADER + rows, CONTRACTS_HEADER, "99999.99999", "refused 55 TooLarge", told)
 
     def test_files_that_cannot_be_read(self):
-        """METER goes first."""
+        """METER is read first."""
         meter, missing = self.file("meter.csv", METER_HEADER), f"{self.room}/missing.csv"
         for paths, path, why in (((missing, meter), missing, MISSING), ((meter, missing), missing, MISSING), ((str(self.room), missing), str(self.room), IS_FOLDER)):
             self.assertEqual(self.explained(*paths, "1"), (answer("fault file"), f"{path}: {why}\n"))
 
     def from_pipe(self, data, *words):
-        """A period whose METER is a pipe with a name into which a writer writes once."""
+        """A period whose METER is a named pipe into which a writer writes once."""
         pipe = self.room / "meter.pipe"
         os.mkfifo(pipe)
         writer = subprocess.Popen(["sh", "-c", 'exec cat "$0" >"$1"', self.file("data", data), str(pipe)])
@@ -851,7 +853,7 @@ class Period(OfTheProgram):
         return settle("period", "--explain", str(pipe), *words, timeout=PATIENCE)
 
     def test_a_pipe_beside_a_file_that_is_not_there(self):
-        """Why a file can't be read isn't asked of the pipe, into which nobody writes a second time."""
+        """It isn't asked why the pipe can't be read, into which nobody writes a second time."""
         missing = f"{self.room}/missing.csv"
         self.assertEqual(self.from_pipe(METER_HEADER, missing, "1"), (1, b"", f"fault file\n{missing}: {MISSING}\n".encode()))
 
@@ -877,7 +879,7 @@ class Period(OfTheProgram):
 
 
 class Documented(Explained):
-    """The examples of docs/formats.md, made by files of the names that stand there."""
+    """The examples of docs/formats.md, made with files of the names that are there."""
 
     def setUp(self):
         super().setUp()
@@ -894,7 +896,7 @@ class Documented(Explained):
         path.write_bytes(data)
 
     def loading(self, kind, name, data, *options, key=OPERATOR, moment=EARLY):
-        """What is told of a file with these rows or bytes."""
+        """What is told about a file with these rows or bytes."""
         self.put(name, data if isinstance(data, bytes) else text_of(kind, data))
         return self.told("load", "--explain", "--db", self.database, "--key", key, f"--at={moment}", *options, kind, name)
 
@@ -902,7 +904,7 @@ class Documented(Explained):
         return self.told("run", "--explain", "--db", self.database, "--key", OPERATOR, f"--at={moment}", DAY, kind)
 
     def missing_things(self):
-        """What is told of a run before which a price and twelve readings are missing, and once the price is there."""
+        """What is told about a run for which a price and twelve readings are missing, and about it after the price is there."""
         office, self.database = self.database, self.room / "missing.db"
         self.init()
         for kind, rows in MARKET:
@@ -915,7 +917,7 @@ class Documented(Explained):
         return price, readings
 
     def too_large(self):
-        """What is told of a run with a period past a limit."""
+        """What is told about a run with a period that exceeds a limit."""
         units = [f"U{number}" for number in range(6)]
         self.loading("units", "rows/units.csv", [f"{unit},GENCO,P,no,2024-01-01," for unit in units])
         self.loading("meters", "rows/meters.csv", [f"{unit},{DAY},{period},{10000 if period == 20 else 0},2,0" for period in range(1, 49) for unit in units])
@@ -923,12 +925,12 @@ class Documented(Explained):
         return self.running("SF")
 
     def changed(self):
-        """What is told of a file whose name is taken."""
+        """What is told about a file whose name is used."""
         self.loading("prices", "rows/p.csv", [f"{DAY},1,50.00000"])
         return self.loading("prices", "new/p.csv", [f"{DAY},1,51.00000"])
 
     def elsewhere(self):
-        """What is told of an office that is none, and of files and an office that aren't there."""
+        """What is told about a file that is no office's, and about files and an office that aren't there."""
         empty = self.room / "empty"
         empty.mkdir()
         report = "report", "--explain", "--db", "office.db", "--key", OPERATOR, "balances"
@@ -971,7 +973,7 @@ class Documented(Explained):
         }
 
     def test_explanations(self):
-        """All of them but those of a clock that tells no moment, and of refused memory."""
+        """All of them, except those for a clock that tells no moment and for refused memory."""
         section = self.page.split("\n## Explanations\n")[1].split("\n## ")[0]
         rows = dict(re.findall(r"(?m)^\| (.+?) \| (`.+) \|$", section))
         examples = {told: [text for text in re.findall(r"`([^`]+)`", cell) if " " in text] for told, cell in rows.items()}
@@ -980,7 +982,7 @@ class Documented(Explained):
         self.assertEqual(self.made(), examples)
 
     def test_a_line_off_its_form(self):
-        """The example of the page, behind five lines that have their form."""
+        """The page's example, after five lines that have their form."""
         example = next(block for block in BLOCK.findall(self.page) if block.startswith("line 6 is off its form\n"))
         script = self.file("script", f"{balances()}\n" * 5 + f"load {EARLY} {OPERATOR} party p.csv\n")
         self.assertEqual(settle("script", "--operator-key", OPERATOR, script), (2, b"", example.encode()))
@@ -1009,7 +1011,7 @@ FORM = "day, csv or balances"
 PORT = "a port, 0 to 65535"
 COUNT = "a count of connections, 0 to 1000000"
 BLANKS = "words are parted by single blanks"
-# The words of each line, and what each has to be.
+# The words of each line, and what each must be.
 LINES = {
     "load": ([f"{EARLY}", OPERATOR, "prices", "p.csv"], [MOMENT, KEY, KIND, PATH]),
     "run": ([f"{END}", OPERATOR, DAY, "SF"], [MOMENT, KEY, DATE, RUN_KIND]),
@@ -1019,11 +1021,10 @@ LINES = {
 
 
 class OffTheirForm(Desk):
-    """A script's line that is off its form is told by its number, and on a second line by the word of it and what was
-    expected."""
+    """A script's line that is off its form is told by its number, and on a second line by its word and what was expected."""
 
     def is_told(self, line, told):
-        """Behind a good line, and in front of another bad one. Nothing is run. `--explain` and `--strict` change nothing."""
+        """It comes after a good line and before another bad one. Nothing is run. `--explain` and `--strict` change nothing."""
         data = line if isinstance(line, bytes) else line.encode()
         script = self.file("script", balances().encode() + b"\n" + data + b"\nx\n")
         wanted = (2, b"", f"line 2 is off its form\nline 2 {told}\n".encode())
@@ -1031,7 +1032,7 @@ class OffTheirForm(Desk):
             self.assertEqual(settle("script", "--operator-key", OPERATOR, *options, script), wanted, line)
 
     def test_each_word(self):
-        """It is off its grammar, missing, or one too many. Of a key the length alone is told."""
+        """It is off its grammar, missing, or one too many. If it is a key, only its length is told."""
         for name, (words, expected) in LINES.items():
             for place, what in enumerate(expected):
                 self.is_told(" ".join([name, *words[:place]]), f"word {place + 2} is missing: expected {what}")
@@ -1068,7 +1069,7 @@ class OffTheirForm(Desk):
             self.is_told(words.format(key=OPERATOR), f"word {place} {shown(word)}: expected {what}")
 
     def test_each_report_of_a_run(self):
-        """Of both forms a date and a kind follow."""
+        """In both forms a date and a kind follow."""
         for form in ("day", "csv"):
             self.is_told(f"report {OPERATOR} {form}", f"word 4 is missing: expected {DATE}")
             self.is_told(f"report {OPERATOR} {form} {DAY}", f"word 5 is missing: expected {RUN_KIND}")
@@ -1106,14 +1107,14 @@ class OffTheirForm(Desk):
         self.is_told(f"{good} ", f'word 6 "" is one too many; {BLANKS}')
 
     def test_marks_in_other_places(self):
-        """A byte order mark that doesn't begin the line, and a carriage return that doesn't end it, are shown, and no more is
-        said of them."""
+        """A byte order mark that doesn't begin the line, and a carriage return that doesn't end it, are shown, and nothing more
+        is said about them."""
         self.is_told(f"load \ufeff{EARLY} {OPERATOR} prices p.csv", f'word 2 "\\xEF\\xBB\\xBF{EARLY}": expected {MOMENT}')
         self.is_told(f"load {EARLY}\r {OPERATOR} prices p.csv", f'word 2 "{EARLY}\\r": expected {MOMENT}')
         self.is_told(f"run {END} {OPERATOR} {DAY}\r SF", f'word 4 "{DAY}\\r": expected {DATE}')
 
     def test_a_script_of_another_system(self):
-        """Each line of it ends with CRLF, and the first is told."""
+        """Each of its lines ends with CRLF, and the first is told."""
         script = self.file("script", f"{balances()}\r\n{balances()}\r\n")
         told = 'line 1 word 3 "balances\\r": expected day, csv or balances; the word ends with a carriage return: lines end with LF alone'
         self.assertEqual(settle("script", "--operator-key", OPERATOR, script), (2, b"", f"line 1 is off its form\n{told}\n".encode()))

@@ -1,5 +1,5 @@
-"""What a field, a record and a header may be, through the built `settle`: the six kinds of file that a script
-loads, and the two that `settle period` reads. Each bad field is told by its number, each good one is taken."""
+"""What a field, a record and a header may be, through the built `settle`: in the six kinds of file that a script loads, and in
+the two that `settle period` reads. Each bad field is told by its number, and each good one is accepted."""
 from programs import settle
 from test_desk import APPLIED, DAY, HEADERS, Desk, text_of
 from test_program import CONTRACTS_HEADER, METER_HEADER, OfTheProgram
@@ -19,9 +19,14 @@ REFERENCES = ["", "c 1", "C 1", '"c,1"', "c.1", "abcdefghijABCDEFGH-_1"]
 ACCOUNTS = ["", "P", "-P", "SUPCO", "SUPCOP", "SUPCO-", "SUPCO-X", "SUP-CO-P", "ABCDEFGHI90-P"]
 DATES = ["", "2024-02-30", "2023-02-29", "2024-07-32", "2024-7-1", "01-01-2024", f"{DAY} ", "1999-07-01", "2000-12-31", "2100-01-01"]
 PERIODS = ["", "0", "-0", "51", "-1", "256", "257", "1.0", " 1", "+1"]
-VOLUMES = ["", "--1", "1.", ".5", "1.0000", "+1", "10000.001", "-10000.001", " 1", "1e3", "x"]
+# The digits of the last three, taken modulo 2^64 as they are or times a thousand, would be good volumes: 1.000, 0.001 and
+# 0.384.
+VOLUMES = [
+    "", "--1", "1.", ".5", "1.0000", "+1", "10000.001", "-10000.001", " 1", "1e3", "x",
+    "18446744073709551617", "18446744073709551.617", "18446744073709552",
+]
 MULTIPLIERS = ["", "2.0000001", "-0.1", "1.00000000"]
-# What no field of a column is.
+# What no field of a column may be.
 BAD = {
     "parties": [PARTIES, DATES, DATES[1:] + ["2023-12-31"], ["", "genco01", "k" * 65, "genco_0001", "op-settle001"]],
     "units": [
@@ -37,7 +42,7 @@ BAD = {
     "contracts": [REFERENCES, ACCOUNTS, ACCOUNTS, DATES, PERIODS, VOLUMES],
     "reallocations": [UNITS, ACCOUNTS, DATES, PERIODS, ["", "100.00001", "-0.00001", "1.000000"], VOLUMES],
 }
-# Rows that are taken, by fields as short, as long or as great as they may be, or spelled in another way.
+# Rows that are accepted, with fields that are as short, as long or as great as they may be, or spelled in another way.
 GOOD = {
     "parties": [
         "A,2024-01-01,,genco000",
@@ -49,6 +54,7 @@ GOOD = {
     "meters": [
         f'"G1",{DAY},07,10000.000,2.0000000,-10000.000',
         f"G1,{DAY},1,-0,0,0010",
+        f"G1,{DAY},1,{'0' * 20}10.500,{'0' * 19}1.0000000,-{'0' * 20}",
         "G1,2024-10-27,50,1.5,1,0",
     ],
     "prices": [f"{DAY},1,-0.00001", f"{DAY},48,99999.99999", "2024-10-27,50,-99999.99999"],
@@ -67,7 +73,7 @@ BAD_OF_PERIODS = {
 
 
 def with_field(row, column, text):
-    """The row with this text in the place of a field, the first of which is 1."""
+    """The row with this text in the place of a field. The first field is 1."""
     fields = row.split(",")
     fields[column - 1] = text
     return ",".join(fields)
@@ -81,10 +87,10 @@ def bad_rows(row, columns):
 
 
 class OfOffices(Desk):
-    """Files of the office. What a kind of file is loaded as is told line by line."""
+    """Files of the office. What becomes of a file of a kind is told line by line."""
 
     def loads(self, cases):
-        """Loads these files, each a kind and its rows or bytes, over the market, and compares the answers."""
+        """Loads these files, each given by its kind and its rows or bytes, over the market, and compares the answers."""
         lines = [self.load(kind, rows, f"{number}.csv") for number, (kind, rows, _) in enumerate(cases)]
         found = self.after_market(*lines)
         self.assertEqual(len(found), len(cases))
@@ -101,13 +107,13 @@ class OfOffices(Desk):
         self.loads([(kind, row, APPLIED) for kind, rows in GOOD.items() for row in [ROWS[kind], *rows]])
 
     def test_a_header_of_each_kind(self):
-        """A header alone has no rows as its own kind, and is another header as each other kind."""
+        """A header without rows is accepted for its own kind, and is a wrong header for each other kind."""
         for kind in HEADERS:
             wanted = {other: "refused 12 BadHeader" for other in HEADERS} | {kind: "applied=0 late=0"}
             self.loads([(other, text_of(kind, []), wanted[other]) for other in HEADERS])
 
     def test_the_first_fault(self):
-        """The first record or field that is wrong, from row to row and from left to right."""
+        """The first record or field that is wrong, row by row and from left to right."""
         self.loads(
             [
                 ("prices", [f"{DAY},1", f"{DAY},x,1"], "refused 13 BadRecord row 1"),
@@ -127,7 +133,7 @@ class OfPeriods(OfTheProgram):
         self.assertEqual(settle("period", meter, contracts, "1"), (1, b"", f"refused {line}\n".encode()))
 
     def settled(self, contracts, accounts):
-        """A file of contracts is read, and so many accounts come of its rows."""
+        """A file of contracts is read, and its rows give this many accounts."""
         meter, contracts = self.file("meter.csv", METER_HEADER), self.file("contracts.csv", contracts)
         status, written, told = settle("period", meter, contracts, "1")
         self.assertEqual((status, told), (0, b""))
@@ -185,7 +191,7 @@ class OfPeriods(OfTheProgram):
                 self.refused(METER_HEADER, CONTRACTS_HEADER + rows, f"{fault} in contracts")
 
     def test_the_most_rows(self):
-        """20,000 rows are read. That there are more is told before what is wrong behind them."""
+        """20,000 rows are read. If there are more, that is told before what is wrong in them."""
         rows = CONTRACTS_HEADER + "R,A-P,B-C,1\n" * 19_999
         self.settled(rows + "R,A-P,B-C,1\n\n", 2)
         self.refused(METER_HEADER, rows + "R,A-P,B-C,x\nR,A-P,B-C,1\n", "14 BadField row 20000 column 4 in contracts")

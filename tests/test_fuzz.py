@@ -1,5 +1,5 @@
-"""Damaged inputs through the built `hh_bench`: the short run of `tests/fuzz`, that each answer comes that can come, that
-inputs are the same each time, and that what goes wrong is told by its number."""
+"""Damaged inputs through the built `hh_bench`: the short run of `tests/fuzz`; that each answer comes that can come; that inputs
+are the same each time; and that what goes wrong is told by its number."""
 import collections
 import contextlib
 import importlib.machinery
@@ -16,9 +16,9 @@ import unittest.mock
 import fuzzing
 from programs import BENCH, HOME, SETTLE, need
 
-# So many inputs of a kind.
+# How many inputs of a kind.
 SHORT = dict.fromkeys(fuzzing.TEXT_KINDS, 3_000) | {"database": 132, "log": 40}
-# What inputs come to, of each kind of file and of the others.
+# The answers that come, for each kind of file and for the other inputs.
 OF_EACH_FILE = {"answered", "refused 12", "refused 13", "refused 14"}
 OF_SOME_FILE = {"refused 10", "refused 11"}
 OF = {
@@ -26,7 +26,7 @@ OF = {
     "script": {"answered", "off"},
 }
 
-# Stands in for `hh_bench`: an input ends it, one takes too much time of the processor, one takes too long, and one is wrong.
+# A stand-in for `hh_bench`: one input ends it, one takes too much processor time, one takes too long, and one is wrong.
 STAND_IN = """\
 #!{python}
 import os, sys, time
@@ -76,7 +76,7 @@ class Fuzz(unittest.TestCase):
 
     @classmethod
     def chunks(cls, kind, count):
-        """The inputs of the short run, in some more chunks than there are processors."""
+        """The inputs of the short run, in a few more chunks than there are processors."""
         files = fuzzing.corpus_of(kind, cls.room)
         size = -(-count // 8)
         return [fuzzing.Chunk(kind, files, first, min(size, count - first)) for first in range(0, count, size)]
@@ -116,7 +116,7 @@ class Fuzz(unittest.TestCase):
                     self.assertEqual(bench(*words), bench(*words))
 
     def test_an_input_that_is_written_is_the_one_that_is_tried(self):
-        """`hh_bench read` tells of its bytes what was counted."""
+        """`hh_bench read` tells about its bytes what was counted."""
         for kind in fuzzing.FILE_KINDS:
             files = fuzzing.corpus_of(kind, self.room)
             for number in range(16):
@@ -150,7 +150,7 @@ class Fuzz(unittest.TestCase):
 
 
 class Blame(unittest.TestCase):
-    """What `tests/fuzz` tells where a promise doesn't hold."""
+    """What `tests/fuzz` tells if a promise doesn't hold."""
 
     def setUp(self):
         room = tempfile.TemporaryDirectory()

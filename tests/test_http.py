@@ -1,5 +1,5 @@
-"""docs/http.md and docs/openapi.yaml: a script serves the example market, each command of the page is sent as bytes and
-by `curl`, and what comes is compared with both. What no page shows is in test_serving.py."""
+"""docs/http.md and docs/openapi.yaml. A script serves the example market. Each command of the page is sent as bytes and by
+`curl`, and what comes is compared with both documents. What neither shows is in test_serving.py."""
 import csv
 import io
 import json
@@ -23,7 +23,7 @@ LISTENING = re.compile(rb"\Alistening 127\.0\.0\.1:([0-9]+)\n\Z")
 
 
 class Served:
-    """A script that serves connections while a test runs. It has to end by itself."""
+    """A script that serves connections while a test runs. It must end by itself."""
 
     def __init__(self, test, script, operator, before):
         words = [SETTLE, "script", "--operator-key", operator, script]
@@ -85,7 +85,7 @@ class Exchange:
             self.target = word.removeprefix(f"http://{ADDRESS}")
 
     def body(self):
-        """What is sent behind the head."""
+        """The bytes that are sent after the head."""
         if self.data is None:
             return b""
         if self.data == "@-":
@@ -113,7 +113,7 @@ class Exchange:
         return self.printed.split()[1 if self.shown == "whole" else -1]
 
     def differs(self, printed):
-        """Whether something else is printed than the page has; `..` there stands for what is left out."""
+        """Whether something else is printed than the page shows. `..` on the page means what is left out."""
         printed = printed.decode().replace("\r\n", "\n").rstrip("\n")
         first, dots, last = self.printed.rstrip("\n").partition("..")
         if not dots:
@@ -122,7 +122,7 @@ class Exchange:
 
 
 def body_on_page(exchange):
-    """The body that the page shows of a reply."""
+    """The body of a reply that the page shows."""
     printed = exchange.printed.rstrip("\n")
     return printed.rpartition("\n\n")[2] if exchange.shown == "whole" else printed.rpartition(" ")[0]
 
@@ -147,7 +147,7 @@ def parts_of(answer):
 
 
 class Examples(unittest.TestCase):
-    """The examples of docs/openapi.yaml, beside its schemas and docs/http.md. No program is asked."""
+    """The examples of docs/openapi.yaml, compared with its schemas and with docs/http.md. No program is run."""
 
     def setUp(self):
         self.description = Description()
@@ -164,7 +164,7 @@ class Examples(unittest.TestCase):
                 self.assertEqual(self.description.differences(schema, example, at), [])
 
     def test_requests_and_replies_stand_on_the_page(self):
-        """Each operation's are those of a command there, and of a list as many items are shown as there."""
+        """Each operation's request and reply are those of a command on the page. Of a list, as many items are shown as there."""
         for method, path, operation in self.description.operations():
             with self.subTest(path):
                 target, sent = self.description.example_request(path, operation)
@@ -175,11 +175,11 @@ class Examples(unittest.TestCase):
                     self.assertEqual(sent.encode(), found[0].body())
 
     def as_shown(self, example):
-        """An example as a body on the page, where `,..` stands for the items of a list that are left out."""
+        """An example as a body on the page. `,..` means the items of a list that are left out."""
         return json.dumps(example, sort_keys=True, separators=(",", ":")).replace("}]", "},..]")
 
     def test_refusals_stand_on_the_page(self):
-        """But for 503, which no command there brings about."""
+        """Except for 503, which no command there causes."""
         shown = {(exchange.status(), body_on_page(exchange)) for exchange in exchanges()}
         for _, path, operation in self.description.operations():
             for status, response in operation["responses"].items():
@@ -205,7 +205,7 @@ class ThePage(Desk):
         self.exchanges = exchanges()
 
     def start(self):
-        """Serves the market as the page says, on a free port and for as many connections as it has commands."""
+        """Serves the market as the page says, on a free port, for as many connections as it has commands."""
         command, printed = next((one, two) for one, two in zip(blocks_of_page(), blocks_of_page()[1:]) if "./settle" in one)
         words = command.split()
         *files, line = (HOME / words[-1]).read_text().splitlines()
@@ -230,7 +230,7 @@ class ThePage(Desk):
 
     @unittest.skipUnless(shutil.which("curl"), "no `curl` is on the path, so the page's commands were sent as bytes alone")
     def test_by_curl(self):
-        """Each command as it stands, but for the port."""
+        """Each command as it is on the page, except for the port."""
         office = self.start()
         for exchange in self.exchanges:
             with self.subTest(exchange.command):
@@ -257,7 +257,7 @@ class ThePage(Desk):
             self.assertIn((method, path, 200), shown)
 
     def examples_are_replies(self, description, answers):
-        """Each operation's example is the first reply with status 200 to its request, but for the rest of a list."""
+        """Each operation's example is the first reply with status 200 to its request, except for the rest of a list."""
         for method, path, operation in description.operations():
             target, _ = description.example_request(path, operation)
             asked = [parts_of(answer) for exchange, answer in answers if (exchange.method, exchange.target) == (method, target)]
@@ -266,7 +266,7 @@ class ThePage(Desk):
                 self.assertTrue(shows(description.example_reply(operation["responses"]["200"]), bodies[0]), bodies[0])
 
     def every_refusal_is_shown(self, description):
-        """But for 90 and 91, which no command brings about."""
+        """Except for 90 and 91, which no command causes."""
         named = {}
         for name, schema in description.parts["schemas"].items():
             if name.startswith("Refusal"):
@@ -277,7 +277,7 @@ class ThePage(Desk):
         self.assertEqual({**shown, 90: "Memory", 91: "Store"}, named)
 
     def test_an_account_as_another_program_settles_it(self):
-        """The whole reply for an account, whose figures are those of bench/peer_office.py."""
+        """The whole reply about an account. Its figures are those of bench/peer_office.py."""
         wanted = [e for e in self.exchanges if e.target.startswith("/accounts/CITYSUP-C/2024-07-01")]
         answers = {e.command: parts_of(answer)[2] for e, answer in self.replies_to_bytes()}
         self.assertEqual(answers[wanted[0].command], self.account_of_peer("CITYSUP-C"))
@@ -309,11 +309,11 @@ class ThePage(Desk):
 
 
 class EachRouteAndStatus(Desk):
-    """docs/openapi.yaml, read by a client: it asks for each path by its method, with values that the page lets stand in
-    the path, so that each status comes that the page has there. But for 503, which refused memory brings about: that is
-    in test_memory.py."""
+    """docs/openapi.yaml, read by a client. It asks for each path by its method, with values that the page allows in the path,
+    so that each status comes that the page has there. The exception is 503, which refused memory causes: that is tested in
+    test_memory.py."""
 
-    # What stands in a path, and what is sent to it where that is a file.
+    # What a path may have in the place of its parts, and what is sent to it if it is a file.
     VALUES = {"kind": "prices", "name": "new.csv", "date": DAY, "runKind": "SF", "account": "CITYSUP-C"}
     OFF = {"kind": "price", "name": "new,csv", "date": "2024-7-1", "runKind": "RX", "account": "CITYSUP"}
     FILE, OTHER_FILE = (f"{HEADERS['prices']}\n{DAY},1,{price}\n".encode() for price in (50, 51))
@@ -326,15 +326,15 @@ class EachRouteAndStatus(Desk):
         self.description = Description()
 
     def start(self, count):
-        """Serves the market for so many connections."""
+        """Serves the market for this many connections."""
         *files, line = (HOME / "examples" / "market" / "serve.script").read_text().splitlines()
         script = "\n".join([*files, line.replace(" 8080 1000000", f" 0 {count}")])
         loaded = [f"applied={len((HOME / file.split()[4]).read_text().splitlines()) - 1} late=0" for file in files]
         return Served(self, self.file("served", script), self.OPERATOR, loaded)
 
     def sent(self, method, path, body, *lines, key=True, length=True, **values):
-        """A request by a method to a path, with values in the place of the usual ones and further lines in its head; and its
-        target."""
+        """A request by a method to a path, with some values in the place of the usual ones and with more lines in its head; and
+        its target."""
         target = path.format(**{**self.VALUES, **values})
         head = [f"{method} {target} HTTP/1.1", "Host: localhost", *lines]
         head += [f"{self.description.key_header()}: {self.OPERATOR}"] if key else []
@@ -363,8 +363,8 @@ class EachRouteAndStatus(Desk):
         }
 
     def test_each_status_of_each_operation(self):
-        """Each comes where the page has it, with a reply as the page says. What would bring another status about elsewhere
-        brings none that the page lacks there."""
+        """Each comes where the page has it, with a reply as the page says. What would cause another status elsewhere causes
+        none that the page lacks there."""
         asked = []
         for method, path, operation in self.description.operations():
             requests = self.requests(method, path, operation)
@@ -381,7 +381,7 @@ class EachRouteAndStatus(Desk):
         office.end()
 
     def test_what_may_stand_in_a_path(self):
-        """The schema of each part takes what the office reads there, and what it doesn't take is no path of the office."""
+        """The schema of each part allows what the office reads there. What it doesn't allow is no path of the office."""
         asked = []
         for method, path, operation in self.description.operations():
             for name, schema in self.description.parameters(operation).items():

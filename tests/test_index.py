@@ -1,5 +1,5 @@
-"""The index of rules in docs/architecture.md: each definition, function, wrong body, test and heading
-that a row names is there. And each crate has its row in the pages that list them."""
+"""The index of rules in docs/architecture.md: each definition, function, wrong body, test and heading that a row names exists.
+And each crate has its row on the pages that list them."""
 import functools
 import re
 import unittest
@@ -27,7 +27,7 @@ def text_of(folder, ending):
 
 
 def slug_of(heading):
-    """The anchor that a heading has."""
+    """The anchor of a heading."""
     return re.sub(r"[^\w\- ]", "", heading.lower()).replace(" ", "-")
 
 
@@ -46,15 +46,14 @@ class Index(unittest.TestCase):
     def test_each_crate_has_its_rows(self):
         crates = re.findall(r"(?m)^(hh_\w+):", (HOME / "crates.txt").read_text(encoding="utf-8"))
         self.assertEqual(sorted(crates), sorted(path.parent.name for path in HOME.glob("crates/*/src")))
-        layers = PAGE.read_text(encoding="utf-8").partition("\n## From ")[0]
-        table = (HOME / "README.md").read_text(encoding="utf-8").partition("\n| Crate | Proved |\n")[2]
+        layers, _, proved = PAGE.read_text(encoding="utf-8").partition("\n## From ")[0].partition("\n| Crate | Proved |\n")
         for crate in crates:
             with self.subTest(crate):
                 self.assertRegex(layers, rf"(?m)^\|[^|]*\| `{crate}` \|")
-                self.assertRegex(table, rf"(?m)^\| [^|]*`{crate}`[^|]* \|")
+                self.assertRegex(proved, rf"(?m)^\| [^|]*`{crate}`[^|]* \|")
 
     def check_definition(self, cell):
-        """A definition stands in the file that the cell names. The crate of the file."""
+        """A definition is in the file that the cell names. Returns the crate of the file."""
         place, *names = NAME.findall(cell)
         crate, _, file = place.partition("/")
         text = (HOME / "crates" / crate / "specs" / f"{file}.antt").read_text(encoding="utf-8")
@@ -63,7 +62,7 @@ class Index(unittest.TestCase):
         return crate
 
     def check_code(self, crate, cell):
-        """The functions stand in the definition's crate, or in the one that the cell begins with."""
+        """The functions are in the definition's crate, or in the crate with which the cell begins."""
         elsewhere, names = re.fullmatch(r"(?:`(hh_\w+)`: )?(.*)", cell).groups()
         text = text_of(f"crates/{elsewhere or crate}/src/**", ".rt")
         for name in NAME.findall(names):
@@ -71,7 +70,7 @@ class Index(unittest.TestCase):
 
     def check_wrong_body(self, cell):
         for name in NAME.findall(cell):
-            found = [*HOME.glob(f"crates/*/must-fail/{name}.edit"), *HOME.glob(f"wrong-bodies/*/{name}.edit")]
+            found = [*HOME.glob(f"crates/*/must-fail/{name}.edit"), *HOME.glob(f"crates/*/must-fail-by-hand/{name}.edit")]
             self.assertTrue(found, f"no wrong body {name}")
 
     def check_test(self, cell):

@@ -1,5 +1,5 @@
-"""Services of the built `settle` that are killed under load: the short run of `tests/kill`; and that it finds a service which
-loses what it has answered, or keeps a part of what it hasn't."""
+"""Services of the built `settle` that are killed under load: the short run of `tests/kill`. It must also find a service which
+loses what it has answered, or which keeps only a part of what it hasn't."""
 import collections
 import contextlib
 import importlib.machinery
@@ -43,10 +43,10 @@ class Kill(unittest.TestCase):
 
 
 class Told(unittest.TestCase):
-    """What `tests/kill` tells of services that stand in."""
+    """What `tests/kill` tells about the services of a stand-in."""
 
     def setUp(self):
-        # One that stands in knows no answer where its disk is full, so each has room.
+        # A stand-in has no answer for a full disk, so each has room.
         changed = {"PROGRAM": [sys.executable, "-S", STAND_IN], "KILLS": 8, "FULL_ONE_OF": sys.maxsize}
         self.enterContext(unittest.mock.patch.multiple(killing, **changed))
         self.room = pathlib.Path(self.enterContext(tempfile.TemporaryDirectory()))
@@ -70,7 +70,7 @@ class Told(unittest.TestCase):
         self.assertEqual(list(self.room.iterdir()), [])
 
     def is_found(self, fault):
-        """It is told with the seed, and the files stay."""
+        """It is told with the seed, and the files are kept."""
         status, lines = self.told(fault, "--rounds", "32", "--seed", "3")
         self.assertEqual(status, 1)
         self.assertRegex(lines[-1], r"\A\d+ passed, [1-4] failed\Z")

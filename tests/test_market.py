@@ -1,6 +1,6 @@
-"""Files of the example market through `hh_bench load`: from text to what becomes of each row. All rows
-come at 2024-06-01T00:00:00Z, before the market's deadlines; more of late rows is in test_desk.py. And what
-`hh_bench read` and `hh_bench settle` print."""
+"""Files of the example market through `hh_bench load`: from text to what becomes of each row. All rows come at
+2024-06-01T00:00:00Z, before the market's deadlines. Late rows are mainly tested in test_desk.py. Also what `hh_bench read` and
+`hh_bench settle` print."""
 import datetime
 import pathlib
 import subprocess
@@ -45,7 +45,8 @@ def bench(*words):
 
 
 def mixed(total, number):
-    """A checksum with one number more, in 64 bits: times a prime, and the number's size with its sign as the last bit."""
+    """A checksum with one more number, in 64 bits: it is multiplied by a prime, and then the number's size is added, with its
+    sign as the last bit."""
     return ((total * 1_099_511_628_211 + abs(number)) * 2 + (number < 0)) % 2**64
 
 
@@ -54,7 +55,7 @@ def text(field):
 
 
 def date(field):
-    """Days since 1970-01-01; none stands for 2099-12-31."""
+    """Days since 1970-01-01. An empty text means 2099-12-31."""
     return [(datetime.date.fromisoformat(field or "2099-12-31") - datetime.date(1970, 1, 1)).days]
 
 
@@ -65,7 +66,7 @@ def account(field):
 
 
 def decimal(places):
-    """A number of so many decimals, in units of the last."""
+    """A number with some decimals, in units of the last decimal."""
 
     def numbers(field):
         size, _, fraction = field.lstrip("-").partition(".")
@@ -75,8 +76,8 @@ def decimal(places):
     return numbers
 
 
-# What each field of a row adds to the checksum, in the order of the columns. In a file of reallocations the account's
-# column, the second, comes behind the period's.
+# What each field of a row adds to the checksum, in the order of the columns. In a file of reallocations, the account, which is
+# in the second column, comes after the period.
 FIELDS = {
     "parties": [text, date, date, text],
     "units": [text, text, lambda side: [side == "C"], lambda mark: [mark == "yes"], date, date],
@@ -88,7 +89,7 @@ FIELDS = {
 
 
 def checksum(kind, rows):
-    """The checksum of rows, given as lines of a file: that of the numbers of all their fields, one after the other."""
+    """The checksum of rows, given as lines of a file: the checksum of the numbers of all their fields, one after the other."""
     total = 0
     for row in rows:
         cells = row.split(",")
@@ -112,8 +113,7 @@ class OfTheBench(unittest.TestCase):
 
 class Market(OfTheBench):
     def load(self, *files):
-        """What becomes of the market's files and these: the lines, and what is told on standard error
-        beside the times."""
+        """What becomes of the market's files and these: the lines, and what is told on standard error beside the times."""
         words = []
         for number, (kind, text) in enumerate([*MARKET, *files]):
             path = self.room / f"{number}.csv"
@@ -128,8 +128,8 @@ class Market(OfTheBench):
         self.assertEqual(self.load(), ([], []))
 
     def test_a_row_comes_late(self):
-        """2024-06-01 began at 23:00Z, an hour before the rows come. So at a lead of an hour the deadline of period 5 is
-        the very second at which they come, and that of period 6 half an hour behind it."""
+        """2024-06-01 began at 23:00Z, an hour before the rows come. So with a lead of an hour the deadline of period 5 is the
+        very second at which they come, and that of period 6 is half an hour later."""
         rows = "".join(f"C1,GENCO-P,SUPCO-C,2024-06-01,{period},1\n" for period in (5, 6))
         self.assertEqual(self.load(("contracts", CONTRACTS + rows)), (["contracts applied 1 late 1 refused 0"], []))
 
@@ -175,7 +175,7 @@ class Market(OfTheBench):
 
 
 class Measured(OfTheBench):
-    """What is told of a file that is read again and again, and of a period that is settled so."""
+    """What is told about a file that is read again and again, and about a period that is settled again and again."""
 
     ROWS = {
         "parties": ["GENCO,2024-01-01,,genco0001", "SUPCO,2001-01-01,2024-12-31,Supco00001"],

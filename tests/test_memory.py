@@ -1,11 +1,10 @@
 """Runs the built programs once for each allocation that they make, and refuses that one.
 
-A run in which memory is refused ends with status 1, says `refused 90 Memory` and writes nothing, or
-it can do without that memory and ends as it does with it. `hh_bench load` may have written of the
-files before, and the nanoseconds that `hh_bench` tells are not compared. A script goes on after a line
-that was refused memory, and after a request that was: a client whose request is refused gets its reply
-or that memory was refused, and never nothing. The first run in which nothing was refused any more ends
-the turn. A C compiler builds what refuses, `failing_malloc.c`.
+A run in which memory is refused ends with status 1, says `refused 90 Memory` and writes nothing. Or it can do without that
+memory and ends as it does with it. `hh_bench load` may have written about the files before. The nanoseconds that `hh_bench`
+tells are not compared. A script goes on after a line or a request that was refused memory. A client whose request is refused
+gets its reply, or the reply that memory was refused, and never nothing. The series ends with the first run in which nothing
+was refused. The library that refuses memory, `failing_malloc.c`, is built by a C compiler.
 """
 import itertools
 import os
@@ -30,8 +29,8 @@ OPERATOR = "op-settle001"
 NO_PARTY, NO_UNIT = b"refused 30 UnknownParty row 1", b"refused 31 UnknownUnit row 1"
 NO_RUN = b"refused 51 NoInitialRun"
 DAY = "2024-07-01"
-# Files of a script: the kind, the text, the reply, what is told where a file before it was not applied,
-# and what stands registered after it.
+# Files of a script: the kind, the text, the reply, what is told if a file before it was not applied, and what is registered
+# after it.
 SCRIPT = [
     (
         "parties",
@@ -81,12 +80,12 @@ SCRIPT = [
 
 
 def ran(kind, accounts, residual, postings):
-    """The line of a run of the day."""
+    """The line that tells a run of the day."""
     return f"run {DAY} {kind} periods 48 accounts {accounts} residual {residual} postings {postings}".encode()
 
 
-# A day on which A exports 1 MWh in period 1 and has sold it to B, which uses none and is paid 1,000 pence for it.
-# A alone has credited energy, and so bears all of the residual.
+# A day on which A exports 1 MWh in period 1 and has sold it to B, which uses none and is paid 1,000 pence for it. Only A has
+# credited energy, and so it bears all of the residual.
 SETTLED_DAY = [
     *SCRIPT[:2],
     (
@@ -112,8 +111,8 @@ SETTLED_DAY = [
         "prices",
     ),
 ]
-# The runs of that day, as the files of a script. Without the units A has sold what it lacks, and pays 1,000 pence
-# itself, which B is paid; without the contract A is paid them, and bears them again as its share.
+# The runs of that day, as the files of a script. Without the units A has sold what it lacks, and pays 1,000 pence itself, which
+# B is paid. Without the contract A is paid them, and bears them as its share.
 RUNS = [
     (
         "SF",
@@ -143,8 +142,8 @@ RUNS = [
 ]
 
 
-# What each account has in period 1 of that day's run: credited energy, contracts and imbalance in MWh, charge and share
-# in pence. In the other periods nobody has anything.
+# What each account has in period 1 of that day's run: credited energy, contracts and imbalance in MWh, charge and share in
+# pence. In the other periods nobody has anything.
 NOTHING = (0, 0, 0, 0, 0)
 IN_PERIOD_1 = {"A-P": (1, 1, 0, 0, 1000), "A-C": NOTHING, "B-P": NOTHING, "B-C": (0, -1, 1, -1000, 0)}
 WITHOUT_UNITS = {**IN_PERIOD_1, "A-P": (0, 1, -1, 1000, 0)}
@@ -154,7 +153,7 @@ COLUMNS = "date,kind,account,period,credited,balancing,contracts,imbalance,charg
 
 
 def rows_of(accounts):
-    """The period, the account and the figures of each row, where accounts have these in period 1."""
+    """The period, the account and the figures of each row, if accounts have these in period 1."""
     for period in range(1, 49):
         for account, figures in accounts.items():
             credited, contracts, imbalance, charge, share = figures if period == 1 else NOTHING
@@ -167,7 +166,7 @@ def account_line(fields):
 
 
 def day_report(accounts):
-    """The day report of SF, where accounts have these figures in period 1."""
+    """The day report of SF, if accounts have these figures in period 1."""
     lines = [f"DAY REPORT {DAY} SF", account_line(HEADS)]
     for period in range(1, 49):
         rows = [(account, figures) for at, account, figures in rows_of(accounts) if at == period]
@@ -178,18 +177,18 @@ def day_report(accounts):
 
 
 def results(accounts):
-    """The results of SF, likewise."""
+    """The results of SF, if accounts have these figures in period 1."""
     rows = (f"{DAY},SF,{account},{period},{','.join(map(str, figures))}" for period, account, figures in rows_of(accounts))
     return "\n".join([COLUMNS, *rows]).encode()
 
 
 def balances(accounts):
-    """The balances after SF, likewise."""
+    """The balances after SF, if accounts have these figures in period 1."""
     return "\n".join(["account,moved_pence", *(f"{account},{row[3] + row[4]}" for account, row in accounts.items())]).encode()
 
 
 def reported(form, text, without_run):
-    """A report of that day's run as the files of a script, where a text is made of what accounts have in period 1."""
+    """A report of that day's run as the files of a script. The text is made from what accounts have in period 1."""
     otherwise = {
         "prices": without_run,
         "parties": text({}),
@@ -213,14 +212,14 @@ def head_of(answer):
     return answer.partition(b"\r\n\r\n")[0] + b"\r\n\r\n"
 
 
-# The reply that tells of refused memory.
+# The reply that tells that memory was refused.
 NO_MEMORY = reply(503, refusal(90, "Memory"))
-# A file of a unit that no line of a script loads, under the name of one that a line does.
+# A file of a unit that no line of a script loads, under the name of a file that a line loads.
 OTHER_UNITS = SCRIPT[1][1].replace("\nU,", "\nV,").encode()
 UNITS_PATH = "/files/units/2.csv"
 BAD_METHOD = reply(405, refusal(62, "BadMethod"), "Allow: POST\r\n")
-# Requests that are refused before the office is asked, each with its reply and with what is told in the place of that where
-# memory is refused. Of the first five each is refused by another number, and each would load that file otherwise.
+# Requests that are refused before the office is asked, each with its reply and with what is told instead if memory is refused.
+# Each of the first five is refused by another number, and each would otherwise load that file.
 REFUSED_REQUESTS = [
     (request("POST", f"{UNITS_PATH}?", OPERATOR, OTHER_UNITS), reply(404, refusal(61, "NoRoute")), NO_MEMORY),
     (request("PUT", UNITS_PATH, OPERATOR, OTHER_UNITS), BAD_METHOD, NO_MEMORY),
@@ -233,7 +232,7 @@ REFUSED_REQUESTS = [
     ),
     (request("HEAD", f"/runs/{DAY}/SF", OPERATOR), head_of(BAD_METHOD), head_of(NO_MEMORY)),
 ]
-# What is asked for at each path of docs/openapi.yaml, so that no reply hangs on what another request has done.
+# What is asked for at each path of docs/openapi.yaml. No reply depends on what another request has done.
 ASKED = [
     ("POST", "/files/prices/p.csv", b"date,period,price\n", reply(200, '{"applied":0,"late":0}')),
     ("POST", f"/runs/{DAY}/SF", None, reply(409, refusal(52, "DayNotOver"))),
@@ -260,12 +259,12 @@ class Refused(unittest.TestCase):
         return made.returncode, made.stdout, told
 
     def environment(self, fail_at):
-        """In which a program is refused that allocation."""
+        """The environment of a program whose allocation with this number is refused."""
         return dict(os.environ, FAIL_AT=str(fail_at), FAIL_NOTE=str(self.note), LD_PRELOAD=self.preloaded)
 
     def serve_once(self, call, requests, fail_at):
-        """What a run comes to of which a line serves these requests, one after the other, and the reply to each. The port
-        is left out of what it wrote."""
+        """What comes of a run in which a line serves these requests, one after the other, and the reply to each. The port is
+        removed from what it wrote."""
         how = {"stdin": subprocess.DEVNULL, "stdout": subprocess.PIPE, "stderr": subprocess.PIPE}
         with subprocess.Popen(call, env=self.environment(fail_at), **how) as made:
             try:
@@ -298,9 +297,9 @@ class Refused(unittest.TestCase):
         return status == 1 and told == REFUSED and most.startswith(written)
 
     def is_script_answered(self, got, replies):
-        """Whether a script's run answered each line as it has to, but for at most one that was refused memory: then
-        the line of the refusal stands in the place of the reply, or behind the first lines of a report. Or the
-        run ended with refusal 90 behind a beginning of its lines."""
+        """Whether a script's run answered each line as it must, except for at most one line that was refused memory. For that
+        line the text of the refusal replaces the reply, or follows the first lines of a report. Or the run ended with refusal
+        90 after a beginning of its lines."""
         status, written, told = got
         ended = (status, told) == (1, REFUSED)
         if (status, told) != (0, []) and not ended or written[-1:] not in (b"", b"\n"):
@@ -322,8 +321,8 @@ class Refused(unittest.TestCase):
         return not lines and refused <= 1
 
     def refuse_each(self, call, status, writes_by_file=False, replies=None, beside=None):
-        """Refuses each allocation of a call in turn. With ample memory it has this status, and a script
-        these replies. Lines on standard error that are like `beside` are left out where memory is refused for them."""
+        """Refuses each allocation of a call in turn. With ample memory it has this status, and a script these replies. Lines on
+        standard error that match `beside` are left out if memory is refused for them."""
         need(call[0])
         wanted = self.run_once(call, 0)
         self.assertEqual(wanted[0], status, call)
@@ -340,14 +339,14 @@ class Refused(unittest.TestCase):
         self.refuse_in_turn(lambda fail_at: self.run_once(call, fail_at), wanted, is_right)
 
     def without(self, made, beside):
-        """What a run came to without the lines on standard error that are like this."""
+        """What came of a run, without the lines on standard error that match this."""
         status, written, told = made
         return status, written, [line for line in told if beside is None or not re.match(beside, line)]
 
     def refuse_in_turn(self, run, wanted, is_right):
-        """Runs with each allocation refused in turn. What a run comes to is what is wanted, or right where memory was
-        refused. At least one refusal has to show, since a program that takes no memory by `malloc` would pass else. What
-        the runs came to that were refused."""
+        """Runs with each allocation refused in turn. What comes of a run must be what is wanted, or right if memory was
+        refused. At least one refusal must occur, because otherwise a program that takes no memory by `malloc` would pass.
+        Returns what came of the runs with a refusal."""
         shown = []
         for fail_at in range(1, MOST_RUNS):
             got = run(fail_at)
@@ -405,15 +404,15 @@ class Refused(unittest.TestCase):
         self.refuse_each([SETTLE, "script", "--operator-key", OPERATOR, *options, str(script)], 0, replies=replies, beside=beside)
 
     def test_a_script(self):
-        """Files of each kind, two refused ones, the first file once more, and one that isn't there."""
+        """Files of each kind, two that are refused, the first file once more, and one that isn't there."""
         lines, replies = self.loads(SCRIPT)
         lines += [lines[0], f"load 0 {OPERATOR} units {self.room}/none.csv\n"]
         replies += [replies[0], [b"fault file", {}, None]]
         self.refuse_each_of_script(lines, replies)
 
     def test_explanations(self):
-        """Of refused files and runs, one that isn't there, and late rows. No answer depends on whether there is memory for
-        them."""
+        """Explanations of refused files and runs, of a file that isn't there, and of late rows. No answer depends on whether
+        there is memory for them."""
         lines, replies = self.loads(SCRIPT[:4])
         lines += [lines[2].replace(" 0 ", " 1719874800 ").replace("3.csv", "late.csv"), f"run 0 {OPERATOR} {DAY} SF\n", f"load 0 {OPERATOR} units {self.room}/none.csv\n"]
         (self.room / "late.csv").write_text(SCRIPT[2][1])
@@ -425,21 +424,21 @@ class Refused(unittest.TestCase):
         self.refuse_each([SETTLE, "period", "--explain", METER, CONTRACTS, "x"], 1, beside=b"price |the system refused memory\\Z")
 
     def test_runs_of_a_script(self):
-        """A first run, and another one, which tells by its reply whether the first was made."""
+        """A first run, and another one, whose reply tells whether the first was made."""
         lines, replies = self.loads(SETTLED_DAY)
         lines += [f"run 1719874800 {OPERATOR} {DAY} {kind}\n" for kind, *_ in RUNS]
         replies += [answers for _, *answers in RUNS]
         self.refuse_each_of_script(lines, replies)
 
     def test_reports_of_a_script(self):
-        """The three reports after a run. One that is given up leaves whole lines, and the next is whole again."""
+        """The three reports after a run. If one is given up, whole lines of it are left, and the next report is whole."""
         lines, replies = self.loads(SETTLED_DAY)
         lines += [f"run 1719874800 {OPERATOR} {DAY} SF\n", *(f"report {OPERATOR} {form}\n" for form, *_ in REPORTS)]
         replies += [RUNS[0][1:], *(answers for _, *answers in REPORTS)]
         self.refuse_each_of_script(lines, replies)
 
     def serving(self, count):
-        """The call of a script that loads parties, serves so many connections and then loads units, and how it answers."""
+        """The call of a script that loads parties, serves this many connections and then loads units, and how it answers."""
         lines, replies = self.loads(SCRIPT[:2])
         script = self.room / "script"
         script.write_text("".join([lines[0], f"serve 0 0 {count}\n", lines[1]]))
@@ -448,9 +447,9 @@ class Refused(unittest.TestCase):
         return call, [replies[0], [b"listening", {}, None], replies[1]]
 
     def refuse_each_served(self, requests, answers, is_told):
-        """Refuses each allocation of a script in turn that serves these requests. With ample memory they have these
-        answers. `is_told` says of a request, by its place, and what came for it whether that is right where memory was
-        refused, which is the case for one of the lines and requests at most. What came in each run that was refused."""
+        """Refuses each allocation of a script in turn, while it serves these requests. With ample memory they have these
+        answers. `is_told` says, for a request's place and what came for it, whether that is right if memory was refused. That
+        is the case for at most one of the lines and requests. Returns what came in each run with a refusal."""
         call, lines = self.serving(len(requests))
         wanted = self.serve_once(call, requests, 0)
         self.assertEqual(wanted, ((0, b"".join(line + b"\n" for line, _, _ in lines), []), answers))
@@ -465,8 +464,8 @@ class Refused(unittest.TestCase):
         return [replies for _, replies in self.refuse_in_turn(lambda at: self.serve_once(call, requests, at), wanted, is_right)]
 
     def test_requests_that_are_refused(self):
-        """Each gets its own reply, or the one that tells of refused memory, and leaves the office: the file that they
-        would have loaded otherwise is loaded as new afterwards."""
+        """Each gets its own reply, or the one that tells that memory was refused, and leaves the office as it is: the file that
+        they would otherwise have loaded is loaded as new afterwards."""
         requests, answers, told = (list(column) for column in zip(*REFUSED_REQUESTS))
         shown = self.refuse_each_served(requests, answers, lambda place, got: got == told[place])
         for place, sent in enumerate(requests):
@@ -474,8 +473,8 @@ class Refused(unittest.TestCase):
                 self.assertIn(told[place], [replies[place] for replies in shown if replies])
 
     def test_requests_that_are_handled(self):
-        """Each path of docs/openapi.yaml may tell of refused memory as that page says. A request that was handled may get
-        no reply, since memory was refused for it."""
+        """At each path of docs/openapi.yaml the reply may tell that memory was refused, as that page says. A request that was
+        handled may get no reply, because memory for it was refused."""
         description = Description()
         paths = [(method, path) for method, path, _ in description.operations()]
         self.assertEqual([(method, description.path_of(target)) for method, target, *_ in ASKED], paths)

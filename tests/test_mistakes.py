@@ -1,6 +1,6 @@
-"""Usual mistakes of who begins with the program. Each is mended by what `--explain` has printed: a small function reads the
-line, knows nothing else, and changes the file or the command by it. Then it is accepted. The office and the files are those
-of the example market."""
+"""Usual mistakes of people who begin to use the program. Each is mended with what `--explain` has printed. A small function
+reads the line, knows nothing else, and changes the file or the command accordingly. Then it is accepted. The office and the
+files are those of the example market."""
 import pathlib
 import re
 import shutil
@@ -13,12 +13,12 @@ KEY = "op-market001"
 DAY = "2024-07-01"
 MOMENTS = {"parties": 1717405200, "units": 1717405500, "contracts": 1719568800, "reallocations": 1719569700, "prices": 1719907200, "meters": 1720166700}
 COUNTS = {"parties": 4, "units": 5, "contracts": 126, "reallocations": 56, "prices": 48, "meters": 240}
-# A row of a file that a line tells of.
+# A row of a file about which a line tells something.
 AT_LINE = r"(?P<path>.+): row \d+ is line (?P<line>\d+) of the file"
 
 
 def of(pattern, told):
-    """What a line has in the places of a pattern that have names."""
+    """What a line has at the named places of a pattern."""
     found = re.fullmatch(pattern, told)
     assert found, f"{told!r} isn't like {pattern!r}"
     return found.groupdict()
@@ -31,16 +31,17 @@ def changed(path, change):
     pathlib.Path(path).write_text("\n".join(lines))
 
 
-# How a line is mended. Each takes what was told last and the words of the command, and gives the words to be given next.
+# How a line is mended. Each function takes what was told last and the words of the command, and returns the words to be given
+# next.
 def mend_header(told, words):
-    """The header is put in the place of what is there."""
+    """The header replaces what is there."""
     found = of(r"(?P<path>.+): line (?P<line>\d+), the header, is \".*\"; expected (?P<header>\S+)", told)
     changed(found["path"], lambda lines: lines.__setitem__(int(found["line"]) - 1, found["header"]))
     return words
 
 
 def in_form(field, form):
-    """A field in the form that was expected, where it has another that is usual."""
+    """A field in the form that was expected, if it has another usual form."""
     if form.startswith("a date YYYY-MM-DD"):
         day, month, year = field.split("/")
         return f"{year}-{month:0>2}-{day:0>2}"
@@ -49,7 +50,7 @@ def in_form(field, form):
 
 
 def mend_field(told, words):
-    """The field is put into its form, in the line that is named."""
+    """The field is brought into its form, in the line that is named."""
     found = of(AT_LINE + r"; column (?P<column>\d+), \w+, is \"(?P<field>.*)\"; expected (?P<form>.+)", told)
     field, form = found["field"], in_form(found["field"], found["form"])
     place = int(found["column"]) - 1
@@ -65,7 +66,7 @@ def mend_field(told, words):
 
 
 def mend_empty_row(told, words):
-    """A line that has commas alone is taken away."""
+    """A line that has only commas is removed."""
     found = of(AT_LINE + r"; (it has \d+ fields, expected \d+|column 1, \w+, is \"\"; expected .+)", told)
 
     def change(lines):
@@ -91,7 +92,7 @@ def mend_reference(told, words):
 
 
 def mend_name(told, words):
-    """The file gets another name, and the command that of the file."""
+    """The file gets another name, and the command names it."""
     found = of(r"(?P<path>.+): a file of \w+ named (?P<name>\S+) was accepted with other bytes; give this one another name", told)
     path = pathlib.Path(found["path"])
     other = path.with_name(f"new-{found['name']}")
@@ -100,7 +101,7 @@ def mend_name(told, words):
 
 
 def mend_path(told, words):
-    """The path becomes that of the one file of its name below the folder."""
+    """The path becomes that of the only file with this name below the folder."""
     found = of(r"(?P<path>.+): No such file or directory \(os error 2\)", told)
     files = list(pathlib.Path(words[words.index("--db") + 1]).parent.rglob(pathlib.Path(found["path"]).name))
     assert len(files) == 1, files
@@ -108,7 +109,7 @@ def mend_path(told, words):
 
 
 def mend_office(told, words):
-    """The same of the path of a database."""
+    """The same for the path of a database."""
     found = of(r"(?P<path>.+): there is nothing", told)
     files = list(pathlib.Path(found["path"]).parent.parent.rglob(pathlib.Path(found["path"]).name))
     assert len(files) == 1, files
@@ -116,14 +117,14 @@ def mend_office(told, words):
 
 
 def mend_key(told, words):
-    """The key that is shown has to be the operator's."""
+    """The key that is shown must be the operator's."""
     of(r"(?P<of>.+): the key that is shown isn't the operator's", told)
     place = words.index("--key") + 1
     return [*words[:place], KEY, *words[place + 1 :]]
 
 
 def mend_late_rows(told, words):
-    """The rows that were late go out of the file, which gets another name. They can't be in force any more."""
+    """The rows that were late are removed from the file, which gets another name. They can't get into force any more."""
     found = of(r"(?P<path>.+): late: rows? (?P<rows>.+)", told)
     late = set()
     for part in found["rows"].split(", "):
@@ -136,13 +137,13 @@ def mend_late_rows(told, words):
 
 
 def mend_price(told, words):
-    """The price is put into its form."""
+    """The price is brought into its form."""
     found = of(r"price \"(?P<price>.*)\"; expected (?P<form>.+)", told)
     return [in_form(word, found["form"]) if word == found["price"] else word for word in words]
 
 
 def mend_word(told, words):
-    """A word of a command line becomes the one of those it may be that begins like it."""
+    """A word of a command line becomes the one of the allowed words that begins like it."""
     found = of(r"error: (?P<name>[A-Z]+) \"(?P<word>.*)\": [^:]*: (?P<those>.+)", told)
     those = re.split(r", | or ", found["those"])
     like = [word for word in those if word.startswith(found["word"].lower()[:4])]
@@ -151,7 +152,7 @@ def mend_word(told, words):
 
 
 def mend_line(told, words):
-    """A line of a script gets the word that it may have there, or all lines end as they have to."""
+    """A line of a script gets the word that is allowed there, or all lines get the right line end."""
     script = pathlib.Path(words[-1])
     if told.endswith("; the word ends with a carriage return: lines end with LF alone"):
         script.write_bytes(script.read_bytes().replace(b"\r\n", b"\n"))
@@ -197,8 +198,8 @@ class Mistakes(OfTheProgram):
         return path
 
     def mended(self, words, refused, mend, most=1):
-        """Gives a command, which stops so, mends what is wrong by the line that was told last, and gives it again, so often
-        at most. Gives what is written when it is done, and how often it was mended."""
+        """Gives a command that stops like this, mends what is wrong by the line that was told last, and gives it again, up to a
+        number of times. Returns what is written when it is done, and how often it was mended."""
         for times in range(most + 1):
             status, written, told = settle(words[0], "--explain", *words[1:])
             if status == 0 and not told:
@@ -235,13 +236,13 @@ class TenMistakes(Mistakes):
         self.is_mended("meters", path, "refused 14 BadField row 1 column 4", mend_field, 20, times=9)
 
     def test_dates_of_another_order(self):
-        """Six rows have them."""
+        """They are in six rows."""
         path = self.change("prices.csv", DAY, "01/07/2024", 6)
         self.is_mended("prices", path, "refused 14 BadField row 1 column 1", mend_field, 20, times=6)
 
     def test_a_missing_reading(self):
-        """A reading of one unit, and then three of another, are missing. What is told has all that a file of readings needs
-        but for what was metered."""
+        """One reading of one unit is missing, and then three readings of another. What is told has all that a file of readings
+        needs except for what was metered."""
         self.loaded("parties", "units", "contracts", "reallocations", "prices")
         path = self.folder / "meters.csv"
         gone = []
@@ -274,14 +275,14 @@ class TenMistakes(Mistakes):
         self.is_mended("parties", self.folder / "parties.csv", "refused 60 Forbidden", mend_key, key="citysupkey1")
 
     def test_a_changed_file(self):
-        """The contracts were corrected in the file that was sent, so they come as a file of another name."""
+        """The contracts were corrected in the file that was sent already, so they are sent as a file with another name."""
         self.loaded("parties", "contracts")
         path = self.change("contracts.csv", ",33,100.000", ",33,110.000")
         self.is_mended("contracts", path, "refused 20 FileChanged", mend_name)
         self.assertTrue((self.folder / "new-contracts.csv").exists())
 
     def test_a_late_contract(self):
-        """It was sent on the day itself. Of the volumes for periods 21 to 26 those that come in time are sent again."""
+        """It was sent on the day itself. Those volumes for periods 21 to 26 that are still in time are sent again."""
         self.loaded("parties", "contracts")
         path = self.folder / "contracts-3.csv"
         words = self.words("contracts", path, moment=1719824400)
@@ -290,7 +291,7 @@ class TenMistakes(Mistakes):
         self.assertEqual((written, times), ("applied=3 late=0\n", 1))
 
     def test_an_empty_row_at_the_end(self):
-        """As spreadsheets leave it: with as many commas as the header has, and with one less."""
+        """As spreadsheets leave it: with as many commas as the header has, and with one fewer."""
         for kind, row, refused in (("parties", ",,,", "refused 14 BadField row 5 column 1"), ("units", ",,,,", "refused 13 BadRecord row 6")):
             path = self.folder / f"{kind}.csv"
             path.write_text(path.read_text().rstrip("\n") + f"\n{row}\n")
@@ -329,7 +330,7 @@ class MoreMistakes(Mistakes):
         self.assertEqual(settle(*mend_word(told.decode().split("\n")[0], words)), (0, b"applied=4 late=0\n", b""))
 
     def test_a_word_of_a_script(self):
-        """And then its line ends, which are those of another system."""
+        """A word is wrong, and then its line ends, which are those of another system."""
         lines = [f"load {MOMENTS[kind]} {KEY} {kind} {self.folder}/{kind}.csv" for kind in ("parties", "units")]
         lines[1] = lines[1].replace(" units ", " unit ")
         script = self.file("day.script", "".join(f"{line}\r\n" for line in lines))

@@ -1,5 +1,5 @@
-"""Options and words beside a command's own: `--version`, keys in files, `--explain` in each place, `--` that ends options,
-what help says, and what is told of a word that is off its grammar."""
+"""Options and words beside a command's own: `--version`, keys in files, `--explain` in each place, `--` that ends options, what
+help says, and what is told about a word that is off its grammar."""
 import os
 import re
 import subprocess
@@ -17,7 +17,7 @@ from test_program import CONTRACTS_HEADER, METER_HEADER, OfTheProgram
 PATIENCE = 30
 WIDTH = 100
 KEY_FILE, OPERATOR_KEY_FILE, EXPLAIN, STRICT = "--key-file", "--operator-key-file", "--explain", "--strict"
-# The words of each command, and its options beside them, as docs/formats.md has them.
+# The words of each command, and its options besides, as docs/formats.md has them.
 COMMANDS = {
     "period": (["METER", "CONTRACTS", "PRICE"], [EXPLAIN]),
     "init": (["--db", "--operator-key", "--lead-minutes"], [OPERATOR_KEY_FILE, EXPLAIN]),
@@ -55,7 +55,7 @@ class Version(OfTheProgram):
 
 
 class Explain(Faults):
-    """`--explain` counts in each place behind the program's name."""
+    """`--explain` counts at each place after the program's name."""
 
     def test_each_place(self):
         words = ["load", "--db", str(self.database), "--key", OPERATOR, "prices", str(self.room / "missing.csv")]
@@ -66,7 +66,7 @@ class Explain(Faults):
         self.assertEqual(settle(*words), answer("fault file"))
 
     def test_before_other_options(self):
-        """Those that count behind the name of their command count where `--explain` stands before it, too."""
+        """Options that count after the name of their command also count if `--explain` comes before it."""
         script = self.file("refused", "report genco0001 balances\n")
         made = settle("--explain", "script", "--strict", "--db", str(self.database), script)
         self.assertEqual(made[0], 1)
@@ -75,7 +75,7 @@ class Explain(Faults):
         self.assertEqual(settle("--explain", "report", "--key-file", key, "--db", str(self.database), "balances")[::2], (0, b""))
 
     def test_wrong_words(self):
-        """They are told as without it."""
+        """What is told is the same as without it."""
         for words in ((), ("load",), ("x",), ("load", "--db", "x", "--key", "short", "prices", "p.csv"), ("load", "--help"), ("--help",)):
             plain = settle(*words)
             self.assertEqual(plain[:2], (2, b""))
@@ -86,16 +86,16 @@ class Explain(Faults):
             self.is_wrong(self.command("report", "--key", OPERATOR, "balances", word))
 
     def test_beside_the_version(self):
-        """`--version` is the only word, or else it is none."""
+        """`--version` counts only if it is the only word."""
         for words in (("--version", "--explain"), ("--explain", "--version")):
             self.is_wrong(settle(*words))
 
 
 class Dashes(Faults):
-    """Behind a word `--` no word is an option."""
+    """After a word `--` no word is an option."""
 
     def test_explain(self):
-        """It is the path of a file there."""
+        """After that it is the path of a file."""
         (self.room / "--explain").write_bytes(b"date\n")
         words = "load", "--db", str(self.database), "--key", OPERATOR
         self.assertEqual(settle(*words, "--", "prices", "--explain", cwd=self.room), answer("refused 12 BadHeader"))
@@ -107,7 +107,7 @@ class Dashes(Faults):
         self.assertEqual(settle("period", "--", meter, contracts, "--explain"), answer("refused 14 BadField in price"))
 
     def test_key_files(self):
-        """A file of this name is loaded; as an option there is no such word."""
+        """A file of this name is loaded. As an option, there is no such word."""
         (self.room / "--key-file=x").write_bytes(text_of("prices", [f"{DAY},1,60.00000"]))
         words = "load", "--db", str(self.database), "--key", OPERATOR, f"--at={EARLY}", "--", "prices"
         self.is_wrong(settle(*words, "--key-file=x", cwd=self.room))
@@ -117,7 +117,7 @@ class Dashes(Faults):
 
 
 class KeyFiles(Faults):
-    """A file whose first line is the key, in the place of the key."""
+    """A file whose first line is the key, instead of the key."""
 
     def key_file(self, data=f"{OPERATOR}\n", name="key"):
         return self.file(name, data)
@@ -149,14 +149,14 @@ class KeyFiles(Faults):
             self.assertEqual(settle("script", script, *option), (0, b"account,moved_pence\n", b""))
 
     def test_the_first_line(self):
-        """It ends with LF, with CRLF, or with the file. What stands behind it isn't looked at."""
+        """It ends with LF, with CRLF, or with the file. What follows it isn't looked at."""
         wanted = self.balances("--key", OPERATOR)
         self.assertEqual(wanted[0], 0)
         for data in (OPERATOR, f"{OPERATOR}\n", f"{OPERATOR}\r\n", f"{OPERATOR}\nmore\n", f"{OPERATOR}\n\xff".encode("latin-1"), f"{OPERATOR}\n{'x' * 100_000}"):
             self.assertEqual(self.balances("--key-file", self.key_file(data)), wanted, data[:40])
 
     def test_lines_that_are_no_key(self):
-        """They are wrong words, as a key that is off its grammar is, and of each its length alone is told."""
+        """They are wrong words, like a key that is off its grammar. Only the length of each is told."""
         for data in ("", "\n", f"\n{OPERATOR}\n", f" {OPERATOR}\n", f"{OPERATOR} \n", f"{OPERATOR}\r\r\n", f"\ufeff{OPERATOR}\n", "secret!\n", "x" * 65, f"{OPERATOR}\0\n"):
             line = data.encode().split(b"\n")[0].removesuffix(b"\r")
             made = self.balances("--key-file", self.key_file(data))
@@ -172,7 +172,7 @@ class KeyFiles(Faults):
         self.is_wrong(self.balances("--key-file", "/dev/zero", timeout=PATIENCE))
 
     def test_the_wrong_key(self):
-        """A party's, and one of nobody."""
+        """A party's key, and a key that nobody has."""
         for key in ("genco0001", "op-settle002"):
             self.assertEqual(self.balances("--key-file", self.key_file(f"{key}\n")), answer("refused 60 Forbidden"))
 
@@ -220,7 +220,7 @@ class KeyFiles(Faults):
         self.assertEqual(self.command("report", "--key-file", "balances", cwd="/"), answer("fault file"))
 
     def test_commands_without_such_a_key(self):
-        """The option of the one is none of the other, and `serve` and `period` have neither."""
+        """Each of the two options belongs only to its own commands, and `serve` and `period` have neither."""
         path = self.key_file()
         self.is_wrong(self.command("serve", "--port=0", "--count=0", "--key-file", path))
         self.is_wrong(self.command("serve", "--port=0", "--count=0", "--operator-key-file", path))
@@ -231,11 +231,11 @@ class KeyFiles(Faults):
         self.is_wrong(settle("--key-file", path, "report", "--db", str(self.database), "balances"))
 
     def test_an_office_has_its_own_key(self):
-        """So a script over a database takes no key, from a file neither."""
+        """So a script over a database is given no key, not even from a file."""
         self.is_wrong(self.command("script", "--operator-key-file", self.key_file(), self.script))
 
     def test_the_key_is_no_argument(self):
-        """While a command waits for its input, neither its arguments nor its environment have the key."""
+        """While a command waits for its input, its arguments and its environment don't contain the key."""
         pipe = self.room / "p3.csv"
         os.mkfifo(pipe)
         key, secret = self.key_file(), self.key_file(f"{SECRET}\n", "secret")
@@ -259,7 +259,7 @@ class KeyFiles(Faults):
             self.assertEqual(written, f"{APPLIED}\n".encode() if shown_key == OPERATOR else b"account,moved_pence\n")
 
     def writing_end(self, pipe):
-        """A pipe opened for writing, once a command reads it."""
+        """A pipe that is opened for writing once a command reads it."""
         until = time.monotonic() + PATIENCE
         while True:
             try:
@@ -283,7 +283,7 @@ def help_of(*words):
 
 
 def described(lines):
-    """What help says of each word and option, in a line of its own: `--at <at>  Moment ..`, `<KIND>  Kind ..`, `[DATE]  ..`."""
+    """What help says about each word and option, in a line of its own: `--at <at>  Moment ..`, `<KIND>  Kind ..`, `[DATE]  ..`."""
     found = {}
     for line in lines:
         if head := re.match(r" +(?:-\w, )?(?:(--[\w-]+)(?: <[\w-]+>)?|[<\[](\w+)[>\]]) {2,}(\S.*)\Z", line):
@@ -292,7 +292,7 @@ def described(lines):
 
 
 class Help(OfTheProgram):
-    """What help says of each command: a line a word, none longer than a terminal of 100 columns."""
+    """What help says about each command: one line for each word, none longer than a terminal of 100 columns."""
 
     def test_the_widths(self):
         for words in ((), ("--help",), ("help",), *((name, "--help") for name in COMMANDS), *((name,) for name in COMMANDS)):
@@ -306,7 +306,7 @@ class Help(OfTheProgram):
             found = described(lines)
             self.assertEqual({word: len(found.get(word, [])) for word in (*words, *options)}, dict.fromkeys((*words, *options), 1), name)
             self.assertEqual(set(found), {*words, *options, "--help"}, name)
-            # Each line below a heading is of a word: none goes on in the next.
+            # Each line below a heading is about one word. None continues on the next line.
             below = [line for line in lines if line.startswith(" ")]
             self.assertEqual(len(below), len(words) + len(options) + 1, name)
 
@@ -317,12 +317,12 @@ class Help(OfTheProgram):
         self.assertTrue({"--version", "--explain"} <= set(described(lines)))
 
     def test_no_words(self):
-        """The same is told where there is no word, or one of a command that isn't there."""
+        """The same is told if there is no word, and if the first word is a command that doesn't exist."""
         for words in ((), ("loads",)):
             self.assertIn("load", "\n".join(help_of(*words)))
 
 
-# Values off the grammar of each word of each command, beside words that are right, and what its description has to say.
+# Values off the grammar of each word of each command, beside words that are right, and what the word's description must say.
 VALUES = {
     "--operator-key": (["", "genco0001", "op-short01", "op-" + "k" * 62, "op-settle_1"], ["op-", "8 to 61 letters or digits"]),
     "--lead-minutes": (["", "1441", "-1", "60.0", "x"], ["Minutes from deadline to period", "0 to 1440", "60 if none given"]),
@@ -339,8 +339,8 @@ VALUES = {
 
 
 class WrongValues(Faults):
-    """What is told of a word that is off its grammar: which it is, how it stands, what it looks like, and how the program is
-    used. The same line describes it in help."""
+    """What is told about a word that is off its grammar: which word it is, its value, what the value should look like, and how
+    the program is used. The same line describes it in help."""
 
     GOOD = {
         "init": ["--db=new.db", f"--operator-key={OPERATOR}"],
@@ -361,7 +361,7 @@ class WrongValues(Faults):
         return [name, *good[:place], value, *good[place + 1 :]]
 
     def is_told(self, words, first):
-        """Status 2, this line and an empty one, and then how the program is used; nothing is made."""
+        """Status 2, this line and an empty one, and then how the program is used. Nothing is made."""
         made = settle(*words, cwd=self.room)
         self.is_wrong(made)
         lines = made[2].decode().split("\n")

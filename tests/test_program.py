@@ -1,4 +1,4 @@
-"""What only the built program can show: its exit statuses, its streams and the system's files."""
+"""What only the built program can show: its exit statuses, its streams, and the system's files."""
 import os
 import pathlib
 import resource
@@ -15,10 +15,10 @@ CONTRACTS_HEADER = "reference,seller,buyer,mwh\n"
 
 
 def period_of(count):
-    """The meter rows of so many accounts, and the text of their period at 50 pounds per MWh.
+    """The meter rows of this many accounts, and the text of their period at 50 pounds per MWh.
 
-    Account number k exports k kWh with no loss, and sells nothing: it is k kWh long, and is paid 5
-    pence for each. The residual is what all are paid."""
+    Account number k exports k kWh with no loss, and sells nothing. So it is k kWh long, and is paid 5 pence for each. The
+    residual is the sum of what they are paid."""
     rows = [f"U{k:05},A{k:05}-P,{k // 1000}.{k % 1000:03},1,0\n" for k in range(1, count + 1)]
     energies = [f"{k // 1000}.{k % 1000:03}0000000" for k in range(1, count + 1)]
     lines = [
@@ -49,7 +49,7 @@ class OfTheProgram(unittest.TestCase):
         return settle("period", meter, contracts, *price)
 
     def is_settled(self, made, text):
-        """Compares line by line, since a long text isn't searched for its differences in good time."""
+        """Compares line by line, because finding the differences within a long text takes too long."""
         status, written, told = made
         self.assertEqual((status, told), (0, b""))
         for number, (line, wanted) in enumerate(zip(written.splitlines(), text.encode().splitlines()), 1):
@@ -74,8 +74,9 @@ class Settled(OfTheProgram):
         self.assertEqual(settle("period", "--", meter, contracts, "-5"), (0, text, b""))
 
     def test_the_last_rows_count(self):
-        """Of a unit, and of a reference. The accounts that rows before them name are settled too."""
-        # A-C has 10 MWh, 1 of them for the system, and buys 2 of A-P: 11 MWh too much and 2 too little, at 10 pounds.
+        """The last row of a unit, and of a reference. The accounts that only earlier rows name are settled too."""
+        # A-C has 10 MWh, 1 of them for the system, and buys 2 of A-P. So there are 11 MWh too much and 2 too little, at 10
+        # pounds.
         meter, contracts = "U1,A0-P,7,1,0\nU1,A-C,10,1,1\n", "C1,A-P,A-C,5\nC1,A-P,A-C,2\n"
         text = (
             b"account A-P credited 0.0000000000 imbalance -2.0000000000 charge 2000\n"
@@ -103,7 +104,7 @@ class Settled(OfTheProgram):
 
 
 class Refused(OfTheProgram):
-    """Status 1: a line that tells why on standard error, and nothing on standard output."""
+    """Status 1: a line on standard error tells why, and nothing is written to standard output."""
 
     def refused(self, made, line):
         self.assertEqual(made, (1, b"", line.encode() + b"\n"))
@@ -130,14 +131,14 @@ class Refused(OfTheProgram):
         self.refused(self.period("", rows, "1"), "refused 36 ReferenceMoved row 3 in contracts")
 
     def test_what_is_read_first(self):
-        """METER, then the whole of CONTRACTS, then its counterparties, then PRICE."""
+        """METER is read first, then all of CONTRACTS, then its counterparties, then PRICE."""
         self.refused(self.period("U1,A-P,1,1\n", "C1,A-P,A-P,1\n", "x"), "refused 13 BadRecord row 1 in meter")
         rows = "C1,A-P,A-P,1\nC2,A-P,B-P,1.0001\n"
         self.refused(self.period("", rows, "x"), "refused 14 BadField row 2 column 4 in contracts")
         self.refused(self.period("", "C1,A-P,A-P,1\n", "x"), "refused 35 SameAccount row 1 in contracts")
 
     def test_a_charge_past_its_limit(self):
-        # Each unit gives 20,000 MWh. Five at 99,999.99999 pounds are 10^12 - 100 pence, and 10^12 may be.
+        # Each unit gives 20,000 MWh. Five at 99,999.99999 pounds are 10^12 - 100 pence, and 10^12 are allowed.
         rows = [f"U{unit},A-P,10000,2,0\n" for unit in range(6)]
         energy, pence = "100000.0000000000", 10**12 - 100
         text = f"account A-P credited {energy} imbalance {energy} charge -{pence}\nresidual {pence}\n"
@@ -183,7 +184,7 @@ class Unreadable(OfTheProgram):
         self.unreadable(str(self.room / "link.csv"))
 
     def test_a_file_of_others(self):
-        """Root may read every file, so it calls a copy of the program as nobody."""
+        """Root may read every file, so this calls a copy of the program as nobody."""
         nobody = as_nobody()
         if nobody is None:
             self.skipTest("root may read every file, and setpriv doesn't give up its rights here")
@@ -230,7 +231,7 @@ class WrongWords(OfTheProgram):
 
 
 class Streams(OfTheProgram):
-    """What the program does where a stream takes nothing, or isn't there."""
+    """What the program does if a stream takes nothing, or isn't there."""
 
     SETTLED = "period", METER, CONTRACTS, "50"
     WRONG = "period", METER, CONTRACTS, "x"
@@ -244,7 +245,7 @@ class Streams(OfTheProgram):
         self.assertEqual(self.by_shell(">/dev/full", *self.SETTLED), (1, b"", b"fault output\n"))
 
     def test_a_file_that_takes_five_bytes(self):
-        """Where the output takes a beginning and then fails, the status tells it."""
+        """If the output takes a beginning and then fails, the status tells it."""
 
         def limit():
             signal.signal(signal.SIGXFSZ, signal.SIG_IGN)

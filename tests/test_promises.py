@@ -1,5 +1,5 @@
-"""docs/promises.md: each clause that a row names stands in the contract of a function that it names, and each function
-of a row under both heads is there."""
+"""docs/promises.md: each clause that a row names is in the contract of a function that it names, and each function of a row
+under both heads exists."""
 import functools
 import re
 import unittest
@@ -14,7 +14,7 @@ CLAUSE = re.compile(r"\bensures (\w+) \{")
 
 
 def sections_of(text):
-    """The crate of each section that has one, and the section's text."""
+    """The crate of each section that has one, with the section's text."""
     parts = SECTION.split(text)[1:]
     return [(crate, re.split(r"(?m)^## ", body)[0]) for crate, body in zip(parts[::2], parts[1::2])]
 
@@ -53,7 +53,7 @@ class Promises(unittest.TestCase):
         self.assertGreater(asked, 60)
 
     def check_row(self, contracts, row):
-        """Asks for the row's functions and clauses, and answers how many clauses there are."""
+        """Checks the row's functions and clauses, and returns how many clauses there are."""
         functions = self.functions_of(contracts, row)
         clauses = [name for name in NAME.findall(row.get("Clause", "")) if name.islower()]
         known = set().union(*(contracts[name] for name in functions or contracts))
@@ -62,8 +62,8 @@ class Promises(unittest.TestCase):
         return len(clauses)
 
     def functions_of(self, contracts, row):
-        """The names of the row's functions. Under both heads each name is one, but for those of types; elsewhere a name
-        without a path may be a definition's, and a section of one function alone names none."""
+        """The names of the row's functions. Under both heads each name is a function, unless it is that of a type. Elsewhere a
+        name without a path may be a definition's, and a section about a single function names none."""
         is_clear = "Function" in row and "Clause" in row
         found = []
         for name in NAME.findall(row.get("Function", "")):

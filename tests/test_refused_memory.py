@@ -1,10 +1,10 @@
-"""Calls that are refused memory, in one process each: the first growth of memory that a call makes is refused, then the second,
-and so on until none is, beyond 300 in steps of 61. `hh_bench refuse` does it from inside, by the office's own calls, over
-tables in memory and in a database file. It looks at all that the tables tell before and behind each try, and at whether a growth
-was refused at all. The built `settle` is tried by lines of scripts, over both kinds of tables too.
+"""Calls that are refused memory, in one process each. The first growth of memory that a call makes is refused, then the second,
+and so on until none is refused. After the first 300, only every 61st is. `hh_bench refuse` does this from inside, by the office's
+own calls, over tables in memory and in a database file. It checks everything that the tables tell before and after each try, and
+whether a growth was refused at all. The built `settle` is tried by lines of scripts, also over both kinds of tables.
 
-Each try gets its right answer, or that memory was refused, and nothing is changed then. The right answers are the market's
-worked figures. A C compiler builds what refuses, `failing_malloc.c`."""
+Each try must get its right answer, or the answer that memory was refused, and then nothing may have changed. The right answers
+are the market's worked figures. The library that refuses memory, `failing_malloc.c`, is built by a C compiler."""
 import os
 import pathlib
 import re
@@ -61,8 +61,8 @@ def account_body():
 
 
 CONTRACT = '{"counterparty":"SUPCO-C","mwh":"99.000","period":1,"reference":"C1","role":"seller"}'
-# What is asked of an office, one after the other: each with its moment, and the reply. A contract of 98 MWh takes the place of
-# the market's 99 a second before its deadline, and one of 99 that of those.
+# What is asked of an office, one after the other: each with its moment and its reply. A contract of 98 MWh replaces the
+# market's 99 a second before its deadline, and then one of 99 replaces it.
 CHANGES = [
     *(
         (loaded(kind, f"f{number}.csv", rows), applied(len(rows)))
@@ -91,23 +91,23 @@ REPORTS = [
     ((0, f"report {OPERATOR} balances\n".encode()), BALANCES.replace("38", "45").encode()),
     ((0, f"report {OPERATOR} day {DAY} R3\n".encode()), reply(404, refusal(63, "NoRun"))),
 ]
-# Bytes that are no request, or none that an office has.
+# Bytes that are no request, or a request that no office has.
 REFUSED = [
     ((0, request("GET", "/nowhere", OPERATOR)), NO_ROUTE),
     ((0, request("DELETE", "/balances/SUPCO-C", OPERATOR)), reply(405, refusal(62, "BadMethod"), "Allow: GET\r\n")),
     ((0, request("POST", "/files/meters/a.csv", OPERATOR)), reply(411, refusal(64, "LengthRequired"))),
     ((0, b"GET /"), BAD),
 ]
-# What may be answered without memory: a balance, and what is forbidden, for tables in memory; and bytes that are no head.
+# What can be answered without memory: a balance, and what is forbidden, for tables in memory; and bytes that are no head.
 TAKE_NONE = [ENQUIRIES[1], ENQUIRIES[4], REFUSED[-1]]
-# The calls by which these are asked, and what is asked of each.
+# The calls by which these are asked, and what is asked by each.
 WAYS = {
     "handle": [*CHANGES, *ENQUIRIES, *REPORTS],
     "serve": [*CHANGES, *ENQUIRIES, *REFUSED],
     "together": [*CHANGES, *ENQUIRIES],
 }
-# Of two requests that are run together one may be handled where the other is refused. The tables are made anew then, which
-# takes long in a file: there a file is loaded, and an office without runs is asked.
+# If two requests are run together, one may be handled and the other refused. Then the tables are made again, which takes long
+# in a file. So over a file only a file is loaded, and an office without runs is asked.
 TOGETHER_IN_A_FILE = [
     CHANGES[0],
     asked(f"/runs/{DAY}", SUPCO, reply(200, f'{{"date":"{DAY}","runs":[]}}')),
@@ -122,7 +122,7 @@ def asked_of(way, store):
 
 
 class WithRefusals(unittest.TestCase):
-    """A test with a folder of its own and what refuses memory."""
+    """A test with a folder of its own and the library that refuses memory."""
 
     def setUp(self):
         if shutil.which("cc") is None:
@@ -158,7 +158,7 @@ class FromInside(WithRefusals):
         return made.returncode, made.stdout, made.stderr
 
     def told(self, way, how, store, library=True):
-        """For each answer the number of its call, what came of the tries of that, and its bytes."""
+        """For each answer the number of its call, what came of the tries of that call, and its bytes."""
         status, written, told = self.run_bench(self.words(way, how, store), library)
         self.assertEqual((status, told), (0, b""), (way, how, store, written[-200:]))
         found = []
@@ -172,7 +172,7 @@ class FromInside(WithRefusals):
         return found
 
     def tried(self, way, how, store, library=True):
-        """What came of the tries of each call. Each answer is the right one."""
+        """What came of the tries of each call. Each answer must be the right one."""
         found = self.told(way, how, store, library)
         times = 2 if way == "together" else 1
         wanted = [(call, answer) for call, (_, answer) in enumerate(asked_of(way, store), 1) for _ in range(times)]
@@ -183,7 +183,7 @@ class FromInside(WithRefusals):
         return "memory", str(self.room / "office.db")
 
     def sweep(self, way):
-        """Each call of a way, over both kinds of tables, with one growth refused and with all behind it."""
+        """Each call by a way, over both kinds of tables, with one growth refused and with all later ones refused as well."""
         for store in self.stores():
             for how in ("once", "on"):
                 with self.subTest(way, store=store, how=how):
@@ -203,7 +203,7 @@ class FromInside(WithRefusals):
         self.sweep("together")
 
     def test_ample_memory(self):
-        """No call tells that memory was refused where it was not, and none needs what refuses to be there."""
+        """No call tells that memory was refused if it was not, and none needs the library that refuses memory."""
         for way in WAYS:
             for store in self.stores():
                 with self.subTest(way, store=store):
@@ -219,8 +219,8 @@ class FromInside(WithRefusals):
 
 
 class FromOutside(WithRefusals):
-    """Clients of the built `settle`: the lines of its script say which growth is refused while it serves each. A line that loads
-    a file whose path tells that to the library is answered `fault file`."""
+    """Clients of the built `settle`. The lines of its script say which growth is refused while it serves each of them. A line
+    that loads a file whose path tells that to the library is answered `fault file`."""
 
     MOST = [*range(1, EACH), *range(EACH, 3_000, STEP)]
     LISTENING = re.compile(r"listening 127\.0\.0\.1:([0-9]+)\n")
@@ -235,7 +235,7 @@ class FromOutside(WithRefusals):
         return self.room / name
 
     def lines(self, how):
-        """The market is loaded and settled. Then a client is served for each growth, which is refused."""
+        """The market is loaded and settled. Then a client is served for each growth that is refused."""
         for number, (kind, rows) in enumerate(MARKET, 1):
             yield f"load {EARLY} {OPERATOR} {kind} {self.path(f'f{number}.csv', text_of(kind, rows))}"
         yield f"run {NEXT_END} {OPERATOR} {DAY} SF"
@@ -253,7 +253,7 @@ class FromOutside(WithRefusals):
         return ["--db", database]
 
     def start(self, store, how):
-        """A script that awaits the first of its clients."""
+        """A script that waits for the first of its clients."""
         self.log.unlink(missing_ok=True)
         script = self.path("script", "".join(f"{line}\n" for line in self.lines(how)).encode())
         words = [SETTLE, "script", *self.options(store), str(script)]
@@ -268,7 +268,7 @@ class FromOutside(WithRefusals):
 
     def served(self, program, place, sent):
         """The reply to the client at this place, and how many growths were refused for it. Each client has two lines in the
-        log, and its own is the second: meanwhile the program may have come to the next."""
+        log, and its own is the second. By then the program may have come to the next."""
         self.assertEqual(program.stdout.readline(), b"fault file\n")
         told = self.LISTENING.fullmatch(program.stdout.readline().decode())
         with socket.create_connection(("127.0.0.1", int(told[1])), timeout=60) as client:
@@ -278,8 +278,8 @@ class FromOutside(WithRefusals):
         return got, int(self.log.read_text().splitlines()[2 * place + 1].split()[1])
 
     def sweep(self, store, how, sent, wanted):
-        """Each reply is the right one, or tells that memory was refused where it was, or is none where memory was refused for
-        it."""
+        """Each reply is the right one; or it tells that memory was refused, if it was; or there is none, because memory for it
+        was refused."""
         program, shown = self.start(store, how), 0
         for place, number in enumerate(self.MOST):
             got, refusals = self.served(program, place, sent)

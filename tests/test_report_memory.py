@@ -1,7 +1,7 @@
 """How much memory the reports of an office in a database file take beyond what opening the file takes. They are written
-while their rows come out of the file. So it is little, and about as much for many accounts as for few.
+while their rows are read from the file. So it is little, and about the same for many accounts as for few.
 
-Each script ends with the load of a named pipe, at which the program waits for the test. The peak is read then."""
+Each script ends with the load of a named pipe, at which the program waits for the test. At this point the peak is read."""
 import contextlib
 import os
 import re
@@ -19,14 +19,14 @@ from test_reports import report
 PERIODS = 48
 PATIENCE = 120
 FEW, MANY = 10, 800
-# Kilobytes. What the system tells of a process is off by some hundreds. A program that kept the 38,400 rows of 800 accounts
-# took 15,000 more than one that only opened the file.
+# Kilobytes. What the system tells about a process is inexact by some hundreds. A program that kept the 38,400 rows of 800
+# accounts took 15,000 more than one that only opened the file.
 MOST, MOST_BETWEEN = 4096, 2048
 REFUSED = "refused 12 BadHeader"
 
 
 def accounts_of(count):
-    """So many accounts, two to a party, in their order."""
+    """This many accounts, two for each party, in their order."""
     return [(f"PARTY{number // 2:04}", number % 2) for number in range(count)]
 
 
@@ -41,7 +41,7 @@ def results_of(accounts):
 
 
 def peak_of(process):
-    """The most kilobytes of memory that a process has had so far."""
+    """The greatest memory of a process so far, in kilobytes."""
     with open(f"/proc/{process}/status", encoding="ascii") as status:
         return int(re.search(r"^VmHWM:\s*([0-9]+) kB$", status.read(), re.MULTILINE)[1])
 
@@ -53,7 +53,7 @@ class Memory(AtAFile):
         os.mkfifo(self.pipe)
 
     def settled(self, count):
-        """Makes an office with a run of so many accounts."""
+        """Makes an office with a run of this many accounts."""
         self.database = self.room / f"office{count}.db"
         self.assertEqual(self.command("init", "--operator-key", OPERATOR), (0, b"ready\n", b""))
         accounts = accounts_of(count)
@@ -65,7 +65,7 @@ class Memory(AtAFile):
         self.is_sound()
 
     def waited(self, process):
-        """The end of the pipe to which this writes, once the program reads from the other."""
+        """The end of the pipe to which this writes, after the program has begun to read from the other end."""
         ends = time.monotonic() + PATIENCE
         while process.poll() is None and time.monotonic() < ends:
             try:
@@ -76,7 +76,7 @@ class Memory(AtAFile):
         self.fail(f"the program doesn't come to the pipe; its status is {process.wait()}")
 
     def peak(self, *lines):
-        """The program's peak behind these lines of a script, in kilobytes, and what it prints for them."""
+        """The program's peak after these lines of a script, in kilobytes, and what it prints for them."""
         script = self.file("script", "".join(f"{line}\n" for line in [*lines, f"load {EARLY} {OPERATOR} meters {self.pipe}"]))
         out = self.room / "out"
         with out.open("wb") as stream:
@@ -92,7 +92,7 @@ class Memory(AtAFile):
         return peak, printed
 
     def beyond(self, count):
-        """How many kilobytes the day report and the results take beyond opening the file, for so many accounts."""
+        """How many kilobytes the day report and the results take beyond opening the file, for this many accounts."""
         self.settled(count)
         opened, printed = self.peak()
         self.assertEqual(printed, [])

@@ -1,6 +1,6 @@
-"""What the operator reads of a settled date: the day report, the results as CSV and the balances, through the
-built `settle script`. The texts in `tests/reports` were made from the figures that the market's rules give for
-the one period in which anything happens, not by the program."""
+"""What the operator reads about a settled date: the day report, the results as CSV and the balances, through the built `settle
+script`. The texts in `tests/reports` were not made by the program. They were made from the figures that the market's rules give
+for the only period in which anything happens."""
 import csv
 import io
 import subprocess
@@ -37,7 +37,7 @@ class Reports(Desk):
     """What is printed between two lines' answers is the report, and nothing else."""
 
     def written(self, *lines):
-        """What is printed for these lines once the market is loaded and its date settled."""
+        """What is printed for these lines after the market is loaded and its date settled."""
         found = self.after_market(self.order("SF", END), *lines)
         self.assertEqual(found[0], SETTLED)
         return "".join(f"{line}\n" for line in found[1:])
@@ -66,7 +66,7 @@ class Reports(Desk):
         self.assertEqual(self.written(*lines), DAY_REPORT + BALANCES + RESULTS + DAY_REPORT + BALANCES)
 
     def test_a_later_run(self):
-        """It has reports of its own. Those of the first stay, and the balances are what both have posted."""
+        """It has reports of its own. Those of the first stay as they are, and the balances are what both runs have posted."""
         moved = BALANCES.replace("38", "45")
         lines = [self.dearer(), self.order("R1"), report("csv"), report("day"), balances()]
         self.assertEqual(self.written(*lines), f"{APPLIED}\n{DEARER}\n" + RESULTS + DAY_REPORT + moved)
@@ -78,7 +78,7 @@ class Reports(Desk):
         self.assertEqual({row["kind"] for row in rows}, {"R1"})
 
     def test_a_party_more(self):
-        """Its rows stand in the order of accounts; a run before it joined does not show it."""
+        """Its rows are in the order of accounts. A run before it joined does not show it."""
         found = self.written(*self.joined(), report("day", "R1"), balances())
         lines = found.splitlines()[4:]
         self.assertEqual(lines[0], f"DAY REPORT {DAY} R1")
@@ -94,7 +94,7 @@ class Reports(Desk):
         self.assertEqual(self.written(*self.joined(), report("day")).split("\n", 4)[4], DAY_REPORT)
 
     def test_charges_with_shares_sum_to_zero(self):
-        """As the results load into a reader of CSV, by period and in all."""
+        """As the results are read by a reader of CSV, in each period and in all."""
         sums = {}
         for row in csv.DictReader(io.StringIO(self.written(report("csv")))):
             sums[row["period"]] = sums.get(row["period"], 0) + int(row["charge"]) + int(row["share"])
@@ -106,7 +106,7 @@ class Reports(Desk):
         self.assertEqual(self.written(*lines), f"{NO_RUN}\n" * 4)
 
     def test_keys(self):
-        """A party's key is refused before it is asked whether the run is there, and so is nobody's."""
+        """A party's key is refused before it is asked whether the run exists, and so is a key that nobody has."""
         for key in ("genco0001", "nobody001", "op-nobody001"):
             lines = [report("day", key=key), report("csv", key=key), report("day", "R3", key=key), balances(key)]
             self.assertEqual(self.written(*lines), f"{FORBIDDEN}\n" * 4)
@@ -142,7 +142,7 @@ class Reports(Desk):
                 self.is_wrong(self.run_script(f"{balances()}\n{line}\n"), 2)
 
     def test_an_output_that_takes_a_part(self):
-        """The first bytes of the report go out and no others; the script stops, and the fault is told."""
+        """The first bytes of the report are written and no others. The script stops, and the fault is told."""
         text = "".join(f"{line}\n" for line in [*self.market(), self.order("SF", END), report("day"), balances()])
         whole = ("\n".join([*LOADED, SETTLED]) + "\n" + DAY_REPORT).encode()
         for size in (0, 512, 1024, 20_480):

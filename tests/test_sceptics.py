@@ -1,4 +1,4 @@
-"""Each wrong body that docs/sceptics.md names is there, and turns the function that the page names."""
+"""Each wrong body that docs/sceptics.md names exists, and changes the function that the page names."""
 import re
 import unittest
 
@@ -10,7 +10,7 @@ FUNCTION = re.compile(r"\bfn (\w+)")
 
 
 def turned_by(edit):
-    """The name of the last function that begins before the text that an edit turns."""
+    """The name of the last function that begins before the text that an edit changes."""
     fields = dict(line.split(": ", 1) for line in edit.read_text(encoding="utf-8").splitlines())
     source = (edit.parent.parent / fields["file"]).read_text(encoding="utf-8")
     return FUNCTION.findall(source[: source.index(fields["old"])])[-1]

@@ -1,5 +1,5 @@
-"""What a client of the office meets over the loopback: a script serves connections, and each request is answered
-by one reply, whose bytes are known."""
+"""What a client of the office meets over the loopback interface. A script serves connections, and each request is answered by
+one reply, whose bytes are known."""
 import concurrent.futures
 import contextlib
 import json
@@ -45,7 +45,7 @@ def reply(status, body, line=""):
 
 
 def refusal(number, name, ahead="", behind=""):
-    """The body of a refusal, with what stands before its name and behind its number."""
+    """The body of a refusal, with the text before its name and after its number."""
     return f'{{{ahead}"name":"{name}","refused":{number}{behind}}}'
 
 
@@ -63,18 +63,18 @@ class Served(Desk):
         self.addCleanup(self.stop)
 
     def stop(self):
-        """Ends a script that awaits connections still."""
+        """Ends a script that still awaits connections."""
         if self.program is not None and self.program.poll() is None:
             self.program.kill()
         if self.program is not None:
             self.program.communicate()
 
     def serve(self, count, *lines, moment=NEXT_END, before=None, operator=OPERATOR):
-        """Begins a script that serves so many connections and then runs these lines, and reads where it listens."""
+        """Begins a script that serves this many connections and then runs these lines, and reads where it listens."""
         before = [*self.market(), self.order("SF", END), self.dearer(), self.order("R1")] if before is None else before
         script = "".join(f"{line}\n" for line in [*before, f"serve {moment} 0 {count}", *lines])
         words = [SETTLE, "script", "--operator-key", operator, self.file("served.script", script)]
-        # Without a buffer, in which lines that were written early would be kept from `rest`.
+        # Without a buffer, because a buffer would keep lines from `rest` that were written early.
         self.program = subprocess.Popen(words, bufsize=0, stdout=subprocess.PIPE, stderr=subprocess.PIPE)
         for _ in before:
             self.program.stdout.readline()
@@ -83,7 +83,7 @@ class Served(Desk):
         self.port = int(told.strip().rpartition(":")[2])
 
     def rest(self):
-        """What the script prints once it has served, when it ends with status 0."""
+        """What the script prints after it has served, if it ends with status 0."""
         written, told = self.program.communicate(timeout=60)
         self.assertEqual((self.program.returncode, told), (0, b""))
         return written.decode().splitlines()
@@ -92,7 +92,7 @@ class Served(Desk):
         return socket.create_connection(("127.0.0.1", self.port), timeout=30)
 
     def ask(self, *pieces, end=False):
-        """The reply to a request that is sent in these pieces, without an end of what is sent where none is asked."""
+        """The reply to a request that is sent in these pieces. The end of the input is sent unless that is not wanted."""
         with self.connect() as client:
             for piece in pieces:
                 client.sendall(piece)
@@ -172,7 +172,7 @@ class Replies(Served):
             self.assertEqual(body["contracts"], [dict(zip(names, row)) for row in found], account)
 
     def test_keys(self):
-        """The operator asks for any account, and a party for its own two; others are refused alike."""
+        """The operator asks about any account, and a party about its own two. Other enquiries are all refused in the same way."""
         cases = [
             (OPERATOR, "GENCO-P", True),
             (OPERATOR, "NOONE-P", True),
@@ -197,7 +197,8 @@ class Replies(Served):
         self.assertEqual(self.ask(request("GET", f"/runs/{DAY}", OPERATOR)), reply(200, RUNS))
 
     def test_the_longest_keys(self):
-        """64 bytes open an account, whether a party's or the operator's; a byte more or less opens none."""
+        """A key of 64 bytes opens an account, whether it is a party's or the operator's. With one byte more or one fewer it
+        opens none."""
         longest, operator = "k" * 64, "op-" + "K" * 61
         before = [self.load("parties", f"GENCO,2024-01-01,,{longest}", key=operator)]
         opened, closed = reply(200, '{"account":"GENCO-P","moved_pence":0}'), reply(403, refusal(60, "Forbidden"))
@@ -221,7 +222,7 @@ class Replies(Served):
         self.assertEqual(self.rest(), [])
 
     def test_a_party_that_has_joined(self):
-        """Its own account by the run after it joined; 63 by the one before."""
+        """Its own account by the run after it joined, and 63 by the run before."""
         readings = [f"N1,{DAY},1,10.000,1.0000000,0"] + [f"N1,{DAY},{period},0,1,0" for period in IDLE]
         joins = [
             self.load("parties", "NEWCO,2024-01-01,,newco0001"),
@@ -238,7 +239,7 @@ class Replies(Served):
         self.assertEqual((first["credited"], first["charge_pence"], first["share_pence"]), ("10.0000000000", -50_000, 2_647))
 
     def test_an_account(self):
-        """By the latest run of the date, R1: in period 1 at 60 pounds, in the others nothing."""
+        """By the latest run of the date, R1: figures in period 1 at 60 pounds, and nothing in the others."""
 
         def period(number, credited, contracts, imbalance, charge, share):
             return (
@@ -256,9 +257,9 @@ class Replies(Served):
         self.assertEqual(self.ask(request("GET", "/accounts/NOBODY-P/2024-07-01", OPERATOR)), none)
 
     def test_large_nets(self):
-        """GENCO-P sells SUPCO-C 100,000 MWh in each period by ten contracts, and nobody meters any. At 99,999.99999
-        pounds that costs 9,999,999,999 pounds, which is 999,999,999,900 pence, in each of 48 periods; R1 turns the sign
-        of the price, so that it posts twice the net."""
+        """GENCO-P sells SUPCO-C 100,000 MWh in each period by ten contracts, and nobody meters any. At 99,999.99999 pounds that
+        costs 9,999,999,999 pounds, which is 999,999,999,900 pence, in each of 48 periods. R1 changes the sign of the price, so
+        that it posts twice the net."""
         charge, net = 999_999_999_900, 47_999_999_995_200
         self.assertEqual((100_000 * 9_999_999_999 * 100, 48 * charge), (charge * 100_000, net))
         numbers = range(1, 49)
@@ -291,7 +292,7 @@ class Replies(Served):
         self.assertEqual(printed[2 + 48 * 5 :], wanted)
 
     def test_a_large_balance(self):
-        """GENCO-P sells as much on three dates, which comes to 143,999,999,985,600 pence: more than one date may come to."""
+        """GENCO-P sells as much on three dates, which sums to 143,999,999,985,600 pence: more than one date may have."""
         net = 47_999_999_995_200
         self.assertGreater(3 * net, 10**14)
         numbers, before, over = range(1, 49), [self.load(*MARKET[0], "parties.csv")], NEXT_END + 86_400
@@ -308,7 +309,7 @@ class Replies(Served):
         self.assertEqual(self.rest(), ["account,moved_pence", *(f"{account},{moved}" for account, moved in balances.items())])
 
     def test_files_are_loaded(self):
-        """What clients send and what the script's lines load comes into one office."""
+        """Files from clients and files that the script's lines load go into the same office."""
         rows = text_of("contracts", [f"C2,GENCO-P,SUPCO-C,{DAY},2,1.000"])
         changed = rows.replace(b"1.000", b"2.000")
         bad = text_of("contracts", [f"C3,GENCO-P,SUPCO-C,{DAY},2,1.000", f"C4,GENCO-P,GENCO-P,{DAY},2,1.000"])
@@ -341,7 +342,7 @@ class Replies(Served):
         self.assertEqual(self.rest(), [SETTLED])
 
     def test_a_reading_is_missing(self):
-        """The unit and the period are told, in the order of their names' bytes."""
+        """The unit and the period are told. The first unit by the bytes of the names is told."""
         prices = [f"2024-07-02,{period},0" for period in range(1, 49)]
         self.serve(1, before=[*self.market(), self.load("prices", prices, "later.csv")])
         body = '{"name":"MissingMeter","period":1,"refused":54,"unit":"G1"}'
@@ -363,8 +364,7 @@ class Replies(Served):
 
 
 class Refusals(Served):
-    """Which refusal is the reply, of all that there may be. No key is sent, so that what is asked of the office is
-    forbidden."""
+    """Which refusal is the reply, if several apply. No key is sent, so what is asked of the office is forbidden."""
 
     ASKED = reply(403, refusal(60, "Forbidden"))
     LENGTH = reply(411, refusal(64, "LengthRequired"))
@@ -409,7 +409,7 @@ class Refusals(Served):
         self.compare([(self.sent(start), NO_ROUTE) for start in starts])
 
     def test_other_methods(self):
-        """Each path is told with the one method that it has."""
+        """Each path is told with the only method that it has."""
         starts = (
             (b"DELETE /balances/SUPCO-C", "GET"),
             (b"get /balances/SUPCO-C", "GET"),
@@ -422,7 +422,7 @@ class Refusals(Served):
         self.compare([(self.sent(start), self.method(allowed)) for start, allowed in starts])
 
     def test_a_head_alone(self):
-        """HEAD gets the head of the reply, once it is known that it is asked."""
+        """HEAD gets only the head of the reply, once it is known that the method is HEAD."""
         cases = (
             (b"HEAD /runs/2024-07-01", b"", self.method("GET"), True),
             (b"HEAD /nowhere", b"", NO_ROUTE, True),
@@ -482,12 +482,12 @@ class Refusals(Served):
 
 
 class Bytes(Served):
-    """However a request is cut, and whatever is wrong with it."""
+    """However a request is divided, and whatever is wrong with it."""
 
     ASKED = request("GET", "/balances/SUPCO-C", SUPCO)
 
     def test_cut_after_each_byte(self):
-        """Bad, once its end is seen; nothing is replied to nothing."""
+        """Bad, once its end is seen. Nothing is replied if nothing came."""
         self.serve(len(self.ASKED))
         self.assertEqual(self.ask(b"", end=True), b"")
         for size in range(1, len(self.ASKED)):
@@ -500,7 +500,7 @@ class Bytes(Served):
             self.assertEqual(self.ask_in(size, self.ASKED), reply(200, MOVED), size)
 
     def ask_in(self, size, asked):
-        """The reply to a request that is sent in pieces of so many bytes."""
+        """The reply to a request that is sent in pieces of this size."""
         return self.ask(*(asked[start : start + size] for start in range(0, len(asked), size)))
 
     def test_refused_in_pieces(self):
@@ -526,7 +526,7 @@ class Bytes(Served):
         self.assertEqual(self.ask(asked + b"what stands behind it"), reply(200, '{"applied":1,"late":0}'))
 
     def test_lengths(self):
-        """One byte too many is told before the body is read, and a length may have any number of digits."""
+        """One byte too many is told before the body is read. A length may have any number of digits."""
 
         def ask(length, body=b""):
             return self.ask(request("POST", "/files/meters/a.csv", OPERATOR, headers=[f"Content-Length: {length}"]) + body)
@@ -574,7 +574,7 @@ class Bytes(Served):
 
 
 class Clients(Served):
-    """A connection that fails ends itself alone."""
+    """A connection that fails ends only itself."""
 
     def test_one_that_resets(self):
         self.serve(3)
@@ -587,7 +587,7 @@ class Clients(Served):
         self.assertEqual(self.rest(), [])
 
     def test_one_that_only_connects(self):
-        """It is one of those that are served, and gets no reply."""
+        """It counts as one of those that are served, and gets no reply."""
         self.serve(3)
         for _ in range(2):
             self.assertEqual(self.ask(end=True), b"")
@@ -595,7 +595,7 @@ class Clients(Served):
         self.assertEqual(self.rest(), [])
 
     def test_one_that_never_reads_nor_closes(self):
-        """The next is answered all the same."""
+        """The next is still answered."""
         self.serve(2)
         with self.connect() as silent:
             silent.sendall(request("GET", f"/accounts/GENCO-P/{DAY}", GENCO))
@@ -603,7 +603,7 @@ class Clients(Served):
             self.assertEqual(self.rest(), [])
 
     def test_one_that_sends_on(self):
-        """It has its reply before it is done with sending."""
+        """It has its reply before it has sent everything."""
         self.serve(1)
         with self.connect() as client:
             client.sendall(request("GET", "/balances/SUPCO-C", SUPCO))
@@ -616,7 +616,7 @@ class Clients(Served):
         self.assertEqual(self.rest(), [])
 
     def test_one_that_sends_more_than_its_request(self):
-        """It gets its reply, though most of what it sends is never asked for."""
+        """It gets its reply, although most of what it sends is never read as a request."""
         self.serve(20)
         for size in (1, 8_192, 100_000, 1_000_000):
             for _ in range(5):
@@ -624,8 +624,7 @@ class Clients(Served):
         self.assertEqual(self.rest(), [])
 
     def test_one_that_stalls(self):
-        """It sends half a head and then nothing. After ten seconds it is given up without a reply, and the next is
-        answered."""
+        """It sends half a head and then nothing. After ten seconds it is dropped without a reply, and the next is answered."""
         self.serve(2)
         with self.connect() as stalled:
             stalled.sendall(b"GET /balances/SUPCO-C HTTP/1.1\r\nHost: lo")
@@ -637,7 +636,8 @@ class Clients(Served):
         self.assertEqual(self.rest(), [])
 
     def send_on(self, client, piece, count):
-        """Sends a piece over and over, each by itself, so often or until it is taken no more. How often it was sent."""
+        """Sends a piece over and over, each by itself, up to a number of times or until no more is taken. Returns how often it
+        was sent."""
         client.setsockopt(socket.IPPROTO_TCP, socket.TCP_NODELAY, 1)
         for sent in range(count):
             try:
@@ -648,8 +648,8 @@ class Clients(Served):
         return count
 
     def test_one_that_sends_byte_by_byte(self):
-        """A client is read 4,096 times in all. One whose body comes a byte at a time is given up then, without a reply, and
-        isn't read on; the next is answered."""
+        """A client is read at most 4,096 times. If its body comes one byte at a time, it is dropped then, without a reply, and
+        isn't read further. The next is answered."""
         self.serve(2)
         with self.connect() as slow:
             slow.sendall(request("POST", "/files/prices/slow.csv", OPERATOR, headers=["Content-Length: 1048576"]))
@@ -663,7 +663,7 @@ class Clients(Served):
         self.assertEqual(self.rest(), [])
 
     def test_one_that_sends_on_byte_by_byte(self):
-        """What is read of it behind its reply is among the 4,096 reads."""
+        """What is read from it after its reply counts among the 4,096 reads."""
         self.serve(2)
         with self.connect() as client:
             client.sendall(request("POST", "/files/prices/slow.csv", OPERATOR, headers=["Content-Length: 1048577"]))
@@ -674,8 +674,8 @@ class Clients(Served):
         self.assertEqual(self.rest(), [])
 
     def test_a_file_in_little_pieces(self):
-        """The largest file comes in 3,496 pieces of 300 bytes, and each of its rows is loaded, which stand all over it: empty
-        lines are behind each."""
+        """The largest file comes in 3,496 pieces of 300 bytes. Each of its rows is loaded. They are all over the file, with
+        empty lines after each."""
         rows = [f"C{number},GENCO-P,SUPCO-C,{DAY},1,0" for number in range(1_000)]
         body = b"".join(line.ljust(1_000, b"\n") for line in text_of("contracts", rows).splitlines())
         body = body.ljust(1_048_576, b"\n")
@@ -690,7 +690,7 @@ class Clients(Served):
         self.assertEqual(self.rest(), [])
 
     def test_closing_is_quick(self):
-        """A client that closes when it has its reply lets the next be answered at once: no silence is awaited."""
+        """If a client closes when it has its reply, the next is answered at once: no silence is awaited."""
         self.serve(20)
         began = time.monotonic()
         for _ in range(20):
@@ -698,7 +698,7 @@ class Clients(Served):
         self.assertLess(time.monotonic() - began, 5)
 
     def test_three_hundred(self):
-        """One line serves them all, and not one more."""
+        """One line serves them all, and no more."""
         self.serve(300)
         for number in range(300):
             self.assertEqual(self.ask(request("GET", f"/runs/{DAY}", GENCO)), reply(200, RUNS), number)
@@ -726,10 +726,10 @@ class Clients(Served):
 
 
 class Waits(Served):
-    """How long one client holds up the next. Each is tried on a service of its own, and all at the same time."""
+    """How long one client delays the next. Each kind is tried on a service of its own, and all at the same time."""
 
     def begin_service(self, before=None):
-        """Begins a service that ends with the test. Its port."""
+        """Begins a service that ends with the test. Returns its port."""
         self.serve(1_000, before=before)
         self.addCleanup(self.program.communicate)
         self.addCleanup(self.program.kill)
@@ -737,18 +737,18 @@ class Waits(Served):
         return port
 
     def many_contracts(self):
-        """Lines that load as many contracts as make a reply of five megabytes."""
+        """Lines that load enough contracts for a reply of five megabytes."""
         rows = [f"C{number},GENCO-P,SUPCO-C,{DAY},1,0" for number in range(60_000)]
         return [*self.market(), *(self.load("contracts", rows[at : at + 20_000], f"c{at}.csv") for at in range(0, 60_000, 20_000))]
 
     def waited(self, port, hold, count=1):
-        """How many seconds a client waits for its reply behind so many that hold the service, each in its way. None of
-        them gets more than what it has read itself."""
+        """How many seconds a client waits for its reply after this many clients that hold the service, each in its way. Each of
+        them gets no more than what it has read itself."""
         clients = []
         for _ in range(count):
             clients.append(socket.socket())
             clients[-1].settimeout(60)
-            # Little room, so that a long reply doesn't go out at once.
+            # Little room, so that a long reply isn't sent at once.
             clients[-1].setsockopt(socket.SOL_SOCKET, socket.SO_RCVBUF, 4_096)
             clients[-1].connect(("127.0.0.1", port))
         began = time.monotonic()
@@ -764,16 +764,16 @@ class Waits(Served):
         return waited
 
     def waits_of(self, services):
-        """How long the next waits at each of these services, at the same time."""
+        """How long the next client waits at each of these services, at the same time."""
         with concurrent.futures.ThreadPoolExecutor(len(services)) as pool:
             return list(pool.map(lambda service: self.waited(*service), services))
 
     def says_nothing(self, client):
-        """It is given up without a reply."""
+        """It is dropped without a reply."""
         self.assertEqual(self.read(client), b"")
 
     def sends_now_and_then(self, client, pause=2):
-        """It sends a byte every two seconds, until it is given up, without a reply."""
+        """It sends a byte every two seconds, until it is dropped without a reply."""
         client.sendall(b"GET /balances/SUPCO-C HTTP/1.1\r\nHost: localhost\r\nx: ")
         self.goes_on(client, pause)
         with contextlib.suppress(ConnectionError):
@@ -788,13 +788,13 @@ class Waits(Served):
             self.fail("it may send on for a minute")
 
     def sends_on(self, client):
-        """It has its refusal, and sends on."""
+        """It has its refusal, and continues to send."""
         client.sendall(request("POST", "/files/prices/slow.csv", OPERATOR, headers=["Content-Length: 1048577"]))
         self.assertEqual(self.read(client), TOO_LARGE)
         self.goes_on(client, 0.3)
 
     def reads_slowly(self, client):
-        """It reads its reply in little pieces, and is given up before it has the whole of it."""
+        """It reads its reply in little pieces, and is dropped before it has all of it."""
         client.sendall(request("GET", f"/contracts/GENCO-P/{DAY}", GENCO))
         begun = self.read_slowly(client)
         head, _, body = begun.partition(b"\r\n\r\n")
@@ -806,7 +806,7 @@ class Waits(Served):
         with contextlib.suppress(ConnectionError):
             while piece := client.recv(4_096):
                 got += piece
-                # (what was sent before it was given up comes all at once)
+                # (what was sent before it was dropped comes all at once)
                 time.sleep(0.15 if time.monotonic() - began < 33 else 0)
         return got
 
@@ -814,7 +814,7 @@ class Waits(Served):
         services = [(self.begin_service(), hold, count) for hold, count in ((self.says_nothing, 3), (self.sends_now_and_then, 1), (self.sends_on, 1))]
         services.append((self.begin_service(self.many_contracts()), self.reads_slowly, 1))
         waits = self.waits_of(services)
-        # Three that say nothing are awaited for ten seconds each.
+        # Three silent clients are awaited for ten seconds each.
         for wait in waits:
             self.assertTrue(29 < wait < 40, waits)
 
@@ -838,7 +838,7 @@ class Ports(Served):
         self.assertEqual(self.rest(), [SETTLED])
 
     def test_one_address_alone(self):
-        """The office listens on 127.0.0.1, and not on each address that leads to this machine."""
+        """The office listens on 127.0.0.1, and not on every address of this machine."""
         self.serve(1)
         with self.assertRaises(ConnectionRefusedError):
             socket.create_connection(("127.0.0.2", self.port), timeout=10)
@@ -865,7 +865,7 @@ class Ports(Served):
         self.assertEqual(told, [f"listening 127.0.0.1:{self.port}"])
 
     def test_a_moment_of_its_own(self):
-        """A request comes at the moment of the line that serves."""
+        """A request counts at the moment of the line that serves."""
         late = text_of("contracts", [f"C1,GENCO-P,SUPCO-C,{DAY},1,1.000"])
         self.serve(1, moment=END, before=self.market())
         body = '{"applied":0,"late":1}'

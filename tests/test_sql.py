@@ -1,5 +1,5 @@
-"""docs/sql.md: the tables that it lists are those that an office's database is made with, and what its questions find in
-rows that are put into such tables."""
+"""docs/sql.md: the tables that it lists are those with which an office's database is made, and what its questions find in rows
+that are written into such tables."""
 import datetime
 import re
 import sqlite3
@@ -49,7 +49,7 @@ class Questions(unittest.TestCase):
                 self.assertEqual(NAME.findall(others), [column[1] for column in columns if not column[5]])
 
     def test_credits(self):
-        """Those of two periods are one row; another run and another date are none of it."""
+        """Those of two periods are one row. Another run and another date are not included."""
         self.put("credits", (DAY, SF, 1, "G1", "GENCO", P, 3 * MWH), (DAY, SF, 2, "G1", "GENCO", P, -MWH // 2), (DAY, SF, 1, "G1", "SUPCO", C, 7))
         self.put("credits", (DAY, R1, 1, "G1", "GENCO", P, 1), (DAY + 1, SF, 1, "G1", "GENCO", P, 1))
         self.finds("Each unit's credits of a run", ("G1", "GENCO-P", 5 * MWH // 2, 2.5), ("G1", "SUPCO-C", 7, 0.0))
@@ -59,8 +59,8 @@ class Questions(unittest.TestCase):
         self.finds("What R1 posted to whom", ("GENCO-P", 7), ("SUPCO-C", -7))
 
     def test_who_was_long(self):
-        """In period 1 of SF: 0.5 MWh too much at 50 pounds are 2,500 pence, which the account is paid. Another period, run
-        and date are none of it."""
+        """In period 1 of SF, 0.5 MWh too much at 50 pounds are 2,500 pence, which the account is paid. Another period, run and
+        date are not included."""
         self.put("prices", (DAY, 1, 50 * 10**5), (DAY, 2, 7), (DAY + 1, 1, 7))
         self.put("results", (DAY, SF, 1, "GENCO", P, 0, 0, 0, MWH // 2, -2500, 0), (DAY, SF, 1, "GENCO", C, 0, 0, 0, 0, 0, 0))
         self.put("results", (DAY, SF, 1, "SUPCO", C, 0, 0, 0, -MWH, 5000, 0), (DAY, SF, 2, "SUPCO", P, 0, 0, 0, MWH, 0, 0))
@@ -73,7 +73,7 @@ class Questions(unittest.TestCase):
         )
 
     def test_missing_readings(self):
-        """Of a unit that belongs to the date, and of no other."""
+        """For a unit that belongs to the date, and for no other."""
         self.put("units", ("G1", "GENCO", P, 0, DAY, DAY), ("G2", "GENCO", P, 0, DAY + 1, DAY + 9), ("S1", "SUPCO", C, 0, DAY - 9, DAY + 9))
         self.put("meters", *(("G1", DAY, period, 0, 0, 0) for period in range(1, 49) if period not in (3, 48)))
         self.put("meters", *(("S1", day, period, 0, 0, 0) for day in (DAY, DAY + 1) for period in range(1, 49) if (day, period) != (DAY, 3)))
@@ -84,7 +84,7 @@ class Questions(unittest.TestCase):
         self.finds("Files with rows that came too late", ("contracts", "a.csv", 0, 1), ("contracts", "b.csv", 3, 3))
 
     def test_postings_and_nets(self):
-        """By the latest run of each of two dates; a penny too much is shown."""
+        """By the latest run of each of two dates. If a posting is a penny too much, that is shown."""
         heading = "Whether the postings come to the nets"
         self.put("runs", (DAY, SF, 48, 1, 0, 1), (DAY, R1, 48, 1, 0, 1), (DAY + 1, SF, 48, 1, 0, 1))
         for day, kind, charge in ((DAY, SF, 38), (DAY, R1, 45), (DAY + 1, SF, -5)):

@@ -1,5 +1,5 @@
-"""`settle script --strict` stops behind the first line that is refused or meets a fault. It tells that line and ends with
-status 1; what was done before stays, and nothing of the lines behind is done. Over a new office and over a database."""
+"""`settle script --strict` stops after the first line that is refused or meets a fault. It tells that line and ends with status
+1. What was done before is kept, and nothing of the later lines is done. It is tested over a new office and over a database."""
 import socket
 import subprocess
 import unittest
@@ -14,15 +14,15 @@ from test_serving import BAD, refusal, reply, request
 
 
 def stopped(number, *written):
-    """How a strict script ends that a line stops, and what was written by then."""
+    """How a strict script ends if a line stops it, and what was written until then."""
     return 1, "".join(f"{line}\n" for line in written).encode(), f"line {number} stopped the script\n".encode()
 
 
 class Strict(Faults):
-    """A test with scripts, some of which have lines that stop them."""
+    """A test with scripts. Some of them have lines that stop them."""
 
     def stops(self):
-        """A line of each kind that stops a strict script behind the market, with what it writes."""
+        """A line of each kind that stops a strict script after the market, with what it writes."""
         taken = self.taken_port()
         folder = self.room / "folder.csv"
         folder.mkdir(exist_ok=True)
@@ -56,7 +56,7 @@ class NewOffice(Strict):
     """Over tables in memory."""
 
     def test_each_stop(self):
-        """The first line behind the market, in its midst, and the last."""
+        """The first line after the market, one in the middle, and the last."""
         market = self.market()
         for line, text in self.stops():
             with self.subTest(line):
@@ -71,7 +71,7 @@ class NewOffice(Strict):
         self.assertEqual(self.strictly(*self.market(), *lines), stopped(6, *LOADED, self.stops()[0][1]))
 
     def test_none(self):
-        """Late rows, repeats and runs that are there stop nothing: the script ends as without the option."""
+        """Late rows, repeats and runs that exist already stop nothing: the script ends as without the option."""
         late = self.load("contracts", f"C1,GENCO-P,SUPCO-C,{DAY},1,1.000", "late.csv", DEADLINE)
         lines = [*self.market(), late, late, self.order("SF"), self.order("SF"), report("day"), balances(), "serve 5 0 0"]
         text = "".join(f"{line}\n" for line in lines)
@@ -98,14 +98,14 @@ class NewOffice(Strict):
             self.assertNotIn(b"stopped", plain[2])
 
     def test_an_output_that_takes_nothing(self):
-        """That goes first."""
+        """That comes first."""
         script = self.file("script", f"{self.order('R1')}\n")
         call = ["sh", "-c", '"$@" >/dev/full', "sh", SETTLE, "script", "--strict", "--operator-key", OPERATOR, script]
         made = subprocess.run(call, capture_output=True)
         self.assertEqual((made.returncode, made.stdout, made.stderr), (1, b"", b"fault output\n"))
 
     def test_explained(self):
-        """The explanation stands before the line that stopped the script. Without a refusal nothing stops it."""
+        """The explanation comes before the line that stopped the script. Without a refusal nothing stops it."""
         bad = self.load("prices", f"{DAY},49,1", "bad.csv")
         late = self.load("contracts", f"C1,GENCO-P,SUPCO-C,{DAY},1,1.000", "late.csv", DEADLINE)
         status, written, told = self.strictly(*self.market(), late, bad, self.order("SF"), options=("--explain",))
@@ -118,7 +118,7 @@ class NewOffice(Strict):
         self.assertEqual(told.decode().splitlines(), wanted)
 
     def test_what_clients_are_refused(self):
-        """It is no refusal of the line: the script goes on behind it, and nothing is told or explained."""
+        """It is no refusal of the line: the script goes on, and nothing is told or explained."""
         lines = [*self.market(), f"serve {NEXT_END} 0 2", balances()]
         words = [SETTLE, "script", "--strict", "--explain", "--operator-key", OPERATOR, self.file("served", "".join(f"{line}\n" for line in lines))]
         with subprocess.Popen(words, bufsize=0, stdout=subprocess.PIPE, stderr=subprocess.PIPE) as begun:
@@ -135,10 +135,10 @@ class NewOffice(Strict):
 
 
 class Database(Strict):
-    """Over an office in a file: the lines before the one that stops the script are kept, and those behind it aren't run."""
+    """Over an office in a file: the lines before the one that stops the script are kept, and those after it aren't run."""
 
     def test_each_stop(self):
-        """A price before, and one behind."""
+        """With one price before it, and one after it."""
         for number, (line, text) in enumerate(self.stops()):
             before = self.load("prices", f"{DAY},2,{number + 1}.00000", f"before{number}.csv")
             behind = self.load("prices", f"{DAY},2,99.00000", f"behind{number}.csv")
@@ -154,7 +154,7 @@ class Database(Strict):
         self.assertEqual(content_of(self.database), before)
 
     def test_again_once_it_is_mended(self):
-        """The same script with its bad line mended: what was done before is told as it was, and the rest is done."""
+        """The same script after its bad line is mended: what was done before is told as it was, and the rest is done."""
         bad = self.load("prices", f"{DAY},49,60.00000", "p2.csv")
         lines = [self.order("SF"), bad, self.order("R1")]
         self.assertEqual(self.strictly_at(*lines), stopped(2, SETTLED, "refused 34 NoSuchPeriod row 1"))
@@ -170,7 +170,7 @@ class Database(Strict):
         self.assertEqual(self.strictly_at(*lines), plain)
 
     def test_what_stops_before_the_lines(self):
-        """It goes first, and the option changes nothing of it."""
+        """That comes first, and the option makes no difference."""
         missing = self.room / "missing.db"
         other = self.room / "other.db"
         other.write_bytes(b"no database")
@@ -186,7 +186,7 @@ class Database(Strict):
 
 
 class WrongWords(Strict):
-    """`--strict` is an option of `script` alone, and comes behind that word."""
+    """`--strict` is an option of `script` only, and comes after that word."""
 
     def test_other_commands(self):
         before = content_of(self.database)
@@ -208,7 +208,7 @@ class WrongWords(Strict):
         self.is_wrong(settle("script", "--strict", "yes", "--operator-key", OPERATOR, self.script))
 
     def test_each_place(self):
-        """Before, between and behind the other words, and twice."""
+        """Before, between and after the other words, and twice."""
         script = self.file("strict", f"{self.order('R1')}\n{balances()}\n")
         words = ["--operator-key", OPERATOR, "--lead-minutes=5", script]
         wanted = stopped(1, "refused 51 NoInitialRun")
@@ -225,7 +225,7 @@ class WrongWords(Strict):
         self.assertEqual(made, stopped(1, "refused 51 NoInitialRun"))
 
 
-# What the balances are of the market before any run.
+# The balances of the market before any run.
 BALANCES_OF_NOTHING = ["account,moved_pence", "GENCO-P,0", "GENCO-C,0", "SUPCO-P,0", "SUPCO-C,0"]
 
 

@@ -1,5 +1,5 @@
-"""The week of `examples/week`, over an office in a file: what is told of each line, what its runs settle, and the picture
-that is drawn of it. Which rows come late is found here by the rule of the clocks. All figures are those of
+"""The week of `examples/week`, over an office in a file: what is told for each line, what its runs settle, and the picture that
+is drawn of it. Which rows come late is computed here by the rule of the clocks. All figures are those of
 `bench/peer_office.py`, which is given the other rows."""
 import contextlib
 import csv
@@ -24,7 +24,7 @@ KEY = "op-market001"
 DATES = [f"2024-10-{day}" for day in range(21, 28)]
 COUNTS = [48] * 6 + [50]
 CORRECTED = "2024-10-24"
-# By kind, the column of a row's date; its period comes next.
+# The column of a row's date, by kind. Its period is in the next column.
 DEADLINES = {"contracts": 3, "reallocations": 2}
 LEAD = 3600
 HEADER = "date,kind,account,period,credited,balancing,contracts,imbalance,charge,share\n"
@@ -33,14 +33,14 @@ SVG = "{http://www.w3.org/2000/svg}"
 
 
 def last_sunday(year, month):
-    """The last Sunday of a month that has 31 days."""
+    """The last Sunday of a month with 31 days."""
     end = datetime.date(year, month, 31)
     return end - datetime.timedelta((end.weekday() + 1) % 7)
 
 
 def midnight(date):
-    """The second at which a date begins. Clocks are an hour ahead from a Sunday in March to one in October, and change
-    behind midnight."""
+    """The second at which a date begins. Clocks are an hour ahead from a Sunday in March to one in October, and change after
+    midnight."""
     ahead = last_sunday(date.year, 3) < date <= last_sunday(date.year, 10)
     return (date - datetime.date(1970, 1, 1)).days * 86_400 - 3600 * ahead
 
@@ -52,7 +52,7 @@ def periods(date):
 
 
 def is_late(kind, row, moment):
-    """Whether a row comes at its deadline, which is so many seconds before its period, or later."""
+    """Whether a row comes at or after its deadline, which is this many seconds before its period."""
     if kind not in DEADLINES:
         return False
     date, period = row[DEADLINES[kind] :][:2]
@@ -93,7 +93,7 @@ class Peer:
         return f"applied={len(timely)} late={len(rows) - len(timely)}\n"
 
     def answer(self, line):
-        """What a line of a script is told."""
+        """What is told for a line of a script."""
         if line[0] == "load":
             _, moment, _, kind, path = line
             return self.loads(kind, path, int(moment))
@@ -102,21 +102,21 @@ class Peer:
 
 @functools.cache
 def of_the_peer():
-    """What is told of each line of the week, and its results."""
+    """What is told for each line of the week, and its results."""
     peer = Peer()
     answers = [peer.answer(line) for line in lines_of("week.script")]
     return answers, "".join(peer.answer(line) for line in lines_of("results.script"))
 
 
 def latest(exports):
-    """The rows of exports, without those of a date that has another run behind them."""
+    """The rows of exports, without those of a date for which there is a later run."""
     rows = [row for row in csv.DictReader(io.StringIO(exports)) if row["date"] != "date"]
     last = {row["date"]: row["kind"] for row in rows}
     return [row for row in rows if row["kind"] == last[row["date"]]]
 
 
 class Week(unittest.TestCase):
-    """The commands of the guide, and what the peer says of them."""
+    """The commands of the guide, and what the peer says about them."""
 
     @classmethod
     def setUpClass(cls):
@@ -143,7 +143,7 @@ class Week(unittest.TestCase):
         self.assertEqual(written.decode().splitlines(keepends=True), self.answers)
 
     def test_results(self):
-        """Each account's figures in each period of each run."""
+        """The figures of each account in each period of each run."""
         self.assertEqual((self.drawn.returncode, self.drawn.stdout, self.drawn.stderr), (0, b"", b""))
         self.assertEqual((self.room / "week.csv").read_text(encoding="utf-8").splitlines(), self.exports.splitlines())
 
@@ -163,7 +163,7 @@ class Week(unittest.TestCase):
 
 
 class Files(unittest.TestCase):
-    """What the folder has, and what the guide says of it."""
+    """What the folder has, and what the guide says about it."""
 
     def test_the_week(self):
         """From a Monday to a Sunday on which clocks go back. Each period has a price, and a reading of each unit."""
@@ -178,7 +178,7 @@ class Files(unittest.TestCase):
             self.assertEqual([row[:3] for row in meters], [[unit, date, number] for number in numbers for unit in units])
 
     def test_what_happens_in_it(self):
-        """A negative price, a file of which some rows are late, and readings that are corrected before R1."""
+        """A negative price, a file with some late rows, and readings that are corrected before R1."""
         self.assertTrue(any(row[2].startswith("-") for row in rows_of(f"{WEEK}prices-{DATES[-1]}.csv")))
         lines = lines_of("week.script")
         (moment,) = (int(line[1]) for line in lines if line[-1] == f"{WEEK}contracts-late.csv")
@@ -191,7 +191,7 @@ class Files(unittest.TestCase):
         self.assertEqual([line[-2:] for line in lines[-2:]], [["meters", f"{name}-corrected.csv"], [CORRECTED, "R1"]])
 
     def test_each_file_is_loaded(self):
-        """The lines stand in the order of their moments."""
+        """The lines are in the order of their moments."""
         lines = lines_of("week.script")
         loaded = [pathlib.Path(line[-1]).name for line in lines if line[-1].startswith(WEEK)]
         self.assertEqual(sorted(loaded), sorted(path.name for path in (HOME / WEEK).glob("*.csv")))
@@ -199,7 +199,7 @@ class Files(unittest.TestCase):
         self.assertEqual(moments, sorted(moments))
 
     def test_what_the_correction_posts(self):
-        """The guide names what R1 posts: the new nets less the old, where they differ."""
+        """The guide tells what R1 posts: the new nets minus the old ones, if they differ."""
         posted = {}
         for row in csv.DictReader(io.StringIO(of_the_peer()[1])):
             if row["date"] == CORRECTED:
@@ -211,7 +211,7 @@ class Files(unittest.TestCase):
         self.assertEqual(told, {account: pence for account, pence in posted.items() if pence})
 
     def test_clocks(self):
-        """Two of these dates begin at 23:00 UTC, an hour before that of March does."""
+        """Two of these dates begin at 23:00 UTC, an hour earlier than one in March."""
         begins = {"2024-03-31": 1_711_843_200, "2024-07-01": 1_719_788_400, "2024-10-27": 1_729_983_600}
         for date, second in begins.items():
             self.assertEqual(midnight(datetime.date.fromisoformat(date)), second)
@@ -219,7 +219,7 @@ class Files(unittest.TestCase):
 
 
 def drawn_of(exports):
-    """The picture of exports that come on standard input."""
+    """The picture that is drawn from exports on standard input."""
     made = subprocess.run([sys.executable, HOME / WEEK / "draw_week.py"], input=exports.encode(), capture_output=True)
     if made.returncode or made.stderr:
         raise AssertionError(made.stderr.decode())
@@ -227,7 +227,7 @@ def drawn_of(exports):
 
 
 def written(value, decimals=1, unit=MWH, sign=""):
-    """So many units, as a picture has them."""
+    """A quantity as pictures write it."""
     whole, rest = divmod((2 * abs(value) * 10**decimals + unit) // (2 * unit), 10**decimals)
     return f"{'−' if value < 0 else ''}{sign}{whole:,}" + (f".{rest:0{decimals}}" if decimals else "")
 
@@ -252,12 +252,12 @@ class Picture:
         self.width = (next_x - x) / (other - one)
 
     def row(self, name):
-        """The texts on the right of one that begins a row."""
+        """The texts to the right of the text that begins a row."""
         (row,) = (row for row in self.rows.values() if row[0][0] == name)
         return [words for words, _ in row[1:]]
 
     def plot(self, name, count):
-        """Where a plot's line of zero is, and how high each of so many periods is drawn over it, or under it."""
+        """Where a plot's line of zero is, and how high each of this many periods is drawn above or below it."""
         heights = [0.0] * count
         for side in "above", "below":
             path = re.fullmatch(r"M([\d.]+) ([\d.]+)((?:H[\d.]+V[\d.]+)*)Z", self.paths[f"{name}-{side}"])
@@ -271,7 +271,7 @@ class Picture:
 
 
 class Drawn(unittest.TestCase):
-    """The folder's picture, beside the peer's results."""
+    """The folder's picture, compared with the peer's results."""
 
     def setUp(self):
         self.picture = Picture((HOME / WEEK / "week.svg").read_bytes())
@@ -290,12 +290,12 @@ class Drawn(unittest.TestCase):
             self.assertAlmostEqual(height, value * scale, delta=0.2, msg=f"{name} {place}")
 
     def scale(self, name, values):
-        """How high one is drawn, told by the greatest value."""
+        """The height of one unit, computed from the greatest value."""
         greatest = max(map(abs, values))
         return max(map(abs, self.picture.plot(name, len(values))[1])) / greatest
 
     def test_imbalances(self):
-        """All on one scale. What is left out is named, and is small."""
+        """All have the same scale. What is left out is named, and is small."""
         scale = self.scale("All", self.whole)
         self.compare("All", self.whole, scale)
         left_out = [account for account in self.imbalances if f"{account}-above" not in self.picture.paths]
@@ -319,7 +319,7 @@ class Drawn(unittest.TestCase):
         self.compare("Residual", self.cash, self.scale("Residual", self.cash))
 
     def test_numbers_beside_the_plots(self):
-        """Each stands four points under the line that it names."""
+        """Each is four points below the line that it labels."""
         for name, values, unit, sign in ("All", self.whole, MWH, ""), ("Residual", self.cash, 100, "£"):
             zero, _ = self.picture.plot(name, len(values))
             scale = self.scale(name, values) * unit
@@ -332,7 +332,7 @@ class Drawn(unittest.TestCase):
                 self.assertAlmostEqual(y - 4, zero - number * scale, delta=0.3)
 
     def test_sums(self):
-        """Of each account's periods above zero and below it, and of each date's residuals."""
+        """The sums over each account's periods above zero and below it, and over each date's residuals."""
         drawn = {account: values for account, values in self.imbalances.items() if f"{account}-above" in self.picture.paths}
         sums = []
         for values in *drawn.values(), self.whole:
@@ -354,7 +354,8 @@ class Drawn(unittest.TestCase):
         self.assertEqual([words for words in self.picture.words if "clocks" in words], ["clocks go back"])
 
     def test_axis(self):
-        """Periods 1, 13 and so on of each date stand in the middle of what is drawn of them, and each date in its own."""
+        """Periods 1, 13 and so on of each date are in the middle of what is drawn for them, and each date is in the middle of
+        its own."""
         left = float(re.match(r"M([\d.]+) ", self.picture.paths["All-above"])[1])
         begins = range(0, 337, 48)
         wanted = [(begin, period) for begin, count in zip(begins, COUNTS) for period in range(1, count, 12)]
@@ -383,8 +384,8 @@ class OtherExports(unittest.TestCase):
         return HEADER + "".join(lines)
 
     def test_the_latest_run(self):
-        """In whatever order the runs come. 46 times 2 MWh and -0.5 MWh are 92 and -23, and both together 69; 46 times 75
-        pence are 34.50 pounds."""
+        """In any order of the runs. 46 times 2 MWh and -0.5 MWh are 92 and -23, and both together 69. 46 times 75 pence are
+        34.50 pounds."""
         first = self.export("SF", [("ALFA-P", "1.0000000000", -50), ("BETA-C", "0.0000000000", 0)])
         rows = [("ALFA-P", "2.0000000000", -100), ("BETA-C", "-0.5000000000", 25), ("BETA-P", "0.0000000000", 0)]
         later = self.export("R1", rows)
@@ -401,7 +402,7 @@ class OtherExports(unittest.TestCase):
         self.assertAlmostEqual(heights[0], -4 * others[0], delta=0.5)
 
     def test_nothing_out_of_balance(self):
-        """Nothing is drawn but lines."""
+        """Only lines are drawn."""
         picture = Picture(drawn_of(self.export("SF", [("ALFA-P", "0.0000000000", 0), ("ALFA-C", "0.0000000000", 0)])))
         self.assertEqual(picture.row("Sum of the day"), ["£0.00"])
         for name in "ALFA-P", "ALFA-C", "All", "Residual":

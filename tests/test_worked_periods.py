@@ -1,5 +1,5 @@
-"""The two worked periods of docs/market.md: each figure beside one that is worked out here or by `bench/peer_office.py`,
-which needs no built program, and beside what the built program settles."""
+"""The two worked periods of docs/market.md. Each figure is compared with one that is worked out here or by
+`bench/peer_office.py`, which needs no built program, and with what the built program settles."""
 import contextlib
 import csv
 import io
@@ -22,7 +22,7 @@ MWH = 10**10
 
 
 def section_of(title):
-    """The text under a title of the page."""
+    """The text under a heading of the page."""
     return re.split(r"(?m)^## ", PAGE.split(f"\n## {title}\n")[1])[0]
 
 
@@ -36,7 +36,7 @@ def tables_of(text):
 
 
 def number(cell):
-    """A whole number or an exact fraction; an empty cell is none."""
+    """A whole number or an exact fraction. An empty cell has no number."""
     return Fraction(cell.replace(",", "")) if cell else None
 
 
@@ -50,7 +50,7 @@ def figures(table):
 
 
 def ticks(fraction):
-    """An energy as it is written, from 10^-10 MWh."""
+    """An energy as it is written, from units of 10^-10 MWh."""
     return energy(Fraction(fraction, MWH))
 
 
@@ -62,7 +62,7 @@ def the_peer():
 
 
 class Period:
-    """A worked period: what is settled in it, and the tables of the page behind its units."""
+    """A worked period: what is settled in it, and the tables of the page from which its units come."""
 
     def __init__(self, title):
         self.text = section_of(title)
@@ -77,7 +77,7 @@ class Period:
         self.accounts = self.accounts_table[0]
 
     def take_units(self, table):
-        """Of each unit its lead account, and its reading in kWh and 10^-7."""
+        """The lead account of each unit, and its reading in kWh and 10^-7."""
         self.units, self.told = {}, {}
         for unit, cells in table[1]:
             row = dict(zip(table[0], cells))
@@ -86,7 +86,7 @@ class Period:
             self.told[unit] = (number(row["Loss-adjusted, ticks"]), row["In MWh"])
 
     def settled(self, contracts, reallocated, interconnectors):
-        """By the peer: each account's figures by name, what it is credited from each unit, and the residual."""
+        """As the peer settles it: each account's figures by name, what it is credited from each unit, and the residual."""
         account = self.peer["account"]
         leads = [(unit, account(lead), int(unit in interconnectors)) for unit, (lead, *_) in self.units.items()]
         meters = {unit: reading for unit, (_, *reading) in self.units.items()}
@@ -112,7 +112,7 @@ def rows_of_files():
 
 
 def tuples_of_files():
-    """The same as the peer reads them."""
+    """The same rows, as the peer reads them."""
     return {kind: list(SECOND.peer["tuples"](kind, csv.reader(rows))) for kind, rows in rows_of_files().items()}
 
 
@@ -156,7 +156,7 @@ class OnThePage(unittest.TestCase):
         return weights
 
     def check_cash(self, period, settled, residual):
-        """The charges of the table of the cash, and the residual in the text."""
+        """The charges in the table of the cash, and the residual in the text."""
         told = figures(period.cash_table)
         products = [-settled[account]["imbalance"] * period.price for account in period.accounts]
         self.assertEqual(told["-imbalance * price"], products)
@@ -242,17 +242,17 @@ class FirstByTheProgram(OfTheProgram):
 
 
 class SecondByTheProgram(AtAFile):
-    """The page's rows in an office on a file, on a date in whose other periods nothing happens."""
+    """The page's rows in an office in a file, on a date with nothing else in its other periods."""
 
     def lines(self):
-        """The lines that load the rows, each kind in a file, and make SF."""
+        """The lines that load the rows, one file for each kind, and make SF."""
         rows = rows_of_files()
         rows["meters"] += [f"{unit},{DAY},{period},0,1,0" for period in IDLE for unit in SECOND.units]
         rows["prices"] += [f"{DAY},{period},0" for period in IDLE]
         return [*(self.load(kind, lines, f"{kind}.csv") for kind, lines in rows.items()), self.order("SF")]
 
     def settled(self, *lines):
-        """What is printed for these lines behind those of the period."""
+        """What is printed for these lines after those of the period."""
         self.init()
         before = self.lines()
         status, written, told = self.run_script_at("".join(f"{line}\n" for line in [*before, *lines]))

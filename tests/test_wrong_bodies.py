@@ -1,8 +1,8 @@
-"""Each wrong body that the gate doesn't try still turns the body of a function, and each has a name of its own; and what the script
-that tries them counts as refused. Those of the gate and these turn what `settle` runs, but for calls that are offered beside it."""
+"""Each wrong body that the gate doesn't try still changes the body of a function, and each has a name of its own. Also what the
+script that tries them counts as refused. The wrong bodies of the gate and these change what `settle` runs, except for calls
+that are offered besides."""
 import contextlib
-import importlib.machinery
-import importlib.util
+import importlib
 import io
 import pathlib
 import re
@@ -15,10 +15,12 @@ from unittest import mock
 
 from programs import HOME
 
-FOLDER = HOME / "wrong-bodies"
+TRY = HOME / "tools" / "wrong_bodies.py"
+BY_HAND = sorted(HOME.glob("crates/*/must-fail-by-hand/*.edit"))
 FUNCTION = re.compile(r"(?m)^( *)(?:pub(?:\([a-z]+\))? )?(?:const )?fn (\w+)")
-# Calls that `settle` doesn't make: of a row by itself, of a list of requests, of a date, of devices in memory, of a reading in a
-# database, of a script over a new office in a database, and of commands over files of the disk model, with the parts of these.
+# Calls that `settle` doesn't make: those for a single row, for a list of requests, for a date, for devices in memory, for a
+# reading in a database, for a script over a new office in a database, and for commands over files of the disk model, with the
+# parts of these.
 OFFERED = {
     "check_row", "apply_row", "run_all", "day_of", "day_number", "date_at", "in_pieces", "select_meter", "run_in_new_database",
     "answer", "answer_over",
@@ -28,15 +30,17 @@ UNNAMED = {"main", "fmt", "cmp", "partial_cmp", "eq", "from", "next", "clone", "
 
 
 def script():
-    """The script wrong-bodies/try, as a module."""
-    loader = importlib.machinery.SourceFileLoader("try_wrong_bodies", str(FOLDER / "try"))
-    module = importlib.util.module_from_spec(importlib.util.spec_from_loader(loader.name, loader))
-    loader.exec_module(module)
-    return module
+    """The script that tries wrong bodies, as a module."""
+    return importlib.import_module("wrong_bodies")
+
+
+def by_hand(crate):
+    """How many wrong bodies of a crate the gate doesn't try."""
+    return sum(edit.parent.parent.name == crate for edit in BY_HAND)
 
 
 def crates_of_settle():
-    """The crate of `settle`, and those that it depends on, near or far."""
+    """The crate of `settle`, and all crates on which it depends."""
     lines = re.findall(r"(?m)^(\w+):(.*)$", (HOME / "crates.txt").read_text(encoding="utf-8"))
     depends, found, left = {name: words.split() for name, words in lines}, set(), ["hh_settle"]
     while left:
@@ -48,7 +52,7 @@ def crates_of_settle():
 
 
 def names_in_bodies():
-    """The names in the bodies of the functions of each name, of the crates of `settle`, those of tests left out."""
+    """The names in the bodies of the functions of each name, in the crates of `settle`, without tests."""
     found, crates = {}, crates_of_settle()
     for file in HOME.glob("crates/*/src/**/*.rt"):
         if file.relative_to(HOME).parts[1] not in crates or "tests" in file.name:
@@ -63,7 +67,7 @@ def names_in_bodies():
 
 
 def run_by_settle():
-    """The names of the functions that `settle` may run, by the names in the bodies of those that it runs."""
+    """The names of the functions that `settle` may run, given the names in the bodies of those that it runs."""
     bodies, found, left = names_in_bodies(), set(), sorted(UNNAMED)
     while left:
         name = left.pop()
@@ -76,30 +80,30 @@ def run_by_settle():
 class WrongBodies(unittest.TestCase):
     def test_each_turns_a_function(self):
         turned = script().turned
-        edits = sorted(FOLDER.glob("*/*.edit"))
-        self.assertTrue(edits)
-        for edit in edits:
-            with self.subTest(edit=f"{edit.parent.name}/{edit.name}"):
-                self.assertTrue(turned(edit.parent.name, edit))
+        self.assertTrue(BY_HAND)
+        for edit in BY_HAND:
+            crate = edit.parent.parent.name
+            with self.subTest(edit=f"{crate}/{edit.name}"):
+                self.assertTrue(turned(crate, edit))
 
     def test_each_turns_what_settle_runs(self):
-        """Told by names alone, so a call that has the name of another is taken for one that `settle` makes."""
+        """Only names are compared, so a call with the name of another counts as one that `settle` makes."""
         turned, run = script().turned, run_by_settle()
         for crate in (HOME / "crates").iterdir():
-            for edit in (*crate.glob("must-fail/*.edit"), *(FOLDER / crate.name).glob("*.edit")):
+            for edit in crate.glob("must-fail*/*.edit"):
                 with self.subTest(edit=f"{crate.name}/{edit.name}"):
                     self.assertIn(turned(crate.name, edit)[-1][2], run | OFFERED)
         for name in OFFERED:
             self.assertNotIn(name, run)
 
     def test_each_has_a_name_of_its_own(self):
-        """Also beside those that the gate tries, since pages name them without their crates."""
-        names = [edit.name for edit in (*HOME.glob("crates/*/must-fail/*.edit"), *FOLDER.glob("*/*.edit"))]
+        """Also among those that the gate tries, because pages name them without their crates."""
+        names = [edit.name for edit in HOME.glob("crates/*/must-fail*/*.edit")]
         self.assertEqual(sorted(names), sorted(set(names)))
 
     def tried(self, check):
-        """How many wrong bodies of hh_rows are refused, and how many are not, where this stands in for the check: it is given the
-        sources with those bodies in place, and gives what the check says."""
+        """How many wrong bodies of hh_rows are refused, and how many are not, if this function takes the place of the check. It
+        is given the sources with those bodies in place, and returns what the check says."""
         own = HOME / "crates" / "hh_rows" / "src"
         told = lambda words, **how: subprocess.CompletedProcess(words, 1, check({file.name: file.read_text() for file in (how["cwd"] / "src").iterdir()}))
         with tempfile.TemporaryDirectory() as room:
@@ -111,7 +115,7 @@ class WrongBodies(unittest.TestCase):
         return counts
 
     def test_a_crate_has_its_own_bodies_again(self):
-        """The crates above depend on it when theirs are tried; `tried` sees it."""
+        """The crates above depend on it when theirs are tried. `tried` checks it."""
         seen = []
         self.tried(lambda files: seen.append(files["date_range.rt"]) or "")
         self.assertTrue(set(seen) - {(HOME / "crates" / "hh_rows" / "src" / "date_range.rt").read_text()})
@@ -119,12 +123,13 @@ class WrongBodies(unittest.TestCase):
     def test_what_the_compiler_refuses_is_not_refused(self):
         """No contract was tried then. All bodies are told as errors, but no line says that the crate is not proved."""
         said = "".join(f"src/{file}.rt:{line}:1: error[E0308]: mismatched types\n" for file, line in self.lines())
-        edits = len(list((FOLDER / "hh_rows").glob("*.edit")))
+        edits = by_hand("hh_rows")
         self.assertEqual(self.tried(lambda files: said), (0, edits))
         self.assertEqual(self.tried(lambda files: f"{said}logic=not-proved functions=1\n"), (edits, 0))
 
     def test_what_tells_of_a_body(self):
-        """Not that it waits for another, nor that its proof names what is no longer there, or proves what the body no longer owes."""
+        """A body is not refused if its proof only waits for another, names what is no longer there, or proves what the body no
+        longer owes."""
         said = """\
 ./proofs/keys/idle/Answers.antt:6:32: error: `returns-clause`: expected type `Unit {0}`, but this has type `c.in-Some.y ≡ c.args.x`
   computed as far as they go, the two types are `Unit {0}` (expected) and `Path Prim.Native.Nat.ℕ c.in-Some.y c.args.x` (found)
@@ -149,11 +154,11 @@ fn hh_rows::keys::right: proved
         self.assertLessEqual({("keys", "open"), ("keys", "bare"), ("Key", "bare")}, told)
 
     def test_one_that_waits_is_tried_by_itself(self):
-        """A body beside others only waits for the proof of what it calls; by itself it is refused."""
+        """A body among others may only wait for the proof of what it calls. By itself it is refused."""
         own = {file.name: file.read_text() for file in (HOME / "crates" / "hh_rows" / "src").iterdir()}
         alone = "".join(f"src/{file}.rt:{line}:1: error: it is not proved that a clause holds\n" for file, line in self.lines())
         waits = "fn hh_rows::date_range::DateRange::new: not proved; it calls hh_rows::date_range::inside\nlogic=not-proved functions=1\n"
-        edits = len(list((FOLDER / "hh_rows").glob("*.edit")))
+        edits = by_hand("hh_rows")
         seen = []
 
         def check(files):
@@ -165,7 +170,7 @@ fn hh_rows::keys::right: proved
         self.assertGreater(max(seen), 1)
 
     def test_crates_are_tried_side_by_side(self):
-        """Each lane works in a copy of its own. The checks wait for each other, so that both are there at once."""
+        """Each lane works in a copy of its own. The checks wait for each other, so both are there at the same time."""
         module, both, folders = script(), threading.Barrier(2, timeout=60), set()
 
         def copy_into(room):
@@ -183,15 +188,15 @@ fn hh_rows::keys::right: proved
         module.copy_into = copy_into
         with tempfile.TemporaryDirectory() as room, mock.patch("subprocess.run", check), contextlib.redirect_stdout(io.StringIO()):
             counts = module.try_all(["hh_serve", "hh_heads"], room, 2)
-        edits = [len(list((FOLDER / crate).glob("*.edit"))) for crate in ("hh_heads", "hh_serve")]
+        edits = [by_hand(crate) for crate in ("hh_heads", "hh_serve")]
         self.assertEqual(counts, [(0, count) for count in edits])
         self.assertEqual({folder.name for folder in folders}, {"hh_heads", "hh_serve"})
         self.assertEqual(len({folder.parent for folder in folders}), 2)
 
     def test_a_crate_without_wrong_bodies(self):
-        said = subprocess.run([FOLDER / "try", "hh_rows", "hh_nothing"], capture_output=True, text=True)
+        said = subprocess.run([TRY, "hh_rows", "hh_nothing"], capture_output=True, text=True)
         self.assertEqual((said.returncode, said.stdout), (2, ""))
-        self.assertEqual(said.stderr, "wrong-bodies/try: no wrong body of hh_nothing stands in this folder\n")
+        self.assertEqual(said.stderr, "tools/wrong_bodies.py: hh_nothing has no folder must-fail-by-hand\n")
 
     def lines(self):
         """Each line of the sources of hh_rows, by its file."""
