@@ -1,5 +1,5 @@
-//! Sends the bytes of a file over a new connection so many times, one after the other. It prints the body of the last
-//! reply, and tells on standard error how many milliseconds all took.
+//! Sends the bytes of a file TIMES times, each time over a new connection, one after the other. It prints the body of
+//! the last reply, and tells on standard error how many milliseconds all of them took.
 //! Build: rustc -O client_serve.rs. Usage: client_serve PORT TIMES FILE
 use std::io::{Read, Write};
 use std::net::TcpStream;

@@ -1,5 +1,5 @@
-//! The least that a server can do: it reads a request's head, and answers each with the same bytes, which are those of a
-//! balance of 0. It parses nothing, and looks nothing up. Beside it is seen what a connection costs whoever serves it.
+//! The least that a server can do: it reads a request's head, and answers each with the same bytes, those of a balance
+//! of 0. It parses nothing, and looks nothing up. So it shows what a connection costs, whichever server is used.
 //! Build: rustc -O floor_serve.rs. Usage: floor_serve PORT
 use std::io::{Read, Write};
 use std::net::TcpListener;

@@ -36,9 +36,9 @@ from measure_read import generate as generate_day, largest_of_meters
 from measure_reports import script_of_whole
 from measuring import BENCH, build_rust_peer
 
-# Work whose measure is that of one call, and the two numbers of calls that are run.
+# Work that is measured for one call, and the two numbers of calls that are run.
 CALLS = (1, 11)
-# Runs a command in a process whose own memory is small, since a new process is told the memory of its parent, too.
+# Runs a command in a process whose own memory is small, because the system counts the memory of a process's parent for it, too.
 SMALL_PARENT = """
 import json, os, sys
 null, told = os.open(os.devnull, os.O_RDWR), int(sys.argv[1])
@@ -108,7 +108,7 @@ KINDS = {
 
 
 def all_work(words, folder):
-    """The kinds of work that are asked for and whose programs are there."""
+    """The kinds of work that were asked for and whose programs are there."""
     programs = {"settle": words.settle, "bench": words.bench}
     for name in words.only:
         which, kind = KINDS[name]
@@ -119,7 +119,7 @@ def all_work(words, folder):
 
 
 def commands_of(command, is_per_call):
-    """The command, or those of one call and of more."""
+    """The command, or the commands for one call and for more calls."""
     return [[*command, str(calls)] for calls in CALLS] if is_per_call else [command]
 
 
@@ -159,7 +159,7 @@ def counts_of(command, rounds):
 
 
 def counts_of_work(command, is_per_call, rounds):
-    """What the work takes; of calls what one takes, but for the memory."""
+    """What the work takes. For calls it is what one call takes, except for the memory."""
     counts = [counts_of(command, rounds) for command in commands_of(command, is_per_call)]
     if not is_per_call:
         return counts[0]
@@ -179,7 +179,7 @@ def compare(name, work):
 
 
 def figures_of(ours, peer, unit, decimals):
-    """The cells of a figure, its peer's and the ratio."""
+    """The cells for a figure: its own, its peer's, and the ratio."""
     if ours is None or peer is None:
         return ["", "", ""]
     ratio = f"{ours / peer:.2f}" if peer else ""

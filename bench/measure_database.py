@@ -41,10 +41,10 @@ MARKET = {"parties": 400, "units": 2000, "contracts": 400, "reallocations": 200}
 PEER = [sys.executable, str(BENCH / "peer_office.py")]
 ACCOUNT = "PARTY0000-P"
 NO_KEY = "op-nobody001"
-# The most of the Python peer's time that each way may take, and the least of the rate in memory.
+# The most of the Python peer's time that each way may take, and the least part of the rate in memory.
 MOST_BY_SCRIPT, MOST_BY_SERVICE, MOST_BY_COMMANDS, LEAST_BALANCES = 0.6, 0.6, 2.0, 0.6
 
-# A step of the day: what it is called, the command with what is asked, and the moment at which it comes.
+# A step of the day: its name, the command that asks for it, and the moment at which it comes.
 Step = collections.namedtuple("Step", "title command asked moment")
 
 
@@ -101,7 +101,7 @@ def command_of(words, database, step):
 
 
 def new_office(words, database):
-    """Makes a new office, and takes away what was at its path."""
+    """Makes a new office, and removes what was at its path."""
     for left in database.parent.glob(f"{database.name}*"):
         left.unlink()
     whole_of([words.program, "init", "--db", str(database), "--operator-key", KEY])
@@ -114,7 +114,7 @@ def new_peer(database):
 
 
 def same(what, found, wanted):
-    """Stops where two texts differ."""
+    """Stops if two texts differ."""
     if found == wanted:
         return
     pairs = itertools.zip_longest(found.split("\n"), wanted.split("\n"), fillvalue="no line")
@@ -126,8 +126,8 @@ def same(what, found, wanted):
 
 
 def peer_steps(database, listed):
-    """Makes all steps by the peer, and tells the milliseconds of the last on standard error. The first is made where the
-    peer is loaded."""
+    """Makes all steps by the peer, and tells the milliseconds of the last on standard error. The first is made where the peer
+    is loaded."""
     first, *rest = json.loads(pathlib.Path(listed).read_text())
     path = str(BENCH / "peer_office.py")
     with unittest.mock.patch("sys.argv", [path, first[0], database, *first[1]]):
@@ -140,7 +140,7 @@ def peer_steps(database, listed):
 
 
 def of_peer(folder, steps):
-    """What the peer prints as one process, its milliseconds, and those that it would take without the results."""
+    """What the peer prints as one process, its milliseconds, and the milliseconds without the results."""
     database, listed = folder / "theirs.db", folder / "steps"
     new_peer(database)
     listed.write_text(json.dumps([[step.command, step.asked] for step in steps]))
@@ -165,7 +165,7 @@ def by_script(words, folder, steps):
 
 
 def ask(port, step):
-    """The line that tells a step, which is asked for over HTTP."""
+    """The line that tells a step that is asked for over HTTP."""
     if step.command == "load":
         kind, path = step.asked
         sent = request(f"POST /files/{kind}/{pathlib.Path(path).name}", pathlib.Path(path).read_bytes())
@@ -184,7 +184,7 @@ def ask(port, step):
 
 
 def serve(words, database, steps):
-    """The lines that tell these steps, the milliseconds of a service for them, and those of its requests."""
+    """The lines that tell these steps, the milliseconds of a service for them, and the milliseconds of its requests."""
     begin = time.perf_counter()
     count = ["--count", str(len(steps)), f"--at={steps[0].moment}"]
     server = start([words.program, "serve", "--db", str(database), "--port", "0", *count])
@@ -201,8 +201,8 @@ def serve(words, database, steps):
 
 
 def by_services(words, folder, steps):
-    """What the day is answered over HTTP, the milliseconds of both services, and those of the requests. The results are
-    asked for behind them."""
+    """The answers to the day over HTTP, the milliseconds of both services, and the milliseconds of the requests. The results
+    are asked for after that."""
     database = folder / "service.db"
     new_office(words, database)
     *served, results = steps
@@ -212,7 +212,7 @@ def by_services(words, folder, steps):
 
 
 def opened(words, database):
-    """The milliseconds of a call that opens the file and asks nothing of it."""
+    """The milliseconds of a call that only opens the file."""
     command = [words.program, "report", "--db", str(database), "--key", NO_KEY, "balances"]
     begin = time.perf_counter()
     done = subprocess.run(command, capture_output=True, text=True)
@@ -223,8 +223,8 @@ def opened(words, database):
 
 
 def by_commands(words, folder, steps):
-    """What a call for each step prints, by `settle` and by the peer. Of each step the milliseconds of both, and between
-    them those of a call that only opens the file."""
+    """What a call for each step prints, by `settle` and by the peer. For each step it gives the milliseconds of both, and
+    between them those of a call that only opens the file."""
     ours, theirs = folder / "commands.db", folder / "calls.db"
     new_office(words, ours)
     new_peer(theirs)
@@ -250,7 +250,7 @@ def rows_in(database):
 
 
 def print_way(title, times, most):
-    """The times of a way, which is the first of them, and whether its aim is met."""
+    """Prints the times of a way, and whether its aim is met. The first of the times are its own."""
     print(f"\n{title}:")
     print_table(times, 1)
     ours, peer = (statistics.median(times[name]) for name in (next(iter(times)), "Python peer"))
@@ -259,7 +259,7 @@ def print_way(title, times, most):
 
 
 def print_steps(steps, rounds):
-    """What each kind of step took by calls of their own, and which part of that is opening the file."""
+    """What each kind of step took by calls of their own, and how much of that was opening the file."""
     print("\n| Step | Calls | settle, ms | Opening alone, ms | Opening in % | Python peer, ms | To the Python peer |")
     print("|---|---:|---:|---:|---:|---:|---:|")
     places = {}
@@ -273,7 +273,7 @@ def print_steps(steps, rounds):
 
 
 def measure_day(words, folder, steps):
-    """Measures the three ways in turn, and gives the file that one of them leaves."""
+    """Measures the three ways in turn, and returns the file that one of them leaves."""
     script = {"settle script --db": [], "Python peer": []}
     service = {"settle serve --db": [], "Its requests alone": [], "Python peer": []}
     calls = []
@@ -307,7 +307,7 @@ def measure_day(words, folder, steps):
 
 
 def measure_balances(words, folder, steps, database):
-    """Measures balances of an account, of the office in a file and of the same office in memory."""
+    """Measures enquiries for the balance of an account, at the office in a file and at the same office in memory."""
     served = words.rounds * words.times
     script = script_of(folder, "memory", [*map(line_of, steps[:-1]), f"serve {LATER} 0 {served}\n"])
     options = ["--db", str(database), "--port", "0", "--count", str(served), f"--at={LATER}"]

@@ -25,13 +25,13 @@ from measuring import print_table, read_words
 
 TITLES = ("The day report", "The results")
 FILE, MEMORY, SCAN = "settle script --db", "settle script", "SQLite's scan alone"
-# All columns of the results are read, within the library. The office has no run but this one.
+# All columns of the results are read, within the library. The office has no other run.
 SCANNED = """SELECT count(*), total(day + kind + period + side + credited + balancing + contracts + imbalance + charge
     + share + length(party)) FROM results INDEXED BY sqlite_autoindex_results_1
     WHERE day = (SELECT max(day) FROM runs) AND kind = 0"""
-# Pages of 4,096 bytes, as many as the program keeps.
+# Pages of 4,096 bytes, as many as the program keeps in memory.
 CACHED = "PRAGMA cache_size = 16384"
-# The most of the time in memory that a report over a file may take.
+# The most time that a report over a file may take, as a multiple of its time in memory.
 MOST = 1.3
 
 
@@ -42,7 +42,7 @@ def new_office(program, database, script):
 
 
 def same(file, memory):
-    """Stops where the lines of the reports differ."""
+    """Stops if the lines of the reports differ."""
     for number, (one, other) in enumerate(zip(file, memory), 1):
         if one != other:
             sys.exit(f"over a file and in memory line {number} differs: {one} / {other}")
@@ -51,7 +51,7 @@ def same(file, memory):
 
 
 def scan_of(database, times):
-    """The milliseconds of each scan of the results in a file, and how many rows they are."""
+    """The milliseconds of each scan of the results in a file, and the number of their rows."""
     taken = []
     with contextlib.closing(sqlite3.connect(database)) as connection:
         connection.execute(CACHED)
@@ -63,7 +63,7 @@ def scan_of(database, times):
 
 
 def measure(words, folder):
-    """The milliseconds of each report by program, by the title of the report, and how many lines both have."""
+    """The milliseconds of each report for each program, by the title of the report, and how many lines both have."""
     prepared = [lines_of_day(folder, 1), run_line("SF")]
     asked = report_lines("SF")[:2] * words.times
     pipes = new_pipes(folder, len(asked))

@@ -26,7 +26,7 @@ FIRST = datetime.date(2024, 7, 1)
 # 2024-06-01T00:00:00Z, before all deadlines.
 MOMENT = 1_717_200_000
 NO_READINGS = b"unit,date,period,metered_mwh,tlm,balancing_mwh\n"
-# As one unit, like the peer that reads a file.
+# Built as one unit, like the peer that reads a file.
 ONE_UNIT = ["-C", "codegen-units=1"]
 
 
@@ -47,7 +47,7 @@ def read_arguments():
 
 
 def lines_of_day(folder, number):
-    """The lines that load a day of this number, the first being 1, in the order of its files."""
+    """The lines that load the day with this number, in the order of its files. The first day is 1."""
     date = FIRST + datetime.timedelta(number - 1)
     day = folder / str(date)
     subprocess.run([sys.executable, str(BENCH / "gen_day.py"), str(day), "--date", str(date)], check=True)
@@ -84,7 +84,7 @@ def office_commands(folder, lines):
 
 
 def applied_rows(output):
-    """How many rows were applied, all of them."""
+    """How many rows were applied. All must have been."""
     rows = 0
     for line in output.decode().splitlines():
         applied, _, late = line.removeprefix("applied=").partition(" late=")
@@ -95,7 +95,7 @@ def applied_rows(output):
 
 
 def in_turn(commands, rounds):
-    """The milliseconds of each command, a round each. Their outputs are the same."""
+    """The milliseconds of each command, one round after the other. Their outputs must be the same."""
     outputs = {name: run_once(name, command)[0] for name, command in commands.items()}
     first_name, first = next(iter(outputs.items()))
     for name, output in outputs.items():
@@ -119,7 +119,7 @@ def print_ratios(times):
 
 
 def pass_mark(pipe, process, data=NO_READINGS):
-    """Waits until the program opens this pipe, and answers when that was and when it had these bytes."""
+    """Waits until the program opens this pipe, and returns when that was and when it had these bytes."""
     while True:
         try:
             end = os.open(pipe, os.O_WRONLY | os.O_NONBLOCK)
@@ -135,7 +135,7 @@ def pass_mark(pipe, process, data=NO_READINGS):
 
 
 def marks_of(folder, count):
-    """The pipes that stand before the days and behind each."""
+    """The pipes before the days and after each of them."""
     pipes = [str(folder / f"mark-{number}.csv") for number in range(count + 1)]
     for pipe in pipes:
         os.mkfifo(pipe)
@@ -143,7 +143,7 @@ def marks_of(folder, count):
 
 
 def milliseconds_of_marks(command, pipes, data=NO_READINGS):
-    """What a script with marks writes, and what it took from each mark to the next. Each mark gives these bytes."""
+    """What a script with marks writes, and the milliseconds from each mark to the next. Each mark gives these bytes."""
     with tempfile.TemporaryFile() as out:
         process = subprocess.Popen(command, stdout=out)
         passed = [pass_mark(pipe, process, data) for pipe in pipes]

@@ -49,7 +49,7 @@ def read_arguments():
 
 
 def parts_of_day(folder, number):
-    """The lines of each part of a day of this number, the first being 1."""
+    """The lines of each part of the day with this number. The first day is 1."""
     load = lines_of_day(folder, number)
     date = load.split(f"{folder}/", 1)[1][:10]
     later = LATER + (number - 1) * SECONDS_OF_A_DAY
@@ -60,14 +60,14 @@ def parts_of_day(folder, number):
 
 
 def one_price(folder, date, prices):
-    """A file of the first of some prices."""
+    """A file with the first of some prices."""
     path = folder / f"{date}-one-price.csv"
     path.write_text("".join(pathlib.Path(prices).read_text().splitlines(keepends=True)[:2]))
     return path
 
 
 def with_marks(parts, pipes):
-    """The parts with a mark before the first and behind each."""
+    """The parts, with a mark before the first and after each."""
     marks = [f"load {MOMENT} {KEY} meters {pipe}\n" for pipe in pipes]
     return [marks[0], *(piece for pair in zip(parts, marks[1:]) for piece in pair)]
 
@@ -86,7 +86,7 @@ def removed(database):
 
 
 def told_lines(output):
-    """What is printed but for the marks."""
+    """What is printed, without the marks."""
     return [line for line in output.splitlines() if line != "refused 12 BadHeader"]
 
 
@@ -139,7 +139,7 @@ def of_peer(database, script):
 
 
 def compare(file, memory, peer):
-    """The two programs print the same, and the peer the same loads, runs and results."""
+    """The two programs must print the same, and the peer the same loads, runs and results."""
     if file != memory:
         sys.exit("the outputs over a file and over tables in memory differ")
     wanted = set(peer)
@@ -148,7 +148,7 @@ def compare(file, memory, peer):
 
 
 def measure_day(words, folder):
-    """The milliseconds of each part of the first day, by program, and how many rows and bytes the file has then."""
+    """The milliseconds of each part of the first day, for each program, and how many rows and bytes the file has then."""
     pipes = new_pipes(folder, len(PARTS))
     script = script_of(folder, "first", with_marks(parts_of_day(folder, 1), pipes))
     ours, theirs = folder / "ours.db", folder / "theirs.db"
@@ -181,7 +181,7 @@ def print_parts(times):
     print(f"\nWithout the reports, of which the peer writes one: {without[0]:.1f} ms, {without[0] / without[2]:.2f} of the peer's.")
 
 
-# ---- days one after the other in one file, and the opening of the file
+# ---- days one after the other in one file, and opening the file
 
 
 def rows_in(database):
@@ -192,7 +192,7 @@ def rows_in(database):
 
 
 def measure_days(words, folder):
-    """Makes days in one file, a call for each; tells what the parts of each cost, and copies the file after some."""
+    """Makes days in one file, with a call for each. Tells what the parts of each cost, and copies the file after some of them."""
     pipes = new_pipes(folder, len(PARTS))
     database = folder / "days.db"
     removed(database)
@@ -216,7 +216,7 @@ def print_days(costs):
 
 
 def opened(words, database, script):
-    """The milliseconds that opening took and those of all the rest, by the program, and the most memory in MB."""
+    """The milliseconds of opening and of all the rest, as the program tells them, and the most memory in MB."""
     process = subprocess.Popen(office_command(words, database, script), stdout=subprocess.DEVNULL, stderr=subprocess.PIPE, text=True)
     told = process.stderr.read().split()
     _, status, usage = os.wait4(process.pid, 0)

@@ -15,7 +15,7 @@ import tempfile
 
 from measuring import BENCH, build_rust_peer, print_table, read_words
 
-# As one unit: of several, the time changed by a fifth with the name of the built file.
+# Built as one unit. With several, the time changed by a fifth with the name of the built file.
 ONE_UNIT = ["-C", "codegen-units=1"]
 
 
@@ -37,7 +37,7 @@ def measured(command):
 
 
 def read_in_turn(commands, rounds):
-    """The medians of each command's times, a round each."""
+    """The medians of each command's times, one round after the other."""
     outputs = set()
     medians = {name: [] for name in commands}
     for _ in range(rounds):

@@ -54,7 +54,7 @@ def runs_of_rust(peer, script):
 
 
 def runs_of_python(folder, again, rounds):
-    """The lines of the runs, and the milliseconds of both together, a round each over a new database."""
+    """The lines of the runs, and the milliseconds of both together, one round after the other, each over a new database."""
     peer = [sys.executable, str(BENCH / "peer_office.py")]
     database = folder / "office.db"
     files = [line.split() for line in (folder / str(FIRST) / "order").read_text().splitlines()]

@@ -38,7 +38,7 @@ def request(start, body=b""):
 
 
 def port_of(server):
-    """The port of a server that was started, once it listens."""
+    """The port of a server that was started, after it begins to listen."""
     for line in server.stdout:
         if line.startswith("listening "):
             return int(line.rsplit(":", 1)[1])
@@ -50,7 +50,7 @@ def start(command):
 
 
 def script_of(folder, served):
-    """A script that loads the party and its units, and serves so many connections."""
+    """A script that loads the party and its units, and serves this many connections."""
     lines = []
     for kind, text in files():
         (folder / f"{kind}.csv").write_text(text)
@@ -61,7 +61,7 @@ def script_of(folder, served):
 
 
 def milliseconds_of(client, ports, sent, times):
-    """The milliseconds of all of these requests, for each server. The bodies of their last replies are the same."""
+    """The milliseconds of all of these requests, for each server. The bodies of their last replies must be the same."""
     bodies, taken = [], []
     for port in ports:
         done = subprocess.run([client, str(port), str(times), str(sent)], capture_output=True, text=True, check=True)
@@ -73,7 +73,7 @@ def milliseconds_of(client, ports, sent, times):
 
 
 def processor_time_of(server):
-    """The processor time that a server has had so far, in seconds: its own, and the system's for it."""
+    """The processor time of a server so far, in seconds: its own, and the system's for it."""
     words = pathlib.Path(f"/proc/{server.pid}/stat").read_text().rpartition(")")[2].split()
     return [int(word) / os.sysconf("SC_CLK_TCK") for word in words[11:13]]
 

@@ -9,7 +9,7 @@ BENCH = pathlib.Path(__file__).resolve().parent
 
 
 def read_words(description, crate, times=None):
-    """The built program of a crate, the number of rounds and, where a number of times is given, that."""
+    """The built program of a crate, the number of rounds and, if the script takes it, the number of times."""
     parser = argparse.ArgumentParser(description=description, formatter_class=argparse.RawDescriptionHelpFormatter)
     parser.add_argument("program", nargs="?", default=str(BENCH.parent / "crates" / crate / "out" / crate))
     parser.add_argument("--rounds", type=int, default=7)
@@ -32,7 +32,7 @@ def build_rust_peer(name, folder, *options):
 
 
 def print_table(times, decimals):
-    """The median, least and most of each program's milliseconds, and the ratios to the peers that are there."""
+    """The median, least and greatest of each program's milliseconds, and the ratios to the peers that were measured."""
     medians = {name: statistics.median(taken) for name, taken in times.items()}
     peers = {name: digits for name, digits in (("Rust peer", 2), ("Python peer", 3)) if name in times}
     print()

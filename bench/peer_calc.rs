@@ -1,5 +1,5 @@
-//! Settles a period of the market's size again and again with std alone: the period and the checksum of
-//! crates/hh_measures. It tests nothing and refuses nothing.
+//! Settles a period of the market's size again and again, with only std: the period and the checksum of
+//! crates/hh_measures. It checks nothing and refuses nothing.
 //! Build: rustc -O peer_calc.rs. Usage: peer_calc COUNT
 use std::collections::HashMap;
 use std::time::Instant;
@@ -80,7 +80,7 @@ fn near(n: i128, m: i128) -> i128 {
     if n < 0 { -size } else { size }
 }
 
-/// What a unit gives each subsidiary, and the rest for its lead account.
+/// What a unit gives each subsidiary, with the rest for its lead account.
 fn push_credits<'a>(unit: &'a Unit, credits: &mut Vec<Credit<'a>>) {
     let tlm = i128::from(unit.tlm);
     let volume = i128::from(unit.metered - unit.balancing);

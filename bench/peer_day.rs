@@ -1,6 +1,7 @@
-//! Runs the `load` lines of a script of `settle script` in memory with std alone and prints its bytes, for good input:
-//! the speed to come close to. It checks nothing: lines and rows are taken to be accepted, files to be plain (LF, no
-//! quotes, no mark, no empty line). Of an accepted file it keeps its kind and name, not its bytes.
+//! Runs the `load` lines of a script of `settle script` in memory, with only std, and prints the same bytes for good
+//! input: the speed to come close to. It checks nothing. It assumes that lines and rows are accepted, and that files
+//! are plain (LF, no quotes, no mark, no empty line). Of an accepted file it keeps the kind and the name, not the
+//! bytes.
 //! Build: rustc -O -C codegen-units=1 peer_day.rs. Usage: peer_day SCRIPT. The lead is 60 minutes.
 #![allow(dead_code)] // (what is in force is kept as a run would read it, and nothing here does)
 use std::collections::HashMap;
@@ -61,7 +62,7 @@ fn window(data: &[u8], at: u32) -> &[u8; 32] {
     data[at..at + 32].try_into().unwrap()
 }
 
-/// Bits before the first comma of eight bytes, or 64.
+/// The number of bits before the first comma in eight bytes, or 64.
 #[inline(always)]
 fn comma(word: u64) -> u32 {
     let other = word ^ ONES * b',' as u64;
@@ -99,7 +100,7 @@ fn skip(data: &[u8], mut at: u32) -> u32 {
     }
 }
 
-/// Eight digits' values, the first in the lowest byte, as a number.
+/// The number whose digits' values are in eight bytes, the first digit in the lowest byte.
 #[inline(always)]
 fn eight(values: u64) -> u64 {
     let pairs = values.wrapping_mul(10).wrapping_add(values >> 8);
@@ -108,7 +109,7 @@ fn eight(values: u64) -> u64 {
     low.wrapping_add(high) >> 32
 }
 
-/// Eight bytes' values as digits, and a high bit in each that is none.
+/// The values of eight bytes as digits, and a high bit in each byte that is no digit.
 #[inline(always)]
 fn digits(word: u64) -> (u64, u64) {
     let values = word ^ ZEROS;
@@ -146,7 +147,7 @@ fn fixed<const D: u32>(data: &[u8], at: u32) -> (i64, u32) {
     (if negative { -(value as i64) } else { value as i64 }, at + u32::from(negative) + size + 1)
 }
 
-/// The same for a number that begins with zeros without need.
+/// The same for a number that begins with unneeded zeros.
 #[cold]
 fn fixed_long<const D: u32>(data: &[u8], at: u32) -> (i64, u32) {
     let rest = &data[at as usize..];
@@ -190,7 +191,7 @@ fn end_date(text: &[u8]) -> i64 {
     if text.is_empty() { days_before(2099, 12, 31) } else { date(text) }
 }
 
-/// The instant of local midnight by GMT0BST,M3.5.0/1,M10.5.0.
+/// The second of local midnight, by GMT0BST,M3.5.0/1,M10.5.0.
 fn start(text: &[u8], day: i64) -> i64 {
     let change = |month| {
         let last = days_before(number(&text[..4]), month, 31);
@@ -200,7 +201,7 @@ fn start(text: &[u8], day: i64) -> i64 {
 }
 
 fn period_count(text: &[u8], day: i64) -> usize {
-    // The changes fall in March and October, so the next day's year is no matter.
+    // The changes are in March and October, so it does not matter if the next day is in another year.
     ((start(text, day + 1) - start(text, day)) / 1800) as usize
 }
 
@@ -229,7 +230,7 @@ struct Party {
     range: (i64, i64),
 }
 
-/// What is in force for a date; lists by period, then by unit or account.
+/// What is in force for a date. Lists are by period, then by unit or account.
 struct Day {
     number: i64,
     text: [u8; 10],
@@ -259,7 +260,7 @@ struct Office {
     files: HashMap<(Vec<u8>, Vec<u8>), (usize, usize)>,
 }
 
-/// The date of the last row: its text, its place in `days`, its latest late period.
+/// The date of the last row: its text, its place in `days`, and its latest late period.
 #[derive(Clone, Copy)]
 struct Memo {
     moment: i64,
@@ -328,7 +329,7 @@ impl Office {
         memo.late = if since < 0 { 0 } else { (since / 1800 + 1).min(MOST as i64) as usize };
     }
 
-    /// The unit at `at`; files often go by unit in one order, or unit by unit.
+    /// The unit at `at`. Files often list units in the same order in each period, or one unit after the other.
     #[inline(always)]
     fn unit(&self, data: &[u8], at: u32, last: &mut usize) -> u32 {
         let (key, at) = name(data, at);

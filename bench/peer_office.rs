@@ -1,9 +1,9 @@
-//! Runs a script of `settle script` in memory with std alone and prints its bytes, for good input: the speed to come
-//! close to. It checks nothing: lines and rows are taken to be accepted, files to be plain (LF, no quotes, no mark, no
-//! empty line). Of an accepted file it keeps its kind and name, not its bytes.
+//! Runs a script of `settle script` in memory, with only std, and prints the same bytes for good input: the speed to
+//! come close to. It checks nothing. It assumes that lines and rows are accepted, and that files are plain (LF, no
+//! quotes, no mark, no empty line). Of an accepted file it keeps the kind and the name, not the bytes.
 //! Build: rustc -O -C codegen-units=1 peer_office.rs. Usage: peer_office [--lead-minutes N] [--whole] [--times] SCRIPT
-//! A run settles the periods whose data changed since the date's last run and keeps the others; --whole settles all anew.
-//! --times tells on standard error what the lines took.
+//! A run settles the periods whose data changed since the date's last run, and keeps the others. --whole settles all of
+//! them again. --times tells on standard error what the lines took.
 use std::collections::HashMap;
 use std::convert::{TryFrom, TryInto};
 use std::hash::{BuildHasherDefault, Hasher};
@@ -63,7 +63,7 @@ fn window(data: &[u8], at: u32) -> &[u8; 32] {
     data[at..at + 32].try_into().unwrap()
 }
 
-/// Bits before the first comma of eight bytes, or 64.
+/// The number of bits before the first comma in eight bytes, or 64.
 #[inline(always)]
 fn comma(word: u64) -> u32 {
     let other = word ^ ONES * b',' as u64;
@@ -101,7 +101,7 @@ fn skip(data: &[u8], mut at: u32) -> u32 {
     }
 }
 
-/// Eight digits' values, the first in the lowest byte, as a number.
+/// The number whose digits' values are in eight bytes, the first digit in the lowest byte.
 #[inline(always)]
 fn eight(values: u64) -> u64 {
     let pairs = values.wrapping_mul(10).wrapping_add(values >> 8);
@@ -110,7 +110,7 @@ fn eight(values: u64) -> u64 {
     low.wrapping_add(high) >> 32
 }
 
-/// Eight bytes' values as digits, and a high bit in each that is none.
+/// The values of eight bytes as digits, and a high bit in each byte that is no digit.
 #[inline(always)]
 fn digits(word: u64) -> (u64, u64) {
     let values = word ^ ZEROS;
@@ -148,7 +148,7 @@ fn fixed<const D: u32>(data: &[u8], at: u32) -> (i64, u32) {
     (if negative { -(value as i64) } else { value as i64 }, at + u32::from(negative) + size + 1)
 }
 
-/// The same for a number that begins with zeros without need.
+/// The same for a number that begins with unneeded zeros.
 #[cold]
 fn fixed_long<const D: u32>(data: &[u8], at: u32) -> (i64, u32) {
     let rest = &data[at as usize..];
@@ -192,7 +192,7 @@ fn end_date(text: &[u8]) -> i64 {
     if text.is_empty() { days_before(2099, 12, 31) } else { date(text) }
 }
 
-/// The instant of local midnight by GMT0BST,M3.5.0/1,M10.5.0.
+/// The second of local midnight, by GMT0BST,M3.5.0/1,M10.5.0.
 fn start(text: &[u8], day: i64) -> i64 {
     let change = |month| {
         let last = days_before(number(&text[..4]), month, 31);
@@ -202,7 +202,7 @@ fn start(text: &[u8], day: i64) -> i64 {
 }
 
 fn period_count(text: &[u8], day: i64) -> usize {
-    // The changes fall in March and October, so the next day's year is no matter.
+    // The changes are in March and October, so it does not matter if the next day is in another year.
     ((start(text, day + 1) - start(text, day)) / 1800) as usize
 }
 
@@ -252,7 +252,7 @@ struct Run {
     summary: String,
 }
 
-/// What is in force for a date; lists by period, then by unit or account.
+/// What is in force for a date. Lists are by period, then by unit or account.
 struct Day {
     number: i64,
     text: [u8; 10],
@@ -286,7 +286,7 @@ struct Office {
     moved: Vec<i64>,
 }
 
-/// The date of the last row: its text, its place in `days`, its latest late period.
+/// The date of the last row: its text, its place in `days`, and its latest late period.
 #[derive(Clone, Copy)]
 struct Memo {
     moment: i64,
@@ -356,7 +356,7 @@ impl Office {
         memo.late = if since < 0 { 0 } else { (since / 1800 + 1).min(MOST as i64) as usize };
     }
 
-    /// The unit at `at`; files often go by unit in one order, or unit by unit.
+    /// The unit at `at`. Files often list units in the same order in each period, or one unit after the other.
     #[inline(always)]
     fn unit(&self, data: &[u8], at: u32, last: &mut usize) -> u32 {
         let (key, at) = name(data, at);
@@ -613,7 +613,7 @@ struct Space {
     rests: Vec<u128>,
 }
 
-/// near(n, 2^k * odd) where 2^k * odd is even.
+/// near(n, 2^k * odd), if 2^k * odd is even.
 #[inline(always)]
 fn near(n: i128, k: u32, odd: u64) -> i64 {
     let whole = u128::from(odd) << k;
@@ -664,7 +664,7 @@ impl Space {
         Period { rows, residual }
     }
 
-    /// A quotient is guessed in floating point, then made right by its rest.
+    /// A quotient is guessed in floating point, and then corrected by its remainder.
     fn apportion(&mut self, residual: i64, weights: i128, accounts: &[u32], rows: &mut [Row]) {
         let size = residual.abs();
         let whole = if weights == 0 { accounts.len() as i128 } else { weights };
@@ -720,7 +720,7 @@ fn eight_digits(number: u64) -> u64 {
     high | (twos - 10 * high) << 8
 }
 
-/// Sixteen bytes: the number at the right, behind blanks; and how many blanks.
+/// Sixteen bytes, with the number at the right after blanks, and how many blanks there are.
 #[inline(always)]
 fn right(size: u64) -> (u128, u32) {
     let found = u128::from(eight_digits(size / 100_000_000)) | u128::from(eight_digits(size % 100_000_000)) << 64;
@@ -729,7 +729,7 @@ fn right(size: u64) -> (u128, u32) {
     ((found | twice(ZEROS)) ^ (((1 << bits) - 1) & twice(ONES * 0x10)), bits / 8)
 }
 
-/// Eight bytes: the number at the right, behind blanks; and how many blanks.
+/// Eight bytes, with the number at the right after blanks, and how many blanks there are.
 #[inline(always)]
 fn right_eight(size: u64) -> (u64, u32) {
     let found = eight_digits(size);
@@ -737,7 +737,7 @@ fn right_eight(size: u64) -> (u64, u32) {
     ((found | ZEROS) ^ (((1 << bits) - 1) & ONES * 0x10), bits / 8)
 }
 
-/// The whole part in eight bytes behind blanks, how many blanks, and the ten decimals.
+/// The whole part in eight bytes after blanks, how many blanks there are, and the ten decimals.
 #[inline(always)]
 fn energy(ticks: i64) -> (u64, u32, [u8; 11]) {
     let size = ticks.unsigned_abs();
@@ -762,7 +762,7 @@ impl Out {
         self.at = 0;
     }
 
-    /// The next N bytes; the text goes on after the first `used`, 0 leaving it to the caller.
+    /// The next N bytes. The text goes on after the first `used` of them. If that is 0, the caller sets it.
     #[inline(always)]
     fn room<const N: usize>(&mut self, used: usize) -> &mut [u8; N] {
         if self.at + N > BUFFER {
@@ -779,7 +779,7 @@ impl Out {
         }
     }
 
-    /// A number right in 14 or 16 places, where its sign has room.
+    /// A number at the right of 14 or 16 places, with room for its sign.
     #[inline(always)]
     fn place(to: &mut [u8], number: i64) {
         let size = number.unsigned_abs();
@@ -844,7 +844,7 @@ impl Out {
         self.text(b"END\n");
     }
 
-    /// A number and a mark at `at`; the place after them.
+    /// Writes a number and a mark at `at`, and returns the place after them.
     #[inline(always)]
     fn number(to: &mut [u8; 256], at: usize, number: i64, mark: u8) -> usize {
         to[at] = b'-';

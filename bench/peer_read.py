@@ -1,6 +1,7 @@
 #!/usr/bin/env python3
 """Reads a file of meter volumes again and again: the tests of the fields and the checksum of
-`hh_bench read meters`, over Python's csv. It tells of a fault neither row nor column.
+`hh_bench read meters`, over Python's csv. If there is a fault, it tells neither its row nor
+its column.
 
 usage: peer_read.py FILE TIMES"""
 import csv

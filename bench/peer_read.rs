@@ -1,6 +1,6 @@
-//! Reads a file of meter volumes again and again with std alone: the tests of the fields and the
-//! checksum of `hh_bench read meters`, in one walk over the bytes. It knows no quotes, and tells of
-//! a fault neither row nor column.
+//! Reads a file of meter volumes again and again, with only std: the tests of the fields and the checksum of `hh_bench
+//! read meters`, in one pass over the bytes. It does not know quotes. If there is a fault, it tells neither its row nor
+//! its column.
 //! Build: rustc -O -C codegen-units=1 peer_read.rs. Usage: peer_read FILE TIMES
 use std::time::Instant;
 
@@ -24,7 +24,7 @@ struct Row {
     balancing: i64,
 }
 
-/// The fields of a record, of which only the first six are kept, and how many there are.
+/// The fields of a record, and how many there are. Only the first six are kept.
 struct Record<'a> {
     fields: [&'a [u8]; COLUMNS],
     count: usize,
@@ -39,7 +39,7 @@ impl<'a> Record<'a> {
     }
 }
 
-/// The record that begins at a place, which moves behind it. Empty lines are none.
+/// The record that begins at a place. The place moves to the byte after it. Empty lines are no records.
 fn next_record<'a>(bytes: &'a [u8], place: &mut usize) -> Option<Record<'a>> {
     let mut at = *place;
     while at < bytes.len() && matches!(bytes[at], b'\n' | b'\r') {
@@ -81,7 +81,7 @@ fn unit_of(text: &[u8]) -> Option<([u8; 16], usize)> {
     Some((unit, text.len()))
 }
 
-/// Days since 1970-01-01 of a date from 2001-01-01 to 2099-12-31.
+/// The days from 1970-01-01 to a date from 2001-01-01 to 2099-12-31.
 fn date_of(text: &[u8]) -> Option<u16> {
     if text.len() != 10 || text[4] != b'-' || text[7] != b'-' {
         return None;
@@ -102,7 +102,7 @@ fn date_of(text: &[u8]) -> Option<u16> {
     Some((year - 1970) * 365 + (year - 1969) / 4 + before + if month > 2 { leap } else { 0 } + day - 1)
 }
 
-/// The units of 10^-decimals that a text writes, from a least to a most.
+/// The units of 10^-decimals that a text writes, from `least` to `most`.
 fn units_of(text: &[u8], decimals: u32, least: i64, most: i64) -> Option<i64> {
     let (negative, digits) = match text {
         [b'-', digits @ ..] => (true, digits),

@@ -11,7 +11,7 @@ import json
 import sys
 
 KEY = "op-settle001"
-# How many fields in front are the key of a row.
+# How many fields at the beginning are the key of a row.
 KEYS = {"parties": 1, "units": 1, "meters": 3, "prices": 2, "contracts": 1, "reallocations": 4}
 
 
