@@ -441,6 +441,26 @@ class Kept(InAFile):
         self.assertEqual(rows_of(database, "refs"), sorted((reference, *ends) for reference, ends in refs.items()))
         self.assertEqual(len(rows_of(database, "files")), 5 + sum(not reply.startswith("refused") for reply in kept))
 
+    def test_a_known_key_behind_new_ones(self):
+        """Rows with new keys are written several at a time. A row whose key is known replaces the row that was there, wherever
+        in its file it comes. Of the rows of a file that have one key the last counts."""
+        forms = {
+            "meters": ("G1,2024-07-02,{},{},1.0000000,0.000", lambda period, kwh: ("G1", TODAY + 1, period, kwh, 10_000_000, 0)),
+            "contracts": ("C1,GENCO-P,SUPCO-C,2024-07-02,{},{}", lambda period, kwh: ("C1", TODAY + 1, period, kwh)),
+        }
+        for kind, (text, row) in forms.items():
+            for known in (1, 8, 9, 14, 24):
+                with self.subTest(kind, known=known):
+                    database, _ = self.loaded()
+                    lines = [text.format(period, f"{period}.000") for period in range(1, 25)]
+                    again = text.format(2, "7.500")
+                    first = self.load(kind, text.format(known, "99.000"), "first.csv")
+                    second = self.load(kind, [*lines, again], "second.csv")
+                    replies = ["applied=1 late=0", "applied=25 late=0"]
+                    self.assertEqual(self.replies_over(database, first, second), replies)
+                    wanted = [row(period, 7_500 if period == 2 else 1_000 * period) for period in range(1, 25)]
+                    self.assertEqual([found for found in rows_of(database, kind) if found[1] == TODAY + 1], wanted)
+
     def test_a_file_that_sqlite3_has_packed(self):
         """Rows moved to other pages by sqlite3 are the same rows."""
         database, _ = self.loaded(self.order("SF", END))

@@ -175,7 +175,7 @@ fn hh_rows::keys::right: proved
 
         def copy_into(room):
             copy = pathlib.Path(tempfile.mkdtemp(dir=room))
-            for crate in ("hh_heads", "hh_serve"):
+            for crate in ("hh_http_heads", "hh_http_serve"):
                 shutil.copytree(HOME / "crates" / crate / "src", copy / "crates" / crate / "src")
             return copy
 
@@ -187,10 +187,10 @@ fn hh_rows::keys::right: proved
 
         module.copy_into = copy_into
         with tempfile.TemporaryDirectory() as room, mock.patch("subprocess.run", check), contextlib.redirect_stdout(io.StringIO()):
-            counts = module.try_all(["hh_serve", "hh_heads"], room, 2)
-        edits = [by_hand(crate) for crate in ("hh_heads", "hh_serve")]
+            counts = module.try_all(["hh_http_serve", "hh_http_heads"], room, 2)
+        edits = [by_hand(crate) for crate in ("hh_http_heads", "hh_http_serve")]
         self.assertEqual(counts, [(0, count) for count in edits])
-        self.assertEqual({folder.name for folder in folders}, {"hh_heads", "hh_serve"})
+        self.assertEqual({folder.name for folder in folders}, {"hh_http_heads", "hh_http_serve"})
         self.assertEqual(len({folder.parent for folder in folders}), 2)
 
     def test_a_crate_without_wrong_bodies(self):

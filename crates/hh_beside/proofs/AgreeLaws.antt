@@ -3,7 +3,7 @@ use Rattle.std.proofs.Common.{◌≡◌, ◌∙◌, List, [], ◌∷◌, ◌++�
 use Rattle.std.specs.Prelude.{◌||◌, IsTrue}
 use Rattle.std.specs.Ordering.{eq_by_cmp}
 use Rattle.std.proofs.lemmas.Bool.{and_from, and_parts}
-use Rattle.hh_states.specs.Changes.{load_writes, run_writes}
+use Rattle.hh_states.specs.Changes.{load_change, run_change}
 use Rattle.hh_states.specs.Content.{Content, tables_of}
 use Rattle.hh_states.specs.Steps.{after_load, after_run}
 use Rattle.hh_rules.specs.declared.positions.Position.{Position}
@@ -31,14 +31,14 @@ alike_agrees content these those alike right accounted =
 pub loads_agree : LoadsAgree
 loads_agree midnight s load beside after reached can agreed alike =
     let parts = and_parts _ _ agreed in
-    alike_agrees (tables_of midnight (after_load midnight s load)) after (beside_with_load (load_writes midnight s load) (tables_of midnight s).registered beside) alike
+    alike_agrees (tables_of midnight (after_load midnight s load)) after (beside_with_load (load_change midnight s load) (tables_of midnight s).registered beside) alike
     (loads_keep_positions midnight s load beside.positions reached can parts.0)
     (accounted_for_after_loads midnight s load beside.touched reached can parts.1)
 
 pub runs_agree : RunsAgree
 runs_agree midnight s moment key beside after reached can agreed alike =
     let parts = and_parts _ _ agreed in
-    alike_agrees (tables_of midnight (after_run s key)) after (beside_with_run (run_writes midnight s key) beside) alike
+    alike_agrees (tables_of midnight (after_run s key)) after (beside_with_run (run_change midnight s key) beside) alike
     (runs_keep_positions midnight s key beside.positions parts.0)
     (accounted_for_after_runs midnight s moment key beside.touched reached can parts.1)
 

@@ -8,7 +8,7 @@ use Rattle.hh_rules.specs.History.{Registered}
 use Rattle.hh_calc.specs.Limits.{is_within_limits}
 use Rattle.hh_calc.specs.Terms.{Settled}
 use Rattle.hh_runs.specs.declared.run_key.RunKey.{RunKey}
-use Rattle.hh_states.specs.Changes.{LoadWrites, effect_of_load, load_writes}
+use Rattle.hh_states.specs.Changes.{LoadChangeView, effect_of_load, load_change}
 use Rattle.hh_states.specs.Content.{Content, tables_of}
 use Rattle.hh_states.specs.DaySettlement.{periods_on}
 use Rattle.hh_states.specs.PeriodSettlement.{price_of, settled}
@@ -44,7 +44,7 @@ touched_or_still false more was is still_touched still_so accounted = or_right m
 
 pub accounted_for_after_loads : AccountedForAfterLoads
 accounted_for_after_loads midnight s load touched reached can accounted =
-    let w : LoadWrites = load_writes midnight s load in
+    let w : LoadChangeView = load_change midnight s load in
     let content : Content = tables_of midnight s in
     let new : List SettlementPeriod = filter_map touched_by w.rows in
     let effect : tables_of midnight (after_load midnight s load) ≡ effect_of_load w content = load_effect midnight s load reached can in

@@ -18,7 +18,7 @@ use Rattle.hh_calc.specs.declared.result.CreditRow.{CreditRow}
 use Rattle.hh_calc.specs.declared.result.Figures.{Figures}
 use Rattle.hh_calc.specs.Formulas.{all_figures, credits_of, figures, residual, residual_shares}
 use Rattle.hh_calc.specs.Settled.{figures_of}
-use Rattle.hh_calc.specs.Terms.{PeriodTerms, Settled, settled_period, settled_as}
+use Rattle.hh_calc.specs.Terms.{PeriodDataView, Settled, settled_period, settled_as}
 use Rattle.hh_runs.specs.declared.run_key.RunKey.{RunKey}
 use Rattle.hh_states.specs.declared.run_keys.CreditKey.{CreditKey}
 use Rattle.hh_states.specs.declared.run_keys.ResultKey.{ResultKey}
@@ -103,7 +103,7 @@ abbrev credit_under : UnitAccount × ℤ → CreditRow
 credit_under e = record { unit = e.0.0; account = e.0.1; credited = e.1 }
 
 -- the credits of a settled period rise under the keys of a run
-credits_rise : (key : RunKey) (at : SettlementPeriod) (p : PeriodTerms) → Rises credit_key_cmp (λ e. e.0) (credit_block key (at, settled p))
+credits_rise : (key : RunKey) (at : SettlementPeriod) (p : PeriodDataView) → Rises credit_key_cmp (λ e. e.0) (credit_block key (at, settled p))
 credits_rise key at p =
     let es : List (UnitAccount × ℤ) = in_key_order unit_account_cmp (keyed_credits (credits_of p.units)) in
     distinct-map (λ (c d : CreditKey × ℤ). is_not_below credit_key_cmp c.0 d.0) (λ (c : CreditRow). (credit_key key at c, c.credited)) (map credit_under es)
@@ -114,7 +114,7 @@ credits_rise key at p =
     es (rising_if_sorted unit_account_cmp es (is_sorted-in_key_order unit_account_total (keyed_credits (credits_of p.units))))))
 
 -- the rows are of the period's accounts: there is a row for each
-pub accounts_settled : (p : PeriodTerms) → map (λ (r : AccountRow). r.account) (settled p).accounts ≡ p.accounts
+pub accounts_settled : (p : PeriodDataView) → map (λ (r : AccountRow). r.account) (settled p).accounts ≡ p.accounts
 accounts_settled p =
     sym (map-map (λ (f : Figures). f.account) figures_of (settled p).accounts)
     ∙ ap (map (λ (f : Figures). f.account)) (figures_shown (all_figures p) (residual_shares p) (a_share_each p))
@@ -122,14 +122,14 @@ accounts_settled p =
     ∙ map_itself p.accounts
 
 -- and the residual is minus the sum of their charges
-residual_settled : (p : PeriodTerms) → neg_ℤ (total (λ (r : AccountRow). r.charge) (settled p).accounts) ≡ residual p
+residual_settled : (p : PeriodDataView) → neg_ℤ (total (λ (r : AccountRow). r.charge) (settled p).accounts) ≡ residual p
 residual_settled p =
     ap neg_ℤ (sym (total-map (λ (f : Figures). f.charge) figures_of (settled p).accounts)
     ∙ ap (total (λ (f : Figures). f.charge)) (figures_shown (all_figures p) (residual_shares p) (a_share_each p))
     ∙ total-map (λ (f : Figures). f.charge) (figures p) p.accounts)
 
 -- a settled period is read from its rows and credits under the keys of a run
-settled_again : (key : RunKey) (at : SettlementPeriod) (p : PeriodTerms)
+settled_again : (key : RunKey) (at : SettlementPeriod) (p : PeriodDataView)
     → settled_as (map (λ e. e.1) (result_block key (at, settled p))) (map credit_row (credit_block key (at, settled p))) ≡ settled p
 settled_again key at p =
     let rows : map (λ e. e.1) (result_block key (at, settled p)) ≡ (settled p).accounts =
@@ -181,7 +181,7 @@ module _ (midnight : Midnights) (s : State) where
 
   held : (r : Run) (at : SettlementPeriod) → HasResults r (settled_at (seen_by timetable s.history r) at) × HasCredits r (settled_at (seen_by timetable s.history r) at) → IsHeld r at
   held r at (results, credits) =
-      let p : PeriodTerms = terms_at (seen_by timetable s.history r) at in
+      let p : PeriodDataView = terms_at (seen_by timetable s.history r) at in
       let rows = results (period_rises r.key timetable (take r.row_count s.history) r.key.date (period_count midnight r.key.date) at) in
       let credited = credits (credits_rise r.key at p) in
       (λ i. settled_as (map (λ e. e.1) (rows i)) (map credit_row (credited i))) ∙ settled_again r.key at p

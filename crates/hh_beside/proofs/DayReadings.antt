@@ -14,7 +14,7 @@ use Rattle.hh_rows.specs.declared.settlement_period.SettlementPeriod.{Settlement
 use Rattle.hh_rules.specs.History.{Registered}
 use Rattle.hh_calc.specs.declared.result.CreditRow.{CreditRow}
 use Rattle.hh_calc.specs.Formulas.{credits_of, unit_credits}
-use Rattle.hh_calc.specs.Terms.{BmUnit, Settled}
+use Rattle.hh_calc.specs.Terms.{UnitDataView, Settled}
 use Rattle.hh_states.specs.PeriodSettlement.{UnitAccount, in_credit_order, keyed_credits, reading_of, settled, terms_at, unit_account_cmp, unit_with, units_on}
 use Rattle.hh_state_laws.proofs.ApartLaws.{all-append, all-map, all-weaken}
 use Rattle.hh_state_laws.proofs.ReadyLaws.{all_made}
@@ -42,7 +42,7 @@ module _ {K V : Type 0} (R : K → K → Ordering) (P : K → Type 0) where
 
 module _ (P : List ℕ → Type 0) where
   -- if each unit has a property, so has the unit of each credit
-  of_credits : (units : List BmUnit) → AllByRecursion (λ u. P u.unit) units → AllByRecursion (λ c. P c.unit) (credits_of units)
+  of_credits : (units : List UnitDataView) → AllByRecursion (λ u. P u.unit) units → AllByRecursion (λ c. P c.unit) (credits_of units)
   of_credits [] all = tt
   of_credits (u ∷ units) all =
       all-append (λ c. P c.unit) (unit_credits u) (credits_of units) (all-weaken (λ c. c.unit ≡ u.unit) (λ c. P c.unit) (λ c is. subst P (sym is) all.0) (unit_credits u) (own_credits u)) (of_credits units all.1)

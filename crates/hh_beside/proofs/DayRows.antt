@@ -44,7 +44,7 @@ use Rattle.hh_rules.specs.Refusals.{is_same_mark, is_unit_moved, refusals_of, un
 use Rattle.hh_rules.specs.RegisterView.{reallocations_at}
 use Rattle.hh_rules.proofs.HistoryLaws.{looks_back}
 use Rattle.hh_calc.specs.declared.data.Subsidiary.{Subsidiary}
-use Rattle.hh_calc.specs.Terms.{BmUnit, bm_unit}
+use Rattle.hh_calc.specs.Terms.{UnitDataView, unit_data}
 use Rattle.hh_states.specs.PeriodSettlement.{price_of, reading_of, row_in_force, rows_in_force, subsidiaries_of, unit_at, unit_with, units_on}
 use Rattle.hh_states.specs.Soundness.{AreConsistent}
 use Rattle.hh_state_laws.proofs.AcceptedLaws.{told}
@@ -158,16 +158,16 @@ module _ (tables : Registered) (consistent : AreConsistent tables) (at : Settlem
   -- a unit's row: only an effective unit can have a reading, and what it is settled from stays the same
   module _ (r : UnitRow) where
     -- what a unit with this id is settled from, if its range has the date and it has this reading
-    abbrev made_with : Option Reading → UnitRegistration → Option BmUnit
+    abbrev made_with : Option Reading → UnitRegistration → Option UnitDataView
     made_with o u = cond (holds u.range at.date) (option_map (unit_with tables at (r.unit, u)) o) None
 
     -- the same for a unit that may be known
-    abbrev made_of_known : Option Reading → Option UnitRegistration → Option BmUnit
+    abbrev made_of_known : Option Reading → Option UnitRegistration → Option UnitDataView
     made_of_known o None = None
     made_of_known o (Some u) = made_with o u
 
     -- what any unit is settled from, if its range has the date
-    abbrev of_date : List ℕ × UnitRegistration → Option BmUnit
+    abbrev of_date : List ℕ × UnitRegistration → Option UnitDataView
     of_date e = cond (holds e.1.range at.date) (unit_at tables at e) None
 
     -- without a reading nothing is made
@@ -187,7 +187,7 @@ module _ (tables : Registered) (consistent : AreConsistent tables) (at : Settlem
           let alike = and_parts (is_same_account u.lead r.registration.lead) (is_same_mark u.interconnector r.registration.interconnector)
           (not-false _ (not_passed (λ (x : UnitRegistration). is_unit_moved x r.registration) (find bytes_cmp r.unit tables.units) u unmet.1.1.1.0 known)) in
           ap (λ b. cond b (Some (unit_with tables at (r.unit, r.registration) reading)) None) (wider_holds u.range r.registration.range at.date inside held)
-          ∙ (λ i. Some (bm_unit r.unit (sym (one_account u.lead r.registration.lead alike.0) i) (sym (one_mark u.interconnector r.registration.interconnector alike.1) i) reading
+          ∙ (λ i. Some (unit_data r.unit (sym (one_account u.lead r.registration.lead alike.0) i) (sym (one_mark u.interconnector r.registration.interconnector alike.1) i) reading
           (subsidiaries_of tables (record { unit = r.unit; at = at }))))
           ∙ sym (ap (λ b. cond b (Some (unit_with tables at (r.unit, u) reading)) None) held)
 
@@ -275,7 +275,7 @@ module _ (tables : Registered) (consistent : AreConsistent tables) (at : Settlem
   with_reallocation true r apart = record {
     price = refl;
     units = λ i.
-        filter_map (λ e. option_map (λ reading. bm_unit e.0 (lead_on tables e.0 e.1 at.date) e.1.interconnector reading (map {B = Subsidiary} (λ f. record { account = f.0.account; reallocation = f.1 }) (reallocations_stay e.0 i)))
+        filter_map (λ e. option_map (λ reading. unit_data e.0 (lead_on tables e.0 e.1 at.date) e.1.interconnector reading (map {B = Subsidiary} (λ f. record { account = f.0.account; reallocation = f.1 }) (reallocations_stay e.0 i)))
         (reading_of tables (record { unit = e.0; at = at }))) (units_on tables at.date);
     contracts = refl;
   }

@@ -23,7 +23,7 @@ use Rattle.hh_runs.specs.declared.run_kind.RunKind.{RunKind}
 use Rattle.hh_runs.specs.declared.summary.Summary.{Summary}
 use Rattle.hh_states.specs.declared.run_keys.CreditKey.{CreditKey}
 use Rattle.hh_states.specs.declared.run_keys.ResultKey.{ResultKey}
-use Rattle.hh_states.specs.Changes.{RunWrites, effect_of_run, run_writes}
+use Rattle.hh_states.specs.Changes.{RunChangeView, effect_of_run, run_change}
 use Rattle.hh_states.specs.Content.{Content, runs_with_former, tables_of}
 use Rattle.hh_states.specs.DaySettlement.{from_one_to, periods_on}
 use Rattle.hh_states.specs.PeriodSettlement.{price_of, settled, terms_at}
@@ -120,8 +120,8 @@ module _ (midnight : Midnights) (s : State) (key : RunKey) where
   abbrev after : Content
   after = tables_of midnight (after_run s key)
 
-  abbrev written : RunWrites
-  written = run_writes midnight s key
+  abbrev written : RunChangeView
+  written = run_change midnight s key
 
   -- the Settlement Periods of other dates that were touched
   abbrev left : List SettlementPeriod → List SettlementPeriod

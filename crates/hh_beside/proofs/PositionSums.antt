@@ -29,7 +29,7 @@ use Rattle.hh_rules.specs.Positions.{position_in}
 use Rattle.hh_rules.specs.declared.positions.Position.{Position}
 use Rattle.hh_rules.specs.declared.positions.Position.TheVariants.{Known, Lost}
 use Rattle.hh_rules.specs.declared.positions.PositionKey.{PositionKey}
-use Rattle.hh_calc.specs.Formulas.{of_account}
+use Rattle.hh_calc.specs.Formulas.{if_same_account}
 use Rattle.hh_calc.proofs.OrderLaws.{rises}
 use Rattle.hh_calc.proofs.SpreadLaws.{counts_once}
 use Rattle.hh_states.specs.Content.{tables_of}
@@ -56,7 +56,7 @@ module _ (accounts : List Account) (up : IsStrictlySortedBy account_cmp accounts
   ]
 
   -- an amount of one of them counts once
-  once : (b : Account) → Contains accounts b → (amount : ℤ) → total (λ a. of_account a b amount) accounts ≡ amount
+  once : (b : Account) → Contains accounts b → (amount : ℤ) → total (λ a. if_same_account a b amount) accounts ≡ amount
   once b (k, inside, is) amount =
       counts_once (is_same_account b) (λ a. amount) accounts b k inside
       (ap is_eq (ap (account_cmp b) is ∙ tied_itself account_total b))
@@ -69,8 +69,8 @@ module _ (accounts : List Account) (up : IsStrictlySortedBy account_cmp accounts
   -- what the seller of such a contract sells, its buyer buys
   one_contract : (c : Contract) → AreAmong c.counterparties → total (λ a. net_kwh_of a c) accounts ≡ pos 0
   one_contract c (sells, buys) =
-      total-plus (λ a. of_account a c.counterparties.seller c.volume) (λ a. neg_ℤ (of_account a c.counterparties.buyer c.volume)) accounts
-      ∙ (λ i. once c.counterparties.seller sells c.volume i +ℤ total-neg (λ a. of_account a c.counterparties.buyer c.volume) accounts i)
+      total-plus (λ a. if_same_account a c.counterparties.seller c.volume) (λ a. neg_ℤ (if_same_account a c.counterparties.buyer c.volume)) accounts
+      ∙ (λ i. once c.counterparties.seller sells c.volume i +ℤ total-neg (λ a. if_same_account a c.counterparties.buyer c.volume) accounts i)
       ∙ ap (λ z. c.volume +ℤ neg_ℤ z) (once c.counterparties.buyer buys c.volume)
       ∙ +ℤ_invr c.volume
 

@@ -23,7 +23,7 @@ use Rattle.hh_calc.specs.declared.result.AccountRow.{AccountRow}
 use Rattle.hh_calc.specs.declared.result.CreditRow.{CreditRow}
 use Rattle.hh_calc.specs.Formulas.{net_kwh_of}
 use Rattle.hh_calc.specs.Limits.{is_within_limits}
-use Rattle.hh_calc.specs.Terms.{PeriodTerms, Settled, settled_as}
+use Rattle.hh_calc.specs.Terms.{PeriodDataView, Settled, settled_as}
 use Rattle.hh_runs.specs.declared.run_key.RunKey.{RunKey}
 use Rattle.hh_runs.specs.declared.summary.Summary.{Summary}
 use Rattle.hh_states.specs.declared.run_keys.CreditKey.{CreditKey}
@@ -85,13 +85,13 @@ module _ (content : Content) where
 -- ---- agreeing with the tables
 
 -- what a Settlement Period would be settled from if these were the accounts of its date
-abbrev pub terms_for : List Account → Registered → SettlementPeriod → PeriodTerms
+abbrev pub terms_for : List Account → Registered → SettlementPeriod → PeriodDataView
 terms_for accounts tables at = record (terms_at tables at) { accounts = accounts }
 
 -- settled now for the same accounts, a Settlement Period would be this; it has a price and passes no limit
 abbrev pub is_still : Registered → SettlementPeriod → Settled → Bool
 is_still tables at s =
-    let terms : PeriodTerms = terms_for (map (λ r. r.account) s.accounts) tables at in
+    let terms : PeriodDataView = terms_for (map (λ r. r.account) s.accounts) tables at in
     is_some (price_of tables at) && is_within_limits terms && is_same_period (settled terms) s
 
 -- what an account sells less what it buys in a Settlement Period, by the contracts in force, in kWh

@@ -11,7 +11,7 @@ use Rattle.hh_calc.specs.Limits.{is_within_limits}
 use Rattle.hh_calc.specs.Terms.{Settled}
 use Rattle.hh_runs.specs.declared.run_key.RunKey.{RunKey}
 use Rattle.hh_runs.specs.declared.summary.Summary.{Summary}
-use Rattle.hh_states.specs.Changes.{load_writes}
+use Rattle.hh_states.specs.Changes.{load_change}
 use Rattle.hh_states.specs.Content.{Content, tables_of}
 use Rattle.hh_states.specs.PeriodSettlement.{accounts_on, price_of, reading_of, settled, terms_at}
 use Rattle.hh_states.specs.Runs.{periods_of, seen_by}
@@ -87,7 +87,7 @@ AccountedForAfterRuns = (midnight : Midnights) (s : State) (moment : ℤ) (key :
 -- whatever its accounts are.
 abbrev pub UntouchedStays : Type 0
 UntouchedStays = (midnight : Midnights) (s : State) (load : Load) (at : SettlementPeriod) → IsReached midnight s
-    → CanLoad midnight s load → IsFalse (is_among (filter_map touched_by (load_writes midnight s load).rows) at)
+    → CanLoad midnight s load → IsFalse (is_among (filter_map touched_by (load_change midnight s load).rows) at)
     → (price_of (registered_at midnight (after_load midnight s load)) at ≡ price_of (registered_at midnight s) at)
     × ((accounts : List Account) → terms_for accounts (registered_at midnight (after_load midnight s load)) at
     ≡ terms_for accounts (registered_at midnight s) at)
@@ -98,4 +98,4 @@ abbrev pub AccountedForAfterLoads : Type 0
 AccountedForAfterLoads = (midnight : Midnights) (s : State) (load : Load) (touched : List SettlementPeriod) → IsReached midnight s
     → CanLoad midnight s load → IsTrue (are_days_accounted_for (tables_of midnight s) touched)
     → IsTrue (are_days_accounted_for (tables_of midnight (after_load midnight s load))
-    (filter_map touched_by (load_writes midnight s load).rows ++ touched))
+    (filter_map touched_by (load_change midnight s load).rows ++ touched))

@@ -15,7 +15,7 @@ use Rattle.hh_rules.specs.declared.positions.Position.{Position}
 use Rattle.hh_rules.specs.declared.positions.PositionKey.{PositionKey}
 use Rattle.hh_runs.specs.declared.run_key.RunKey.{RunKey}
 use Rattle.hh_runs.specs.declared.summary.Summary.{Summary}
-use Rattle.hh_states.specs.Changes.{LoadWrites, RunWrites}
+use Rattle.hh_states.specs.Changes.{LoadChangeView, RunChangeView}
 use Rattle.hh_states.specs.Content.{Content}
 use Rattle.hh_states.specs.DaySettlement.{periods_on}
 use Rattle.hh_states.specs.PeriodSettlement.{row_in_force}
@@ -42,14 +42,14 @@ positions_with (row.Contract r ∷ rows) volumes positions =
 positions_with (_ ∷ rows) volumes positions = positions_with rows volumes positions
 
 -- what is kept after a load
-abbrev pub beside_with_load : LoadWrites → Registered → Beside → Beside
+abbrev pub beside_with_load : LoadChangeView → Registered → Beside → Beside
 beside_with_load w tables beside = record {
   positions = positions_with w.rows tables.contracts beside.positions;
   touched = filter_map touched_by w.rows ++ beside.touched;
 }
 
 -- what is kept after a run: no period of its date is touched
-abbrev pub beside_with_run : RunWrites → Beside → Beside
+abbrev pub beside_with_run : RunChangeView → Beside → Beside
 beside_with_run w beside = record beside { touched = filter (λ at. not (at.date == w.key.date)) beside.touched }
 
 -- the positions by contracts in force, one after the other

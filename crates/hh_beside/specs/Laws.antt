@@ -2,7 +2,7 @@
 use Rattle.std.specs.Prelude.{◌≡◌, ℤ, IsTrue}
 use Rattle.hh_time.specs.Days.{Midnights}
 use Rattle.hh_runs.specs.declared.run_key.RunKey.{RunKey}
-use Rattle.hh_states.specs.Changes.{load_writes, run_writes}
+use Rattle.hh_states.specs.Changes.{load_change, run_change}
 use Rattle.hh_states.specs.Content.{Content, tables_of}
 use Rattle.hh_states.specs.States.{State}
 use Rattle.hh_states.specs.Steps.{CanLoad, CanRun, IsReached, Load, after_load, after_run}
@@ -18,14 +18,14 @@ AreAlike these those = (these.positions ≡ those.positions) × HaveTheSame thes
 abbrev pub LoadsAgree : Type 0
 LoadsAgree = (midnight : Midnights) (s : State) (load : Load) (beside after : Beside) → IsReached midnight s
     → CanLoad midnight s load → IsTrue (agrees (tables_of midnight s) beside)
-    → AreAlike after (beside_with_load (load_writes midnight s load) (tables_of midnight s).registered beside)
+    → AreAlike after (beside_with_load (load_change midnight s load) (tables_of midnight s).registered beside)
     → IsTrue (agrees (tables_of midnight (after_load midnight s load)) after)
 
 -- and still does after a run that it makes
 abbrev pub RunsAgree : Type 0
 RunsAgree = (midnight : Midnights) (s : State) (moment : ℤ) (key : RunKey) (beside after : Beside) → IsReached midnight s
     → CanRun midnight s moment key → IsTrue (agrees (tables_of midnight s) beside)
-    → AreAlike after (beside_with_run (run_writes midnight s key) beside)
+    → AreAlike after (beside_with_run (run_change midnight s key) beside)
     → IsTrue (agrees (tables_of midnight (after_run s key)) after)
 
 -- what is made anew beside tables agrees with them

@@ -21,7 +21,7 @@ use Rattle.hh_rules.specs.declared.positions.Position.TheVariants.{Known, Lost}
 use Rattle.hh_rules.specs.declared.positions.PositionKey.{PositionKey}
 use Rattle.hh_calc.specs.Ready.{IsNetVolume}
 use Rattle.hh_runs.specs.declared.run_key.RunKey.{RunKey}
-use Rattle.hh_states.specs.Changes.{load_writes}
+use Rattle.hh_states.specs.Changes.{load_change}
 use Rattle.hh_states.specs.Content.{tables_of}
 use Rattle.hh_states.specs.PeriodSettlement.{accounts_on}
 use Rattle.hh_states.specs.Soundness.{AreConsistent}
@@ -49,7 +49,7 @@ abbrev pub LoadsKeepPositions : Type 0
 LoadsKeepPositions = (midnight : Midnights) (s : State) (load : Load) (positions : Table PositionKey Position)
     → IsReached midnight s → CanLoad midnight s load → IsTrue (are_positions_right (tables_of midnight s).registered positions)
     → IsTrue (are_positions_right (tables_of midnight (after_load midnight s load)).registered
-    (positions_with (load_writes midnight s load).rows (tables_of midnight s).registered.contracts positions))
+    (positions_with (load_change midnight s load).rows (tables_of midnight s).registered.contracts positions))
 
 -- and the same positions are right after a run
 abbrev pub RunsKeepPositions : Type 0

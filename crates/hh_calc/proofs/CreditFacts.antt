@@ -19,7 +19,7 @@ use Rattle.hh_calc.specs.Formulas.{lead_credit, loss_adjusted, subsidiary_credit
 use Rattle.hh_calc.specs.Ready.{most_subsidiaries}
 use Rattle.hh_calc.specs.Settled.{credit_cmp}
 use Rattle.hh_calc.specs.steps.Sums.{IsCreditSmall}
-use Rattle.hh_calc.specs.Terms.{BmUnit}
+use Rattle.hh_calc.specs.Terms.{UnitDataView}
 use Rattle.hh_calc.proofs.SumLaws.{total-more}
 use Rattle.hh_calc.proofs.WordFacts.{long_word, word}
 
@@ -99,10 +99,10 @@ held_credit result held amount fits e h = record {
 }
 
 -- The credits of a unit's subsidiaries, one after another.
-abbrev pub credit_of : BmUnit → Subsidiary → CreditRow
+abbrev pub credit_of : UnitDataView → Subsidiary → CreditRow
 credit_of u s = record { unit = u.unit; account = s.account; credited = subsidiary_credit u s }
 
-module _ (u : BmUnit) (i : ℕ) (s : Subsidiary) (inside : i < length u.subsidiaries) (is : s ≡ get_or u.subsidiaries i s) where
+module _ (u : UnitDataView) (i : ℕ) (s : Subsidiary) (inside : i < length u.subsidiaries) (is : s ≡ get_or u.subsidiaries i s) where
   pub credits_more : (start so_far : List CreditRow) → so_far ≡ start ++ map (credit_of u) (take i u.subsidiaries)
       → (row : CreditRow) → row ≡ credit_of u s → (new : List CreditRow) → new ≡ so_far ++ row ∷ []
       → new ≡ start ++ map (credit_of u) (take (i + 1) u.subsidiaries)
@@ -141,7 +141,7 @@ rest_word i rest credit few le le' =
     }
 
 -- all the credits of a unit are small
-pub unit_credits_small : (u : BmUnit) (i : ℕ) (rest : ℤ) → length u.subsidiaries ≤ i → i ≤ most_subsidiaries
+pub unit_credits_small : (u : UnitDataView) (i : ℕ) (rest : ℤ) → length u.subsidiaries ≤ i → i ≤ most_subsidiaries
     → All (λ x. unsigned_abs (subsidiary_credit u x) ≤ 10 ^ 18) (take i u.subsidiaries)
     → rest ≡ loss_adjusted u -ℤ total (subsidiary_credit u) (take i u.subsidiaries) → unsigned_abs rest ≤ 2 * 10 ^ 14 + i * 10 ^ 15
     → All IsCreditSmall (unit_credits u)

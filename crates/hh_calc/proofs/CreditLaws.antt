@@ -6,15 +6,15 @@ use Rattle.hh_names.specs.declared.account.Account.{Account}
 use Rattle.hh_calc.specs.declared.data.Subsidiary.{Subsidiary}
 use Rattle.hh_calc.specs.declared.result.CreditRow.{CreditRow}
 use Rattle.hh_calc.specs.Formulas.{lead_credit, subsidiary_credit, unit_credits}
-use Rattle.hh_calc.specs.Ready.{IsUnitNamed}
-use Rattle.hh_calc.specs.steps.Ready.{IsCreditNamed}
-use Rattle.hh_calc.specs.Terms.{BmUnit}
+use Rattle.hh_calc.specs.Ready.{IsUnitListed}
+use Rattle.hh_calc.specs.steps.Ready.{IsCreditListed}
+use Rattle.hh_calc.specs.Terms.{UnitDataView}
 
 module _ (accounts : List Account) where
   -- if a unit's accounts are named, so are those of its credits
-  pub unit_named : (u : BmUnit) → IsUnitNamed accounts u → All (IsCreditNamed accounts) (unit_credits u)
+  pub unit_named : (u : UnitDataView) → IsUnitListed accounts u → All (IsCreditListed accounts) (unit_credits u)
   unit_named u h =
       let to_subsidiary : Subsidiary → CreditRow = λ s. record { unit = u.unit; account = s.account; credited = subsidiary_credit u s } in
       let to_lead : CreditRow = record { unit = u.unit; account = u.lead; credited = lead_credit u } in
-      All-append (IsCreditNamed accounts) (map to_subsidiary u.subsidiaries) (to_lead ∷ []) (All-map (IsCreditNamed accounts) to_subsidiary u.subsidiaries h.1)
-      (All-cons (IsCreditNamed accounts) to_lead [] h.0 (All-nil (IsCreditNamed accounts)))
+      All-append (IsCreditListed accounts) (map to_subsidiary u.subsidiaries) (to_lead ∷ []) (All-map (IsCreditListed accounts) to_subsidiary u.subsidiaries h.1)
+      (All-cons (IsCreditListed accounts) to_lead [] h.0 (All-nil (IsCreditListed accounts)))

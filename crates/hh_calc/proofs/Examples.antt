@@ -4,13 +4,13 @@ use Rattle.std.specs.Prelude.{ℤ, pos, negsuc, false}
 use Rattle.hh_names.specs.declared.account.Account.{Account}
 use Rattle.hh_calc.specs.declared.data.Subsidiary.{Subsidiary}
 use Rattle.hh_calc.specs.Formulas.{lead_credit, subsidiary_credit}
-use Rattle.hh_calc.specs.Terms.{BmUnit}
+use Rattle.hh_calc.specs.Terms.{UnitDataView}
 
 module _ (lead account : Account) where
   abbrev reallocation : ℤ → ℤ → Subsidiary
   reallocation percent fixed = record { account = account; reallocation = record { percent = percent; fixed = fixed } }
 
-  abbrev unit : ℤ → ℤ → ℤ → Subsidiary → BmUnit
+  abbrev unit : ℤ → ℤ → ℤ → Subsidiary → UnitDataView
   unit metered tlm balancing subsidiary =
       record { unit = []; lead = lead; interconnector = false; reading = record { metered = metered; tlm = tlm; balancing = balancing }; subsidiaries = subsidiary ∷ [] }
 

@@ -14,17 +14,17 @@ use Rattle.hh_num.proofs.TotalLaws.{total-append}
 use Rattle.hh_names.specs.declared.account.Account.{Account}
 use Rattle.hh_calc.specs.declared.result.CreditRow.{CreditRow}
 use Rattle.hh_calc.specs.declared.sums.AccountSums.{AccountSums}
-use Rattle.hh_calc.specs.Formulas.{balanced, balancing_of, credited_of, credits_of, net_contracts, period_sums, unit_credits, unit_sums, weighing, weight_of}
+use Rattle.hh_calc.specs.Formulas.{balancing_ticks, balancing_of, credited_of, credits_of, net_contracts, period_sums, unit_credits, unit_sums, weighing, weight_of}
 use Rattle.hh_calc.specs.steps.Formulas.{all_sums}
 use Rattle.hh_calc.specs.Ready.{most_subsidiaries, HasFewSubsidiaries}
 use Rattle.hh_calc.specs.steps.Sums.{balancing_amounts, greatest_credit, greatest_sum, greatest_volume, no_sums, with_amounts, with_credits, with_net_by, with_unit, AreChanged, AreGrown, IsWithin}
-use Rattle.hh_calc.specs.Terms.{BmUnit, PeriodTerms}
+use Rattle.hh_calc.specs.Terms.{UnitDataView, PeriodDataView}
 use Rattle.hh_calc.proofs.SumLaws.{all_within, changed_on, grown_on, none_more, total-more, weight_of_none}
 use Rattle.hh_calc.proofs.CreditFacts.{credit_of}
 
 -- a unit's credits and its balancing volume
-pub unit_step : (u : BmUnit) (a : Account) (s : AccountSums)
-    → with_amounts u.lead (balancing_amounts (balanced u)) a (with_credits (not u.interconnector) (unit_credits u) a s) ≡ with_unit u a s
+pub unit_step : (u : UnitDataView) (a : Account) (s : AccountSums)
+    → with_amounts u.lead (balancing_amounts (balancing_ticks u)) a (with_credits (not u.interconnector) (unit_credits u) a s) ≡ with_unit u a s
 unit_step u a s = λ j. record {
   credited = none_more a u.lead (s.credited +ℤ total (credited_of a) (unit_credits u)) j;
   balancing = s.balancing +ℤ balancing_of a u;
@@ -36,7 +36,7 @@ unit_step u a s = λ j. record {
     turned true = refl
     turned false = refl
 
-module _ (units : List BmUnit) (i : ℕ) (u : BmUnit) (inside : i < length units) (is : u ≡ get_or units i u) where
+module _ (units : List UnitDataView) (i : ℕ) (u : UnitDataView) (inside : i < length units) (is : u ≡ get_or units i u) where
   -- the credits of one more unit
   pub credits_next : credits_of (take (i + 1) units) ≡ credits_of (take i units) ++ unit_credits u
   credits_next =
@@ -100,12 +100,12 @@ reordered made rows part beneath first n is long placed =
     rw read (subst (λ rows. IsPermutation rows whole) is same)
 
 -- a unit has at most 800 credits
-few_credits : (u : BmUnit) → HasFewSubsidiaries u → length (unit_credits u) ≤ most_subsidiaries + 1
+few_credits : (u : UnitDataView) → HasFewSubsidiaries u → length (unit_credits u) ≤ most_subsidiaries + 1
 few_credits u few =
     let long : length (unit_credits u) ≡ length u.subsidiaries + 1 = length-append (map (credit_of u) u.subsidiaries) _ ∙ ap (λ n. n + 1) (length-map u.subsidiaries (credit_of u)) in
     omega (arith, few)
 
-module _ (u : BmUnit) (credits : List CreditRow) (are : credits ≡ unit_credits u) (old middle new : List AccountSums) where
+module _ (u : UnitDataView) (credits : List CreditRow) (are : credits ≡ unit_credits u) (old middle new : List AccountSums) where
   pub unit_room : HasFewSubsidiaries u → All (IsWithin greatest_sum) old → AreGrown (length credits * greatest_credit) old middle → All (IsWithin (2 * greatest_sum)) middle
   unit_room few small grown =
       let long : length credits ≤ 800 = rw are (few_credits u few) in
@@ -114,7 +114,7 @@ module _ (u : BmUnit) (credits : List CreditRow) (are : credits ≡ unit_credits
   pub unit_grown : AreGrown (length credits * greatest_credit) old middle → AreGrown greatest_volume middle new → AreGrown (length (unit_credits u) * greatest_credit + greatest_volume) old new
   unit_grown = grown_on (length credits * greatest_credit) greatest_volume (length (unit_credits u) * greatest_credit + greatest_volume) (rw are refl) old middle new
 
-  pub unit_added : (accounts : List Account) (weighs : Bool) → weighs ≡ not u.interconnector → (lead : Account) → lead ≡ u.lead → (x : AccountSums) → x ≡ balancing_amounts (balanced u)
+  pub unit_added : (accounts : List Account) (weighs : Bool) → weighs ≡ not u.interconnector → (lead : Account) → lead ≡ u.lead → (x : AccountSums) → x ≡ balancing_amounts (balancing_ticks u)
       → AreChanged accounts (with_credits weighs credits) old middle → AreChanged accounts (with_amounts lead x) middle new → AreChanged accounts (with_unit u) old new
   unit_added accounts weighs weighs_is lead lead_is x x_is =
       changed_on accounts (with_credits weighs credits) (with_amounts lead x) (with_unit u)
@@ -122,7 +122,7 @@ module _ (u : BmUnit) (credits : List CreditRow) (are : credits ≡ unit_credits
       old middle new
 
 -- a period's contracts after its units
-pub contracts_after : (p : PeriodTerms) (old new : List AccountSums)
+pub contracts_after : (p : PeriodDataView) (old new : List AccountSums)
     → old ≡ map (unit_sums p.units) p.accounts → AreChanged p.accounts (with_net_by p.accounts p.contracts) old new → new ≡ all_sums p
 contracts_after p old new e changed = changed (unit_sums p.units) e ∙ (λ i. map (λ a. one a i) p.accounts)
   where

@@ -18,10 +18,10 @@ use Rattle.hh_names.specs.Accounts.{account_cmp, is_same_account}
 use Rattle.hh_names.proofs.AccountLaws.{account_total}
 use Rattle.hh_calc.specs.declared.result.Figures.{Figures}
 use Rattle.hh_calc.specs.declared.sums.AccountSums.{AccountSums}
-use Rattle.hh_calc.specs.Formulas.{all_figures, contracted, figures, figures_from, net_by, net_entry_of, net_kwh, net_of, netted, netted_contracts, of_account, period_sums, residual, net_kwh_of, ticks_per_kwh}
+use Rattle.hh_calc.specs.Formulas.{all_figures, contracted, figures, figures_from, net_by, net_entry_of, net_kwh, net_of, netted, netted_contracts, if_same_account, period_sums, residual, net_kwh_of, ticks_per_kwh}
 use Rattle.hh_calc.specs.Limits.{are_all_within, are_within, greatest_cash, greatest_energy, is_account_within, is_at_most, is_within_limits}
-use Rattle.hh_calc.specs.Ready.{AreAccountsInOrder, AreContractsReady, AreInOrder, AreNetsReady, IsContractNamed, IsNetVolume, IsReady}
-use Rattle.hh_calc.specs.Terms.{ContractTerms, Net, PeriodTerms, Rows}
+use Rattle.hh_calc.specs.Ready.{AreAccountsInOrder, AreContractsReady, AreInOrder, AreNetsReady, IsContractListed, IsNetVolume, IsReady}
+use Rattle.hh_calc.specs.Terms.{ContractTerms, Net, PeriodDataView, Rows}
 use Rattle.hh_calc.proofs.OrderLaws.{rises}
 use Rattle.hh_calc.proofs.SpreadLaws.{counts_once}
 use Rattle.hh_calc.proofs.SumLaws.{length-beside}
@@ -67,7 +67,7 @@ module _ (accounts : List Account) (up : AreAccountsInOrder accounts) where
   ]
 
   -- an amount of a named account counts once over the accounts
-  spread : (b : Account) → Contains accounts b → (amount : ℤ) → total (λ a. of_account a b amount) accounts ≡ amount
+  spread : (b : Account) → Contains accounts b → (amount : ℤ) → total (λ a. if_same_account a b amount) accounts ≡ amount
   spread b (k, inside, is) amount =
       counts_once (is_same_account b) (λ a. amount) accounts b k inside
       (ap is_eq (ap (account_cmp b) is ∙ tied_itself account_total b))
@@ -75,23 +75,23 @@ module _ (accounts : List Account) (up : AreAccountsInOrder accounts) where
 
   -- if each account has an amount, only that of one account counts for it
   own : (f : Account → ℤ) (k : ℕ) (d : Account) → k < length accounts
-      → total (λ b. of_account (get_or accounts k d) b (f b)) accounts ≡ f (get_or accounts k d)
+      → total (λ b. if_same_account (get_or accounts k d) b (f b)) accounts ≡ f (get_or accounts k d)
   own f k d inside =
       counts_once (λ b. is_same_account b (get_or accounts k d)) f accounts d k inside (ap is_eq (tied_itself account_total (get_or accounts k d)))
       (λ j among ne. others_differ d j k among inside (λ e. ne (sym e)))
 
   -- the seller's amount of a contract and the buyer's sum to zero
-  one_contract : (amount : Contract → ℤ) (c : Contract) → IsContractNamed accounts c
-      → total (λ a. of_account a c.counterparties.seller (amount c) -ℤ of_account a c.counterparties.buyer (amount c)) accounts ≡ pos 0
+  one_contract : (amount : Contract → ℤ) (c : Contract) → IsContractListed accounts c
+      → total (λ a. if_same_account a c.counterparties.seller (amount c) -ℤ if_same_account a c.counterparties.buyer (amount c)) accounts ≡ pos 0
   one_contract amount c (sells, buys) =
-      total-plus (λ a. of_account a c.counterparties.seller (amount c)) (λ a. neg_ℤ (of_account a c.counterparties.buyer (amount c))) accounts
-      ∙ (λ i. spread c.counterparties.seller sells (amount c) i +ℤ total-neg (λ a. of_account a c.counterparties.buyer (amount c)) accounts i)
+      total-plus (λ a. if_same_account a c.counterparties.seller (amount c)) (λ a. neg_ℤ (if_same_account a c.counterparties.buyer (amount c))) accounts
+      ∙ (λ i. spread c.counterparties.seller sells (amount c) i +ℤ total-neg (λ a. if_same_account a c.counterparties.buyer (amount c)) accounts i)
       ∙ ap (λ z. amount c +ℤ neg_ℤ z) (spread c.counterparties.buyer buys (amount c))
       ∙ +ℤ_invr (amount c)
 
   -- so all contracts together sum to zero over the accounts
-  all_contracts : (amount : Contract → ℤ) (cs : List Contract) → All (IsContractNamed accounts) cs
-      → total (λ c. total (λ a. of_account a c.counterparties.seller (amount c) -ℤ of_account a c.counterparties.buyer (amount c)) accounts) cs ≡ pos 0
+  all_contracts : (amount : Contract → ℤ) (cs : List Contract) → All (IsContractListed accounts) cs
+      → total (λ c. total (λ a. if_same_account a c.counterparties.seller (amount c) -ℤ if_same_account a c.counterparties.buyer (amount c)) accounts) cs ≡ pos 0
   all_contracts amount [] named = refl
   all_contracts amount (c ∷ cs) named = λ i. one_contract amount c (named 0 c (omega arith)) i +ℤ all_contracts amount cs (λ k d lt. named (suc k) d (omega arith)) i
 
@@ -119,7 +119,7 @@ module _ (accounts : List Account) (up : AreAccountsInOrder accounts) where
       ∙ zero-*ℤ ticks_per_kwh
 
   -- the accounts' net volumes by rows sum to zero
-  pub nets_sum : (rows : List Contract) → All (IsContractNamed accounts) rows → total (net_kwh rows) accounts ≡ pos 0
+  pub nets_sum : (rows : List Contract) → All (IsContractListed accounts) rows → total (net_kwh rows) accounts ≡ pos 0
   nets_sum rows named = total-swap net_kwh_of accounts rows ∙ all_contracts (λ c. c.volume) rows named
 
   -- an account has the same net contracts by rows as by net volumes
@@ -138,7 +138,7 @@ module _ (accounts : List Account) (up : AreAccountsInOrder accounts) where
       zip-map f [] = refl
       zip-map f (x ∷ xs) = ap (λ l. (x, f x) ∷ l) (zip-map f xs)
 
-module _ (p : PeriodTerms) (up : AreInOrder p) where
+module _ (p : PeriodDataView) (up : AreInOrder p) where
   sums_alike : (k : ℕ) (d : Account) → k < length p.accounts → period_sums (netted p) (get_or p.accounts k d) ≡ period_sums p (get_or p.accounts k d)
   sums_alike k d inside = λ i. record (period_sums p (get_or p.accounts k d)) { contracts = nets_alike p.accounts up p.contracts k d inside i }
 
@@ -167,9 +167,9 @@ module _ (p : PeriodTerms) (up : AreInOrder p) where
           ∙ list_all-map (λ b. b) (is_account_within p) p.accounts
 
 -- the net volumes of rows may be settled, if each is in its range
-pub netted_ready : (p : PeriodTerms) (rows : List Contract) → p.contracts ≡ Rows rows → IsReady p → All IsNetVolume (map (net_kwh rows) p.accounts) → IsReady (netted p)
+pub netted_ready : (p : PeriodDataView) (rows : List Contract) → p.contracts ≡ Rows rows → IsReady p → All IsNetVolume (map (net_kwh rows) p.accounts) → IsReady (netted p)
 netted_ready p rows are ready small =
-    let named : All (IsContractNamed p.accounts) rows = subst (AreContractsReady p.accounts) are ready.1.1 in
+    let named : All (IsContractListed p.accounts) rows = subst (AreContractsReady p.accounts) are ready.1.1 in
     let nets : AreNetsReady p.accounts (map (net_kwh rows) p.accounts) = record {
       each = length-map p.accounts (net_kwh rows);
       even = total-map (λ kwh. kwh) (net_kwh rows) p.accounts ∙ nets_sum p.accounts ready.0 rows named;

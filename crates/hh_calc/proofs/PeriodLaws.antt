@@ -17,14 +17,14 @@ use Rattle.hh_calc.specs.declared.result.AccountRow.{AccountRow}
 use Rattle.hh_calc.specs.declared.result.CreditRow.{CreditRow}
 use Rattle.hh_calc.specs.declared.result.Figures.{Figures}
 use Rattle.hh_calc.specs.Formulas.{credits_of, figures, lead_credit, loss_adjusted, period_sums, residual, subsidiary_credit, unit_credits, weights}
-use Rattle.hh_calc.specs.Ready.{AreInOrder, AreNamed, AreUnitsDistinct}
+use Rattle.hh_calc.specs.Ready.{AreInOrder, AreListed, AreUnitsDistinct}
 use Rattle.hh_calc.specs.Settled.{figures_of, paid_by, shares_shown, AddsUp, IsSettled, IsUnitCredited, SharesDepartLeast}
-use Rattle.hh_calc.specs.Terms.{PeriodTerms, Settled, BmUnit}
+use Rattle.hh_calc.specs.Terms.{PeriodDataView, Settled, UnitDataView}
 use Rattle.hh_calc.proofs.NetLaws.{contracts_sum}
 use Rattle.hh_calc.proofs.SpreadLaws.{counted, counts_once, total-IsPermutation, total-flat_map}
 
 -- The credits from a unit sum to its loss-adjusted volume, or to zero if they do not count.
-unit_credits_sum : (u : BmUnit) (do_count : Bool)
+unit_credits_sum : (u : UnitDataView) (do_count : Bool)
     → total (λ s. cond do_count (subsidiary_credit u s) (pos 0)) u.subsidiaries +ℤ cond do_count (lead_credit u) (pos 0) ≡ cond do_count (loss_adjusted u) (pos 0)
 unit_credits_sum u true =
     +ℤ_comm (total (subsidiary_credit u) u.subsidiaries) (lead_credit u)
@@ -36,7 +36,7 @@ abbrev credited_under : List ℕ → CreditRow → ℤ
 credited_under name = counted (λ c. bytes_eq c.unit name) (λ c. c.credited)
 
 -- the credits under a unit's name are all those of the unit, and no others
-credits_under : (name : List ℕ) (u : BmUnit) → total (credited_under name) (unit_credits u) ≡ counted (λ v. bytes_eq v.unit name) loss_adjusted u
+credits_under : (name : List ℕ) (u : UnitDataView) → total (credited_under name) (unit_credits u) ≡ counted (λ v. bytes_eq v.unit name) loss_adjusted u
 credits_under name u =
     let given : Subsidiary → CreditRow = λ s. record { unit = u.unit; account = s.account; credited = subsidiary_credit u s } in
     let kept : CreditRow = record { unit = u.unit; account = u.lead; credited = lead_credit u } in
@@ -45,10 +45,10 @@ credits_under name u =
     ∙ unit_credits_sum u (bytes_eq u.unit name)
 
 -- no other unit has a unit's name, so the credits under it sum to its loss-adjusted volume
-credits_sum : (p : PeriodTerms) (s : Settled) → AreUnitsDistinct p → IsSettled p s
+credits_sum : (p : PeriodDataView) (s : Settled) → AreUnitsDistinct p → IsSettled p s
     → All (IsUnitCredited s.credits) p.units
 credits_sum p s distinct settled k d inside =
-    let u : BmUnit = get_or p.units k d in
+    let u : UnitDataView = get_or p.units k d in
     total-filter (λ c. c.credited) (λ c. bytes_eq c.unit u.unit) s.credits
     ∙ total-IsPermutation (credited_under u.unit) (credits_of p.units) s.credits settled.credits
     ∙ total-flat_map (credited_under u.unit) unit_credits p.units
@@ -63,7 +63,7 @@ credits_sum p s distinct settled k d inside =
           | inr le ↦ distinct j k d (omega arith) inside same
         ])
 
-module _ (p : PeriodTerms) (s : Settled) (settled : IsSettled p s) where
+module _ (p : PeriodDataView) (s : Settled) (settled : IsSettled p s) where
   -- sums over the rows are sums over the figures
   rows_sum : (f : Figures → ℤ) → total (λ r. f (figures_of r)) s.accounts ≡ total (λ a. f (figures p a)) p.accounts
   rows_sum f = sym (total-map f figures_of s.accounts) ∙ ap (total f) settled.rows ∙ total-map f (figures p) p.accounts
@@ -82,7 +82,7 @@ some_account (a ∷ accounts) f g differs = omega arith
 
 -- What a settled period adds up to: contracts sum to zero, the credits from each unit to its loss-adjusted volume, and cash
 -- to zero. Its shares are quotas, rounded.
-pub adds_up : (p : PeriodTerms) (s : Settled) → AreInOrder p → AreNamed p → IsSettled p s → AddsUp p s
+pub adds_up : (p : PeriodDataView) (s : Settled) → AreInOrder p → AreListed p → IsSettled p s → AddsUp p s
 adds_up p s up named settled = record {
   contracts = rows_sum p s settled (λ f. f.contracts) ∙ contracts_sum p.accounts up p.contracts named.1;
   credits = λ distinct. credits_sum p s distinct settled;
@@ -91,5 +91,5 @@ adds_up p s up named settled = record {
 }
 
 -- The shares of a settled period depart least from the quotas.
-pub shares_least : (p : PeriodTerms) (s : Settled) → IsSettled p s → SharesDepartLeast p s
+pub shares_least : (p : PeriodDataView) (s : Settled) → IsSettled p s → SharesDepartLeast p s
 shares_least p s settled = rw settled.shared (shares_depart_least (residual p) (weights p))

@@ -15,7 +15,7 @@ use Rattle.hh_calc.specs.Formulas.{figures, figures_from, period_sums}
 use Rattle.hh_calc.specs.steps.Sums.{no_sums}
 use Rattle.hh_calc.specs.Limits.{are_accounts_within, are_within, greatest_cash, is_account_within}
 use Rattle.hh_calc.specs.steps.Limits.{kept_where}
-use Rattle.hh_calc.specs.Terms.{PeriodTerms}
+use Rattle.hh_calc.specs.Terms.{PeriodDataView}
 use Rattle.hh_calc.proofs.RowFacts.{at_most}
 use Rattle.hh_calc.proofs.SumLaws.{total-more}
 use Rattle.hh_calc.proofs.WordFacts.{long_word, word}
@@ -29,7 +29,7 @@ pub kept_none : {A : Type 0} (r : Option A) (test : Bool) (value : A) → r ≡ 
 kept_none r true value e none = cc (sym e ∙ none)
 kept_none r false value e none = refl
 
-module _ (p : PeriodTerms) (place : ℕ) (account : Account) (inside : place < length p.accounts) (is : account ≡ get_or p.accounts place account) where
+module _ (p : PeriodDataView) (place : ℕ) (account : Account) (inside : place < length p.accounts) (is : account ≡ get_or p.accounts place account) where
   -- The sums at an account's place are its sums over the period.
   pub sums_read : (sums : List AccountSums) → sums ≡ map (period_sums p) p.accounts → get_or sums place no_sums ≡ period_sums p account
   sums_read sums e = ap (λ l. get_or l place no_sums) e ∙ get_or-map (period_sums p) p.accounts place account no_sums inside ∙ ap (period_sums p) (sym is)

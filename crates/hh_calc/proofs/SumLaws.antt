@@ -19,7 +19,7 @@ use Rattle.hh_names.specs.Accounts.{account_cmp, is_same_account}
 use Rattle.hh_names.proofs.AccountLaws.{account_total}
 use Rattle.hh_calc.specs.declared.result.CreditRow.{CreditRow}
 use Rattle.hh_calc.specs.declared.sums.AccountSums.{AccountSums}
-use Rattle.hh_calc.specs.Formulas.{contracted, credited_of, net_entry_of, net_of, of_account, ticks_per_kwh, weight_of}
+use Rattle.hh_calc.specs.Formulas.{contracted, credited_of, net_entry_of, net_of, if_same_account, ticks_per_kwh, weight_of}
 use Rattle.hh_calc.specs.steps.Sums.{contract_amounts, credit_amounts, sums_plus, with_amounts, with_contract, with_contracts, with_credits, with_nets, AreChanged, AreGrown, IsWithin}
 
 -- amounts of another account do not count
@@ -114,10 +114,10 @@ sum_by-more f rows i row inside is =
     alone n = omega arith
 
 -- an amount of 0 adds nothing
-pub of_none : (a to : Account) → of_account a to (pos 0) ≡ pos 0
+pub of_none : (a to : Account) → if_same_account a to (pos 0) ≡ pos 0
 of_none a to = elim (is_same_account to a) as (λ t. cond t (pos 0) (pos 0) ≡ pos 0) [ true ↦ refl | false ↦ refl ]
 
-pub none_more : (a to : Account) (z : ℤ) → z +ℤ of_account a to (pos 0) ≡ z
+pub none_more : (a to : Account) (z : ℤ) → z +ℤ if_same_account a to (pos 0) ≡ z
 none_more a to z = ap (λ y. z +ℤ y) (of_none a to) ∙ +ℤ_idr z
 
 pub weight_of_none : (a to : Account) (n : ℕ) → n + cond (is_same_account to a) 0 0 ≡ n
@@ -173,13 +173,13 @@ sold_and_bought c a s =
     let seller : Account = c.counterparties.seller in
     let buyer : Account = c.counterparties.buyer in
     λ j. record {
-      credited = (none_more a buyer (s.credited +ℤ of_account a seller (pos 0)) ∙ none_more a seller s.credited) j;
-      balancing = (none_more a buyer (s.balancing +ℤ of_account a seller (pos 0)) ∙ none_more a seller s.balancing) j;
-      contracts = one_more s.contracts (of_account a seller (contracted c)) (of_account a buyer (neg_ℤ (contracted c))) _ (ap (λ z. of_account a seller (contracted c) +ℤ z) (sym (against (contracted c)))) j;
+      credited = (none_more a buyer (s.credited +ℤ if_same_account a seller (pos 0)) ∙ none_more a seller s.credited) j;
+      balancing = (none_more a buyer (s.balancing +ℤ if_same_account a seller (pos 0)) ∙ none_more a seller s.balancing) j;
+      contracts = one_more s.contracts (if_same_account a seller (contracted c)) (if_same_account a buyer (neg_ℤ (contracted c))) _ (ap (λ z. if_same_account a seller (contracted c) +ℤ z) (sym (against (contracted c)))) j;
       weight = (weight_of_none a buyer (s.weight + cond (is_same_account seller a) 0 0) ∙ weight_of_none a seller s.weight) j;
     }
   where
-    against : (x : ℤ) → of_account a c.counterparties.buyer (neg_ℤ x) ≡ neg_ℤ (of_account a c.counterparties.buyer x)
+    against : (x : ℤ) → if_same_account a c.counterparties.buyer (neg_ℤ x) ≡ neg_ℤ (if_same_account a c.counterparties.buyer x)
     against x = elim (is_same_account c.counterparties.buyer a) as (λ t. cond t (neg_ℤ x) (pos 0) ≡ neg_ℤ (cond t x (pos 0))) [ true ↦ refl | false ↦ refl ]
 
 -- no net volumes

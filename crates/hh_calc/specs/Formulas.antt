@@ -8,12 +8,12 @@ use Rattle.hh_num.specs.Totals.{total}
 use Rattle.hh_names.specs.declared.account.Account.{Account}
 use Rattle.hh_names.specs.declared.values.Contract.{Contract}
 use Rattle.hh_names.specs.Accounts.{is_same_account}
-use Rattle.hh_share.specs.Shares.{effective, shares, AreQuotasRounded}
+use Rattle.hh_share.specs.Shares.{counted_weights, shares, AreQuotasRounded}
 use Rattle.hh_calc.specs.declared.data.Subsidiary.{Subsidiary}
 use Rattle.hh_calc.specs.declared.result.CreditRow.{CreditRow}
 use Rattle.hh_calc.specs.declared.result.Figures.{Figures}
 use Rattle.hh_calc.specs.declared.sums.AccountSums.{AccountSums}
-use Rattle.hh_calc.specs.Terms.{BmUnit, ContractTerms, Net, PeriodTerms, Rows}
+use Rattle.hh_calc.specs.Terms.{UnitDataView, ContractTerms, Net, PeriodDataView, Rows}
 
 -- ticks to the kWh
 abbrev pub ticks_per_kwh : ℤ
@@ -24,39 +24,39 @@ abbrev pub price_units_per_penny : ℤ
 price_units_per_penny = pos (10 ^ 13)
 
 -- loss-adjusted volume: metered energy times the loss multiplier, not rounded
-abbrev pub loss_adjusted : BmUnit → ℤ
+abbrev pub loss_adjusted : UnitDataView → ℤ
 loss_adjusted u = u.reading.metered *ℤ u.reading.tlm
 
 -- the balancing volume of a unit, in ticks
-abbrev pub balanced : BmUnit → ℤ
-balanced u = u.reading.balancing *ℤ u.reading.tlm
+abbrev pub balancing_ticks : UnitDataView → ℤ
+balancing_ticks u = u.reading.balancing *ℤ u.reading.tlm
 
 -- the volume that is reallocated to a subsidiary, in kWh times units of a percentage: its percentage of the metered volume less
 -- the balancing volume, and its fixed volume
-abbrev pub reallocated : BmUnit → Subsidiary → ℤ
+abbrev pub reallocated : UnitDataView → Subsidiary → ℤ
 reallocated u s =
     ((u.reading.metered -ℤ u.reading.balancing) *ℤ s.reallocation.percent) +ℤ (s.reallocation.fixed *ℤ hundred_percent)
 
 -- the energy that a subsidiary is credited with: that volume, loss-adjusted and rounded
-abbrev pub subsidiary_credit : BmUnit → Subsidiary → ℤ
+abbrev pub subsidiary_credit : UnitDataView → Subsidiary → ℤ
 subsidiary_credit u s = near (reallocated u s *ℤ u.reading.tlm) hundred_percent
 
 -- the energy that the lead account is credited with: the exact rest of the loss-adjusted volume
-abbrev pub lead_credit : BmUnit → ℤ
+abbrev pub lead_credit : UnitDataView → ℤ
 lead_credit u = loss_adjusted u -ℤ total (subsidiary_credit u) u.subsidiaries
 
 -- the credits from a unit: to each subsidiary, and to the lead account
-abbrev pub unit_credits : BmUnit → List CreditRow
+abbrev pub unit_credits : UnitDataView → List CreditRow
 unit_credits u =
     map (λ s. record { unit = u.unit; account = s.account; credited = subsidiary_credit u s }) u.subsidiaries
     ++ record { unit = u.unit; account = u.lead; credited = lead_credit u } ∷ []
 
 -- the credits from all these units
-abbrev pub credits_of : List BmUnit → List CreditRow
+abbrev pub credits_of : List UnitDataView → List CreditRow
 credits_of units = flat_map unit_credits units
 
 -- the units whose credits weigh: those that are no interconnector units
-abbrev pub weighing : List BmUnit → List BmUnit
+abbrev pub weighing : List UnitDataView → List UnitDataView
 weighing units = filter (λ u. not u.interconnector) units
 
 -- the volume of a contract, in ticks
@@ -65,28 +65,28 @@ contracted c = c.volume *ℤ ticks_per_kwh
 
 module _ (a : Account) where
   -- an amount, if it is for this account, or 0
-  abbrev pub of_account : Account → ℤ → ℤ
-  of_account other amount = if is_same_account other a then amount else pos 0
+  abbrev pub if_same_account : Account → ℤ → ℤ
+  if_same_account other amount = if is_same_account other a then amount else pos 0
 
   -- a credit, if it is to the account
   abbrev pub credited_of : CreditRow → ℤ
-  credited_of c = of_account c.account c.credited
+  credited_of c = if_same_account c.account c.credited
 
   -- the size of a credit, if it is to the account
   abbrev pub weight_of : CreditRow → ℕ
   weight_of c = if is_same_account c.account a then unsigned_abs c.credited else 0
 
   -- the balancing volume of a unit, if the account leads the unit
-  abbrev pub balancing_of : BmUnit → ℤ
-  balancing_of u = of_account u.lead (balanced u)
+  abbrev pub balancing_of : UnitDataView → ℤ
+  balancing_of u = if_same_account u.lead (balancing_ticks u)
 
   -- a contract's volume, for its seller and against its buyer
   abbrev pub net_of : Contract → ℤ
-  net_of c = of_account c.counterparties.seller (contracted c) -ℤ of_account c.counterparties.buyer (contracted c)
+  net_of c = if_same_account c.counterparties.seller (contracted c) -ℤ if_same_account c.counterparties.buyer (contracted c)
 
   -- a net volume, if it is the account's
   abbrev pub net_entry_of : Account × ℤ → ℤ
-  net_entry_of e = of_account e.0 (e.1 *ℤ ticks_per_kwh)
+  net_entry_of e = if_same_account e.0 (e.1 *ℤ ticks_per_kwh)
 
 -- what an account sells by a period's contracts less what it buys, in ticks
 abbrev pub net_by : List Account → ContractTerms → Account → ℤ
@@ -95,7 +95,7 @@ net_by accounts (Net nets) a = total (net_entry_of a) (zip accounts nets)
 
 -- What an account has from these units alone. Its credited energy is a sum over the credits, its balancing volume a sum over the
 -- units, and its weight a sum over the sizes of the credits that weigh.
-abbrev pub unit_sums : List BmUnit → Account → AccountSums
+abbrev pub unit_sums : List UnitDataView → Account → AccountSums
 unit_sums units a = record {
   credited = total (credited_of a) (credits_of units);
   balancing = total (balancing_of a) units;
@@ -122,7 +122,7 @@ figures_from account sums price = record {
   charge = charge_for (imbalance_of sums) price;
 }
 
-module _ (p : PeriodTerms) where
+module _ (p : PeriodDataView) where
   -- the net contracts of an account in the period, in ticks: what it sells less what it buys
   abbrev pub net_contracts : Account → ℤ
   net_contracts a = net_by p.accounts p.contracts a
@@ -153,7 +153,7 @@ module _ (p : PeriodTerms) where
 
   -- these shares of the residual are the accounts' quotas by weight, rounded down or up
   abbrev pub AreSharesRounded : List ℤ → Type 0
-  AreSharesRounded = AreQuotasRounded residual (effective weights)
+  AreSharesRounded = AreQuotasRounded residual (counted_weights weights)
 
 -- ---- net volumes instead of rows
 
@@ -173,5 +173,5 @@ netted_contracts accounts (Rows rows) = Net (map (net_kwh rows) accounts)
 netted_contracts accounts (Net nets) = Net nets
 
 -- a period with its contracts as net volumes of the accounts
-abbrev pub netted : PeriodTerms → PeriodTerms
+abbrev pub netted : PeriodDataView → PeriodDataView
 netted p = record p { contracts = netted_contracts p.accounts p.contracts }

@@ -4,7 +4,7 @@ use Rattle.std.specs.List.{list_all}
 use Rattle.hh_names.specs.declared.account.Account.{Account}
 use Rattle.hh_calc.specs.declared.result.Figures.{Figures}
 use Rattle.hh_calc.specs.Formulas.{figures, period_sums, residual}
-use Rattle.hh_calc.specs.Terms.{PeriodTerms}
+use Rattle.hh_calc.specs.Terms.{PeriodDataView}
 
 -- the greatest energy of an account in a period, in size
 abbrev pub greatest_energy : ℕ
@@ -24,7 +24,7 @@ are_within f =
     is_at_most greatest_energy f.credited && is_at_most greatest_energy f.balancing && is_at_most greatest_energy f.contracts
     && is_at_most greatest_energy f.imbalance && is_at_most greatest_cash f.charge
 
-module _ (p : PeriodTerms) where
+module _ (p : PeriodDataView) where
   -- neither a figure nor the weight of an account passes a limit
   abbrev pub is_account_within : Account → Bool
   is_account_within a = are_within (figures p a) && nat_le (period_sums p a).weight greatest_energy

@@ -8,14 +8,14 @@ use Rattle.hh_names.specs.declared.account.Account.{Account}
 use Rattle.hh_names.specs.declared.values.Contract.{Contract}
 use Rattle.hh_names.specs.Accounts.{account_cmp}
 use Rattle.hh_calc.specs.declared.data.Subsidiary.{Subsidiary}
-use Rattle.hh_calc.specs.Terms.{BmUnit, ContractTerms, Net, PeriodTerms, Rows}
+use Rattle.hh_calc.specs.Terms.{UnitDataView, ContractTerms, Net, PeriodDataView, Rows}
 
 -- the most subsidiaries that a unit may have
 abbrev pub most_subsidiaries : ℕ
 most_subsidiaries = 799
 
 -- a unit has at most 799 subsidiaries: all accounts of the market except its lead account
-abbrev pub HasFewSubsidiaries : BmUnit → Type 0
+abbrev pub HasFewSubsidiaries : UnitDataView → Type 0
 HasFewSubsidiaries u = length u.subsidiaries ≤ most_subsidiaries
 
 -- a net volume is at most 100,000,000 MWh in size
@@ -39,33 +39,33 @@ module _ (accounts : List Account) where
   AreAccountsInOrder = IsStrictlySortedBy account_cmp accounts
 
   -- an account is one of these
-  abbrev pub IsNamed : Account → Type 0
-  IsNamed a = Contains accounts a
+  abbrev pub IsListed : Account → Type 0
+  IsListed a = Contains accounts a
 
   -- the accounts of these subsidiaries are some of these
-  abbrev pub AreSubsidiariesNamed : List Subsidiary → Type 0
-  AreSubsidiariesNamed = All (λ s. IsNamed s.account)
+  abbrev pub AreSubsidiariesListed : List Subsidiary → Type 0
+  AreSubsidiariesListed = All (λ s. IsListed s.account)
 
   -- the lead account and the subsidiaries of a unit are some of these
-  abbrev pub IsUnitNamed : BmUnit → Type 0
-  IsUnitNamed u = IsNamed u.lead × AreSubsidiariesNamed u.subsidiaries
+  abbrev pub IsUnitListed : UnitDataView → Type 0
+  IsUnitListed u = IsListed u.lead × AreSubsidiariesListed u.subsidiaries
 
   -- the seller and the buyer of a contract are some of these
-  abbrev pub IsContractNamed : Contract → Type 0
-  IsContractNamed c = IsNamed c.counterparties.seller × IsNamed c.counterparties.buyer
+  abbrev pub IsContractListed : Contract → Type 0
+  IsContractListed c = IsListed c.counterparties.seller × IsListed c.counterparties.buyer
 
   -- the seller and the buyer of each row are among these accounts; or there is a net volume for each account, and they sum to zero
   abbrev pub AreContractsReady : ContractTerms → Type 0
-  AreContractsReady (Rows rows) = All IsContractNamed rows
+  AreContractsReady (Rows rows) = All IsContractListed rows
   AreContractsReady (Net nets) = AreNetsReady accounts nets
 
-module _ (p : PeriodTerms) where
+module _ (p : PeriodDataView) where
   abbrev pub AreInOrder : Type 0
   AreInOrder = AreAccountsInOrder p.accounts
 
   -- each lead, subsidiary, seller and buyer is among the accounts; net volumes are one for each account, and sum to zero
-  abbrev pub AreNamed : Type 0
-  AreNamed = All (IsUnitNamed p.accounts) p.units × AreContractsReady p.accounts p.contracts
+  abbrev pub AreListed : Type 0
+  AreListed = All (IsUnitListed p.accounts) p.units × AreContractsReady p.accounts p.contracts
 
   -- no unit occurs twice
   abbrev pub AreUnitsDistinct : Type 0
@@ -77,4 +77,4 @@ module _ (p : PeriodTerms) where
 
   -- a period may be settled
   abbrev pub IsReady : Type 0
-  IsReady = AreInOrder × AreNamed × AreSubsidiariesFew
+  IsReady = AreInOrder × AreListed × AreSubsidiariesFew

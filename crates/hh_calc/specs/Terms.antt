@@ -10,15 +10,15 @@ use Rattle.hh_calc.specs.declared.result.AccountRow.{AccountRow}
 use Rattle.hh_calc.specs.declared.result.CreditRow.{CreditRow}
 
 -- a BM Unit in a period, with its reallocations
-pub record BmUnit : Type 0 where
+pub record UnitDataView : Type 0 where
   pub unit : List ℕ
   pub lead : Account
   pub interconnector : Bool
   pub reading : Reading
   pub subsidiaries : List Subsidiary
 
-abbrev pub bm_unit : List ℕ → Account → Bool → Reading → List Subsidiary → BmUnit
-bm_unit unit lead interconnector reading subsidiaries =
+abbrev pub unit_data : List ℕ → Account → Bool → Reading → List Subsidiary → UnitDataView
+unit_data unit lead interconnector reading subsidiaries =
     record { unit = unit; lead = lead; interconnector = interconnector; reading = reading; subsidiaries = subsidiaries }
 
 -- the contracts of a period: the volumes in force, or in account order what each account sells less what it buys, in kWh
@@ -32,14 +32,14 @@ contracts_given (given.TheVariants.Rows rows) = Rows rows.items
 contracts_given (given.TheVariants.Net nets) = Net nets.items
 
 -- all that a period is settled from
-pub record PeriodTerms : Type 0 where
+pub record PeriodDataView : Type 0 where
   pub accounts : List Account
-  pub units : List BmUnit
+  pub units : List UnitDataView
   pub contracts : ContractTerms
   pub price : ℤ
 
-abbrev pub period_terms : List Account → List BmUnit → ContractTerms → ℤ → PeriodTerms
-period_terms accounts units contracts price = record { accounts = accounts; units = units; contracts = contracts; price = price }
+abbrev pub period_data : List Account → List UnitDataView → ContractTerms → ℤ → PeriodDataView
+period_data accounts units contracts price = record { accounts = accounts; units = units; contracts = contracts; price = price }
 
 -- a settled period
 pub record Settled : Type 0 where

@@ -1,7 +1,7 @@
 //! The data that a period is settled from.
 
 ghost use Rattle.std.specs.Prelude.{◌≡◌};
-ghost use Rattle.hh_calc.specs.Terms.{bm_unit, contracts_given, period_terms};
+ghost use Rattle.hh_calc.specs.Terms.{unit_data, contracts_given, period_data};
 
 use hh_names::{Account, Contract, Reading, Reallocation, UnitId};
 use hh_num::{NetKwh, Price};
@@ -28,9 +28,9 @@ pub struct UnitData {
 }
 
 impl Model for UnitData {
-    ghost use Rattle.hh_calc.specs.Terms.{BmUnit};
+    ghost use Rattle.hh_calc.specs.Terms.{UnitDataView};
 
-    ghost Value = { BmUnit };
+    ghost Value = { UnitDataView };
 
     ghost view = { λ u. record { unit = u.unit; lead = u.lead; interconnector = u.interconnector; reading = u.reading; subsidiaries = u.subsidiaries.items } };
 }
@@ -44,7 +44,7 @@ impl UnitData {
         reading: Reading,
         subsidiaries: Vec<Subsidiary>,
     ) -> UnitData
-        ensures { result ≡ bm_unit unit lead interconnector reading subsidiaries.items }
+        ensures { result ≡ unit_data unit lead interconnector reading subsidiaries.items }
     {
         UnitData {
             unit,
@@ -126,9 +126,9 @@ pub struct PeriodData {
 }
 
 impl Model for PeriodData {
-    ghost use Rattle.hh_calc.specs.Terms.{contracts_given, PeriodTerms};
+    ghost use Rattle.hh_calc.specs.Terms.{contracts_given, PeriodDataView};
 
-    ghost Value = { PeriodTerms };
+    ghost Value = { PeriodDataView };
 
     ghost view = { λ p. record { accounts = p.accounts.items; units = p.units.items; contracts = contracts_given p.contracts; price = p.price } };
 }
@@ -142,7 +142,7 @@ impl PeriodData {
         price: Price,
     ) -> PeriodData
         ensures { let contracts_seen = contracts_given contracts in
-            result ≡ period_terms accounts.items units.items contracts_seen price }
+            result ≡ period_data accounts.items units.items contracts_seen price }
     {
         PeriodData {
             accounts,

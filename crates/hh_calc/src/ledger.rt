@@ -4,7 +4,7 @@ ghost use Rattle.std.specs.Prelude.{◌≡◌, ◌+◌, ◌*◌, ◌++◌, [], l
 ghost use Rattle.hh_calc.specs.Formulas.{credits_of, unit_credits, unit_sums};
 ghost use Rattle.hh_calc.specs.Terms.{contracts_given};
 ghost use Rattle.hh_calc.specs.steps.Formulas.{all_sums};
-ghost use Rattle.hh_calc.specs.Ready.{AreAccountsInOrder, AreContractsReady, AreInOrder, AreNamed, AreSubsidiariesFew, HasFewSubsidiaries, IsUnitNamed};
+ghost use Rattle.hh_calc.specs.Ready.{AreAccountsInOrder, AreContractsReady, AreInOrder, AreListed, AreSubsidiariesFew, HasFewSubsidiaries, IsUnitListed};
 ghost use Rattle.hh_calc.specs.steps.Sums.{greatest_credit, greatest_sum, greatest_unit_sum, greatest_volume, no_sums, with_net_by, with_unit, AreChanged, AreGrown, IsWithin};
 
 use crate::credits::{push_credits, put_last_in_place};
@@ -33,7 +33,7 @@ fn add_unit(
     sums: &mut [AccountSums],
 ) -> Result<(), AllocError>
     requires ordered { AreAccountsInOrder accounts.now }
-    requires named { IsUnitNamed accounts.now unit.now }
+    requires listed { IsUnitListed accounts.now unit.now }
     requires few { HasFewSubsidiaries unit.now }
     requires each { length sums.old ≡ length accounts.now }
     requires room { All (IsWithin greatest_sum) sums.old }
@@ -66,7 +66,7 @@ fn add_units(
     sums: &mut [AccountSums],
 ) -> Result<(), AllocError>
     requires ordered { AreAccountsInOrder accounts.now }
-    requires named { All (IsUnitNamed accounts.now) units.now }
+    requires listed { All (IsUnitListed accounts.now) units.now }
     requires few { All HasFewSubsidiaries units.now }
     requires none { credits.old.items ≡ [] }
     requires start { sums.old ≡ replicate (length accounts.now) no_sums }
@@ -104,7 +104,7 @@ fn add_period(
     sums: &mut [AccountSums],
 ) -> Result<(), AllocError>
     requires ordered { AreInOrder period.now }
-    requires named { AreNamed period.now }
+    requires listed { AreListed period.now }
     requires few { AreSubsidiariesFew period.now }
     requires none { credits.old.items ≡ [] }
     requires start { sums.old ≡ replicate (length period.now.accounts) no_sums }
@@ -129,7 +129,7 @@ fn credit_count(units: &[UnitData]) -> usize {
 /// The credits of a period and the sums of its accounts.
 pub(crate) fn ledger_of(alloc: Global, period: &PeriodData) -> Result<Ledger, AllocError>
     requires ordered { AreInOrder period.now }
-    requires named { AreNamed period.now }
+    requires listed { AreListed period.now }
     requires few { AreSubsidiariesFew period.now }
     ensures credits { let made = credits_of period.now.units in
         IfOk result (λ l. IsPermutation made l.credits.items) }

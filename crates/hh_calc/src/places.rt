@@ -2,7 +2,7 @@
 
 ghost use Rattle.std.specs.Prelude.{◌≡◌, ◌<◌, length, true, IfSome, IsNone};
 ghost use Rattle.std.specs.List.{HoldsAt};
-ghost use Rattle.hh_calc.specs.Ready.{AreAccountsInOrder, IsNamed};
+ghost use Rattle.hh_calc.specs.Ready.{AreAccountsInOrder, IsListed};
 
 use hh_names::Account;
 
@@ -12,7 +12,7 @@ pub(crate) fn place_of(accounts: &[Account], account: &Account, near: usize) -> 
     requires { AreAccountsInOrder accounts.now }
     ensures inside { IfSome result (λ place. place < length accounts.now) }
     ensures place { IfSome result (λ place. HoldsAt (λ a. a ≡ account.now) accounts.now place) }
-    ensures none { IsNone result → IsNamed accounts.now account.now → ⊥ }
+    ensures none { IsNone result → IsListed accounts.now account.now → ⊥ }
 {
     if is_at(accounts, account, near) {
         return Some(near);

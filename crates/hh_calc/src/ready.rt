@@ -4,7 +4,7 @@ ghost use Rattle.std.specs.Prelude.{◌≡◌, ◌↔◌, All, IsTrue};
 ghost use Rattle.hh_num.specs.Totals.{total};
 ghost use Rattle.std.specs.declared.cmp.Ordering.TheVariants.{Less};
 ghost use Rattle.hh_names.specs.Accounts.{account_cmp};
-ghost use Rattle.hh_calc.specs.Ready.{AreAccountsInOrder, AreContractsReady, AreNetsReady, AreSubsidiariesNamed, HasFewSubsidiaries, IsContractNamed, IsNamed, IsNetVolume, IsReady, IsUnitNamed};
+ghost use Rattle.hh_calc.specs.Ready.{AreAccountsInOrder, AreContractsReady, AreNetsReady, AreSubsidiariesListed, HasFewSubsidiaries, IsContractListed, IsListed, IsNetVolume, IsReady, IsUnitListed};
 ghost use Rattle.hh_calc.specs.Terms.{contracts_given};
 
 use crate::data::{Contracts, PeriodData, Subsidiary, UnitData};
@@ -36,9 +36,9 @@ fn are_in_order(accounts: &[Account]) -> bool
 }
 
 /// Whether an account is one of these. Looks at the place `near` first, which may be any.
-fn is_named(accounts: &[Account], account: &Account, near: usize) -> bool
+fn is_listed(accounts: &[Account], account: &Account, near: usize) -> bool
     requires { AreAccountsInOrder accounts.now }
-    ensures { IsTrue result ↔ IsNamed accounts.now account.now }
+    ensures { IsTrue result ↔ IsListed accounts.now account.now }
 {
     match place_of(accounts, account, near) {
         Some(_) => true,
@@ -47,12 +47,12 @@ fn is_named(accounts: &[Account], account: &Account, near: usize) -> bool
 }
 
 /// Whether each subsidiary's account is one of these.
-fn are_subsidiaries_named(accounts: &[Account], subsidiaries: &[Subsidiary]) -> bool
+fn are_subsidiaries_listed(accounts: &[Account], subsidiaries: &[Subsidiary]) -> bool
     requires { AreAccountsInOrder accounts.now }
-    ensures { IsTrue result ↔ AreSubsidiariesNamed accounts.now subsidiaries.now }
+    ensures { IsTrue result ↔ AreSubsidiariesListed accounts.now subsidiaries.now }
 {
     for subsidiary in subsidiaries {
-        if !is_named(accounts, &subsidiary.account, 0) {
+        if !is_listed(accounts, &subsidiary.account, 0) {
             return false;
         }
     }
@@ -60,21 +60,21 @@ fn are_subsidiaries_named(accounts: &[Account], subsidiaries: &[Subsidiary]) -> 
 }
 
 /// Whether the lead account and the subsidiaries of a unit are among these accounts.
-fn is_unit_named(accounts: &[Account], unit: &UnitData) -> bool
+fn is_unit_listed(accounts: &[Account], unit: &UnitData) -> bool
     requires { AreAccountsInOrder accounts.now }
-    ensures { IsTrue result ↔ IsUnitNamed accounts.now unit.now }
+    ensures { IsTrue result ↔ IsUnitListed accounts.now unit.now }
 {
-    is_named(accounts, &unit.lead(), unit.lead_near())
-        && are_subsidiaries_named(accounts, unit.subsidiaries())
+    is_listed(accounts, &unit.lead(), unit.lead_near())
+        && are_subsidiaries_listed(accounts, unit.subsidiaries())
 }
 
 /// Whether the lead account and the subsidiaries of each unit are among these accounts.
-fn are_units_named(accounts: &[Account], units: &[UnitData]) -> bool
+fn are_units_listed(accounts: &[Account], units: &[UnitData]) -> bool
     requires { AreAccountsInOrder accounts.now }
-    ensures { IsTrue result ↔ All (IsUnitNamed accounts.now) units.now }
+    ensures { IsTrue result ↔ All (IsUnitListed accounts.now) units.now }
 {
     for unit in units {
-        if !is_unit_named(accounts, unit) {
+        if !is_unit_listed(accounts, unit) {
             return false;
         }
     }
@@ -94,21 +94,21 @@ fn are_subsidiaries_few(units: &[UnitData]) -> bool
 }
 
 /// Whether the seller and the buyer of a contract are among these accounts.
-fn is_contract_named(accounts: &[Account], contract: &Contract) -> bool
+fn is_contract_listed(accounts: &[Account], contract: &Contract) -> bool
     requires { AreAccountsInOrder accounts.now }
-    ensures { IsTrue result ↔ IsContractNamed accounts.now contract.now }
+    ensures { IsTrue result ↔ IsContractListed accounts.now contract.now }
 {
-    is_named(accounts, &contract.counterparties.seller, 0)
-        && is_named(accounts, &contract.counterparties.buyer, 0)
+    is_listed(accounts, &contract.counterparties.seller, 0)
+        && is_listed(accounts, &contract.counterparties.buyer, 0)
 }
 
 /// Whether the seller and the buyer of each contract are among these accounts.
-fn are_contracts_named(accounts: &[Account], contracts: &[Contract]) -> bool
+fn are_contracts_listed(accounts: &[Account], contracts: &[Contract]) -> bool
     requires { AreAccountsInOrder accounts.now }
-    ensures { IsTrue result ↔ All (IsContractNamed accounts.now) contracts.now }
+    ensures { IsTrue result ↔ All (IsContractListed accounts.now) contracts.now }
 {
     for contract in contracts {
-        if !is_contract_named(accounts, contract) {
+        if !is_contract_listed(accounts, contract) {
             return false;
         }
     }
@@ -140,7 +140,7 @@ fn are_contracts_ready(accounts: &[Account], contracts: &Contracts) -> bool
     ensures { IsTrue result ↔ AreContractsReady accounts.now (contracts_given contracts.now) }
 {
     match contracts {
-        Contracts::Rows(rows) => are_contracts_named(accounts, rows),
+        Contracts::Rows(rows) => are_contracts_listed(accounts, rows),
         Contracts::Net(nets) => are_nets_ready(accounts, nets),
     }
 }
@@ -155,7 +155,7 @@ impl PeriodData {
         if !are_in_order(self.accounts()) {
             return false;
         }
-        if !are_units_named(self.accounts(), self.units()) {
+        if !are_units_listed(self.accounts(), self.units()) {
             return false;
         }
         if !are_contracts_ready(self.accounts(), self.contracts()) {

@@ -5,7 +5,7 @@ ghost use Rattle.hh_calc.specs.Formulas.{all_figures, charge_for, figures_from, 
 ghost use Rattle.hh_calc.specs.steps.Formulas.{all_sums};
 ghost use Rattle.hh_calc.specs.Limits.{are_all_within, are_within, greatest_cash, greatest_energy, is_at_most, is_within_limits};
 ghost use Rattle.hh_calc.specs.steps.Limits.{kept_where};
-ghost use Rattle.hh_calc.specs.Ready.{AreInOrder, AreNamed, AreSubsidiariesFew};
+ghost use Rattle.hh_calc.specs.Ready.{AreInOrder, AreListed, AreSubsidiariesFew};
 ghost use Rattle.hh_calc.specs.Settled.{figures_of, shares_shown, AddsUp, IsSettled, SharesDepartLeast};
 ghost use Rattle.hh_calc.specs.steps.Sums.{greatest_sum, IsWithin};
 
@@ -187,7 +187,7 @@ fn rows_of(
 /// `Memory`, 90, if memory is refused.
 pub fn settle_period(alloc: Global, period: &PeriodData) -> Result<PeriodResult, CalcFault>
     requires ordered { AreInOrder period.now }
-    requires named { AreNamed period.now }
+    requires listed { AreListed period.now }
     requires few { AreSubsidiariesFew period.now }
     ensures settled { IfOk result (λ r. IsSettled period.now r) }
     ensures sums { IfOk result (λ r. AddsUp period.now r) }

@@ -2,9 +2,9 @@
 
 ghost use Rattle.std.specs.Prelude.{◌*ℤ◌, ◌≡◌, ◌<◌, ◌≤◌, ◌*◌, ◌+◌, ℕ, length, All, unsigned_abs};
 ghost use Rattle.std.specs.List.{HoldsAt, zip};
-ghost use Rattle.hh_calc.specs.Formulas.{balanced, contracted, ticks_per_kwh};
-ghost use Rattle.hh_calc.specs.Ready.{most_subsidiaries, AreAccountsInOrder, IsContractNamed, IsNamed};
-ghost use Rattle.hh_calc.specs.steps.Ready.{IsCreditNamed};
+ghost use Rattle.hh_calc.specs.Formulas.{balancing_ticks, contracted, ticks_per_kwh};
+ghost use Rattle.hh_calc.specs.Ready.{most_subsidiaries, AreAccountsInOrder, IsContractListed, IsListed};
+ghost use Rattle.hh_calc.specs.steps.Ready.{IsCreditListed};
 ghost use Rattle.hh_calc.specs.steps.Sums.{added_at, greatest_credit, greatest_sum, greatest_unit_sum, greatest_volume, balancing_amounts, contract_amounts, credit_amounts, no_sums, sums_plus, with_amounts, with_contract, with_contracts, with_credits, with_nets, AreChanged, AreGrown, IsCreditSmall, IsWithin};
 
 use crate::data::UnitData;
@@ -70,7 +70,7 @@ pub(crate) fn add_to(
     sums: &mut [AccountSums],
 )
     requires ordered { AreAccountsInOrder accounts.now }
-    requires named { IsNamed accounts.now account.now }
+    requires listed { IsListed accounts.now account.now }
     requires each { length sums.old ≡ length accounts.now }
     requires room { All (IsWithin (2 * greatest_sum)) sums.old }
     requires small { IsWithin greatest_credit amounts }
@@ -111,7 +111,7 @@ pub(crate) fn add_credits(
     sums: &mut [AccountSums],
 )
     requires ordered { AreAccountsInOrder accounts.now }
-    requires named { All (IsCreditNamed accounts.now) credits.now }
+    requires listed { All (IsCreditListed accounts.now) credits.now }
     requires small { All IsCreditSmall credits.now }
     requires few { length credits.now ≤ most_subsidiaries + 1 }
     requires each { length sums.old ≡ length accounts.now }
@@ -132,7 +132,7 @@ pub(crate) fn add_credits(
 
 /// What a unit's balancing volume adds to its lead account's sums.
 pub(crate) fn amounts_of_balancing(unit: &UnitData) -> AccountSums
-    ensures amounts { result ≡ balancing_amounts (balanced unit.now) }
+    ensures amounts { result ≡ balancing_amounts (balancing_ticks unit.now) }
     ensures small { IsWithin greatest_volume result }
 {
     let reading = unit.reading();
@@ -165,7 +165,7 @@ fn amounts_of_contract(volume: i128) -> AccountSums
 /// Adds the volume of a contract to its seller's sums, and takes it from its buyer's.
 fn add_contract(accounts: &[Account], contract: &Contract, sums: &mut [AccountSums])
     requires ordered { AreAccountsInOrder accounts.now }
-    requires named { IsContractNamed accounts.now contract.now }
+    requires listed { IsContractListed accounts.now contract.now }
     requires each { length sums.old ≡ length accounts.now }
     requires room { All (IsWithin greatest_sum) sums.old }
     ensures added { AreChanged accounts.now (with_contract contract.now) sums.old sums.new }
@@ -192,7 +192,7 @@ fn add_contract(accounts: &[Account], contract: &Contract, sums: &mut [AccountSu
 /// Adds the volume of each contract to its seller's sums, and takes it from its buyer's.
 pub(crate) fn add_contracts(accounts: &[Account], contracts: &[Contract], sums: &mut [AccountSums])
     requires ordered { AreAccountsInOrder accounts.now }
-    requires named { All (IsContractNamed accounts.now) contracts.now }
+    requires listed { All (IsContractListed accounts.now) contracts.now }
     requires each { length sums.old ≡ length accounts.now }
     requires room { All (IsWithin greatest_unit_sum) sums.old }
     ensures added { AreChanged accounts.now (with_contracts contracts.now) sums.old sums.new }

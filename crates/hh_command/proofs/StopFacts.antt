@@ -14,7 +14,7 @@ use Rattle.hh_command.specs.declared.stop.Stop.{Stop}
 use Rattle.clap.specs.Words.{Text}
 use Rattle.hh_rows.specs.declared.settings.Settings.{Settings}
 use Rattle.hh_host.specs.Views.{HostView}
-use Rattle.hh_script.specs.declared.off_word.OffWord.{OffWord}
+use Rattle.hh_script.specs.declared.bad_word.BadWord.{BadWord}
 use Rattle.hh_session.specs.declared.run.LinesStop.TheVariants as lines
 use Rattle.hh_session.specs.declared.script.ScriptStop.{ScriptStop}
 use Rattle.hh_session.specs.declared.script.ScriptStop.TheVariants as script
@@ -32,7 +32,7 @@ use Rattle.hh_command.specs.Tasks.{StopsAsked, StopsTask, path_stop, script_path
 use Rattle.hh_words.specs.Lines.{DatabaseCommand, Line, PeriodCommand, ScriptCommand, line_value}
 use Rattle.hh_command.specs.declared.stop.Stop.TheVariants as stop
 use Rattle.hh_command.specs.Stops.{IsOfScript, ComesTo, DoesPeriod, HasUnreadable, StopsBy, StopsLine, StopsPeriod}
-use Rattle.hh_command.specs.steps.Stops.{IsOffAnd}
+use Rattle.hh_command.specs.steps.Stops.{IsBadLineAnd}
 use Rattle.hh_command.proofs.FrontFacts.{period_outcome-front}
 
 ByRefusal-map : (r : Refusal) (P Q R : Type 0) → (Q → R) → ByRefusal r P Q → ByRefusal r P R
@@ -92,77 +92,77 @@ is_own (Err (at.Script why)) = true
 is_own _ = false
 
 -- if a line of a script is off its form, the script was not read
-unread_off : (host : HostView) (file : Text) (device : DeviceChange) (strict : Bool) (found left : Connected) (ended : Result Unit ScriptStop) (n : ℕ) (word : OffWord)
-    → Err (at.Script (script.Off n word)) ≡ script_at ended → RunsFile host device file strict found left ended → IsUnread host file (script.Off n word)
-unread_off host file device strict found left (Ok x) n word is runs = let bad : script.Off n word ≡ script.File = ap stop_in is in cc bad
-unread_off host file device strict found left (Err script.File) n word is runs = let bad : script.Off n word ≡ script.File = ap stop_in is in cc bad
-unread_off host file device strict found left (Err (script.Early why)) n word is runs = let bad : script.Off n word ≡ script.Early why = ap stop_in is in cc bad
-unread_off host file device strict found left (Err (script.Refused fault)) n word is runs = let bad : script.Off n word ≡ script.Refused fault = ap stop_in is in cc bad
-unread_off host file device strict found left (Err (script.Off m other)) n word is (inr (held, unread, takes), kept) =
-    let same : script.Off n word ≡ script.Off m other = ap stop_in is in
+unread_bad_line : (host : HostView) (file : Text) (device : DeviceChange) (strict : Bool) (found left : Connected) (ended : Result Unit ScriptStop) (n : ℕ) (word : BadWord)
+    → Err (at.Script (script.BadLine n word)) ≡ script_at ended → RunsFile host device file strict found left ended → IsUnread host file (script.BadLine n word)
+unread_bad_line host file device strict found left (Ok x) n word is runs = let bad : script.BadLine n word ≡ script.File = ap stop_in is in cc bad
+unread_bad_line host file device strict found left (Err script.File) n word is runs = let bad : script.BadLine n word ≡ script.File = ap stop_in is in cc bad
+unread_bad_line host file device strict found left (Err (script.Early why)) n word is runs = let bad : script.BadLine n word ≡ script.Early why = ap stop_in is in cc bad
+unread_bad_line host file device strict found left (Err (script.Refused fault)) n word is runs = let bad : script.BadLine n word ≡ script.Refused fault = ap stop_in is in cc bad
+unread_bad_line host file device strict found left (Err (script.BadLine m other)) n word is (inr (held, unread, takes), kept) =
+    let same : script.BadLine n word ≡ script.BadLine m other = ap stop_in is in
     subst (IsUnread host file) (sym same) unread
-unread_off host file device strict found left (Err (script.Off m other)) n word is (inl ((fault, none), leaves), kept) = cc none
+unread_bad_line host file device strict found left (Err (script.BadLine m other)) n word is (inl ((fault, none), leaves), kept) = cc none
 
-ends_off : (host : HostView) (file : Text) (device : DeviceChange) (strict : Bool) (places : Places) (path : Text) (n : ℕ) (word : OffWord)
-    → EndsScript host device file strict places path (Err (at.Script (script.Off n word))) → IsUnread host file (script.Off n word)
-ends_off host file device strict places path n word (inl (fault, refused, is, kept)) = let bad : true ≡ false = ap is_own is in cc bad
-ends_off host file device strict places path n word (inr (inl (is, absent, kept))) = let bad : true ≡ false = ap is_own is in cc bad
-ends_off host file device strict places path n word (inr (inr (present, (found, left, ended, opens, closes, is, runs)))) =
-    unread_off host file device strict found left ended n word is runs
+ends_bad_line : (host : HostView) (file : Text) (device : DeviceChange) (strict : Bool) (places : Places) (path : Text) (n : ℕ) (word : BadWord)
+    → EndsScript host device file strict places path (Err (at.Script (script.BadLine n word))) → IsUnread host file (script.BadLine n word)
+ends_bad_line host file device strict places path n word (inl (fault, refused, is, kept)) = let bad : true ≡ false = ap is_own is in cc bad
+ends_bad_line host file device strict places path n word (inr (inl (is, absent, kept))) = let bad : true ≡ false = ap is_own is in cc bad
+ends_bad_line host file device strict places path n word (inr (inr (present, (found, left, ended, opens, closes, is, runs)))) =
+    unread_bad_line host file device strict found left ended n word is runs
 
 -- A line stops because a line of its script is off its form, and `told` holds: the words are wrong.
-module _ (host : HostView) (places : Places) (strict : Bool) (words : List Text) (out : DeviceChange) (told : ℕ → OffWord → Type 0) where
-  abbrev pub IsOfOff : Type 0
-  IsOfOff = (file : Text) × (line : ℕ) × (word : OffWord) × IsOfScript words file × IsUnread host file (script.Off line word) × told line word
+module _ (host : HostView) (places : Places) (strict : Bool) (words : List Text) (out : DeviceChange) (told : ℕ → BadWord → Type 0) where
+  abbrev pub IsOfBadLine : Type 0
+  IsOfBadLine = (file : Text) × (line : ℕ) × (word : BadWord) × IsOfScript words file × IsUnread host file (script.BadLine line word) × told line word
 
-  off_at : (settings : Settings) (file : Text) → line_value words ≡ Some (ScriptCommand settings file) → (line : ℕ) (word : OffWord) → told line word
-      → (why : ScriptStop) → script_stop why ≡ stop.Off line word → StopsAt host file settings out strict why → IsOfOff
-  off_at settings file is line word tells script.File same at = cc same
-  off_at settings file is line word tells (script.Off n other) same at =
+  bad_line_at : (settings : Settings) (file : Text) → line_value words ≡ Some (ScriptCommand settings file) → (line : ℕ) (word : BadWord) → told line word
+      → (why : ScriptStop) → script_stop why ≡ stop.BadLine line word → StopsAt host file settings out strict why → IsOfBadLine
+  bad_line_at settings file is line word tells script.File same at = cc same
+  bad_line_at settings file is line word tells (script.BadLine n other) same at =
       let number : n ≡ line = cc same in
       let of : other ≡ word = cc same in
       (file, n, other, inl (settings, is), at.1, subst (λ m. told m other) (sym number) (subst (told line) (sym of) tells))
-  off_at settings file is line word tells (script.Refused fault) same at = cc same
-  off_at settings file is line word tells (script.Early lines.Output) same at = cc same
-  off_at settings file is line word tells (script.Early (lines.Line number)) same at = cc same
+  bad_line_at settings file is line word tells (script.Refused fault) same at = cc same
+  bad_line_at settings file is line word tells (script.Early lines.Output) same at = cc same
+  bad_line_at settings file is line word tells (script.Early (lines.Line number)) same at = cc same
 
-  off_kept : (path file : Text) → line_value words ≡ Some (DatabaseCommand path (ToRunScript file)) → (line : ℕ) (word : OffWord) → told line word
-      → (why : ScriptPathStop) → script_path_stop why ≡ stop.Off line word → EndsScript host out file strict places path (Err why) → IsOfOff
-  off_kept path file is line word tells at.NoFile same ends = cc same
-  off_kept path file is line word tells (at.Unopened fault) same ends = cc same
-  off_kept path file is line word tells (at.Script script.File) same ends = cc same
-  off_kept path file is line word tells (at.Script (script.Refused fault)) same ends = cc same
-  off_kept path file is line word tells (at.Script (script.Early lines.Output)) same ends = cc same
-  off_kept path file is line word tells (at.Script (script.Early (lines.Line number))) same ends = cc same
-  off_kept path file is line word tells (at.Script (script.Off n other)) same ends =
+  bad_line_kept : (path file : Text) → line_value words ≡ Some (DatabaseCommand path (ToRunScript file)) → (line : ℕ) (word : BadWord) → told line word
+      → (why : ScriptPathStop) → script_path_stop why ≡ stop.BadLine line word → EndsScript host out file strict places path (Err why) → IsOfBadLine
+  bad_line_kept path file is line word tells at.NoFile same ends = cc same
+  bad_line_kept path file is line word tells (at.Unopened fault) same ends = cc same
+  bad_line_kept path file is line word tells (at.Script script.File) same ends = cc same
+  bad_line_kept path file is line word tells (at.Script (script.Refused fault)) same ends = cc same
+  bad_line_kept path file is line word tells (at.Script (script.Early lines.Output)) same ends = cc same
+  bad_line_kept path file is line word tells (at.Script (script.Early (lines.Line number))) same ends = cc same
+  bad_line_kept path file is line word tells (at.Script (script.BadLine n other)) same ends =
       let number : n ≡ line = cc same in
       let of : other ≡ word = cc same in
-      (file, n, other, inr (path, is), ends_off host file out strict places path n other ends, subst (λ m. told m other) (sym number) (subst (told line) (sym of) tells))
+      (file, n, other, inr (path, is), ends_bad_line host file out strict places path n other ends, subst (λ m. told m other) (sym number) (subst (told line) (sym of) tells))
 
   -- no other command on a database runs a script
-  not_off : {A : Type 0} (why : PathStop) (line : ℕ) (word : OffWord) → path_stop why ≡ stop.Off line word → A
-  not_off path.Exists line word same = cc same
-  not_off path.NoFile line word same = cc same
-  not_off (path.Errand (errand.Refused fault)) line word same = cc same
-  not_off (path.Errand errand.Unreadable) line word same = cc same
-  not_off (path.Errand errand.NoSocket) line word same = cc same
-  not_off (path.Errand errand.Output) line word same = cc same
+  not_bad_line : {A : Type 0} (why : PathStop) (line : ℕ) (word : BadWord) → path_stop why ≡ stop.BadLine line word → A
+  not_bad_line path.Exists line word same = cc same
+  not_bad_line path.NoFile line word same = cc same
+  not_bad_line (path.Errand (errand.Refused fault)) line word same = cc same
+  not_bad_line (path.Errand errand.Unreadable) line word same = cc same
+  not_bad_line (path.Errand errand.NoSocket) line word same = cc same
+  not_bad_line (path.Errand errand.Output) line word same = cc same
 
-  asked_off : {A : Type 0} (path : Text) (task : Task) (s : Stop) (line : ℕ) (word : OffWord) → StopsAsked host places path out task s → s ≡ stop.Off line word → A
-  asked_off path task s line word (inl (why, from, ends)) same = not_off why line word (sym from ∙ same)
-  asked_off path task s line word (inr (clock, asks, kept)) same = let bad : stop.NoClock ≡ stop.Off line word = sym clock ∙ same in cc bad
+  asked_bad_line : {A : Type 0} (path : Text) (task : Task) (s : Stop) (line : ℕ) (word : BadWord) → StopsAsked host places path out task s → s ≡ stop.BadLine line word → A
+  asked_bad_line path task s line word (inl (why, from, ends)) same = not_bad_line why line word (sym from ∙ same)
+  asked_bad_line path task s line word (inr (clock, asks, kept)) same = let bad : stop.NoClock ≡ stop.BadLine line word = sym clock ∙ same in cc bad
 
-  task_off : (path : Text) (task : Task) → line_value words ≡ Some (DatabaseCommand path task) → (s : Stop) (line : ℕ) (word : OffWord)
-      → StopsTask host places path out strict task s → s ≡ stop.Off line word → told line word → IsOfOff
-  task_off path (ToInit settings) is s line word (why, from, makes) same tells = not_off why line word (sym from ∙ same)
-  task_off path (ToLoad load) is s line word stops same tells = asked_off path (ToLoad load) s line word stops same
-  task_off path (ToRun run) is s line word stops same tells = asked_off path (ToRun run) s line word stops same
-  task_off path (ToReport asked) is s line word stops same tells = asked_off path (ToReport asked) s line word stops same
-  task_off path (ToServe serve) is s line word stops same tells = asked_off path (ToServe serve) s line word stops same
-  task_off path (ToRunScript file) is s line word (why, from, ends) same tells = off_kept path file is line word tells why (sym from ∙ same) ends
+  task_bad_line : (path : Text) (task : Task) → line_value words ≡ Some (DatabaseCommand path task) → (s : Stop) (line : ℕ) (word : BadWord)
+      → StopsTask host places path out strict task s → s ≡ stop.BadLine line word → told line word → IsOfBadLine
+  task_bad_line path (ToInit settings) is s line word (why, from, makes) same tells = not_bad_line why line word (sym from ∙ same)
+  task_bad_line path (ToLoad load) is s line word stops same tells = asked_bad_line path (ToLoad load) s line word stops same
+  task_bad_line path (ToRun run) is s line word stops same tells = asked_bad_line path (ToRun run) s line word stops same
+  task_bad_line path (ToReport asked) is s line word stops same tells = asked_bad_line path (ToReport asked) s line word stops same
+  task_bad_line path (ToServe serve) is s line word stops same tells = asked_bad_line path (ToServe serve) s line word stops same
+  task_bad_line path (ToRunScript file) is s line word (why, from, ends) same tells = bad_line_kept path file is line word tells why (sym from ∙ same) ends
 
-  pub wrong_by_off : (l : Line) → line_value words ≡ Some l → (s : Stop) → StopsLine host places strict out l s → IsOffAnd told s → IsOfOff
-  wrong_by_off (PeriodCommand meter contracts price) is s stops (line, word, same, tells) =
+  pub wrong_by_bad_line : (l : Line) → line_value words ≡ Some l → (s : Stop) → StopsLine host places strict out l s → IsBadLineAnd told s → IsOfBadLine
+  wrong_by_bad_line (PeriodCommand meter contracts price) is s stops (line, word, same, tells) =
       absurd (subst (StopsBy out (ComesTo host meter contracts price) (HasUnreadable host meter contracts)) same stops)
-  wrong_by_off (ScriptCommand settings file) is s (why, from, at) (line, word, same, tells) = off_at settings file is line word tells why (sym from ∙ same) at
-  wrong_by_off (DatabaseCommand path task) is s stops (line, word, same, tells) = task_off path task is s line word stops same tells
+  wrong_by_bad_line (ScriptCommand settings file) is s (why, from, at) (line, word, same, tells) = bad_line_at settings file is line word tells why (sym from ∙ same) at
+  wrong_by_bad_line (DatabaseCommand path task) is s stops (line, word, same, tells) = task_bad_line path task is s line word stops same tells

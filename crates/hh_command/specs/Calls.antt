@@ -7,7 +7,7 @@ use Rattle.hh_devices.specs.Devices.{AppendsFront}
 use Rattle.hh_host.specs.Views.{any_view}
 use Rattle.hh_kept_office.specs.Places.{any_places}
 use Rattle.hh_period.specs.Outcome.{memory_rejection}
-use Rattle.hh_words.specs.Lines.{version}
+use Rattle.hh_words.specs.Lines.{version_text}
 use Rattle.hh_command.specs.declared.stop.Stop.{Stop}
 use Rattle.hh_command.specs.declared.stop.Stop.TheVariants as stop
 use Rattle.hh_command.specs.Stops.{DoesWords, Stops, Tells, UnlessExplained}
@@ -18,11 +18,11 @@ IsSilent device = (device.new ≡ device.old) × IsWell device
 
 -- the program's version was written
 abbrev pub TellsVersion : DeviceChange → Type 0
-TellsVersion out = Appends out.old out.new version
+TellsVersion out = Appends out.old out.new version_text
 
 -- the output failed, a beginning of the version was written, and the fault is told
 abbrev pub StopsVersion : DeviceChange → DeviceChange → Type 0
-StopsVersion out err = HasFailed out × AppendsFront out.old out.new version × Tells err stop.Output
+StopsVersion out err = HasFailed out × AppendsFront out.old out.new version_text × Tells err stop.Output
 
 -- a call stops before its words are a line: its key file cannot be read, or memory was refused
 abbrev pub IsBeforeWords : Stop → Type 0

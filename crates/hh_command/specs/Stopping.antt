@@ -24,7 +24,7 @@ period_stop period.Write = stop.Output
 -- why a command stops if its script is not run, or not to its end
 abbrev pub script_stop : ScriptStop → Stop
 script_stop script.File = stop.File
-script_stop (script.Off line word) = stop.Off line word
+script_stop (script.BadLine line word) = stop.BadLine line word
 script_stop (script.Refused fault) = stop.Refused (record { fault = fault; input = None })
 script_stop (script.Early lines.Output) = stop.Output
 script_stop (script.Early (lines.Line number)) = stop.Line number

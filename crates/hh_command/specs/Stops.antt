@@ -9,7 +9,7 @@ use Rattle.hh_rows.specs.declared.settings.Settings.{Settings}
 use Rattle.hh_inputs.specs.declared.inputs.InputFault.{InputFault}
 use Rattle.hh_inputs.specs.declared.inputs.InputFault.TheVariants.{Memory}
 use Rattle.hh_host.specs.Views.{HostView}
-use Rattle.hh_script.specs.declared.off_word.OffWord.{OffWord}
+use Rattle.hh_script.specs.declared.bad_word.BadWord.{BadWord}
 use Rattle.hh_session.specs.declared.script.ScriptStop.{ScriptStop}
 use Rattle.hh_session.specs.declared.script.ScriptStop.TheVariants as script
 use Rattle.hh_session.specs.Script.{IsUnread, StopsAt, WritesScript}
@@ -40,7 +40,7 @@ stop_line stop.Exists = codes "fault exists\n"
 stop_line stop.NoFile = codes "fault nofile\n"
 stop_line stop.NoSocket = codes "fault socket\n"
 stop_line stop.NoClock = codes "fault clock\n"
-stop_line (stop.Off line word) = codes "line " ++ decimal line ++ codes " is off its form\n"
+stop_line (stop.BadLine line word) = codes "line " ++ decimal line ++ codes " is off its form\n"
 stop_line (stop.Line number) = codes "line " ++ decimal number ++ codes " stopped the script\n"
 
 -- the exit status of a command that stops: 1, or 2 for a line of a script that is off its form
@@ -52,7 +52,7 @@ stop_status stop.Exists = 1
 stop_status stop.NoFile = 1
 stop_status stop.NoSocket = 1
 stop_status stop.NoClock = 1
-stop_status (stop.Off line word) = 2
+stop_status (stop.BadLine line word) = 2
 stop_status (stop.Line number) = 1
 
 -- a text was written, unless the device failed
@@ -83,8 +83,8 @@ abbrev pub AppendsAtLeast : Option (List ℕ) → Option (List ℕ) → List ℕ
 AppendsAtLeast old new text = (more : List ℕ) × Appends old new (text ++ more)
 
 -- the number of the script's line that is off its form was written, unless the device failed; the text after it is for people
-abbrev pub TellsOff : DeviceChange → ℕ → OffWord → Type 0
-TellsOff device line word = HasFailed device ⊎ AppendsAtLeast device.old device.new (stop_line (stop.Off line word))
+abbrev pub TellsBadLine : DeviceChange → ℕ → BadWord → Type 0
+TellsBadLine device line word = HasFailed device ⊎ AppendsAtLeast device.old device.new (stop_line (stop.BadLine line word))
 
 -- the reason is told like this; if explanations were asked for, nothing is promised about what is told
 abbrev pub UnlessExplained : Bool → Type 0 → Type 0
@@ -159,5 +159,5 @@ module _ (host : HostView) where
 
   -- the words form no line, and that is told; or a line of their script is off its form, and the line's number is told
   abbrev pub AreWrong : Bool → List Text → DeviceChange → Type 0
-  AreWrong explain words err = ((line_value words ≡ None) × TellsWrong words err) ⊎ ((file : Text) × (line : ℕ) × (word : OffWord)
-      × IsOfScript words file × IsUnread host file (script.Off line word) × UnlessExplained explain (TellsOff err line word))
+  AreWrong explain words err = ((line_value words ≡ None) × TellsWrong words err) ⊎ ((file : Text) × (line : ℕ) × (word : BadWord)
+      × IsOfScript words file × IsUnread host file (script.BadLine line word) × UnlessExplained explain (TellsBadLine err line word))

@@ -43,7 +43,7 @@ pub(crate) fn on_database<
         words.now.path.now
         (change O.taken O.failures out.old out.new)
         strict (task_of words.now.task)) }
-    ensures off { IfErr result (λ stop. stop_status stop ≡ 2 → out.new ≡ out.old) }
+    ensures bad_line { IfErr result (λ stop. stop_status stop ≡ 2 → out.new ≡ out.old) }
 {
     match &words.task {
         DatabaseTask::Init(settings) => Ok(make_office_at(

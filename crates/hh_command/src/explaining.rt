@@ -4,7 +4,7 @@
 
 ghost use Rattle.std.specs.Prelude.{◌≡◌};
 ghost use Rattle.hh_office.specs.Views.{IsSure};
-ghost use Rattle.hh_serve.specs.Serves.{CountsUp};
+ghost use Rattle.hh_http_serve.specs.Serves.{CountsUp};
 
 use crate::stop::Stop;
 use hh_devices::{Sink, write_whole};
@@ -246,7 +246,7 @@ pub(crate) fn of_stop<S: Rising, D: DatabaseHost<Connection = Connection<S>>>(
         Stop::NoFile => at_path(alloc, command, "there is nothing"),
         Stop::NoSocket => of_socket(alloc, host, command),
         Stop::NoClock => plain(alloc, "the clock tells no moment; give one with --at"),
-        Stop::Off { .. } | Stop::Line { .. } => Ok(None),
+        Stop::BadLine { .. } | Stop::Line { .. } => Ok(None),
     }
 }
 

@@ -9,7 +9,7 @@ ghost use Rattle.hh_kept_office.specs.Places.{any_places, places_of, shown_by};
 ghost use Rattle.hh_words.specs.Lines.{line_of};
 ghost use Rattle.hh_command.specs.Calls.{IsBeforeWords, IsDone, IsStopped, StopsVersion, TellsVersion};
 ghost use Rattle.hh_command.specs.Stops.{AreWrong, Does, DoesPeriod, DoesWords, IsTold, Stops, StopsLine, StopsPeriod, Tells, UnlessExplained, not_text_line, stop_status};
-ghost use Rattle.hh_command.specs.steps.Stops.{IsToldOff, IsToldOne, StopsAnd};
+ghost use Rattle.hh_command.specs.steps.Stops.{IsToldBadLine, IsToldOne, StopsAnd};
 
 use crate::database::on_database;
 use crate::explaining::{Explaining, explain_done, explain_unreadable, of_stop, tell};
@@ -282,10 +282,10 @@ fn run_command<S: Rising, D: DatabaseHost<Connection = Connection<S>> + Copy, O:
         (places_of D.finds D.refuses D.opens D.closes D.discards (shown_by S.Store) host.now)
         options.strict (line_of command.now) (change O.taken O.failures out.old out.new)
         (IsToldOne options.explain (change E.taken E.failures err.old err.new)) }
-    ensures off { result ≡ 2 → StopsAnd (D.view host.now)
+    ensures bad_line { result ≡ 2 → StopsAnd (D.view host.now)
         (places_of D.finds D.refuses D.opens D.closes D.discards (shown_by S.Store) host.now)
         options.strict (line_of command.now) (change O.taken O.failures out.old out.new)
-        (IsToldOff options.explain (change E.taken E.failures err.old err.new)) }
+        (IsToldBadLine options.explain (change E.taken E.failures err.old err.new)) }
     ensures untouched { result ≡ 2 → out.new ≡ out.old }
 {
     if options.explain {
@@ -314,10 +314,10 @@ fn run_plainly<S: Rising, D: DatabaseHost<Connection = Connection<S>>, O: Sink, 
         (places_of D.finds D.refuses D.opens D.closes D.discards (shown_by S.Store) host.now)
         strict (line_of command.now) (change O.taken O.failures out.old out.new)
         (IsToldOne false (change E.taken E.failures err.old err.new)) }
-    ensures off { result ≡ 2 → StopsAnd (D.view host.now)
+    ensures bad_line { result ≡ 2 → StopsAnd (D.view host.now)
         (places_of D.finds D.refuses D.opens D.closes D.discards (shown_by S.Store) host.now)
         strict (line_of command.now) (change O.taken O.failures out.old out.new)
-        (IsToldOff false (change E.taken E.failures err.old err.new)) }
+        (IsToldBadLine false (change E.taken E.failures err.old err.new)) }
     ensures untouched { result ≡ 2 → out.new ≡ out.old }
 {
     match perform(alloc, host, command, strict, &mut NoNotes, out) {
@@ -344,10 +344,10 @@ fn run_explained<S: Rising, D: DatabaseHost<Connection = Connection<S>> + Copy, 
         (places_of D.finds D.refuses D.opens D.closes D.discards (shown_by S.Store) host.now)
         strict (line_of command.now) (change O.taken O.failures out.old out.new)
         (IsToldOne true (change E.taken E.failures err.old err.new)) }
-    ensures off { result ≡ 2 → StopsAnd (D.view host.now)
+    ensures bad_line { result ≡ 2 → StopsAnd (D.view host.now)
         (places_of D.finds D.refuses D.opens D.closes D.discards (shown_by S.Store) host.now)
         strict (line_of command.now) (change O.taken O.failures out.old out.new)
-        (IsToldOff true (change E.taken E.failures err.old err.new)) }
+        (IsToldBadLine true (change E.taken E.failures err.old err.new)) }
     ensures untouched { result ≡ 2 → out.new ≡ out.old }
 {
     let mut notes = Explaining {
@@ -386,7 +386,7 @@ fn perform<S: Rising, D: DatabaseHost<Connection = Connection<S>>, N: Notes, O: 
     ensures stopped { IfErr result (StopsLine (D.view host.now)
         (places_of D.finds D.refuses D.opens D.closes D.discards (shown_by S.Store) host.now)
         strict (change O.taken O.failures out.old out.new) (line_of command.now)) }
-    ensures off { IfErr result (λ stop. stop_status stop ≡ 2 → out.new ≡ out.old) }
+    ensures bad_line { IfErr result (λ stop. stop_status stop ≡ 2 → out.new ≡ out.old) }
 {
     match command {
         Command::Period(words) => settle_files(alloc, host, MOST_READ, *words, out),

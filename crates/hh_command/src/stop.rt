@@ -10,7 +10,7 @@ use hh_inputs::InputFault;
 use hh_kept_office::{PathStop, ScriptPathStop};
 use hh_names::{Fault, Refusal};
 use hh_period::{PeriodFault, Rejection};
-use hh_script::OffWord;
+use hh_script::BadWord;
 use hh_session::{LinesStop, ScriptStop};
 use std::alloc::AllocError;
 
@@ -39,7 +39,7 @@ pub enum Stop {
     /// The machine's clock tells no moment.
     NoClock,
     /// A line of a script is off its form, and `word` is its first word that is.
-    Off { line: usize, word: OffWord },
+    BadLine { line: usize, word: BadWord },
     /// A line of a strict script was refused or met a fault.
     Line { number: usize },
 }
@@ -56,7 +56,7 @@ impl Stop {
         ensures { result ≡ stop_status self.now }
     {
         match self {
-            Stop::Off { .. } => WRONG_WORDS,
+            Stop::BadLine { .. } => WRONG_WORDS,
             Stop::Refused(_)
             | Stop::File
             | Stop::Output
@@ -103,7 +103,7 @@ impl From<ScriptStop> for Stop {
     fn from(why: ScriptStop) -> Stop {
         match why {
             ScriptStop::File => Stop::File,
-            ScriptStop::Off { line, word } => Stop::Off { line, word },
+            ScriptStop::BadLine { line, word } => Stop::BadLine { line, word },
             ScriptStop::Refused(fault) => Stop::Refused(Rejection { fault, input: None }),
             ScriptStop::Early(LinesStop::Output) => Stop::Output,
             ScriptStop::Early(LinesStop::Line { number }) => Stop::Line { number },

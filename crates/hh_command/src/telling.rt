@@ -4,13 +4,13 @@ ghost use Rattle.std.specs.Prelude.{◌≡◌, ◌++◌, OnErr, OnOk, codes, dec
 ghost use Rattle.std.specs.Io.KnownBytes.{Appends};
 ghost use Rattle.hh_devices.specs.DeviceChanges.{change};
 ghost use Rattle.hh_devices.specs.Devices.{Failed};
-ghost use Rattle.hh_command.specs.Stops.{AppendsAtLeast, HasStatusOne, IsTold, Tells, TellsOff, stop_line, stop_status};
-ghost use Rattle.hh_command.specs.steps.Stops.{IsOffAnd, TellsStop, told_text};
+ghost use Rattle.hh_command.specs.Stops.{AppendsAtLeast, HasStatusOne, IsTold, Tells, TellsBadLine, stop_line, stop_status};
+ghost use Rattle.hh_command.specs.steps.Stops.{IsBadLineAnd, TellsStop, told_text};
 
 use crate::stop::{Stop, WRONG_WORDS};
 use hh_devices::{DeviceFailed, Sink, write_whole};
 use hh_period::Rejection;
-use hh_script::OffWord;
+use hh_script::BadWord;
 use hh_words::USAGE;
 use itoa::Buffer;
 use std::alloc::{AllocError, Global};
@@ -38,7 +38,7 @@ pub(crate) fn stopped<E: Sink>(alloc: Global, err: &mut E, stop: Stop) -> u8
     ensures one { result ≡ 1 → HasStatusOne stop
         × Tells (change E.taken E.failures err.old err.new) stop }
     ensures two { result ≡ 2
-        → IsOffAnd (TellsOff (change E.taken E.failures err.old err.new)) stop }
+        → IsBadLineAnd (TellsBadLine (change E.taken E.failures err.old err.new)) stop }
 {
     let status = stop.status();
     tell(alloc, err, stop);
@@ -65,22 +65,22 @@ fn write_stop<E: Sink>(alloc: Global, err: &mut E, stop: Stop) -> Result<(), Dev
         Stop::NoFile => write_whole(err, b"fault nofile\n"),
         Stop::NoSocket => write_whole(err, b"fault socket\n"),
         Stop::NoClock => write_whole(err, b"fault clock\n"),
-        Stop::Off { line, word } => write_off(alloc, err, line, word),
+        Stop::BadLine { line, word } => write_bad_line(alloc, err, line, word),
         Stop::Line { number } => write_line(err, number, b" stopped the script\n"),
     }
 }
 
 /// Writes which line of a script is off its form, and then which word of it, if there is memory for the
 /// second text.
-fn write_off<S: Sink>(
+fn write_bad_line<S: Sink>(
     alloc: Global,
     sink: &mut S,
     line: usize,
-    word: OffWord,
+    word: BadWord,
 ) -> Result<(), DeviceFailed>
     ensures failed { OnErr result (Failed (S.failures sink.old) (S.failures sink.new)) }
     ensures told { OnOk result (AppendsAtLeast (S.taken sink.old) (S.taken sink.new)
-        (stop_line (Stop.Off line word))) }
+        (stop_line (Stop.BadLine line word))) }
 {
     write_line(sink, line, b" is off its form\n")?;
     match format!(in alloc; "line {line} {word}\n") {

@@ -8,7 +8,7 @@ use Rattle.hh_time.specs.Days.{Midnights}
 use Rattle.hh_time.specs.Zone.{midnight_in}
 use Rattle.hh_rows.specs.Values.{AreSettings}
 use Rattle.hh_rows.specs.declared.settings.Settings.{Settings}
-use Rattle.hh_states.specs.Changes.{StandsFor}
+use Rattle.hh_states.specs.Changes.{TablesRepresent}
 use Rattle.hh_states.specs.Content.{Content, tables_of}
 use Rattle.hh_states.specs.States.{State, empty_state}
 use Rattle.hh_states.specs.Steps.{at_first}
@@ -53,7 +53,7 @@ risen count more = more (omega arith)
 module _ (host : HostView) (device : DeviceChange) (db : Database) where
   -- Lines were run over tables with content `old`, and left tables with content `new`, which the database contains.
   module _ (fails : Type 0) (conserve : ReachedConserve) (old new : Content) (holds : Holds version new db) where
-    holds_state : (midnight : Midnights) (t : State) → StandsFor midnight new t → HoldsState midnight t db
+    holds_state : (midnight : Midnights) (t : State) → TablesRepresent midnight new t → HoldsState midnight t db
     holds_state midnight t (reached, is) = record {
       holds = subst (λ c. Holds version c db) is holds;
       sums = conserve midnight t reached;
@@ -105,13 +105,13 @@ module _ (host : HostView) (device : DeviceChange) (db : Database) where
         → WritesOver host (CountsMore 0 count) device db steps old may → WritesOver host (0 < count) device db steps content may
     writes_held may steps old content same (zone, market, writes) =
         let midnight = midnight_in (plain_zone zone) in
-        (zone, market, λ s stands. writes_where may steps midnight s (writes s (subst (λ c. StandsFor midnight c s) (sym same) stands)))
+        (zone, market, λ s stands. writes_where may steps midnight s (writes s (subst (λ c. TablesRepresent midnight c s) (sym same) stands)))
 
     cuts_held : (strict : Bool) (steps : List Step) (old content : Content) → old ≡ content
         → CutsOver host (CountsMore 0 count) device db steps old strict → CutsOver host (0 < count) device db steps content strict
     cuts_held strict steps old content same (zone, market, cuts) =
         let midnight = midnight_in (plain_zone zone) in
-        (zone, market, λ s stands. cuts_where strict steps midnight s (cuts s (subst (λ c. StandsFor midnight c s) (sym same) stands)))
+        (zone, market, λ s stands. cuts_where strict steps midnight s (cuts s (subst (λ c. TablesRepresent midnight c s) (sym same) stands)))
 
     pub early_held : (strict : Bool) (steps : List Step) (old content : Content) → old ≡ content → (why : LinesStop)
         → EarlyOver host (CountsMore 0 count) device db strict steps old why → EarlyOver host (0 < count) device db strict steps content why

@@ -9,7 +9,7 @@ use Rattle.hh_devices.specs.Devices.{AppendsFront}
 use Rattle.hh_time.specs.Days.{Midnights}
 use Rattle.hh_time.specs.Zone.{midnight_in}
 use Rattle.hh_rows.specs.declared.settings.Settings.{Settings}
-use Rattle.hh_states.specs.Changes.{StandsFor}
+use Rattle.hh_states.specs.Changes.{TablesRepresent}
 use Rattle.hh_states.specs.Content.{Content, tables_of}
 use Rattle.hh_states.specs.States.{State, empty_state}
 use Rattle.hh_day.specs.Headline.{Conserves}
@@ -63,10 +63,10 @@ module _ (host : HostView) (fails : Type 0) (device : DeviceChange) (db : Databa
   -- the same from each state whose tables have this content
   module _ (content : Content) where
     abbrev pub WritesOver : (List Step → Bool → Type 0) → Type 0
-    WritesOver may = InMarket (λ midnight. (s : State) → StandsFor midnight content s → WritesFrom may s midnight)
+    WritesOver may = InMarket (λ midnight. (s : State) → TablesRepresent midnight content s → WritesFrom may s midnight)
 
     abbrev pub CutsOver : Bool → Type 0
-    CutsOver strict = InMarket (λ midnight. (s : State) → StandsFor midnight content s → CutsFrom strict s midnight)
+    CutsOver strict = InMarket (λ midnight. (s : State) → TablesRepresent midnight content s → CutsFrom strict s midnight)
 
 -- `host` is what a host may show about files and ports. The database may have failed only if `fails` holds. `device` is the change of an
 -- output. `db` is the database after the steps. The steps were not run to their end: the output failed; or they are strict, and only those

@@ -11,7 +11,7 @@ use Rattle.hh_share.proofs.SumLaws.{length-shares}
 use Rattle.hh_calc.specs.declared.result.AccountRow.{AccountRow}
 use Rattle.hh_calc.specs.declared.result.Figures.{Figures}
 use Rattle.hh_calc.specs.Formulas.{all_figures, figures, period_sums, residual, residual_shares, weights}
-use Rattle.hh_calc.specs.Terms.{PeriodTerms}
+use Rattle.hh_calc.specs.Terms.{PeriodDataView}
 use Rattle.hh_states.specs.Content.{tables_of}
 use Rattle.hh_states.specs.DaySettlement.{settled_day}
 use Rattle.hh_states.specs.PeriodSettlement.{account_rows, accounts_on, settled, terms_at}
@@ -30,12 +30,12 @@ accounts_of_rows (f ∷ fs) [] same = absurd (omega arith)
 accounts_of_rows (f ∷ fs) (x ∷ shares) same = ap (λ t. f.account ∷ t) (accounts_of_rows fs shares (omega arith))
 
 -- figures are of the accounts for which they are computed
-accounts_of_figures : (p : PeriodTerms) (accounts : List Account) → map (λ (f : Figures). f.account) (map (figures p) accounts) ≡ accounts
+accounts_of_figures : (p : PeriodDataView) (accounts : List Account) → map (λ (f : Figures). f.account) (map (figures p) accounts) ≡ accounts
 accounts_of_figures p [] = refl
 accounts_of_figures p (a ∷ accounts) = ap (λ t. a ∷ t) (accounts_of_figures p accounts)
 
 -- a settled period has a row for each account, in their order
-pub accounts_settled : (p : PeriodTerms) → map (λ (r : AccountRow). r.account) (settled p).accounts ≡ p.accounts
+pub accounts_settled : (p : PeriodDataView) → map (λ (r : AccountRow). r.account) (settled p).accounts ≡ p.accounts
 accounts_settled p =
     accounts_of_rows (all_figures p) (residual_shares p)
     (length-map p.accounts (figures p) ∙ sym (length-shares (residual p) (weights p) ∙ length-map p.accounts (λ a. (period_sums p a).weight)))

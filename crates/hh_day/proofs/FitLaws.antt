@@ -24,7 +24,7 @@ use Rattle.hh_states.specs.Amounts.{IsSummaryWithin, SummariesWithin, TurnoversW
 use Rattle.hh_states.specs.Content.{result_entries, result_key, tables_of}
 use Rattle.hh_states.specs.Nets.{NettedAreReady}
 use Rattle.hh_states.specs.PeriodSettlement.{terms_at}
-use Rattle.hh_calc.specs.Terms.{PeriodTerms}
+use Rattle.hh_calc.specs.Terms.{PeriodDataView}
 use Rattle.hh_states.specs.Readiness.{PeriodsReady}
 use Rattle.hh_states.specs.Reads.{results_in}
 use Rattle.hh_states.specs.RunReads.{HoldsResults, rows_by_period}
@@ -137,7 +137,7 @@ terms_ready ready nets midnight s periods states reached are = All-from_recursio
     one at (Changed p) (inl is) = subst IsReady (sym is) (ready midnight s at reached).ready
     one at (Changed p) (inr is) =
         subst IsReady (sym is.same) (nets (terms_at (registered_at midnight s) at) _ refl (ready midnight s at reached).ready
-        (subst (λ (q : PeriodTerms). HasNetVolumes q.contracts) is.same is.sizes))
+        (subst (λ (q : PeriodDataView). HasNetVolumes q.contracts) is.same is.sizes))
     one at (Same q) is = tt
 
     each : (ats : List SettlementPeriod) (ps : List PeriodState) → ArePeriodsOf (registered_at midnight s) ats ps → AllByRecursion MayBeSettled ps

@@ -19,7 +19,7 @@ use Rattle.hh_calc.specs.declared.result.AccountRow.{AccountRow}
 use Rattle.hh_calc.specs.declared.result.CreditRow.{CreditRow}
 use Rattle.hh_calc.specs.Formulas.{credits_of}
 use Rattle.hh_calc.specs.Settled.{IsSettled, credit_cmp, figures_of, shares_shown}
-use Rattle.hh_calc.specs.Terms.{PeriodTerms}
+use Rattle.hh_calc.specs.Terms.{PeriodDataView}
 use Rattle.hh_states.specs.PeriodSettlement.{UnitAccount, account_rows, keyed_credits, settled, unit_account_cmp}
 use Rattle.hh_states.specs.Sums.{SettlesEachPeriod}
 use Rattle.hh_states.proofs.KeyLaws.{unit_account_total}
@@ -143,7 +143,7 @@ table_has_no_two_alike (e ∷ es) sorted = (
 )
 
 -- no two credits of a settled period are alike
-no_two_credits_alike : (p : PeriodTerms) → IsDistinct (eq_by_cmp credit_cmp) (settled p).credits
+no_two_credits_alike : (p : PeriodDataView) → IsDistinct (eq_by_cmp credit_cmp) (settled p).credits
 no_two_credits_alike p =
     let entries : List (UnitAccount × ℤ) = keyed_credits (credits_of p.units) in
     table_has_no_two_alike (in_key_order unit_account_cmp entries) (is_sorted-in_key_order unit_account_total entries)

@@ -14,7 +14,7 @@ use Rattle.hh_calc.specs.steps.Limits.{kept_where}
 use Rattle.hh_calc.specs.Formulas.{netted}
 use Rattle.hh_calc.specs.Ready.{AreUnitsDistinct, IsReady}
 use Rattle.hh_calc.specs.Settled.{IsSettled}
-use Rattle.hh_calc.specs.Terms.{PeriodTerms, Settled}
+use Rattle.hh_calc.specs.Terms.{PeriodDataView, Settled}
 use Rattle.hh_states.specs.DaySettlement.{settled_at, settled_day, too_large}
 use Rattle.hh_states.specs.Nets.{NetsSettleAlike}
 use Rattle.hh_states.specs.PeriodSettlement.{settled, terms_at}
@@ -59,27 +59,27 @@ module _ {X : Type 0} (test : X → Bool) where
       some_is_not_none y e = cc
 
 -- what a period is settled from fits together with net volumes too, if it may be settled with them
-netted_fits : (terms p : PeriodTerms) → p ≡ netted terms → IsReady p → AreTermsConsistent terms → AreTermsConsistent p
+netted_fits : (terms p : PeriodDataView) → p ≡ netted terms → IsReady p → AreTermsConsistent terms → AreTermsConsistent p
 netted_fits terms p is ready consistent = record {
   ready = ready;
-  units = subst (λ (q : PeriodTerms). AreUnitsDistinct q) (sym is) consistent.units;
-  credits = subst (λ (q : PeriodTerms). All CreditsEachOnce q.units) (sym is) consistent.credits;
+  units = subst (λ (q : PeriodDataView). AreUnitsDistinct q) (sym is) consistent.units;
+  credits = subst (λ (q : PeriodDataView). All CreditsEachOnce q.units) (sym is) consistent.credits;
 }
 
 -- a period that is settled within the limits has this outcome, if it has only one settlement, and the same one with net volumes
-pub settles_within : SettledInOneWay → NetsSettleAlike → (at : SettlementPeriod) (p : PeriodTerms) (s : Settled) → IsReady p → IsTrue (is_within_limits p) → IsSettled p s
+pub settles_within : SettledInOneWay → NetsSettleAlike → (at : SettlementPeriod) (p : PeriodDataView) (s : Settled) → IsReady p → IsTrue (is_within_limits p) → IsSettled p s
     → SettlesPeriod at (Changed p) (Some (at, s))
 settles_within one_way alike at p s ready within is tables (inl is_of) consistent =
     ap (λ x. Some (at, x)) (one_way (terms_at tables at) s consistent (subst (λ q. IsSettled q s) is_of is))
     ∙ sym (ap (λ b. kept_where b (settled_at tables at)) (sym (ap is_within_limits is_of) ∙ within))
 settles_within one_way alike at p s ready within is tables (inr netted) consistent =
-    let terms : PeriodTerms = terms_at tables at in
+    let terms : PeriodDataView = terms_at tables at in
     let both = alike terms consistent.ready.0 in
     ap (λ x. Some (at, x)) (one_way p s (netted_fits terms p netted.same ready consistent) is ∙ ap settled netted.same ∙ both.0)
     ∙ sym (ap (λ b. kept_where b (settled_at tables at)) (sym (ap is_within_limits netted.same ∙ both.1) ∙ within))
 
 -- a period that passes a limit has no settlement
-pub settles_beyond : NetsSettleAlike → (at : SettlementPeriod) (p : PeriodTerms) → IsFalse (is_within_limits p) → SettlesPeriod at (Changed p) None
+pub settles_beyond : NetsSettleAlike → (at : SettlementPeriod) (p : PeriodDataView) → IsFalse (is_within_limits p) → SettlesPeriod at (Changed p) None
 settles_beyond alike at p beyond tables (inl is_of) consistent =
     sym (ap (λ b. kept_where b (settled_at tables at)) (sym (ap is_within_limits is_of) ∙ beyond))
 settles_beyond alike at p beyond tables (inr netted) consistent =

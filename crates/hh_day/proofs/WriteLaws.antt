@@ -15,7 +15,7 @@ use Rattle.hh_rules.specs.History.{Registered, registered_in}
 use Rattle.hh_rules.specs.Lateness.{Timetable}
 use Rattle.hh_calc.specs.declared.result.AccountRow.{AccountRow}
 use Rattle.hh_calc.specs.Settled.{moved_by_row}
-use Rattle.hh_calc.specs.Terms.{PeriodTerms, Settled}
+use Rattle.hh_calc.specs.Terms.{PeriodDataView, Settled}
 use Rattle.hh_calc.proofs.SpreadLaws.{total-flat_map}
 use Rattle.hh_runs.specs.DayNets.{DayNets, day_net_of, differences}
 use Rattle.hh_runs.specs.declared.run_key.RunKey.{RunKey}
@@ -71,7 +71,7 @@ periods_counted tables date n =
     ∙ numbers_counted n
 
 -- a settled period has a row for each account
-accounts_counted : (p : PeriodTerms) → length (settled p).accounts ≡ length p.accounts
+accounts_counted : (p : PeriodDataView) → length (settled p).accounts ≡ length p.accounts
 accounts_counted p = sym (length-map (settled p).accounts (λ (r : AccountRow). r.account)) ∙ ap length (accounts_settled p)
 
 -- the accounts of a date are counted by its first period, if it has one

@@ -7,11 +7,11 @@ use Rattle.hh_rows.specs.declared.settlement_period.SettlementPeriod.{Settlement
 use Rattle.hh_rules.specs.History.{Registered}
 use Rattle.hh_calc.specs.declared.result.AccountRow.{AccountRow}
 use Rattle.hh_calc.specs.Settled.{IsSettled}
-use Rattle.hh_calc.specs.Terms.{PeriodTerms, Settled}
+use Rattle.hh_calc.specs.Terms.{PeriodDataView, Settled}
 use Rattle.hh_runs.specs.declared.summary.Summary.{Summary}
 use Rattle.hh_runs.specs.DayNets.{DayNets, day_net_of, differences}
 use Rattle.hh_runs.specs.declared.run_key.RunKey.{RunKey}
-use Rattle.hh_states.specs.Changes.{RunWrites, run_writes}
+use Rattle.hh_states.specs.Changes.{RunChangeView, run_change}
 use Rattle.hh_states.specs.Content.{credit_entries, posting_entries, result_entries, tables_of}
 use Rattle.hh_states.specs.DaySettlement.{periods_on, settled_day, too_large}
 use Rattle.hh_states.specs.PeriodSettlement.{settled}
@@ -54,7 +54,7 @@ summary_of day postings = record {
 }
 
 -- what is written for a run with these settlements and these postings
-abbrev pub writes_of_run : RunKey → List (SettlementPeriod × Settled) → DayNets → RunWrites
+abbrev pub writes_of_run : RunKey → List (SettlementPeriod × Settled) → DayNets → RunChangeView
 writes_of_run run day postings = record {
   key = run;
   summary = summary_of day postings;
@@ -66,7 +66,7 @@ writes_of_run run day postings = record {
 -- This is what is written for a run with these settlements, if the run of the date before it had these rows. It posts to each account
 -- what the account pays by the new rows less what it paid by the old ones.
 pub record IsWrittenFor (run : RunKey) (day : List (SettlementPeriod × Settled)) (former : List (ℕ × AccountRow))
-    (writes : RunWrites) : Type 0 where
+    (writes : RunChangeView) : Type 0 where
   pub old : DayNets
   pub new : DayNets
   pub paid_before : (a : Account) → day_net_of old a ≡ paid_in a former
@@ -83,12 +83,12 @@ day_in midnight s date = settled_day (registered_at midnight s) (periods_on date
 
 -- a period has only one settlement, if what it is settled from fits together
 abbrev pub SettledInOneWay : Type 0
-SettledInOneWay = (p : PeriodTerms) (s : Settled) → AreTermsConsistent p → IsSettled p s → s ≡ settled p
+SettledInOneWay = (p : PeriodDataView) (s : Settled) → AreTermsConsistent p → IsSettled p s → s ≡ settled p
 
 -- In each state that the machine reaches, for each run that does not exist and is not refused there: what is written for a new run of
 -- the settled periods of its date is what the machine writes for it.
 abbrev pub WritesTheRun : Type 0
-WritesTheRun = (midnight : Midnights) (s : State) (moment : ℤ) (key : RunKey) (writes : RunWrites)
+WritesTheRun = (midnight : Midnights) (s : State) (moment : ℤ) (key : RunKey) (writes : RunChangeView)
     → IsReached midnight s → CanRun midnight s moment key
     → IsWrittenFor key (day_in midnight s key.date) (former_rows midnight s key.date) writes
-    → writes ≡ run_writes midnight s key
+    → writes ≡ run_change midnight s key

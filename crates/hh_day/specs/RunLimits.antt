@@ -12,7 +12,7 @@ use Rattle.hh_calc.specs.Terms.{Settled}
 use Rattle.hh_runs.specs.declared.summary.Summary.{Summary}
 use Rattle.hh_runs.specs.declared.run_key.RunKey.{RunKey}
 use Rattle.hh_states.specs.Amounts.{greatest_turnover}
-use Rattle.hh_states.specs.Changes.{RunWrites}
+use Rattle.hh_states.specs.Changes.{RunChangeView}
 use Rattle.hh_states.specs.RunReads.{rows_by_period}
 use Rattle.hh_states.specs.States.{State}
 use Rattle.hh_states.specs.Steps.{CanRun, IsReached, registered_at}
@@ -37,7 +37,7 @@ pub record FitsFields (summary : Summary) : Type 0 where
 pub record FitsRun (run : RunKey) (day : List (SettlementPeriod × Settled)) (former : List (ℕ × AccountRow)) : Type 0 where
   pub before : AreTurnoversSmall former
   pub now : AreTurnoversSmall (rows_by_period day)
-  pub summary : (writes : RunWrites) → IsWrittenFor run day former writes → FitsFields writes.summary
+  pub summary : (writes : RunChangeView) → IsWrittenFor run day former writes → FitsFields writes.summary
 
 -- what a Settlement Period is settled from may be settled; a settled period may be taken over as it was settled
 abbrev pub MayBeSettled : PeriodState → Type 0

@@ -14,13 +14,13 @@ use Rattle.hh_states.specs.Content.{tables_of}
 use Rattle.hh_states.specs.States.{State, file_key_cmp}
 use Rattle.hh_office.specs.Machine.{key_of, load_beside, may, step}
 use Rattle.hh_office.specs.Transitions.{Transition, refused_for}
-use Rattle.hh_office.specs.Promises.{HandleStep, Stands, StandsAfter, is_given_up}
-use Rattle.hh_office.specs.Refusals.{CountsReply, StandsForSome}
+use Rattle.hh_office.specs.Promises.{HandleStep, Represents, RepresentsAfter, is_given_up}
+use Rattle.hh_office.specs.Refusals.{CountsReply, RepresentsSome}
 use Rattle.hh_office.specs.Views.{OfficeView, midnight_of}
 use Rattle.hh_host.specs.Views.{HostView}
 use Rattle.hh_script.specs.Steps.{LoadStep, RunStep}
 use Rattle.hh_desk.specs.declared.told.Told.TheVariants.{Replied}
-use Rattle.hh_desk.specs.Doing.{LoadDoes, OrdersRun, RunDoes, RunsLoad, StandsNow, request_for, request_of}
+use Rattle.hh_desk.specs.Doing.{LoadDoes, OrdersRun, RunDoes, RunsLoad, RepresentsNow, request_for, request_of}
 use Rattle.hh_desk.specs.GivingUp.{CountsMore}
 use Rattle.hh_desk.proofs.GivingUpLaws.{reply_where}
 
@@ -57,11 +57,11 @@ module _ (midnight : Midnights) (s : State) (l : LoadStep) (all : List ℕ) wher
 -- What a load does if the office answered it.
 module _ (host : HostView) (old new : OfficeView) (counted counts : ℕ) (l : LoadStep) (all : List ℕ) (most : ℕ)
     (enough : most_bytes < most) (read : host.reads l.path (Some all)) (request : Request) (is : request ≡ request_of l (take most all)) (given : Reply)
-    (counting : StandsForSome old → CountsReply given counted counts) where
-  answered_by : (s t : State) (reply : Reply) (b : Bool) → Stands old s → is_given_up given ≡ b
+    (counting : RepresentsSome old → CountsReply given counted counts) where
+  answered_by : (s t : State) (reply : Reply) (b : Bool) → Represents old s → is_given_up given ≡ b
       → (record { reply = reply; state = t }) ≡ step (midnight_of old) s l.moment (request_of l all)
-      → MatchBool b (new ≡ old) ((given ≡ reply) × (new ≡ record old { content = tables_of (midnight_of old) t })) → Stands new (cond b s t)
-      → (u : State) × LoadDoes host (CountsMore counted counts) (midnight_of old) s l (Replied given) u × StandsNow old new u
+      → MatchBool b (new ≡ old) ((given ≡ reply) × (new ≡ record old { content = tables_of (midnight_of old) t })) → Represents new (cond b s t)
+      → (u : State) × LoadDoes host (CountsMore counted counts) (midnight_of old) s l (Replied given) u × RepresentsNow old new u
   answered_by s t reply true before up transition same stands = (s, inr (reply_where counted counts given up (counting (s, before)), refl), (stands, ap (λ (o : OfficeView). o.zone) same))
   answered_by s t reply false before up transition comes stands = (
     t,
@@ -69,7 +69,7 @@ module _ (host : HostView) (old new : OfficeView) (counted counts : ℕ) (l : Lo
     (stands, ap (λ (o : OfficeView). o.zone) comes.1),
   )
 
-  pub load_answered : HandleStep old new l.moment request given → StandsAfter old new l.moment request given → RunsLoad (CountsMore counted counts) old new host l (Replied given)
+  pub load_answered : HandleStep old new l.moment request given → RepresentsAfter old new l.moment request given → RunsLoad (CountsMore counted counts) old new host l (Replied given)
   load_answered steps after s stands =
       let transition : Transition = step (midnight_of old) s l.moment request in
       answered_by s transition.state transition.reply (is_given_up given) stands refl
@@ -77,11 +77,11 @@ module _ (host : HostView) (old new : OfficeView) (counted counts : ℕ) (l : Lo
 
 -- What a run does if the office answered it.
 module _ (old new : OfficeView) (counted counts : ℕ) (run : RunStep) (request : Request) (is : request ≡ request_for run) (given : Reply)
-    (counting : StandsForSome old → CountsReply given counted counts) where
-  made_by : (s t : State) (reply : Reply) (b : Bool) → Stands old s → is_given_up given ≡ b
+    (counting : RepresentsSome old → CountsReply given counted counts) where
+  made_by : (s t : State) (reply : Reply) (b : Bool) → Represents old s → is_given_up given ≡ b
       → (record { reply = reply; state = t }) ≡ step (midnight_of old) s run.moment (request_for run)
-      → MatchBool b (new ≡ old) ((given ≡ reply) × (new ≡ record old { content = tables_of (midnight_of old) t })) → Stands new (cond b s t)
-      → (u : State) × RunDoes (CountsMore counted counts) (midnight_of old) s run (Replied given) u × StandsNow old new u
+      → MatchBool b (new ≡ old) ((given ≡ reply) × (new ≡ record old { content = tables_of (midnight_of old) t })) → Represents new (cond b s t)
+      → (u : State) × RunDoes (CountsMore counted counts) (midnight_of old) s run (Replied given) u × RepresentsNow old new u
   made_by s t reply true before up transition same stands = (s, inr (reply_where counted counts given up (counting (s, before)), refl), (stands, ap (λ (o : OfficeView). o.zone) same))
   made_by s t reply false before up transition comes stands = (
     t,
@@ -89,7 +89,7 @@ module _ (old new : OfficeView) (counted counts : ℕ) (run : RunStep) (request 
     (stands, ap (λ (o : OfficeView). o.zone) comes.1),
   )
 
-  pub run_answered : HandleStep old new run.moment request given → StandsAfter old new run.moment request given → OrdersRun (CountsMore counted counts) old new run (Replied given)
+  pub run_answered : HandleStep old new run.moment request given → RepresentsAfter old new run.moment request given → OrdersRun (CountsMore counted counts) old new run (Replied given)
   run_answered steps after s stands =
       let transition : Transition = step (midnight_of old) s run.moment request in
       made_by s transition.state transition.reply (is_given_up given) stands refl

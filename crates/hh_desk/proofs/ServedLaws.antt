@@ -28,8 +28,8 @@ module _ (fails others : Type 0) (implies : fails → others) (midnight : Midnig
     counts = h.counts;
     served = h.served;
     zone = h.zone;
-    stood = h.stood;
-    stands = h.stands;
+    represented = h.represented;
+    represents = h.represents;
     leads = h.leads;
     serves = h.serves;
     read = h.read;

@@ -7,15 +7,15 @@ use Rattle.hh_time.specs.Zone.{midnight_in}
 use Rattle.hh_requests.specs.declared.request.Request.{Request}
 use Rattle.hh_states.specs.States.{State}
 use Rattle.hh_office.specs.Machine.{next}
-use Rattle.hh_office.specs.Promises.{Stands, is_given_up}
-use Rattle.hh_office.specs.Refusals.{StandsForSome}
+use Rattle.hh_office.specs.Promises.{Represents, is_given_up}
+use Rattle.hh_office.specs.Refusals.{RepresentsSome}
 use Rattle.hh_office.specs.Views.{OfficeView, midnight_of}
 use Rattle.hh_wire.specs.declared.incoming.Incoming.TheVariants.{Asked}
-use Rattle.hh_serve.specs.declared.serve.ServeFault.{ServeFault}
-use Rattle.hh_serve.specs.declared.serve.ServeFault.TheVariants.{Memory, Read, Write}
-use Rattle.hh_serve.specs.declared.serve.Served.{Served}
-use Rattle.hh_serve.specs.declared.serve.Served.TheVariants as outcome
-use Rattle.hh_serve.specs.Serves.{Answer, CountsReading, CountsWriting, IsAnswer, IsReadOf, Serves, StandsAfterOne}
+use Rattle.hh_http_serve.specs.declared.serve.ServeFault.{ServeFault}
+use Rattle.hh_http_serve.specs.declared.serve.ServeFault.TheVariants.{Memory, Read, Write}
+use Rattle.hh_http_serve.specs.declared.serve.Served.{Served}
+use Rattle.hh_http_serve.specs.declared.serve.Served.TheVariants as outcome
+use Rattle.hh_http_serve.specs.Serves.{Answer, CountsReading, CountsWriting, IsAnswer, IsReadOf, Serves, RepresentsAfterOne}
 use Rattle.hh_sockets.specs.Arrivals.{Arrival, Exchange}
 use Rattle.hh_host.specs.Clocks.{ClockReading}
 use Rattle.hh_desk.specs.steps.Serving.{ServesNext}
@@ -27,22 +27,22 @@ use Rattle.hh_desk.proofs.ServedLaws.{served_more, served_then}
 -- ---- one connection
 
 -- `source` is what a connection brought. `old` is the office before it, and `new` after it.
-module _ (source : Option (List ℕ)) (old new : OfficeView) (counted counts : ℕ) (moment : ℤ) (s : State) (stood : Stands old s) where
-  stays : new ≡ old → (t : State) × LeadsTo (midnight_of old) moment source s t × Stands new t
-  stays same = (s, inl refl, subst (λ o. Stands o s) (sym same) stood)
+module _ (source : Option (List ℕ)) (old new : OfficeView) (counted counts : ℕ) (moment : ℤ) (s : State) (stood : Represents old s) where
+  stays : new ≡ old → (t : State) × LeadsTo (midnight_of old) moment source s t × Represents new t
+  stays same = (s, inl refl, subst (λ o. Represents o s) (sym same) stood)
 
-  given : (request : Request) → IsReadOf source (Ok (Asked request)) → (b : Bool) → Stands new (cond b s (next (midnight_of old) s moment request))
-      → (t : State) × LeadsTo (midnight_of old) moment source s t × Stands new t
+  given : (request : Request) → IsReadOf source (Ok (Asked request)) → (b : Bool) → Represents new (cond b s (next (midnight_of old) s moment request))
+      → (t : State) × LeadsTo (midnight_of old) moment source s t × Represents new t
   given request read true stands = (s, inl refl, stands)
   given request read false stands = (next (midnight_of old) s moment request, inr (request, read, refl), stands)
 
-  answered : (answer : Answer) → IsAnswer source old new counted counts moment answer → (t : State) × LeadsTo (midnight_of old) moment source s t × Stands new t
-  answered (Ok reply) (request, read, handles) = given request read (is_given_up reply) (handles.stands s stood)
+  answered : (answer : Answer) → IsAnswer source old new counted counts moment answer → (t : State) × LeadsTo (midnight_of old) moment source s t × Represents new t
+  answered (Ok reply) (request, read, handles) = given request read (is_given_up reply) (handles.represents s stood)
   answered (Err refused) (read, same) = stays same
 
   -- the state that the connection leads to
   pub led_to : (device : DeviceChange) (served : Result Served ServeFault) → Serves source old new counted counts moment device served
-      → (t : State) × LeadsTo (midnight_of old) moment source s t × Stands new t
+      → (t : State) × LeadsTo (midnight_of old) moment source s t × Represents new t
   led_to device (Ok outcome.Closed) (read, same, kept) = stays same
   led_to device (Ok outcome.Replied) (given, is, went) = answered (Ok given) is
   led_to device (Ok outcome.Refused) (refused, text, is, tells, went) = answered (Err refused) is
@@ -52,7 +52,7 @@ module _ (source : Option (List ℕ)) (old new : OfficeView) (counted counts : �
 
 -- a connection that was served once
 pub one_served : (old new : OfficeView) (counted counts : ℕ) (moment : ℤ) (e : Exchange) (served : Result Served ServeFault)
-    → Serves e.source.old old new counted counts moment e.sink served → StandsAfterOne old new moment
+    → Serves e.source.old old new counted counts moment e.sink served → RepresentsAfterOne old new moment
     → CountsReading served e.source.old_failures e.source.new_failures → CountsWriting e.sink served
     → ServesAll (CountsMore counted counts) old new (Some e ∷ []) (Some moment ∷ [])
 one_served old new counted counts moment e served serves after read written s stood =
@@ -67,8 +67,8 @@ one_served old new counted counts moment e served serves after read written s st
           counts = counts;
           served = served;
           zone = refl;
-          stood = stood;
-          stands = stands;
+          represented = stood;
+          represents = stands;
           leads = leads;
           serves = serves;
           read = read;
@@ -84,11 +84,11 @@ one_served old new counted counts moment e served serves after read written s st
 
 -- an office represents some state after it served what came
 pub some_served : (fails : Type 0) (old new : OfficeView) (arrivals : List Arrival) (readings : List ClockReading) → ServesAll fails old new arrivals readings
-    → StandsForSome old → StandsForSome new
+    → RepresentsSome old → RepresentsSome new
 some_served fails old new arrivals readings served (s, stands) = let (t, is, (now, zone)) = served s stands in (t, now)
 
 -- An office's store had counted `first` refusals at first and `mid` at the second moment, and counts `last` in the end.
-module _ (old now new : OfficeView) (first mid last : ℕ) (up : StandsForSome old → first ≤ mid) (further : StandsForSome now → mid ≤ last) where
+module _ (old now new : OfficeView) (first mid last : ℕ) (up : RepresentsSome old → first ≤ mid) (further : RepresentsSome now → mid ≤ last) where
   both_served : (arrivals : List Arrival) (arrival : Arrival) (readings later : List ClockReading) → ServesAll (CountsMore first mid) old now arrivals readings
       → ServesAll (CountsMore mid last) now new (arrival ∷ []) later → ServesAll (CountsMore first last) old new (arrivals ++ arrival ∷ []) (readings ++ later)
   both_served arrivals arrival readings later served one s stands =
@@ -121,7 +121,7 @@ module _ (old now new : OfficeView) (first mid last : ℕ) (up : StandsForSome o
     }
 
     -- the count of refusals does not fall either
-    pub refusals_more : StandsForSome old → first ≤ last
+    pub refusals_more : RepresentsSome old → first ≤ last
     refusals_more some = omega (arith, up some, further (some_served (CountsMore first mid) old now each.arrivals each.readings each.served some))
 
 -- before any connection is awaited

@@ -8,7 +8,7 @@ use Rattle.hh_requests.specs.declared.reply.Reply.TheVariants as reply
 use Rattle.hh_states.specs.States.{State}
 use Rattle.hh_office.specs.Machine.{step}
 use Rattle.hh_office.specs.Transitions.{Transition}
-use Rattle.hh_office.specs.Promises.{Stands, is_refused}
+use Rattle.hh_office.specs.Promises.{Represents, is_refused}
 use Rattle.hh_office.specs.Views.{OfficeView, midnight_of}
 use Rattle.hh_host.specs.Views.{HostView}
 use Rattle.hh_script.specs.Steps.{LoadStep, RunStep}
@@ -53,8 +53,8 @@ RunDoes fails midnight s run (Replied given) t =
     ⊎ (IsGivenUpWhere fails given × (t ≡ s))
 
 -- the office represents a state now, in the same zone as before
-abbrev pub StandsNow : OfficeView → OfficeView → State → Type 0
-StandsNow old new t = Stands new t × (new.zone ≡ old.zone)
+abbrev pub RepresentsNow : OfficeView → OfficeView → State → Type 0
+RepresentsNow old new t = Represents new t × (new.zone ≡ old.zone)
 
 -- a request was refused
 abbrev pub IsRefusal : Told → Type 0
@@ -65,11 +65,11 @@ IsRefusal (Replied given) = IsTrue (is_refused given)
 module _ (fails : Type 0) (old new : OfficeView) where
   -- what comes of a load in each state that the office represented
   abbrev pub RunsLoad : HostView → LoadStep → Told → Type 0
-  RunsLoad host load told = (s : State) → Stands old s → (t : State) × LoadDoes host fails (midnight_of old) s load told t × StandsNow old new t
+  RunsLoad host load told = (s : State) → Represents old s → (t : State) × LoadDoes host fails (midnight_of old) s load told t × RepresentsNow old new t
 
   -- what comes of a run in each state that the office represented
   abbrev pub OrdersRun : RunStep → Told → Type 0
-  OrdersRun run told = (s : State) → Stands old s → (t : State) × RunDoes fails (midnight_of old) s run told t × StandsNow old new t
+  OrdersRun run told = (s : State) → Represents old s → (t : State) × RunDoes fails (midnight_of old) s run told t × RepresentsNow old new t
 
 -- a refusal leaves the office as it is
 abbrev pub LeavesRefused : OfficeView → OfficeView → Told → Type 0

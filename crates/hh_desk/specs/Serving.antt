@@ -5,16 +5,16 @@ use Rattle.hh_time.specs.Days.{Midnights}
 use Rattle.hh_requests.specs.declared.request.Request.{Request}
 use Rattle.hh_states.specs.States.{State}
 use Rattle.hh_office.specs.Machine.{next}
-use Rattle.hh_office.specs.Promises.{Stands}
+use Rattle.hh_office.specs.Promises.{Represents}
 use Rattle.hh_office.specs.Views.{OfficeView, midnight_of}
 use Rattle.hh_wire.specs.declared.incoming.Incoming.TheVariants.{Asked}
-use Rattle.hh_serve.specs.declared.serve.ServeFault.{ServeFault}
-use Rattle.hh_serve.specs.declared.serve.Served.{Served}
-use Rattle.hh_serve.specs.Serves.{CountsReading, CountsWriting, IsReadOf, Serves}
+use Rattle.hh_http_serve.specs.declared.serve.ServeFault.{ServeFault}
+use Rattle.hh_http_serve.specs.declared.serve.Served.{Served}
+use Rattle.hh_http_serve.specs.Serves.{CountsReading, CountsWriting, IsReadOf, Serves}
 use Rattle.hh_sockets.specs.Arrivals.{Arrival, Exchange}
 use Rattle.hh_host.specs.Clocks.{ClockReading}
 use Rattle.hh_desk.specs.GivingUp.{CountsMore}
-use Rattle.hh_desk.specs.Doing.{StandsNow}
+use Rattle.hh_desk.specs.Doing.{RepresentsNow}
 
 -- a connection that brought `bytes` led from one state to the other: to the same state, or to the machine's state after the request that
 -- the bytes ask, handled at `moment`
@@ -43,8 +43,8 @@ module _ (fails : Type 0) (midnight : Midnights) where
     pub counts : ℕ
     pub served : Result Served ServeFault
     pub zone : midnight_of old ≡ midnight
-    pub stood : Stands old s
-    pub stands : Stands new t
+    pub represented : Represents old s
+    pub represents : Represents new t
     pub leads : LeadsTo midnight moment e.source.old s t
     pub serves : Serves e.source.old old new counted counts moment e.sink served
     pub read : CountsReading served e.source.old_failures e.source.new_failures
@@ -66,7 +66,7 @@ module _ (fails : Type 0) (midnight : Midnights) where
 module _ (fails : Type 0) (old new : OfficeView) where
   -- from each state that the office represented, what came was served, and the office represents the state that this led to
   abbrev pub ServesAll : List Arrival → List ClockReading → Type 0
-  ServesAll arrivals readings = (s : State) → Stands old s → (t : State) × AreServed fails (midnight_of old) arrivals readings s t × StandsNow old new t
+  ServesAll arrivals readings = (s : State) → Represents old s → (t : State) × AreServed fails (midnight_of old) arrivals readings s t × RepresentsNow old new t
 
   -- What came of awaiting connections leads from one state of the listener to another. What came of reading the clock leads from one state
   -- of the clock to another.

@@ -2,7 +2,7 @@
 
 ghost use Rattle.std.specs.Prelude.{◌≡◌, ℕ, List, Some, None, take, IfOk, IsErrOf};
 ghost use Rattle.hh_office.specs.Views.{IsSure};
-ghost use Rattle.hh_serve.specs.Serves.{CountsUp};
+ghost use Rattle.hh_http_serve.specs.Serves.{CountsUp};
 ghost use Rattle.hh_script.specs.Steps.{load_of, run_of};
 ghost use Rattle.hh_desk.specs.Crashes.{LoadLeaves, RunLeaves};
 ghost use Rattle.hh_desk.specs.Doing.{LeavesRefused, OrdersRun, RunsLoad, request_for, request_of};

@@ -4,14 +4,14 @@ use Rattle.std.specs.Prelude.{IsErrAnd}
 use Rattle.hh_devices.specs.DeviceChanges.{DeviceChange}
 use Rattle.hh_devices.specs.Devices.{AppendsFront}
 use Rattle.hh_states.specs.States.{State}
-use Rattle.hh_office.specs.Promises.{Stands}
+use Rattle.hh_office.specs.Promises.{Represents}
 use Rattle.hh_office.specs.Views.{OfficeView}
 use Rattle.hh_sockets.specs.Ports.{IsPortFor}
 use Rattle.hh_host.specs.Views.{HostView}
 use Rattle.hh_script.specs.Reports.{ReportStep}
 use Rattle.hh_script.specs.Steps.{LoadStep, RunStep}
 use Rattle.hh_desk.specs.declared.told.Told.{Told}
-use Rattle.hh_desk.specs.Doing.{OrdersRun, RunsLoad, StandsNow}
+use Rattle.hh_desk.specs.Doing.{OrdersRun, RunsLoad, RepresentsNow}
 use Rattle.hh_desk.specs.Lines.{listening_line}
 use Rattle.hh_errands.specs.declared.errand.ErrandStop.{ErrandStop}
 use Rattle.hh_errands.specs.declared.errand.ErrandStop.TheVariants as stop
@@ -47,8 +47,8 @@ module _ (host : HostView) (fails : Type 0) (old new : OfficeView) (device : Dev
   run_ends run told (Err stop.Unreadable) runs (is, same) = λ s stands. let (t, does, now) = runs s stands in (t, (told, does, sym is), same, now)
   run_ends run told (Err stop.NoSocket) runs (is, same) = λ s stands. let (t, does, now) = runs s stands in (t, (told, does, sym is), same, now)
 
-  stays : new ≡ old → (s : State) → Stands old s → StandsNow old new s
-  stays same s stands = (subst (λ o. Stands o s) (sym same) stands, ap (λ (o : OfficeView). o.zone) same)
+  stays : new ≡ old → (s : State) → Represents old s → RepresentsNow old new s
+  stays same s stands = (subst (λ o. Represents o s) (sym same) stands, ap (λ (o : OfficeView). o.zone) same)
 
   -- a report, which leaves the office as it is
   pub report_ends : (asked : ReportStep) (result : Result Unit ErrandStop) → new ≡ old → EndsReport fails old device asked result

@@ -6,12 +6,12 @@ use Rattle.hh_devices.specs.DeviceChanges.{DeviceChange}
 use Rattle.hh_time.specs.Days.{Midnights}
 use Rattle.hh_time.specs.Zone.{midnight_in}
 use Rattle.hh_names.specs.declared.fault.Refusal.{Refusal}
-use Rattle.hh_states.specs.Changes.{StandsFor}
+use Rattle.hh_states.specs.Changes.{TablesRepresent}
 use Rattle.hh_states.specs.States.{State}
 use Rattle.hh_office.specs.Reports.{report_for}
 use Rattle.hh_office.specs.Views.{OfficeView, midnight_of}
 use Rattle.hh_host.specs.Views.{HostView}
-use Rattle.hh_desk.specs.Doing.{StandsNow}
+use Rattle.hh_desk.specs.Doing.{RepresentsNow}
 use Rattle.hh_desk.proofs.GivingUpLaws.{fault_then, load_then, run_then}
 use Rattle.hh_desk.proofs.ServedLaws.{served_then}
 use Rattle.hh_errands.specs.declared.errand.ErrandStop.{ErrandStop}
@@ -56,9 +56,9 @@ module _ (fails others : Type 0) (implies : fails → others) where
 -- An office has the tables of another, and the zone of the office before it.
 module _ (host : HostView) (fails : Type 0) (old last new : OfficeView) (content : new.content ≡ last.content) (zone : new.zone ≡ old.zone) (device : DeviceChange)
     (step : ErrandStep) where
-  now_of : (t : State) → StandsNow old last t → StandsNow old new t
+  now_of : (t : State) → RepresentsNow old last t → RepresentsNow old new t
   now_of t (stands, zoned) =
-      (subst (λ z. StandsFor (midnight_in (plain_zone z)) new.content t) (zoned ∙ sym zone) (subst (λ c. StandsFor (midnight_of last) c t) (sym content) stands), zone)
+      (subst (λ z. TablesRepresent (midnight_in (plain_zone z)) new.content t) (zoned ∙ sym zone) (subst (λ c. TablesRepresent (midnight_of last) c t) (sym content) stands), zone)
 
   pub ends_alike : (result : Result Unit ErrandStop) → EndsErrand host fails old last device step result → EndsErrand host fails old new device step result
   ends_alike (Ok x) ends = λ s stands. let (text, t, comes, went, now) = ends s stands in (text, t, comes, went, now_of t now)

@@ -10,7 +10,7 @@ use Rattle.hh_requests.specs.declared.reply.Reply.TheVariants as reply
 use Rattle.hh_states.specs.States.{State}
 use Rattle.hh_office.specs.declared.report.ReportStop.{ReportStop}
 use Rattle.hh_office.specs.declared.report.ReportStop.TheVariants as reporting
-use Rattle.hh_office.specs.Promises.{Stands}
+use Rattle.hh_office.specs.Promises.{Represents}
 use Rattle.hh_office.specs.Reports.{report_for}
 use Rattle.hh_office.specs.Views.{OfficeView, midnight_of}
 use Rattle.hh_sockets.specs.Arrivals.{Arrival}
@@ -21,7 +21,7 @@ use Rattle.hh_script.specs.Reports.{ReportStep, report_of}
 use Rattle.hh_script.specs.Steps.{LoadStep, RunStep, load_of, run_of}
 use Rattle.hh_desk.specs.declared.told.Told.{Told}
 use Rattle.hh_desk.specs.declared.told.Told.TheVariants.{Replied, Unreadable}
-use Rattle.hh_desk.specs.Doing.{LoadDoes, RunDoes, StandsNow}
+use Rattle.hh_desk.specs.Doing.{LoadDoes, RunDoes, RepresentsNow}
 use Rattle.hh_desk.specs.GivingUp.{GivesUpWhere}
 use Rattle.hh_desk.specs.Lines.{listening_line, loaded_line, run_line}
 use Rattle.hh_desk.specs.Serving.{AreServed}
@@ -114,12 +114,12 @@ HasBegun midnight s _ device = device.new ≡ device.old
 module _ (host : HostView) (fails : Type 0) (old new : OfficeView) (device : DeviceChange) (step : ErrandStep) where
   -- what a command asked came about from each state that the office represented, and its text was written
   abbrev pub EndsErrand : Result Unit ErrandStop → Type 0
-  EndsErrand (Ok _) = (s : State) → Stands old s
-      → (text : List ℕ) × (t : State) × ErrandComes host fails (midnight_of old) s step (Ok text) t × Appends device.old device.new text × StandsNow old new t
-  EndsErrand (Err stop.Output) = (s : State) → Stands old s
-      → (text : List ℕ) × (t : State) × ErrandComes host fails (midnight_of old) s (cut_errand step) (Ok text) t × AppendsFront device.old device.new text × StandsNow old new t
-  EndsErrand (Err why) = (s : State) → Stands old s
-      → (t : State) × ErrandComes host fails (midnight_of old) s step (Err why) t × HasBegun (midnight_of old) s step device × StandsNow old new t
+  EndsErrand (Ok _) = (s : State) → Represents old s
+      → (text : List ℕ) × (t : State) × ErrandComes host fails (midnight_of old) s step (Ok text) t × Appends device.old device.new text × RepresentsNow old new t
+  EndsErrand (Err stop.Output) = (s : State) → Represents old s
+      → (text : List ℕ) × (t : State) × ErrandComes host fails (midnight_of old) s (cut_errand step) (Ok text) t × AppendsFront device.old device.new text × RepresentsNow old new t
+  EndsErrand (Err why) = (s : State) → Represents old s
+      → (t : State) × ErrandComes host fails (midnight_of old) s step (Err why) t × HasBegun (midnight_of old) s step device × RepresentsNow old new t
 
 -- why a report is not written, or not to its end
 abbrev pub report_stop : ReportStop → ErrandStop

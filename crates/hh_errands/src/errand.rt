@@ -4,7 +4,7 @@ ghost use Rattle.std.specs.Prelude.{◌≡◌, ◌≢◌, ◌⊎◌, IfErr, IsEr
 ghost use Rattle.hh_devices.specs.DeviceChanges.{change};
 ghost use Rattle.hh_devices.specs.Devices.{Failed};
 ghost use Rattle.hh_office.specs.Views.{IsSure};
-ghost use Rattle.hh_serve.specs.Serves.{CountsUp};
+ghost use Rattle.hh_http_serve.specs.Serves.{CountsUp};
 ghost use Rattle.hh_desk.specs.GivingUp.{HasRefused};
 ghost use Rattle.hh_errands.specs.Crashes.{ErrandLeaves};
 ghost use Rattle.hh_errands.specs.Errands.{EndsErrand, IsReport, errand_of};

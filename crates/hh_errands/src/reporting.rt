@@ -5,7 +5,7 @@ ghost use Rattle.hh_devices.specs.DeviceChanges.{change};
 ghost use Rattle.hh_devices.specs.Devices.{Failed};
 ghost use Rattle.hh_store.specs.Crashes.{AddsNothing};
 ghost use Rattle.hh_office.specs.Views.{IsSure};
-ghost use Rattle.hh_serve.specs.Serves.{CountsUp};
+ghost use Rattle.hh_http_serve.specs.Serves.{CountsUp};
 ghost use Rattle.hh_script.specs.Reports.{report_of};
 ghost use Rattle.hh_desk.specs.GivingUp.{HasRefused};
 ghost use Rattle.hh_errands.specs.Crashes.{IfWritten};

@@ -20,7 +20,7 @@ use Rattle.hh_keyed_rows.specs.Values.{version}
 use Rattle.hh_sqlstore.specs.Holds.{Holds, TreesHold}
 use Rattle.hh_sqlstore.specs.Leaving.{KeepsHeld}
 use Rattle.hh_sqlstore.specs.Stores.{IsHonestDisk, Stored, content_in}
-use Rattle.hh_office.specs.Promises.{Stands, gives_up, is_given_up}
+use Rattle.hh_office.specs.Promises.{Represents, gives_up, is_given_up}
 use Rattle.hh_office.specs.Views.{Kept, OfficeView, midnight_of}
 use Rattle.hh_host.specs.Views.{HostView}
 use Rattle.hh_script.specs.Steps.{LoadStep, RunStep}
@@ -111,7 +111,7 @@ module _ {T L : Type 0} (H : T → Type 0) (O : T → Bool) (M : T → L → Typ
   abbrev midnight : Midnights
   midnight = midnight_of (office_of zone before)
 
-  module _ (honest : H new.tables) (stood : IsTrue (O tables)) (s : State) (stands : Stands (office_of zone before) s) (left : L) (may : M new.tables left) (result : Result Unit ErrandStop) where
+  module _ (honest : H new.tables) (stood : IsTrue (O tables)) (s : State) (stands : Represents (office_of zone before) s) (left : L) (may : M new.tables left) (result : Result Unit ErrandStop) where
     abbrev Before : Type 0
     Before = holds left (tables_of midnight s)
 

@@ -69,7 +69,7 @@ module _ (host : HostView) (device : DeviceChange) (file : List ℕ) (found take
     runs_file strict (Err (script.Early why)) (steps, is, cuts) =
         (steps, is, λ held holding up. subst (λ c. EarlyOver host ⊤ device left.committed strict steps c why) (same held holding (sure up)) (cuts up))
     runs_file strict (Err script.File) (unread, more, silent) = (inr (λ up. (content, holds (sure up)), unread, takes_both more), silent)
-    runs_file strict (Err (script.Off line word)) (unread, more, silent) = (inr (λ up. (content, holds (sure up)), unread, takes_both more), silent)
+    runs_file strict (Err (script.BadLine line word)) (unread, more, silent) = (inr (λ up. (content, holds (sure up)), unread, takes_both more), silent)
     runs_file strict (Err (script.Refused fault)) (unread, more, silent) = (inr (λ up. (content, holds (sure up)), unread, takes_both more), silent)
 
 -- a script over tables was not run to its end

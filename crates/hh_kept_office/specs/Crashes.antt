@@ -11,7 +11,7 @@ use Rattle.hh_store.specs.StoreFaults.{store_fault}
 use Rattle.hh_keyed_rows.specs.Values.{version}
 use Rattle.hh_sqlstore.specs.Holds.{Holds, TreesHold}
 use Rattle.hh_office.specs.Machine.{next}
-use Rattle.hh_office.specs.Promises.{Stands, gives_up}
+use Rattle.hh_office.specs.Promises.{Represents, gives_up}
 use Rattle.hh_office.specs.Views.{midnight_of}
 use Rattle.hh_host.specs.Views.{HostView}
 use Rattle.hh_desk.specs.Doing.{request_for, request_of}
@@ -46,7 +46,7 @@ module _ (host : HostView) (before : Content) (step : ErrandStep) (result : Resu
   HoldsWhatCounts {L = L} holds IsLeft =
       (zone : TimeZone) × IsMarketZone zone
       × (let midnight : Midnights = midnight_of (office_of zone before) in
-      (s : State) → Stands (office_of zone before) s → (left : L) → IsLeft left
+      (s : State) → Represents (office_of zone before) s → (left : L) → IsLeft left
       → CountsAs result (holds left (tables_of midnight s)) ((t : State) × ReachedBy host midnight s step t × holds left (tables_of midnight t)))
 
   -- the tables were not taken over, and whatever is left of their database contains what it contained

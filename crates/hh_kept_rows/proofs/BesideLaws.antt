@@ -15,7 +15,7 @@ use Rattle.hh_rules.specs.declared.positions.Position.{Position}
 use Rattle.hh_rules.specs.declared.positions.Position.TheVariants.{Known, Lost}
 use Rattle.hh_rules.specs.declared.positions.PositionKey.{PositionKey}
 use Rattle.hh_calc.specs.Formulas.{net_kwh, net_kwh_of}
-use Rattle.hh_calc.specs.Terms.{Net, PeriodTerms, Settled, settled_as}
+use Rattle.hh_calc.specs.Terms.{Net, PeriodDataView, Settled, settled_as}
 use Rattle.hh_runs.specs.declared.run_key.RunKey.{RunKey}
 use Rattle.hh_runs.specs.declared.summary.Summary.{Summary}
 use Rattle.hh_states.specs.Content.{Content}
@@ -47,7 +47,7 @@ module _ (content : Content) (beside : Beside) (agree : agrees content beside �
   same_terms = terms_alike date whole part has at on
 
   same_accounts : accounts_on part at.date ≡ accounts_on whole at.date
-  same_accounts = ap (λ (p : PeriodTerms). p.accounts) same_terms
+  same_accounts = ap (λ (p : PeriodDataView). p.accounts) same_terms
 
   -- the known position of an account is what it sells less what it buys
   net_of_account : (a : Account) → is_known (position_in held.positions (position_key_at at a)) ≡ true
@@ -66,10 +66,10 @@ module _ (content : Content) (beside : Beside) (agree : agrees content beside �
       let parts = and_parts _ _ known in
       λ i. net_of_account a parts.0 i ∷ nets_of_accounts accounts parts.1 i
 
-  is_netted : (p : PeriodTerms) → IsNetBeside part held at p → IsNetted (terms_at whole at) p
+  is_netted : (p : PeriodDataView) → IsNetBeside part held at p → IsNetted (terms_at whole at) p
   is_netted p net = record {
     same = net.same
-        ∙ ap (λ (t : PeriodTerms). record t { contracts = Net (net_volumes_at held.positions at t.accounts) }) same_terms
+        ∙ ap (λ (t : PeriodDataView). record t { contracts = Net (net_volumes_at held.positions at t.accounts) }) same_terms
         ∙ ap (λ nets. record (terms_at whole at) { contracts = Net nets })
         (nets_of_accounts (accounts_on whole at.date) (subst (λ l. are_known held.positions at l ≡ true) same_accounts net.known));
     sizes = net.sizes;

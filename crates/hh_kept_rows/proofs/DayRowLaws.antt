@@ -22,7 +22,7 @@ use Rattle.hh_rules.specs.Leads.{lead_on}
 use Rattle.hh_rules.specs.RegisterView.{AgreesOn}
 use Rattle.hh_rows.specs.declared.rows.Row.{Row}
 use Rattle.hh_rows.specs.declared.rows.Row.TheVariants as row
-use Rattle.hh_calc.specs.Terms.{Rows, bm_unit, period_terms}
+use Rattle.hh_calc.specs.Terms.{Rows, unit_data, period_data}
 use Rattle.hh_states.specs.DaySettlement.{from_one_to, missing_meter, missing_price, periods_on, unit_periods_at}
 use Rattle.hh_states.specs.PeriodSettlement.{accounts_on, price_of, reading_of, row_in_force, rows_in_force, terms_at, unit_at, units_on}
 use Rattle.hh_states.specs.Reads.{names_account}
@@ -118,13 +118,13 @@ module _ (date : ℕ) (whole part : Registered) (has : HasRowsOn date whole part
 
     unit_alike : (u : List ℕ × UnitRegistration) → AgreesOnUnitAt whole part u.0 at → unit_at part at u ≡ unit_at whole at u
     unit_alike u agrees =
-        λ i. option_map (λ (reading : Reading). bm_unit u.0 (lead_on whole u.0 u.1 at.date) u.1.interconnector reading (map (λ e. record { account = e.0.account; reallocation = e.1 }) (agrees.reallocations i))) (agrees.reading i)
+        λ i. option_map (λ (reading : Reading). unit_data u.0 (lead_on whole u.0 u.1 at.date) u.1.interconnector reading (map (λ e. record { account = e.0.account; reallocation = e.1 }) (agrees.reallocations i))) (agrees.reading i)
 
     pub terms_alike : terms_at part at ≡ terms_at whole at
     terms_alike =
-        (λ i. period_terms (flat_map (λ e. both_accounts e.0) (filter (λ e. holds e.1.range at.date) (has.parties i))) (filter_map (unit_at part at) (filter (λ e. holds e.1.range at.date) (has.units i)))
+        (λ i. period_data (flat_map (λ e. both_accounts e.0) (filter (λ e. holds e.1.range at.date) (has.parties i))) (filter_map (unit_at part at) (filter (λ e. holds e.1.range at.date) (has.units i)))
         (Rows (map (λ r. r.contract) (rows_alike date whole part has.contracts at on i))) (unwrap_or (has.prices at on i) (pos 0)))
-        ∙ ap (λ units. period_terms (accounts_on whole at.date) units (Rows (map (λ r. r.contract) (rows_in_force whole at))) (unwrap_or (price_of whole at) (pos 0)))
+        ∙ ap (λ units. period_data (accounts_on whole at.date) units (Rows (map (λ r. r.contract) (rows_in_force whole at))) (unwrap_or (price_of whole at) (pos 0)))
         (filter_map_alike (unit_at part at) (unit_at whole at) (units_on whole at.date)
         (all_weaker (λ u. AgreesOnUnitAt whole part u.0 at) (λ u. unit_at part at u ≡ unit_at whole at u) unit_alike (units_on whole at.date) units_agree))
 

@@ -8,7 +8,7 @@ use Rattle.hh_devices.specs.Devices.{AppendsFront}
 use Rattle.hh_tables.specs.Tables.{Table}
 use Rattle.hh_names.specs.declared.account.Account.{Account}
 use Rattle.hh_rows.specs.declared.rows.PartyRegistration.{PartyRegistration}
-use Rattle.hh_calc.specs.Formulas.{of_account}
+use Rattle.hh_calc.specs.Formulas.{if_same_account}
 use Rattle.hh_reports.specs.Exports.{balances_text}
 use Rattle.hh_reports.specs.Nets.{Amounts, sum_for}
 use Rattle.hh_reports.specs.Output.{CountsFault}
@@ -38,7 +38,7 @@ amounts_posted postings = map (λ e. (e.0.account, e.1)) postings
 -- their sum for an account is that of the postings that are read for the account
 sum_read : (a : Account) (postings : Table PostingKey ℤ) → sum_for a (amounts_posted postings) ≡ total (λ e. e.1) (filter_map (posting_to a) postings)
 sum_read a postings =
-    total-map (λ (e : Account × ℤ). of_account a e.0 e.1) (λ (e : PostingKey × ℤ). (e.0.account, e.1)) postings ∙ sym (postings_read a postings)
+    total-map (λ (e : Account × ℤ). if_same_account a e.0 e.1) (λ (e : PostingKey × ℤ). (e.0.account, e.1)) postings ∙ sym (postings_read a postings)
 
 -- so the balances by them are those by the postings that are read for each account
 pub balances_read : (registered : Table (List ℕ) PartyRegistration) (postings : Table PostingKey ℤ) (parties : List (List ℕ)) (amounts : Amounts)

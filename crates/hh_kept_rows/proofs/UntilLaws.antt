@@ -12,7 +12,7 @@ use Rattle.hh_rows.specs.Keys.{settlement_period_cmp, unit_period_cmp}
 use Rattle.hh_rows.specs.declared.keys.UnitPeriod.{UnitPeriod}
 use Rattle.hh_rows.specs.declared.settlement_period.SettlementPeriod.{SettlementPeriod}
 use Rattle.hh_rows.proofs.KeyLaws.{exact_unit_periods, settlement_period_total}
-use Rattle.hh_kept_rows.specs.steps.Parts.{AreUntil, is_after}
+use Rattle.hh_kept_rows.specs.steps.Parts.{NoneAfter, is_after}
 
 -- if one Settlement Period is before another, the other is after it
 turned : (a b : SettlementPeriod) → is_lt (settlement_period_cmp a b) ≡ true → is_after b a ≡ true
@@ -33,7 +33,7 @@ not_before a b level = ap is_gt (settlement_period_total.antisymm b a) ∙ by (s
     by Greater h = refl
 
 -- there is no reading after the last Settlement Period
-pub none_after : (last : SettlementPeriod) (key : UnitPeriod) (readings : Table UnitPeriod Reading) → AreUntil (Some last) readings
+pub none_after : (last : SettlementPeriod) (key : UnitPeriod) (readings : Table UnitPeriod Reading) → NoneAfter (Some last) readings
     → is_lt (settlement_period_cmp last key.at) ≡ true → find unit_period_cmp key readings ≡ None
 none_after last key [] until before = refl
 none_after last key (e ∷ readings) until before =
@@ -58,12 +58,12 @@ pub not_after_both : (a b c : SettlementPeriod) → is_after a b ≡ false → i
 not_after_both = upto settlement_period_total
 
 -- if no reading is after one Settlement Period, none is after a later one
-until_later : (a b : SettlementPeriod) (readings : Table UnitPeriod Reading) → is_after a b ≡ false → AreUntil (Some a) readings → AreUntil (Some b) readings
+until_later : (a b : SettlementPeriod) (readings : Table UnitPeriod Reading) → is_after a b ≡ false → NoneAfter (Some a) readings → NoneAfter (Some b) readings
 until_later a b readings later = All-weaker (λ (e : UnitPeriod × Reading). is_after e.0.at a ≡ false) (λ (e : UnitPeriod × Reading). is_after e.0.at b ≡ false) (λ e until. upto settlement_period_total e.0.at a b until later) readings
 
 -- and none is with one more reading that is not after it
 pub until_more : (last next : SettlementPeriod) (readings : Table UnitPeriod Reading) (i : ℕ) (e : UnitPeriod × Reading) → i < length readings → e ≡ get_or readings i e
-    → is_after last next ≡ false → is_after e.0.at next ≡ false → AreUntil (Some last) (take i readings) → AreUntil (Some next) (take (i + 1) readings)
+    → is_after last next ≡ false → is_after e.0.at next ≡ false → NoneAfter (Some last) (take i readings) → NoneAfter (Some next) (take (i + 1) readings)
 until_more last next readings i e inside is later own so_far =
     All-more (λ (e : UnitPeriod × Reading). is_after e.0.at next ≡ false) readings i e inside (until_later last next (take i readings) later so_far)
     (subst (λ (e : UnitPeriod × Reading). is_after e.0.at next ≡ false) is own)

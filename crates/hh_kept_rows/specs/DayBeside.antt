@@ -10,7 +10,7 @@ use Rattle.hh_rules.specs.History.{Registered}
 use Rattle.hh_rules.specs.Positions.{position_key_cmp}
 use Rattle.hh_rules.specs.declared.positions.PositionKey.{PositionKey}
 use Rattle.hh_calc.specs.Ready.{HasNetVolumes}
-use Rattle.hh_calc.specs.Terms.{Net, PeriodTerms, Settled, settled_as}
+use Rattle.hh_calc.specs.Terms.{Net, PeriodDataView, Settled, settled_as}
 use Rattle.hh_runs.specs.declared.run_key.RunKey.{RunKey}
 use Rattle.hh_runs.specs.declared.summary.Summary.{Summary}
 use Rattle.hh_states.specs.Content.{Content}
@@ -61,13 +61,13 @@ module _ (tables : Registered) (beside : DayBeside) (at : SettlementPeriod) wher
 
   -- what a Settlement Period is settled from, with its accounts' positions instead of the contract volumes in force; all of
   -- them are known
-  pub record IsNetBeside (p : PeriodTerms) : Type 0 where
+  pub record IsNetBeside (p : PeriodDataView) : Type 0 where
     pub same : p ≡ record (terms_at tables at) { contracts = Net (net_volumes_at beside.positions at (accounts_on tables at.date)) }
     pub known : IsTrue (are_known beside.positions at (accounts_on tables at.date))
     pub sizes : HasNetVolumes p.contracts
 
   -- what a Settlement Period is settled from by the contract volumes in force; the position of one of its accounts is lost
-  pub record IsByRows (p : PeriodTerms) : Type 0 where
+  pub record IsByRows (p : PeriodDataView) : Type 0 where
     pub same : p ≡ terms_at tables at
     pub lost : IsFalse (are_known beside.positions at (accounts_on tables at.date))
 

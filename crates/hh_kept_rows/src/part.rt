@@ -7,7 +7,7 @@ ghost use Rattle.hh_rows.specs.Keys.{contract_key_cmp, reallocation_key_cmp, set
 ghost use Rattle.hh_rules.specs.RegisterView.{held_reallocation, holding_reallocation, tables_in, AgreesOnParty, AgreesOnReference, AgreesOnUnit, ServesFor};
 ghost use Rattle.hh_states.specs.Soundness.{AreSound};
 ghost use Rattle.hh_kept_rows.specs.Parts.{whole_of};
-ghost use Rattle.hh_kept_rows.specs.steps.Parts.{is_after, is_named_in, with_reallocations, AgreesOnNames, AgreesOnUnits, AreUntil, Grows, IsNamedIn, IsPartOf, NoneNegative};
+ghost use Rattle.hh_kept_rows.specs.steps.Parts.{is_after, is_named_in, with_reallocations, AgreesOnNames, AgreesOnUnits, NoneAfter, Grows, IsNamedIn, IsPartOf, NoneNegative};
 
 use crate::kept_register::KeptRegister;
 use hh_names::{PartyId, Reading, Reallocation, Reference, Refusal, UnitId};
@@ -117,7 +117,7 @@ impl KeptRegister {
 
     /// A Settlement Period after which no reading counts, if the rows are readings and any reading counts.
     fn last_reading_for(&self, rows: &[Row]) -> Option<SettlementPeriod>
-        ensures { AreUntil result self.now.meters }
+        ensures { NoneAfter result self.now.meters }
     {
         match rows.first() {
             Some(Row::Meter(_)) => {
@@ -139,7 +139,7 @@ impl KeptRegister {
         row: &Row,
     ) -> Result<(), StoreFault>
         requires units { all_units ≡ true → AgreesOnUnits self.now (tables_in part.old) }
-        requires until { AreUntil last.now self.now.meters }
+        requires until { NoneAfter last.now self.now.meters }
         ensures grows { OnOk result (Grows self.now part.old part.new) }
         ensures agrees { (lead_minutes : ℕ) → IsPartOf (whole_of lead_minutes self.now) part.old
             → OnOk result (AgreesOnNames self.now (tables_in part.new) row.now) }
@@ -240,7 +240,7 @@ impl KeptRegister {
         last: &Option<SettlementPeriod>,
         key: &UnitPeriod,
     ) -> Result<(), StoreFault>
-        requires { AreUntil last.now self.now.meters }
+        requires { NoneAfter last.now self.now.meters }
         ensures grows { OnOk result (Grows self.now part.old part.new) }
         ensures agrees { (lead_minutes : ℕ) → IsPartOf (whole_of lead_minutes self.now) part.old
             → OnOk result (find unit_period_cmp key.now (tables_in part.new).meters
@@ -256,7 +256,7 @@ impl KeptRegister {
     /// The reading that counts for a unit in a Settlement Period, if there is one. If `last` is a
     /// Settlement Period, there is none after it. Most readings come in the order of time.
     fn reading_until(&self, last: &Option<SettlementPeriod>, key: &UnitPeriod) -> Option<Reading>
-        requires { AreUntil last.now self.now.meters }
+        requires { NoneAfter last.now self.now.meters }
         ensures { result ≡ find unit_period_cmp key.now self.now.meters }
     {
         match last {
@@ -344,7 +344,7 @@ fn none_negative(rows: &[(ReallocationKey, Reallocation)])
 /// The last of a Settlement Period and those of some readings.
 fn last_period(first: SettlementPeriod, readings: &[(UnitPeriod, Reading)]) -> SettlementPeriod
     ensures first { is_after first result ≡ false }
-    ensures until { AreUntil (Some result) readings.now }
+    ensures until { NoneAfter (Some result) readings.now }
 {
     let mut last = first;
     for reading in readings {

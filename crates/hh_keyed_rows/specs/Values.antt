@@ -11,7 +11,7 @@ use Rattle.hh_rules.specs.declared.positions.Position.{Position}
 use Rattle.hh_rules.specs.declared.positions.Position.TheVariants.{Known, Lost}
 use Rattle.hh_calc.specs.declared.result.AccountRow.{AccountRow}
 use Rattle.hh_runs.specs.declared.summary.Summary.{Summary}
-use Rattle.hh_states.specs.States.{AcceptedFile}
+use Rattle.hh_states.specs.States.{KeptFileView}
 use Rattle.hh_keyed_rows.specs.declared.amounts.AccountAmounts.{AccountAmounts}
 use Rattle.hh_keyed_rows.specs.declared.no_columns.NoColumns.{NoColumns}
 use Rattle.hh_keyed_rows.specs.Codecs.{Codec, blob_column, both, coded, via}
@@ -49,7 +49,7 @@ reallocation_columns =
     via (λ p. record { percent = p.0; fixed = p.1 }) (λ r. (r.percent, r.fixed)) (both (quantity_column percentages) (quantity_column volumes))
 
 -- bytes, rows that were applied, rows that came late
-abbrev pub file_columns : Codec AcceptedFile
+abbrev pub file_columns : Codec KeptFileView
 file_columns =
     via (λ p. record { body = p.0; applied = p.1.0; late = p.1.1 }) (λ f. (f.body, (f.applied, f.late)))
     (both blob_column (both (number_column most_of_32_bits) (number_column most_of_32_bits)))

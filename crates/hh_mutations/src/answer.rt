@@ -10,7 +10,7 @@ pub(crate) enum Answer {
     /// Nothing was asked.
     Closed,
     /// A line of a script is off its form.
-    Off,
+    BadLine,
     /// It was refused.
     Refused(Refusal),
 }
@@ -24,7 +24,7 @@ impl Answer {
         match self {
             Answer::Answered => 0,
             Answer::Closed => 1,
-            Answer::Off => 2,
+            Answer::BadLine => 2,
             Answer::Refused(refusal) => refusal.number(),
         }
     }

@@ -2,8 +2,8 @@
 
 use crate::answer::Answer;
 use hh_devices::MemorySource;
+use hh_http_replies::Refused;
 use hh_names::Refusal;
-use hh_replies::Refused;
 use hh_requests::{Action, Request};
 use hh_wire::{Incoming, Routes, WireFault, read_request};
 use std::alloc::Global;

@@ -12,8 +12,8 @@ pub(crate) fn script_answer(alloc: Global, bytes: &[u8]) -> Option<Answer> {
     }
     match read {
         Ok(lines) if lines.len() <= most_lines(bytes) => Some(Answer::Answered),
-        Err(ScriptFault::Off { line, word: _ }) if (1..=most_lines(bytes)).contains(&line) => {
-            Some(Answer::Off)
+        Err(ScriptFault::BadLine { line, word: _ }) if (1..=most_lines(bytes)).contains(&line) => {
+            Some(Answer::BadLine)
         }
         _ => None,
     }

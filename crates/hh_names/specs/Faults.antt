@@ -37,9 +37,9 @@ module _ {E : Type 0} (errors : Refusing E) where
   Refuses e outcome = ByRefusal (errors.refusal e) (e ≡ errors.memory) (outcome ≡ Err e)
 
   -- the answer is the outcome, or that memory was refused
-  abbrev pub Gives : {X Y : Type 0} → (X → Y) → Result X E → Result Y E → Type 0
-  Gives view (Ok x) outcome = outcome ≡ Ok (view x)
-  Gives view (Err e) outcome = Refuses e outcome
+  abbrev pub IsOutcomeOrNoMemory : {X Y : Type 0} → (X → Y) → Result X E → Result Y E → Type 0
+  IsOutcomeOrNoMemory view (Ok x) outcome = outcome ≡ Ok (view x)
+  IsOutcomeOrNoMemory view (Err e) outcome = Refuses e outcome
 
 -- faults as a type of errors
 abbrev pub faults : Refusing Fault

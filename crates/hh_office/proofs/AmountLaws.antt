@@ -20,7 +20,7 @@ use Rattle.hh_states.specs.Runs.{Run, latest_run}
 use Rattle.hh_states.specs.States.{State}
 use Rattle.hh_states.specs.Steps.{IsReached}
 use Rattle.hh_office.specs.Enquiries.{net_of_rows, rows_of_account}
-use Rattle.hh_office.specs.Promises.{Stands}
+use Rattle.hh_office.specs.Promises.{Represents}
 use Rattle.hh_office.specs.steps.Reads.{latest_key}
 use Rattle.hh_office.specs.Views.{OfficeView, midnight_of}
 use Rattle.hh_office.proofs.EnquiryLaws.{latest_holds, latest_is}
@@ -42,7 +42,7 @@ module _ (midnight : Midnights) (s : State) (reached : IsReached midnight s) whe
       each (r ∷ runs) within = (subst (IsBetween day_cash.least day_cash.most) (sym (own_rows a (results_in (tables_of midnight s) r.key))) within.0, each runs within.1)
 
 -- the same in the tables of an office that represents a state
-pub net_fits : (office : OfficeView) (s : State) → Stands office s → HoldsRuns → PaidWithin → (a : Account) (date : ℕ) (key : RunKey)
+pub net_fits : (office : OfficeView) (s : State) → Represents office s → HoldsRuns → PaidWithin → (a : Account) (date : ℕ) (key : RunKey)
     → Some key ≡ latest_key date (runs_in office.content date)
     → IsBetween day_cash.least day_cash.most (net_of_rows (rows_of_account a (results_in office.content key)))
 net_fits office s stands runs paid a date key found =

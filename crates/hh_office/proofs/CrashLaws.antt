@@ -10,7 +10,7 @@ use Rattle.hh_requests.specs.declared.reply.Reply.{Reply}
 use Rattle.hh_requests.specs.declared.reply.Reply.TheVariants as reply
 use Rattle.hh_requests.specs.declared.request.Request.{Request}
 use Rattle.hh_states.specs.Content.{Content, tables_of}
-use Rattle.hh_states.specs.Changes.{LoadEffect, LoadWrites, RunEffect, RunWrites, effect_of_load, effect_of_run}
+use Rattle.hh_states.specs.Changes.{LoadEffect, LoadChangeView, RunEffect, RunChangeView, effect_of_load, effect_of_run}
 use Rattle.hh_states.specs.States.{State}
 use Rattle.hh_store.specs.Crashes.{AddsNothing, AddsOnly, LeavesContent, MakesLoad, MakesRun}
 use Rattle.hh_store.specs.StoreFaults.{store_fault}
@@ -18,7 +18,7 @@ use Rattle.hh_store.specs.declared.store_fault.StoreFault.{StoreFault}
 use Rattle.hh_store.specs.declared.store_fault.StoreFault.TheVariants.{Memory, Store}
 use Rattle.hh_office.specs.Crashes.{CrashAfterAll, CrashStep, IfReplied, MadeInEachState, with_content}
 use Rattle.hh_office.specs.Machine.{Timed, loaded_reply, state_after, step}
-use Rattle.hh_office.specs.Promises.{HandleStep, RunAllStep, Stands, UnlessFailed, is_given_up, served}
+use Rattle.hh_office.specs.Promises.{HandleStep, RunAllStep, Represents, UnlessFailed, is_given_up, served}
 use Rattle.hh_office.specs.Transitions.{Transition}
 use Rattle.hh_office.specs.Views.{Kept, OfficeView, midnight_of}
 use Rattle.hh_office.specs.steps.Crashes.{IsAcceptedContent, IsLoadedContent, IsRunContent}
@@ -79,17 +79,17 @@ failed_ok (Err e) P fails = tt
 -- ---- changes
 
 -- a load that the store may have made is made for each load of the machine for which this is written
-pub load_leaves : LoadEffect → (office : OfficeView) (load : LoadWrites) (left : Content) → MakesLoad load office.content left → IsLoadedContent office load left
+pub load_leaves : LoadEffect → (office : OfficeView) (load : LoadChangeView) (left : Content) → MakesLoad load office.content left → IsLoadedContent office load left
 load_leaves effect office writes left made s load stands can is =
     let midnight = midnight_of office in
     ap (with_content office) (made midnight (s, load, stands, can, is) ∙ (λ i. effect_of_load (is i) (stands.1 i)) ∙ sym (effect midnight s load stands.0 can))
 
 -- an accepted file leaves what its load leaves
-pub accept_leaves : (office : OfficeView) (load : LoadWrites) (left : Content) → IsLoadedContent office load left → IsAcceptedContent office load left
+pub accept_leaves : (office : OfficeView) (load : LoadChangeView) (left : Content) → IsLoadedContent office load left → IsAcceptedContent office load left
 accept_leaves office writes left leaves = accepts office (with_content office left) writes (loaded_reply writes.file) refl leaves
 
 -- the same for a run
-pub run_leaves : RunEffect → (office : OfficeView) (run : RunWrites) (left : Content) → MakesRun run office.content left → IsRunContent office run left
+pub run_leaves : RunEffect → (office : OfficeView) (run : RunChangeView) (left : Content) → MakesRun run office.content left → IsRunContent office run left
 run_leaves effect office writes left made s moment key stands can is =
     let midnight = midnight_of office in
     ap (with_content office) (made midnight (s, moment, key, stands, can, is) ∙ (λ i. effect_of_run (is i) (stands.1 i)) ∙ sym (effect midnight s moment key can))
@@ -104,7 +104,7 @@ made_by false office given t left is makes = ap (λ (o : OfficeView). o.content)
 
 -- what is left after a transition was made
 pub made_after : (office : OfficeView) (transition : Midnights → State → Transition) (left : Content) → MadeInEachState office transition left
-    → (s : State) → Stands office s → left ≡ tables_of (midnight_of office) (transition (midnight_of office) s).state
+    → (s : State) → Represents office s → left ≡ tables_of (midnight_of office) (transition (midnight_of office) s).state
 made_after office transition left made s stands =
     made_by (is_given_up made.given) office made.given (transition (midnight_of office) s) left made.answered (made.makes s stands)
 

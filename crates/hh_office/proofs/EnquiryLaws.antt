@@ -20,7 +20,7 @@ use Rattle.hh_states.specs.Runs.{Run, last_of, latest_run, runs_of_date}
 use Rattle.hh_states.specs.States.{State}
 use Rattle.hh_states.specs.Steps.{kinds_on}
 use Rattle.hh_office.specs.Enquiries.{account_reply, reply_by_rows, reply_by_run, rows_of_account}
-use Rattle.hh_office.specs.Promises.{MakesTransition, Stands}
+use Rattle.hh_office.specs.Promises.{MakesTransition, Represents}
 use Rattle.hh_office.specs.steps.Promises.{RepliesAs, reply_of}
 use Rattle.hh_office.specs.steps.Reads.{latest_key}
 use Rattle.hh_office.specs.Transitions.{unchanged}
@@ -84,7 +84,7 @@ pub key_by : (date : ℕ) (o : Option Run) → IfSome o (λ r. Unit {0} × ((r.k
 key_by date None is = refl
 key_by date (Some r) is = ap (λ d. Some (record { date = d; kind = r.key.kind })) (sym (eqb-true r.key.date date is.1))
 
-module _ (office : OfficeView) (s : State) (stands : Stands office s) (runs : HoldsRuns) where
+module _ (office : OfficeView) (s : State) (stands : Represents office s) (runs : HoldsRuns) where
   -- the latest of the runs of a date in the tables is the machine's latest run
   pub latest_is : (date : ℕ) → latest_key date (runs_in office.content date) ≡ option_map (λ r. r.key) (latest_run date s.runs)
   latest_is date =

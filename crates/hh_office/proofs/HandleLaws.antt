@@ -9,8 +9,8 @@ use Rattle.hh_states.specs.States.{State}
 use Rattle.hh_states.specs.Steps.{IsReached}
 use Rattle.hh_office.specs.steps.Loads.{NamesItsFile}
 use Rattle.hh_office.specs.Machine.{answer, next, Timed, state_after}
-use Rattle.hh_office.specs.Promises.{HandleStep, Stands, StandsAfter, is_given_up, ConservesAfter, ConservesAfterAll, RunAllStep, RunsAs, StandsAfterAll, served}
-use Rattle.hh_office.specs.Refusals.{StandsForSome}
+use Rattle.hh_office.specs.Promises.{HandleStep, Represents, RepresentsAfter, is_given_up, ConservesAfter, ConservesAfterAll, RunAllStep, RunsAs, RepresentsAfterAll, served}
+use Rattle.hh_office.specs.Refusals.{RepresentsSome}
 use Rattle.hh_office.specs.Views.{OfficeView, midnight_of}
 use Rattle.hh_office.proofs.OnceLaws.{AreNamed, next_reached, served_reached}
 use Rattle.jiff.specs.Words.{plain_zone}
@@ -18,22 +18,22 @@ use Rattle.hh_time.specs.Zone.{midnight_in}
 use Rattle.hh_day.specs.Headline.{Conserves, ReachedConserve}
 
 -- the office after a request, by whether it was given up
-stands_by : (b : Bool) (old new : OfficeView) (s t : State) (P : Type 0) → Stands old s → IsReached (midnight_of old) t
-    → MatchBool b (new ≡ old) (P × (new ≡ record old { content = tables_of (midnight_of old) t })) → Stands new (cond b s t)
-stands_by true old new s t P stands reached same = subst (λ o. Stands o s) (sym same) stands
-stands_by false old new s t P stands reached comes = subst (λ o. Stands o t) (sym comes.1) (reached, refl)
+represents_by : (b : Bool) (old new : OfficeView) (s t : State) (P : Type 0) → Represents old s → IsReached (midnight_of old) t
+    → MatchBool b (new ≡ old) (P × (new ≡ record old { content = tables_of (midnight_of old) t })) → Represents new (cond b s t)
+represents_by true old new s t P stands reached same = subst (λ o. Represents o s) (sym same) stands
+represents_by false old new s t P stands reached comes = subst (λ o. Represents o t) (sym comes.1) (reached, refl)
 
 -- if an office steps as the machine, it represents the machine's state
-pub stands_after : (old new : OfficeView) (moment : ℤ) (request : Request) (given : Reply) → NamesItsFile request.action → HandleStep old new moment request given
-    → StandsAfter old new moment request given
-stands_after old new moment request given named steps s stands =
+pub represents_after : (old new : OfficeView) (moment : ℤ) (request : Request) (given : Reply) → NamesItsFile request.action → HandleStep old new moment request given
+    → RepresentsAfter old new moment request given
+represents_after old new moment request given named steps s stands =
     let t : State = next (midnight_of old) s moment request in
-    stands_by (is_given_up given) old new s t (given ≡ answer (midnight_of old) s moment request) stands (next_reached (midnight_of old) s moment request named stands.0) (steps s stands)
+    represents_by (is_given_up given) old new s t (given ≡ answer (midnight_of old) s moment request) stands (next_reached (midnight_of old) s moment request named stands.0) (steps s stands)
 
 -- if an office represents a state, its tables add up
-stands_conserves : ReachedConserve → (office : OfficeView) (midnight : Midnights) (s : State) → midnight ≡ midnight_of office → Stands office s
+represents_conserves : ReachedConserve → (office : OfficeView) (midnight : Midnights) (s : State) → midnight ≡ midnight_of office → Represents office s
     → Conserves midnight s office.content
-stands_conserves law office midnight s zone stands =
+represents_conserves law office midnight s zone stands =
     subst (λ m. Conserves m s office.content) (sym zone) (subst (Conserves (midnight_of office) s) (sym stands.1) (law (midnight_of office) s stands.0))
 
 -- a request leaves the zone of an office as it is
@@ -47,21 +47,21 @@ pub conserves_after : ReachedConserve → (old new : OfficeView) (moment : ℤ) 
 conserves_after law old new moment request given named steps s stands =
     let t : State = next (midnight_of old) s moment request in
     let zone : new.zone ≡ old.zone = zone_by (is_given_up given) old new (given ≡ answer (midnight_of old) s moment request) (tables_of (midnight_of old) t) (steps s stands) in
-    stands_conserves law new (midnight_of old) (cond (is_given_up given) s t) (ap (λ z. midnight_in (plain_zone z)) (sym zone)) (stands_after old new moment request given named steps s stands)
+    represents_conserves law new (midnight_of old) (cond (is_given_up given) s t) (ap (λ z. midnight_in (plain_zone z)) (sym zone)) (represents_after old new moment request given named steps s stands)
 
 -- if an office runs a list as the machine, it represents the machine's state
-pub stands_after_all : (old new : OfficeView) (requests : List Timed) (given : List Reply) → AreNamed requests → RunAllStep old new requests given
-    → StandsAfterAll old new requests given
-stands_after_all old new requests given named runs s stands =
+pub represents_after_all : (old new : OfficeView) (requests : List Timed) (given : List Reply) → AreNamed requests → RunAllStep old new requests given
+    → RepresentsAfterAll old new requests given
+represents_after_all old new requests given named runs s stands =
     let ran : RunsAs old new s requests given = runs s stands in
     let done : List Timed = map (λ (r : Timed × Reply). r.0) (served requests given) in
-    subst (λ (o : OfficeView). Stands o (state_after (midnight_of old) s done)) (sym ran.tables) (served_reached (midnight_of old) s requests given named stands.0, refl)
+    subst (λ (o : OfficeView). Represents o (state_after (midnight_of old) s done)) (sym ran.tables) (served_reached (midnight_of old) s requests given named stands.0, refl)
 
 -- so it represents some state afterwards, if it did before
-pub stands_for_some : (old new : OfficeView) (requests : List Timed) (given : List Reply) → AreNamed requests → RunAllStep old new requests given
-    → StandsForSome old → StandsForSome new
-stands_for_some old new requests given named runs (s, stands) =
-    (state_after (midnight_of old) s (map (λ (r : Timed × Reply). r.0) (served requests given)), stands_after_all old new requests given named runs s stands)
+pub represents_some : (old new : OfficeView) (requests : List Timed) (given : List Reply) → AreNamed requests → RunAllStep old new requests given
+    → RepresentsSome old → RepresentsSome new
+represents_some old new requests given named runs (s, stands) =
+    (state_after (midnight_of old) s (map (λ (r : Timed × Reply). r.0) (served requests given)), represents_after_all old new requests given named runs s stands)
 
 -- if an office runs a list as the machine, its tables add up afterwards
 pub conserves_after_all : ReachedConserve → (old new : OfficeView) (requests : List Timed) (given : List Reply) → AreNamed requests → RunAllStep old new requests given

@@ -30,7 +30,7 @@ use Rattle.hh_names.specs.Words.{is_file_name}
 use Rattle.hh_rows.specs.RowKinds.{IsFileOf, most_bytes}
 use Rattle.hh_states.specs.Content.{tables_of, Content}
 use Rattle.hh_states.specs.declared.file_key.FileKey.{FileKey}
-use Rattle.hh_states.specs.States.{AcceptedFile, State, file_key_cmp}
+use Rattle.hh_states.specs.States.{KeptFileView, State, file_key_cmp}
 use Rattle.hh_states.specs.Steps.{CanLoad, IsReached, Load, after_load, by_load, kept_file, timetable_at, CanRun, after_run, by_run, kept_summary, new_summary, run_fault}
 use Rattle.hh_states.specs.Ranges.{IsKeptFile, ReachedFiles}
 use Rattle.hh_states.specs.RunReads.{HoldsSummaries}
@@ -40,7 +40,7 @@ use Rattle.hh_states.proofs.KeyLaws.{file_key_total, exact_run_keys, run_key_tot
 use Rattle.hh_office.specs.steps.Loads.{NamesItsFile}
 use Rattle.hh_office.specs.Machine.{Timed, act, is_operator, key_of, load, load_beside, load_new, load_read_as, loaded, loaded_reply, may, next, repeat_reply, state_after, step, answer}
 use Rattle.hh_office.specs.Transitions.{Transition, refused, refused_for, unchanged}
-use Rattle.hh_office.specs.Promises.{MakesTransition, HandleStep, RepeatsOnce, is_given_up, is_refused, served, Stands}
+use Rattle.hh_office.specs.Promises.{MakesTransition, HandleStep, RepeatsOnce, is_given_up, is_refused, served, Represents}
 use Rattle.hh_office.specs.Views.{OfficeView, midnight_of}
 use Rattle.hh_office.specs.Runs.{made_or_refused, run, run_beside}
 use Rattle.std.proofs.lemmas.Option.{none-some}
@@ -102,7 +102,7 @@ module _ (midnight : Midnights) (s : State) (N : List ℕ → Type 0) (P : State
       → P (elim found as (λ _. Transition) [ Err fault ↦ refused s fault | Ok rows ↦ loaded midnight s (load_read_as moment upload rows) ]).state)
       [ Err fault ↦ λ _. same | Ok rows ↦ λ reads. by_loaded (load_read_as moment upload rows) named new (file_reads upload.kind upload.body rows reads) ] refl
 
-  by_beside : (moment : ℤ) (upload : Upload) (found : Option AcceptedFile) → N upload.name → find file_key_cmp (key_of upload) s.files ≡ found → P (load_beside midnight s found moment upload).state
+  by_beside : (moment : ℤ) (upload : Upload) (found : Option KeptFileView) → N upload.name → find file_key_cmp (key_of upload) s.files ≡ found → P (load_beside midnight s found moment upload).state
   by_beside moment upload None named is = by_new moment upload named is
   by_beside moment upload (Some file) named is = same
 
@@ -122,7 +122,7 @@ module _ (midnight : Midnights) (s : State) (N : List ℕ → Type 0) (P : State
 
   by_act : (moment : ℤ) (action : Action) → Passes N action → P (act midnight s moment action).state
   by_act moment (ask.Load upload) named =
-      let found : Option AcceptedFile = find file_key_cmp (key_of upload) s.files in
+      let found : Option KeptFileView = find file_key_cmp (key_of upload) s.files in
       elim (nat_lt most_bytes (length upload.body)) as (λ b. P (cond b (refused_for s FileTooLarge) (load_beside midnight s found moment upload)).state)
       [ true ↦ same | false ↦ by_beside moment upload found named refl ]
   by_act moment (ask.Run key) named = by_run_beside moment key (kept_summary midnight s key) refl
@@ -188,11 +188,11 @@ find-push R q (x ∷ es) e =
     ∙ elim (eq_by_cmp R q x.0) as (λ b. cond b (Some x.1) (option_or (find R q es) (find R q (e ∷ []))) ≡ option_or (cond b (Some x.1) (find R q es)) (find R q (e ∷ []))) [ true ↦ refl | false ↦ refl ]
 
 -- a file is kept under a key
-abbrev IsKept : FileKey → AcceptedFile → State → Type 0
+abbrev IsKept : FileKey → KeptFileView → State → Type 0
 IsKept key file s = find file_key_cmp key s.files ≡ Some file
 
 -- a file that is kept stays kept
-stays : (midnight : Midnights) (key : FileKey) (file : AcceptedFile) (s : State) (moment : ℤ) (request : Request) → IsKept key file s → IsKept key file (next midnight s moment request)
+stays : (midnight : Midnights) (key : FileKey) (file : KeptFileView) (s : State) (moment : ℤ) (request : Request) → IsKept key file s → IsKept key file (next midnight s moment request)
 stays midnight key file s moment request kept =
     next_by midnight s (λ _. Unit {0}) (IsKept key file) kept
     (λ load _ may. find-push file_key_cmp key s.files (load.key, kept_file (timetable_at midnight s) load)
@@ -201,26 +201,26 @@ stays midnight key file s moment request kept =
 -- if a file is accepted, it is kept with its reply
 abbrev Keeps : Upload → Transition → Type 0
 Keeps upload transition = IsFalse (is_refused transition.reply)
-    → (file : AcceptedFile) × IsKept (key_of upload) file transition.state × (repeat_reply file upload.body ≡ transition.reply)
+    → (file : KeptFileView) × IsKept (key_of upload) file transition.state × (repeat_reply file upload.body ≡ transition.reply)
 
 not_refused : {X : Type 0} → true ≡ false → X
 not_refused e = absurd (false_is_not_true (sym e))
 
 module _ (midnight : Midnights) (s : State) (moment : ℤ) (upload : Upload) where
   -- a new file is found after it is kept
-  new_kept : (file : AcceptedFile) → find file_key_cmp (key_of upload) s.files ≡ None → find file_key_cmp (key_of upload) (s.files ++ (key_of upload, file) ∷ []) ≡ Some file
+  new_kept : (file : KeptFileView) → find file_key_cmp (key_of upload) s.files ≡ None → find file_key_cmp (key_of upload) (s.files ++ (key_of upload, file) ∷ []) ≡ Some file
   new_kept file new =
       find-push file_key_cmp (key_of upload) s.files (key_of upload, file)
       ∙ ap (λ o. option_or o (find file_key_cmp (key_of upload) ((key_of upload, file) ∷ []))) new
       ∙ ap (λ b. cond b (Some file) None) ((eq_by_cmp_equiv file_key_total).refl (key_of upload))
 
-  same_bytes : (file : AcceptedFile) → file.body ≡ upload.body → repeat_reply file upload.body ≡ loaded_reply file
+  same_bytes : (file : KeptFileView) → file.body ≡ upload.body → repeat_reply file upload.body ≡ loaded_reply file
   same_bytes file is = ap (λ b. cond b (loaded_reply file) (reply.Refused (plain_fault FileChanged))) ((bytes_eq-Decides file.body upload.body).1 is)
 
   keeps_loaded : (rows : List Row) → find file_key_cmp (key_of upload) s.files ≡ None → Keeps upload (loaded midnight s (load_read_as moment upload rows))
   keeps_loaded rows new =
       let load : Load = load_read_as moment upload rows in
-      let file : AcceptedFile = kept_file (timetable_at midnight s) load in
+      let file : KeptFileView = kept_file (timetable_at midnight s) load in
       elim (first_fault (timetable_at midnight s) s.history 1 (coming_at moment rows)) as (λ o. Keeps upload (elim o as (λ _. Transition) [
         | Some fault ↦ refused s fault
         | None ↦ record { reply = loaded_reply file; state = after_load midnight s load }
@@ -232,7 +232,7 @@ module _ (midnight : Midnights) (s : State) (moment : ℤ) (upload : Upload) whe
       Keeps upload (elim found as (λ _. Transition) [ Err fault ↦ refused s fault | Ok rows ↦ loaded midnight s (load_read_as moment upload rows) ]))
       [ Err fault ↦ not_refused | Ok rows ↦ keeps_loaded rows new ]
 
-  keeps_beside : (found : Option AcceptedFile) → find file_key_cmp (key_of upload) s.files ≡ found → Keeps upload (load_beside midnight s found moment upload)
+  keeps_beside : (found : Option KeptFileView) → find file_key_cmp (key_of upload) s.files ≡ found → Keeps upload (load_beside midnight s found moment upload)
   keeps_beside None is = keeps_new is
   keeps_beside (Some file) is = λ _. (file, is, refl)
 
@@ -245,7 +245,7 @@ module _ (midnight : Midnights) (key : List ℕ) (upload : Upload) where
   abbrev WasAccepted : State → Transition → Type 0
   WasAccepted s transition = IsFalse (is_refused transition.reply)
       → (is_operator midnight s key ≡ true) × (nat_lt most_bytes (length upload.body) ≡ false)
-      × ((file : AcceptedFile) × IsKept (key_of upload) file transition.state × (repeat_reply file upload.body ≡ transition.reply))
+      × ((file : KeptFileView) × IsKept (key_of upload) file transition.state × (repeat_reply file upload.body ≡ transition.reply))
 
   module _ (s : State) (moment : ℤ) where
     abbrev beside : Transition
@@ -263,7 +263,7 @@ module _ (midnight : Midnights) (key : List ℕ) (upload : Upload) where
         ] refl
 
     -- the file comes again, in a state in which it is kept
-    again : (file : AcceptedFile) → IsKept (key_of upload) file s → nat_lt most_bytes (length upload.body) ≡ false → is_operator midnight s key ≡ true
+    again : (file : KeptFileView) → IsKept (key_of upload) file s → nat_lt most_bytes (length upload.body) ≡ false → is_operator midnight s key ≡ true
         → step midnight s moment asked ≡ unchanged s (repeat_reply file upload.body)
     again file kept small operator =
         ap (λ b. cond b (load midnight s moment upload) (refused_for s Forbidden)) operator
@@ -294,16 +294,16 @@ repeats_upload key upload old new moment given steps s earlier between reached l
     (unchanged_by (is_given_up given) old new t (given ≡ repeat_reply file upload.body) stands.1 comes)
 
 -- the names of files are in their grammar
-abbrev HaveNames : List (FileKey × AcceptedFile) → Type 0
+abbrev HaveNames : List (FileKey × KeptFileView) → Type 0
 HaveNames files = AllByRecursion (λ f. IsFileName f.0.name) files
 
 -- if that holds with one more file, it holds for the files and for that one
-named_files : (files : List (FileKey × AcceptedFile)) (f : FileKey × AcceptedFile) → HaveNames (files ++ f ∷ []) → HaveNames files × IsFileName f.0.name
+named_files : (files : List (FileKey × KeptFileView)) (f : FileKey × KeptFileView) → HaveNames (files ++ f ∷ []) → HaveNames files × IsFileName f.0.name
 named_files [] f named = (tt, named.0)
 named_files (e ∷ files) f named = let parts = named_files files f named.1 in ((named.0, parts.0), parts.1)
 
 -- it holds for the files of a reached state
-reached_names : (files : List (FileKey × AcceptedFile)) → AllByRecursion (λ f. IsKeptFile f.0 f.1) files → HaveNames files
+reached_names : (files : List (FileKey × KeptFileView)) → AllByRecursion (λ f. IsKeptFile f.0 f.1) files → HaveNames files
 reached_names [] all = tt
 reached_names (f ∷ files) all = (all.0.named, reached_names files all.1)
 
@@ -422,9 +422,9 @@ module _ (midnight : Midnights) (shown : List ℕ) (key : RunKey) where
 
     -- if an office steps as the machine, it answers a repeated run as before
     repeats_run : (old new : OfficeView) (moment : ℤ) (given : Reply) → midnight ≡ midnight_of old
-        → ((s : State) → Stands old s → MakesTransition old new given (step midnight s moment ordered))
+        → ((s : State) → Represents old s → MakesTransition old new given (step midnight s moment ordered))
         → (s : State) (earlier : ℤ) (between : List Timed) → IsReached midnight s → IsFalse (is_refused (answer midnight s earlier ordered))
-        → Stands old (state_after midnight (next midnight s earlier ordered) between)
+        → Represents old (state_after midnight (next midnight s earlier ordered) between)
         → MatchBool (is_given_up given) (Unit {0}) (given ≡ answer midnight s earlier ordered) × (new ≡ old)
     repeats_run old new moment given zone steps s earlier between reached fine stands =
         let (operator, (summary, made, same)) = was_made s earlier reached fine in

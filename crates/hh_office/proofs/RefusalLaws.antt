@@ -7,7 +7,7 @@ use Rattle.hh_names.specs.declared.fault.Fault.{Fault}
 use Rattle.hh_names.specs.declared.fault.Refusal.{Refusal}
 use Rattle.hh_names.specs.declared.fault.Refusal.TheVariants as refusal
 use Rattle.hh_names.specs.declared.fault.Refusal.TheVariants.{FileChanged, BadRecord, FileTooLarge, TooManyRows}
-use Rattle.hh_names.specs.Faults.{faults, first_met, plain_fault, row_fault, ByRefusal, Gives, Refuses}
+use Rattle.hh_names.specs.Faults.{faults, first_met, plain_fault, row_fault, ByRefusal, IsOutcomeOrNoMemory, Refuses}
 use Rattle.hh_rows.specs.RowKinds.{most_bytes, most_rows}
 use Rattle.hh_rows.specs.declared.file_kind.FileKind.{FileKind}
 use Rattle.hh_rows.specs.declared.rows.Row.{Row}
@@ -35,12 +35,12 @@ use Rattle.hh_requests.specs.declared.reply.Reply.TheVariants as reply
 use Rattle.hh_runs.specs.NextRun.{is_done, new_unless, next_run, order_refusals}
 use Rattle.hh_runs.specs.declared.next_run.NextRun.TheVariants.{Kept}
 use Rattle.hh_runs.specs.declared.run_kind.RunKind.{RunKind}
-use Rattle.hh_states.specs.States.{AcceptedFile}
+use Rattle.hh_states.specs.States.{KeptFileView}
 use Rattle.hh_office.specs.Machine.{loaded_reply, repeat_reply}
 use Rattle.hh_office.specs.Promises.{UnlessFailed}
 use Rattle.hh_office.specs.steps.Promises.{reply_of}
 use Rattle.hh_office.specs.Views.{OfficeView, midnight_of}
-use Rattle.hh_office.specs.Refusals.{CountsStoreFault, CountsReplies, CountsReply, IsElsewhere, IsNotOfStore, StandsForSome, is_of_store}
+use Rattle.hh_office.specs.Refusals.{CountsStoreFault, CountsReplies, CountsReply, IsElsewhere, IsNotOfStore, RepresentsSome, is_of_store}
 use Rattle.hh_office.specs.steps.Refusals.{CountsAnswer}
 use Rattle.hh_devices.specs.Devices.{most_failures}
 
@@ -64,7 +64,7 @@ store_counts Y Memory old new counts = counts
 store_counts Y Store old new counts = counts
 
 -- an office that represents a state has the tables of a state that the machine reaches
-pub reached_by : (office : OfficeView) → StandsForSome office → AreReached office.content
+pub reached_by : (office : OfficeView) → RepresentsSome office → AreReached office.content
 reached_by office (s, stands) = (midnight_of office, s, stands)
 
 -- ---- refusals for another reason
@@ -200,7 +200,7 @@ answer_counted (Err fault) old new elsewhere same = elsewhere_counted fault old 
 
 -- if an outcome is refused only for another reason, so is the answer
 pub gives_elsewhere : {X Y : Type 0} (view : X → Y) (result : Result X Fault) (outcome : Result Y Fault) → IfErr outcome IsElsewhere
-    → Gives faults view result outcome → IfErr result IsElsewhere
+    → IsOutcomeOrNoMemory faults view result outcome → IfErr result IsElsewhere
 gives_elsewhere view (Ok x) outcome others gives = tt
 gives_elsewhere view (Err fault) outcome others gives = given_elsewhere fault outcome others gives
 
@@ -226,7 +226,7 @@ next_elsewhere done wanted =
     ordered_by (Some why) others = others why refl
 
 -- a file that is kept is told or refused, and the store counts no refusal
-pub repeat_counts : (file : AcceptedFile) (body : List ℕ) (n : ℕ) → CountsReply (repeat_reply file body) n n
+pub repeat_counts : (file : KeptFileView) (body : List ℕ) (n : ℕ) → CountsReply (repeat_reply file body) n n
 repeat_counts file body n =
     elim (bytes_eq file.body body) as (λ b. CountsReply (cond b (loaded_reply file) (reply.Refused (plain_fault FileChanged))) n n) [ true ↦ refl | false ↦ refl ]
 

@@ -10,7 +10,7 @@ use Rattle.hh_rows.specs.declared.settlement_period.SettlementPeriod.{Settlement
 use Rattle.hh_rules.specs.History.{Registered}
 use Rattle.hh_calc.specs.Terms.{Settled}
 use Rattle.hh_store.specs.declared.day_data.PeriodState.{PeriodState}
-use Rattle.hh_states.specs.Changes.{IsRunFrom, RunEffect, RunWrites, effect_of_run, run_writes}
+use Rattle.hh_states.specs.Changes.{IsRunFrom, RunEffect, RunChangeView, effect_of_run, run_change}
 use Rattle.hh_states.specs.Content.{Content, tables_of}
 use Rattle.hh_states.specs.DaySettlement.{missing_meter, missing_price, periods_on, settled_day, too_large}
 use Rattle.hh_states.specs.PeriodSettlement.{terms_at}
@@ -19,7 +19,7 @@ use Rattle.hh_states.specs.States.{State}
 use Rattle.hh_states.specs.Steps.{after_run, first_there, missing_meter_fault, period_fault, registered_at, CanRun, kept_summary, kinds_on, new_summary, run_fault, settle_fault}
 use Rattle.hh_day.specs.NewRuns.{day_in, IsSettledDay, SettlesDay, IsWrittenFor, WritesTheRun, former_rows}
 use Rattle.hh_day.specs.RunLimits.{FitsRun, RunsFit}
-use Rattle.hh_office.specs.Promises.{Stands, UnlessFailed, gives_up, MakesTransition}
+use Rattle.hh_office.specs.Promises.{Represents, UnlessFailed, gives_up, MakesTransition}
 use Rattle.hh_office.specs.steps.Promises.{reply_of}
 use Rattle.hh_office.specs.steps.Settling.{Lacks, WritesRun, lack_fault, LacksNothing, IsOverDay, TellsOrder, order_fault, IsNext, IsRunMade, RefusesIn, SettlesIn, rows_before}
 use Rattle.hh_office.specs.Views.{OfficeView, midnight_of}
@@ -59,7 +59,7 @@ use Rattle.hh_office.proofs.EnquiryLaws.{latest_is}
 use Rattle.std.specs.List.{cons_option}
 
 -- what the store wrote for a run is what the machine writes for each run to which this belongs
-pub commit_writes_run : {T E : Type 0} (result : Result T E) (old new : OfficeView) (writes : RunWrites) → RunEffect → new.zone ≡ old.zone
+pub commit_writes_run : {T E : Type 0} (result : Result T E) (old new : OfficeView) (writes : RunChangeView) → RunEffect → new.zone ≡ old.zone
     → ((midnight : Midnights) → IsRunFrom midnight old.content writes → OnOk result (new.content ≡ effect_of_run writes old.content)) → OnOk result (WritesRun old new writes)
 commit_writes_run (Err e) old new writes effect zone written = tt
 commit_writes_run (Ok x) old new writes effect zone written = λ s moment key stands can is.
@@ -89,7 +89,7 @@ not_equal_then Less p is = refl
 not_equal_then Equal p is = absurd (false_is_not_true (sym is))
 not_equal_then Greater p is = refl
 
-module _ (office : OfficeView) (s : State) (stands : Stands office s) (moment : ℤ) (date count : ℕ)
+module _ (office : OfficeView) (s : State) (stands : Represents office s) (moment : ℤ) (date count : ℕ)
     (counted : period_count (midnight_of office) date ≡ count) (over : is_over (midnight_of office) date moment ≡ true) where
   -- the office's tables contain what is registered and in force in the state
   same_tables : office.content.registered ≡ registered_at (midnight_of office) s
@@ -161,11 +161,11 @@ SettledAs office s moment date (outcome.Settled day) =
     (settle_fault (midnight_of office) s moment date ≡ None) × (day.items ≡ day_in (midnight_of office) s date)
 
 -- what is kept beside tables that represent a state agrees with them
-pub in_step : (office : OfficeView) (s : State) → Stands office s → IsTrue office.content.is_in_step
+pub in_step : (office : OfficeView) (s : State) → Represents office s → IsTrue office.content.is_in_step
 in_step office s stands = ap (λ (c : Content). c.is_in_step) stands.1
 
 -- The day of a date is over, and its periods are settled from `states`.
-module _ (office : OfficeView) (s : State) (stands : Stands office s) (moment : ℤ) (date : ℕ) (day : Day)
+module _ (office : OfficeView) (s : State) (stands : Represents office s) (moment : ℤ) (date : ℕ) (day : Day)
     (over : IsOverDay (midnight_of office) moment date day) where
   abbrev settled_as : SettledDay → Type 0
   settled_as = SettledAs office s moment date
@@ -287,7 +287,7 @@ pub kept_of : (key : RunKey) (entries : Table RunKey Summary)
     → option_map (λ (r : RunKind × Summary). r.1) (words.find (λ (r : RunKind × Summary). eq_by_cmp run_kind_cmp key.kind r.0) (filter_map (summary_on key.date) entries)) ≡ find run_key_cmp key entries
 kept_of key entries = first_found run_kind_cmp key.kind (filter_map (summary_on key.date) entries) ∙ sym (on_its_date key entries)
 
-module _ (office : OfficeView) (s : State) (stands : Stands office s) (summaries : HoldsSummaries) (runs : HoldsRuns) (key : RunKey) where
+module _ (office : OfficeView) (s : State) (stands : Represents office s) (summaries : HoldsSummaries) (runs : HoldsRuns) (key : RunKey) where
   -- what is kept of a run is what is under its kind among the runs of its date
   kept_by_kind : find run_kind_cmp key.kind (runs_in office.content key.date) ≡ kept_summary (midnight_of office) s key
   kept_by_kind =
@@ -365,8 +365,8 @@ module _ (office : OfficeView) (s : State) (stands : Stands office s) (summaries
         ap (rows_before office.content) (is_former ∙ latest_is office s stands runs key.date) ∙ rows_before_are (latest_run key.date s.runs) in
         let written : IsWrittenFor key (day_in midnight s key.date) (former_rows midnight s key.date) makes.writes =
         subst (λ d. IsWrittenFor key d (former_rows midnight s key.date) makes.writes) settled.1 (subst (λ r. IsWrittenFor key day r makes.writes) rows makes.written) in
-        let is : makes.writes ≡ run_writes midnight s key = law midnight s moment key makes.writes stands.0 can written in
-        let given_is : given ≡ reply.Ran key (new_summary midnight s key) = makes.replied ∙ ap (λ (w : RunWrites). reply.Ran w.key w.summary) is in
+        let is : makes.writes ≡ run_change midnight s key = law midnight s moment key makes.writes stands.0 can written in
+        let given_is : given ≡ reply.Ran key (new_summary midnight s key) = makes.replied ∙ ap (λ (w : RunChangeView). reply.Ran w.key w.summary) is in
         subst (MakesTransition office new given) (sym (by_new moment next.0 ∙ ap made_or can.1))
         (subst (λ r. MakesTransition office new r (made_or None)) (sym given_is) (refl, makes.kept s moment key stands can is))
 

@@ -9,7 +9,7 @@ use Rattle.hh_names.specs.declared.fault.Fault.{Fault}
 use Rattle.hh_names.specs.declared.fault.Refusal.{Refusal}
 use Rattle.hh_names.specs.declared.fault.Refusal.TheVariants as refusal
 use Rattle.hh_names.specs.declared.fault.Refusal.TheVariants.{FileTooLarge, Forbidden}
-use Rattle.hh_names.specs.Faults.{faults, memory_fault, ByRefusal, Gives}
+use Rattle.hh_names.specs.Faults.{faults, memory_fault, ByRefusal, IsOutcomeOrNoMemory}
 use Rattle.hh_rows.specs.declared.rows.Row.{Row}
 use Rattle.hh_rules.specs.FileRows.{FileRowsView, JudgesFile, coming_at, file_outcome, first_fault, judged_file, register_of}
 use Rattle.hh_rules.specs.RegisterView.{RegisterView, ServesFor, timetable_in, timetable_of}
@@ -21,15 +21,15 @@ use Rattle.hh_texts.specs.Files.{file_rows}
 use Rattle.hh_texts.proofs.FileLaws.{file_reads}
 use Rattle.hh_names.specs.Words.{is_file_name}
 use Rattle.hh_rows.specs.RowKinds.{most_bytes}
-use Rattle.hh_states.specs.Changes.{IsLoadFrom, LoadEffect, LoadWrites, effect_of_load}
+use Rattle.hh_states.specs.Changes.{IsLoadFrom, LoadEffect, LoadChangeView, effect_of_load}
 use Rattle.hh_states.specs.Content.{tables_of}
 use Rattle.hh_states.specs.Reads.{HoldsFiles, file_in, whole_register}
-use Rattle.hh_states.specs.States.{AcceptedFile, State, file_key_cmp}
+use Rattle.hh_states.specs.States.{KeptFileView, State, file_key_cmp}
 use Rattle.hh_states.specs.Steps.{after_load, timetable_at}
 use Rattle.hh_office.specs.steps.Loads.{Accepts, Answers, WritesLoad, accepted, judged_upload, writes_of}
 use Rattle.hh_office.specs.Machine.{act, key_of, load_new, may, step, load, load_beside, load_read_as, loaded_reply}
 use Rattle.hh_office.specs.Transitions.{Transition, refused, refused_for, unchanged}
-use Rattle.hh_office.specs.Promises.{MakesTransition, Stands, UnlessFailed, gives_up, is_given_up}
+use Rattle.hh_office.specs.Promises.{MakesTransition, Represents, UnlessFailed, gives_up, is_given_up}
 use Rattle.hh_office.specs.steps.Promises.{reply_of, RepliesAs}
 use Rattle.hh_office.specs.Views.{OfficeView, midnight_of}
 
@@ -42,7 +42,7 @@ by_failure true Q R A a f h = a
 by_failure false Q R A a f h = f h
 
 -- if an office that represents a state refuses as the machine does, it makes the machine's transition; it may have failed instead
-pub comes_refused : (office : OfficeView) (s : State) (fault : Fault) (transition : Transition) → Stands office s
+pub comes_refused : (office : OfficeView) (s : State) (fault : Fault) (transition : Transition) → Represents office s
     → UnlessFailed fault (transition ≡ refused s fault) → MakesTransition office office (reply.Refused fault) transition
 comes_refused office s fault transition stands =
     by_failure (gives_up fault) (transition ≡ refused s fault) _ (office ≡ office) refl
@@ -57,7 +57,7 @@ unless_failed fault refusal.Memory Q is = subst (λ f. UnlessFailed f Q) (sym is
 unless_failed fault r Q is = by_either (gives_up fault) (Unit {0}) Q tt is
 
 -- an answer that is given unless memory ran out, is given unless something failed
-pub answers : (result expected : Result FileRowsView Fault) → Gives faults (λ judged. judged) result expected → Answers result expected
+pub answers : (result expected : Result FileRowsView Fault) → IsOutcomeOrNoMemory faults (λ judged. judged) result expected → Answers result expected
 answers (Ok judged) expected gives = gives
 answers (Err fault) expected gives = unless_failed fault fault.refusal (expected ≡ Err fault) gives
 
@@ -94,7 +94,7 @@ view_by None view = refl
 view_by (Some fault) view = tt
 
 -- A register suffices for the rows of a file that comes to an office. The office represents a state.
-module _ (office : OfficeView) (s : State) (moment : ℤ) (rows : List Row) (register : RegisterView) (stands : Stands office s)
+module _ (office : OfficeView) (s : State) (moment : ℤ) (rows : List Row) (register : RegisterView) (stands : Represents office s)
     (serves : ServesFor rows (whole_register office.content) register) where
   -- the register judges by the timetable of the state
   same_timetable : timetable_of office.zone register ≡ timetable_at (midnight_of office) s
@@ -106,9 +106,9 @@ module _ (office : OfficeView) (s : State) (moment : ℤ) (rows : List Row) (reg
 
   -- the register judges the rows as the state does
   pub judges_at : (answer : Result FileRowsView Fault) → JudgesFile office.zone register moment rows answer
-      → Gives faults (λ judged. judged) answer (judged_file (timetable_at (midnight_of office) s) s.history (coming_at moment rows))
+      → IsOutcomeOrNoMemory faults (λ judged. judged) answer (judged_file (timetable_at (midnight_of office) s) s.history (coming_at moment rows))
   judges_at answer judges =
-      subst (λ t. Gives faults (λ judged. judged) answer (judged_file t s.history (coming_at moment rows))) same_timetable
+      subst (λ t. IsOutcomeOrNoMemory faults (λ judged. judged) answer (judged_file t s.history (coming_at moment rows))) same_timetable
       (judges s.history (subst (λ whole. ServesFor rows whole register) same_register serves))
 
   -- a file that reads as these rows is judged as in the state
@@ -119,7 +119,7 @@ module _ (office : OfficeView) (s : State) (moment : ℤ) (rows : List Row) (reg
       (sym reads) (answers answer _ (judges_at answer judges))
 
 -- A new file comes to an office that represents a state.
-module _ (office : OfficeView) (s : State) (moment : ℤ) (upload : Upload) (stands : Stands office s) where
+module _ (office : OfficeView) (s : State) (moment : ℤ) (upload : Upload) (stands : Represents office s) where
   -- in the state: the first fault of rows, the result of judging them, and the transition of the machine
   abbrev fault_in : List Row → Option Fault
   fault_in rows = first_fault (timetable_at (midnight_of office) s) s.history 1 (coming_at moment rows)
@@ -182,7 +182,7 @@ pub comes_same : (office new : OfficeView) (given : Reply) (transition : Transit
 comes_same office new given transition same = subst (λ o. MakesTransition office o given transition) (sym same)
 
 -- what the store wrote for a change is what the machine writes for each load to which this belongs
-pub commit_writes : {T E : Type 0} (result : Result T E) (old new : OfficeView) (writes : LoadWrites) → LoadEffect → new.zone ≡ old.zone
+pub commit_writes : {T E : Type 0} (result : Result T E) (old new : OfficeView) (writes : LoadChangeView) → LoadEffect → new.zone ≡ old.zone
     → ((midnight : Midnights) → IsLoadFrom midnight old.content writes → OnOk result (new.content ≡ effect_of_load writes old.content)) → OnOk result (WritesLoad old new writes)
 commit_writes (Err e) old new writes effect zone written = tt
 commit_writes (Ok x) old new writes effect zone written = λ s load stands can is.
@@ -192,28 +192,28 @@ commit_writes (Ok x) old new writes effect zone written = λ s load stands can i
     λ i. record { zone = zone i; content = content i }
 
 -- what was written and its reply make the machine's transition
-pub accepts : (old new : OfficeView) (writes : LoadWrites) (given : Reply) → given ≡ loaded_reply writes.file → WritesLoad old new writes → Accepts old new writes given
+pub accepts : (old new : OfficeView) (writes : LoadChangeView) (given : Reply) → given ≡ loaded_reply writes.file → WritesLoad old new writes → Accepts old new writes given
 accepts old new writes given reply written s load stands can is =
     subst (λ r. MakesTransition old new r (accepted old s load writes)) (sym reply) (refl, written s load stands can is)
 
 -- a reply that leaves an office which represents a state as it is
-pub comes_unchanged : (office : OfficeView) (s : State) (given : Reply) → Stands office s → MakesTransition office office given (unchanged s given)
+pub comes_unchanged : (office : OfficeView) (s : State) (given : Reply) → Represents office s → MakesTransition office office given (unchanged s given)
 comes_unchanged office s given stands = by_either (is_given_up given) _ _ refl (refl, ap (λ c. record office { content = c }) stands.1)
 
 -- a reply that is given unless the request was given up, by whether it was
-replied_by : (b : Bool) (office : OfficeView) (s : State) (given expected : Reply) → Stands office s → MatchBool b (Unit {0}) (given ≡ expected)
+replied_by : (b : Bool) (office : OfficeView) (s : State) (given expected : Reply) → Represents office s → MatchBool b (Unit {0}) (given ≡ expected)
     → MatchBool b (office ≡ office) ((given ≡ expected) × (office ≡ record office { content = tables_of (midnight_of office) s }))
 replied_by true office s given expected stands is = refl
 replied_by false office s given expected stands is = (is, ap (λ c. record office { content = c }) stands.1)
 
 -- an office that represents a state gives the expected reply, unless the request was given up
-pub comes_replied : (office : OfficeView) (s : State) (result : Result Reply Fault) (expected : Reply) → Stands office s → RepliesAs result expected
+pub comes_replied : (office : OfficeView) (s : State) (result : Result Reply Fault) (expected : Reply) → Represents office s → RepliesAs result expected
     → MakesTransition office office (reply_of result) (unchanged s expected)
 comes_replied office s result expected stands = replied_by (is_given_up (reply_of result)) office s (reply_of result) expected stands
 
 -- A file that is not too large comes to an office that represents a state.
-module _ (office : OfficeView) (s : State) (moment : ℤ) (upload : Upload) (stands : Stands office s) (holds : HoldsFiles)
-    (found : Option AcceptedFile) (is : found ≡ file_in office.content upload.kind upload.name) (small : nat_lt most_bytes (length upload.body) ≡ false) where
+module _ (office : OfficeView) (s : State) (moment : ℤ) (upload : Upload) (stands : Represents office s) (holds : HoldsFiles)
+    (found : Option KeptFileView) (is : found ≡ file_in office.content upload.kind upload.name) (small : nat_lt most_bytes (length upload.body) ≡ false) where
   -- it depends on what is kept under its kind and name
   by_kept : load (midnight_of office) s moment upload ≡ load_beside (midnight_of office) s found moment upload
   by_kept =

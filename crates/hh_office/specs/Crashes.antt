@@ -7,7 +7,7 @@ use Rattle.hh_requests.specs.declared.reply.Reply.{Reply}
 use Rattle.hh_states.specs.Content.{Content, tables_of}
 use Rattle.hh_states.specs.States.{State}
 use Rattle.hh_office.specs.Machine.{Timed, next, state_after}
-use Rattle.hh_office.specs.Promises.{MakesTransition, Stands, UnlessFailed, is_given_up}
+use Rattle.hh_office.specs.Promises.{MakesTransition, Represents, UnlessFailed, is_given_up}
 use Rattle.hh_office.specs.Transitions.{Transition}
 use Rattle.hh_office.specs.Views.{Kept, OfficeView, midnight_of}
 use Rattle.hh_office.specs.declared.report.ReportStop.{ReportStop}
@@ -31,14 +31,14 @@ with_content office content = record office { content = content }
 pub record MadeInEachState (office : OfficeView) (transition : Midnights → State → Transition) (content : Content) : Type 0 where
   pub given : Reply
   pub answered : is_given_up given ≡ false
-  pub makes : (s : State) → Stands office s → MakesTransition office (with_content office content) given (transition (midnight_of office) s)
+  pub makes : (s : State) → Represents office s → MakesTransition office (with_content office content) given (transition (midnight_of office) s)
 
 -- For an office whose tables were open, if the disk has returned what was written.
 module _ {T L : Type 0} (is_honest : T → Type 0) (is_open : T → Bool) (may_leave : T → L → Type 0) (holds : L → Content → Type 0) (old new : Kept T) where
   -- in each state that it represented, `Of` is true for whatever a crash leaves of its tables
   abbrev pub OfEachLeft : (State → L → Type 0) → Type 0
   OfEachLeft Of =
-      is_honest new.tables → IsTrue (is_open old.tables) → (s : State) → Stands old.seen s
+      is_honest new.tables → IsTrue (is_open old.tables) → (s : State) → Represents old.seen s
       → (left : L) → may_leave new.tables left → Of s left
 
   -- what is left contains the tables of this state

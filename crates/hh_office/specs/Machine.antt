@@ -20,7 +20,7 @@ use Rattle.hh_texts.specs.Files.{file_rows}
 use Rattle.hh_rows.specs.RowKinds.{most_bytes}
 use Rattle.hh_states.specs.declared.file_key.FileKey.{FileKey}
 use Rattle.hh_states.specs.Reads.{is_key_known_in}
-use Rattle.hh_states.specs.States.{AcceptedFile, State, file_key_cmp}
+use Rattle.hh_states.specs.States.{KeptFileView, State, file_key_cmp}
 use Rattle.hh_states.specs.Steps.{Load, after_load, kept_file, registered_at, timetable_at}
 use Rattle.hh_office.specs.Enquiries.{account_reply, balance_reply, contracts_reply, runs_reply}
 use Rattle.hh_office.specs.Runs.{run}
@@ -31,11 +31,11 @@ abbrev pub Timed : Type 0
 Timed = ℤ × Request
 
 -- the reply to a file that is kept
-abbrev pub loaded_reply : AcceptedFile → Reply
+abbrev pub loaded_reply : KeptFileView → Reply
 loaded_reply file = reply.Loaded (record { applied = file.applied; late = file.late })
 
 -- the reply to a file, if `file` of the same kind and name is kept: the same bytes get the reply that is kept
-abbrev pub repeat_reply : AcceptedFile → List ℕ → Reply
+abbrev pub repeat_reply : KeptFileView → List ℕ → Reply
 repeat_reply file body = if bytes_eq file.body body then loaded_reply file else reply.Refused (plain_fault FileChanged)
 
 -- the kind and name under which a file is kept
@@ -92,7 +92,7 @@ module _ (midnight : Midnights) (s : State) where
   ]
 
   -- what becomes of a file, given what is kept under its kind and name
-  abbrev pub load_beside : Option AcceptedFile → ℤ → Upload → Transition
+  abbrev pub load_beside : Option KeptFileView → ℤ → Upload → Transition
   load_beside (Some file) moment upload = unchanged s (repeat_reply file upload.body)
   load_beside None moment upload = load_new moment upload
 

@@ -19,7 +19,7 @@ use Rattle.hh_states.specs.States.{State}
 use Rattle.hh_states.specs.Steps.{IsReached, kinds_on, registered_at}
 use Rattle.hh_office.specs.Enquiries.{rows_of_account}
 use Rattle.hh_office.specs.Machine.{answer, is_holder, is_others}
-use Rattle.hh_office.specs.Promises.{Stands, is_given_up}
+use Rattle.hh_office.specs.Promises.{Represents, is_given_up}
 use Rattle.hh_office.specs.Views.{OfficeView, midnight_of}
 
 -- the key with which a party is registered, if it is
@@ -49,7 +49,7 @@ is_own party _ = false
 -- the office answers a party's own enquiry as the machine does in each state that looks to the party like one that the office represents
 abbrev pub ShowsByView : OfficeView → Request → Reply → Type 0
 ShowsByView office request given =
-    (s t : State) (moment : ℤ) (party : List ℕ) → Stands office s → IsReached (midnight_of office) t
+    (s t : State) (moment : ℤ) (party : List ℕ) → Represents office s → IsReached (midnight_of office) t
     → LooksAlike (midnight_of office) party s t → key_in (midnight_of office) s party ≡ Some request.key
     → IsTrue (is_own party request.action)
     → MatchBool (is_given_up given) (Unit {0}) (given ≡ answer (midnight_of office) t moment request)
@@ -67,6 +67,6 @@ is_foreign midnight s key (ask.Runs date) = false
 -- forbidden
 abbrev pub ForbidsOthers : OfficeView → Request → Reply → Type 0
 ForbidsOthers office request given =
-    (s : State) → Stands office s → IsTrue (is_others (midnight_of office) s request.key)
+    (s : State) → Represents office s → IsTrue (is_others (midnight_of office) s request.key)
     → IsTrue (is_foreign (midnight_of office) s request.key request.action)
     → MatchBool (is_given_up given) (Unit {0}) (given ≡ reply.Refused (plain_fault Forbidden))

@@ -8,7 +8,7 @@ use Rattle.hh_requests.specs.declared.request.Action.TheVariants as ask
 use Rattle.hh_requests.specs.declared.request.Request.{Request}
 use Rattle.hh_requests.specs.declared.reply.Reply.{Reply}
 use Rattle.hh_requests.specs.declared.reply.Reply.TheVariants as reply
-use Rattle.hh_states.specs.Changes.{StandsFor}
+use Rattle.hh_states.specs.Changes.{TablesRepresent}
 use Rattle.hh_states.specs.Content.{tables_of}
 use Rattle.hh_states.specs.States.{State}
 use Rattle.hh_states.specs.Steps.{IsReached}
@@ -48,23 +48,23 @@ MakesTransition old new given transition = MatchBool (is_given_up given) (new �
     ((given ≡ transition.reply) × (new ≡ record old { content = tables_of (midnight_of old) transition.state }))
 
 -- an office represents a state if its tables do
-abbrev pub Stands : OfficeView → State → Type 0
-Stands office s = StandsFor (midnight_of office) office.content s
+abbrev pub Represents : OfficeView → State → Type 0
+Represents office s = TablesRepresent (midnight_of office) office.content s
 
 -- the office does with a request what the machine does with it, in each state that the office represents
 abbrev pub HandleStep : OfficeView → OfficeView → ℤ → Request → Reply → Type 0
 HandleStep old new moment request given =
-    (s : State) → Stands old s → MakesTransition old new given (step (midnight_of old) s moment request)
+    (s : State) → Represents old s → MakesTransition old new given (step (midnight_of old) s moment request)
 
 -- after a request the office represents the machine's state after it, or the same state as before if the request was given up
-abbrev pub StandsAfter : OfficeView → OfficeView → ℤ → Request → Reply → Type 0
-StandsAfter old new moment request given =
-    (s : State) → Stands old s → Stands new (if is_given_up given then s else next (midnight_of old) s moment request)
+abbrev pub RepresentsAfter : OfficeView → OfficeView → ℤ → Request → Reply → Type 0
+RepresentsAfter old new moment request given =
+    (s : State) → Represents old s → Represents new (if is_given_up given then s else next (midnight_of old) s moment request)
 
 -- after a request the tables add up: contracts, charges with shares, credits and postings, in the state after it
 abbrev pub ConservesAfter : OfficeView → OfficeView → ℤ → Request → Reply → Type 0
 ConservesAfter old new moment request given =
-    (s : State) → Stands old s
+    (s : State) → Represents old s
     → Conserves (midnight_of old) (if is_given_up given then s else next (midnight_of old) s moment request) new.content
 
 -- a reply that refuses
@@ -91,18 +91,18 @@ pub record RunsAs (old new : OfficeView) (s : State) (requests : List Timed) (gi
 
 -- the office does with a list of requests what the machine does with them, from each state that the office represents
 abbrev pub RunAllStep : OfficeView → OfficeView → List Timed → List Reply → Type 0
-RunAllStep old new requests replies = (s : State) → Stands old s → RunsAs old new s requests replies
+RunAllStep old new requests replies = (s : State) → Represents old s → RunsAs old new s requests replies
 
 -- after a list of requests the office represents the machine's state after those that were not given up
-abbrev pub StandsAfterAll : OfficeView → OfficeView → List Timed → List Reply → Type 0
-StandsAfterAll old new requests given =
-    (s : State) → Stands old s
-    → Stands new (state_after (midnight_of old) s (map (λ r. r.0) (served requests given)))
+abbrev pub RepresentsAfterAll : OfficeView → OfficeView → List Timed → List Reply → Type 0
+RepresentsAfterAll old new requests given =
+    (s : State) → Represents old s
+    → Represents new (state_after (midnight_of old) s (map (λ r. r.0) (served requests given)))
 
 -- after a list of requests the tables add up, in the machine's state after those that were not given up
 abbrev pub ConservesAfterAll : OfficeView → OfficeView → List Timed → List Reply → Type 0
 ConservesAfterAll old new requests given =
-    (s : State) → Stands old s
+    (s : State) → Represents old s
     → Conserves (midnight_of old) (state_after (midnight_of old) s (map (λ r. r.0) (served requests given))) new.content
 
 -- ---- repeats
@@ -119,7 +119,7 @@ abbrev pub RepeatsOnce : OfficeView → OfficeView → Request → Reply → Typ
 RepeatsOnce old new request given =
     (s : State) (earlier : ℤ) (between : List Timed) → IsReached (midnight_of old) s
     → IsTrue (is_change request.action) → IsFalse (is_refused (answer (midnight_of old) s earlier request))
-    → Stands old (state_after (midnight_of old) (next (midnight_of old) s earlier request) between)
+    → Represents old (state_after (midnight_of old) (next (midnight_of old) s earlier request) between)
     → MatchBool (is_given_up given) (Unit {0}) (given ≡ answer (midnight_of old) s earlier request) × (new ≡ old)
 
 -- ---- within the office

@@ -9,7 +9,7 @@ use Rattle.hh_requests.specs.declared.reply.Reply.{Reply}
 use Rattle.hh_requests.specs.declared.reply.Reply.TheVariants as reply
 use Rattle.hh_store.specs.StoreFaults.{CountsOneMore}
 use Rattle.hh_states.specs.States.{State}
-use Rattle.hh_office.specs.Promises.{Stands}
+use Rattle.hh_office.specs.Promises.{Represents}
 use Rattle.hh_office.specs.Views.{OfficeView}
 use Rattle.hh_office.specs.declared.report.ReportStop.{ReportStop}
 use Rattle.hh_office.specs.declared.report.ReportStop.TheVariants as stop
@@ -24,8 +24,8 @@ abbrev pub IsElsewhere : Fault → Type 0
 IsElsewhere fault = is_of_store fault.refusal ≡ false
 
 -- an office represents some state that the machine reaches
-abbrev pub StandsForSome : OfficeView → Type 0
-StandsForSome office = (s : State) × Stands office s
+abbrev pub RepresentsSome : OfficeView → Type 0
+RepresentsSome office = (s : State) × Represents office s
 
 -- the store counts one refusal if a fault is that of the store, and otherwise none
 abbrev pub CountsStoreFault : Fault → ℕ → ℕ → Type 0

@@ -17,7 +17,7 @@ use Rattle.hh_office.specs.ReportTexts.{balances_of, day_report_of, export_of}
 use Rattle.hh_office.specs.declared.report.ReportStop.{ReportStop}
 use Rattle.hh_office.specs.declared.report.ReportStop.TheVariants.{Refused, Write}
 use Rattle.hh_office.specs.Machine.{is_operator}
-use Rattle.hh_office.specs.Promises.{Stands, UnlessFailed, gives_up}
+use Rattle.hh_office.specs.Promises.{Represents, UnlessFailed, gives_up}
 use Rattle.hh_office.specs.Views.{OfficeView, midnight_of}
 
 -- a text, or the refusal of a report whose run does not exist
@@ -77,4 +77,4 @@ module _ (device : DeviceChange) where
   -- the office does with a report, asked for with a key, what the machine says in each state that the office represents
   abbrev pub Reports : {A : Type 0} → OfficeView → List ℕ → Report → Result A ReportStop → Type 0
   Reports office key report result =
-      (s : State) → Stands office s → ReportsAs (report_for (midnight_of office) s key report) result
+      (s : State) → Represents office s → ReportsAs (report_for (midnight_of office) s key report) result

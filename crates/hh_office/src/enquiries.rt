@@ -10,9 +10,9 @@ ghost use Rattle.hh_store.specs.Crashes.{AddsNothing};
 ghost use Rattle.hh_store.specs.Reached.{AreReached};
 ghost use Rattle.hh_store.specs.StoreFaults.{CountsRefusal};
 ghost use Rattle.hh_office.specs.Crashes.{IfReplied};
-ghost use Rattle.hh_office.specs.Refusals.{CountsReply, StandsForSome};
+ghost use Rattle.hh_office.specs.Refusals.{CountsReply, RepresentsSome};
 ghost use Rattle.hh_office.specs.Enquiries.{account_reply, balance_reply, contracts_reply, net_of_rows, reply_by_rows, rows_of_account, runs_reply};
-ghost use Rattle.hh_office.specs.steps.Promises.{RepliesAs, TellsInEachState, reply_of};
+ghost use Rattle.hh_office.specs.steps.Promises.{RepliesAs, AnswersAsMachine, reply_of};
 ghost use Rattle.hh_office.specs.steps.Reads.{latest_key};
 ghost use Rattle.hh_office.specs.Views.{IsSure};
 
@@ -37,13 +37,13 @@ impl<'z, T: Tables> Office<'z, T> {
         date: SettlementDate,
     ) -> Result<Reply, Fault>
         ensures makes { IsSure T.is_open self.new
-            → TellsInEachState self.old.seen self.new.seen result (λ midnight s.
+            → AnswersAsMachine self.old.seen self.new.seen result (λ midnight s.
             account_reply midnight s account.now date) }
         ensures same { IsSure T.is_open self.new → self.new.seen ≡ self.old.seen }
         ensures sure { IsSure T.is_open self.new → IsSure T.is_open self.old }
         ensures crash { AddsNothing T.is_honest T.is_open T.may_leave
             self.old.tables self.new.tables (IfReplied (reply_of result)) }
-        ensures refusals_counted { IsSure T.is_open self.new → StandsForSome self.old.seen
+        ensures refusals_counted { IsSure T.is_open self.new → RepresentsSome self.old.seen
             → CountsReply (reply_of result)
             (T.refusals self.old.tables) (T.refusals self.new.tables) }
     {
@@ -65,13 +65,13 @@ impl<'z, T: Tables> Office<'z, T> {
         requires { IsSure T.is_open self.old
             → Some run ≡ latest_key date (runs_in self.old.seen.content date) }
         ensures makes { IsSure T.is_open self.new
-            → TellsInEachState self.old.seen self.new.seen result (λ midnight s.
+            → AnswersAsMachine self.old.seen self.new.seen result (λ midnight s.
             account_reply midnight s account.now date) }
         ensures same { IsSure T.is_open self.new → self.new.seen ≡ self.old.seen }
         ensures sure { IsSure T.is_open self.new → IsSure T.is_open self.old }
         ensures crash { AddsNothing T.is_honest T.is_open T.may_leave
             self.old.tables self.new.tables (IfReplied (reply_of result)) }
-        ensures refusals_counted { IsSure T.is_open self.new → StandsForSome self.old.seen
+        ensures refusals_counted { IsSure T.is_open self.new → RepresentsSome self.old.seen
             → CountsReply (reply_of result)
             (T.refusals self.old.tables) (T.refusals self.new.tables) }
     {
@@ -119,7 +119,7 @@ impl<'z, T: Tables> Office<'z, T> {
     /// What the runs of all dates have posted to an account.
     pub(crate) fn balance(&mut self, account: &Account) -> Result<Reply, Fault>
         ensures makes { IsSure T.is_open self.new
-            → TellsInEachState self.old.seen self.new.seen result (λ midnight s.
+            → AnswersAsMachine self.old.seen self.new.seen result (λ midnight s.
             balance_reply midnight s account.now) }
         ensures same { IsSure T.is_open self.new → self.new.seen ≡ self.old.seen }
         ensures sure { IsSure T.is_open self.new → IsSure T.is_open self.old }
@@ -150,7 +150,7 @@ impl<'z, T: Tables> Office<'z, T> {
         date: SettlementDate,
     ) -> Result<Reply, Fault>
         ensures makes { IsSure T.is_open self.new
-            → TellsInEachState self.old.seen self.new.seen result (λ midnight s.
+            → AnswersAsMachine self.old.seen self.new.seen result (λ midnight s.
             contracts_reply midnight s account.now date) }
         ensures same { IsSure T.is_open self.new → self.new.seen ≡ self.old.seen }
         ensures sure { IsSure T.is_open self.new → IsSure T.is_open self.old }
@@ -167,7 +167,7 @@ impl<'z, T: Tables> Office<'z, T> {
     /// The runs of a date.
     pub(crate) fn runs(&mut self, date: SettlementDate) -> Result<Reply, Fault>
         ensures makes { IsSure T.is_open self.new
-            → TellsInEachState self.old.seen self.new.seen result (λ midnight s.
+            → AnswersAsMachine self.old.seen self.new.seen result (λ midnight s.
             runs_reply midnight s date) }
         ensures same { IsSure T.is_open self.new → self.new.seen ≡ self.old.seen }
         ensures sure { IsSure T.is_open self.new → IsSure T.is_open self.old }

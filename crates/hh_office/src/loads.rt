@@ -10,11 +10,11 @@ ghost use Rattle.hh_store.specs.StoreFaults.{CountsRefusal};
 ghost use Rattle.hh_office.specs.Crashes.{IfReplied, MadeInEachState};
 ghost use Rattle.hh_office.specs.steps.Crashes.{IsAcceptedContent, IfTold, IsLoadedContent};
 ghost use Rattle.hh_office.specs.steps.Loads.{Accepts, NamesItsFile, Judges, WritesLoad, writes_of};
-ghost use Rattle.hh_office.specs.Refusals.{CountsReply, StandsForSome};
+ghost use Rattle.hh_office.specs.Refusals.{CountsReply, RepresentsSome};
 ghost use Rattle.hh_office.specs.steps.Refusals.{CountsAnswer};
 ghost use Rattle.hh_office.specs.Machine.{load, load_new, loaded_reply, repeat_reply};
 ghost use Rattle.hh_office.specs.Promises.{RefusalLeaves};
-ghost use Rattle.hh_office.specs.steps.Promises.{MakesInEachState, reply_of};
+ghost use Rattle.hh_office.specs.steps.Promises.{FollowsMachine, reply_of};
 ghost use Rattle.hh_office.specs.Views.{IsSure};
 
 use crate::office::Office;
@@ -31,7 +31,7 @@ impl<'z, T: Tables> Office<'z, T> {
     /// What becomes of a file that is sent.
     pub(crate) fn load(&mut self, moment: i64, upload: &Upload) -> Result<Reply, Fault>
         ensures makes { IsSure T.is_open self.new
-            → MakesInEachState self.old.seen self.new.seen result (λ midnight s.
+            → FollowsMachine self.old.seen self.new.seen result (λ midnight s.
             load midnight s moment upload.now) }
         ensures untouched { IsSure T.is_open self.new
             → RefusalLeaves self.old.seen self.new.seen (reply_of result) }
@@ -39,7 +39,7 @@ impl<'z, T: Tables> Office<'z, T> {
         ensures crash { AddsOnly T.is_honest T.is_open T.may_leave T.holds
             self.old.tables self.new.tables (IfReplied (reply_of result))
             (MadeInEachState self.old.seen (λ midnight s. load midnight s moment upload.now)) }
-        ensures refusals_counted { IsSure T.is_open self.new → StandsForSome self.old.seen
+        ensures refusals_counted { IsSure T.is_open self.new → RepresentsSome self.old.seen
             → CountsReply (reply_of result)
             (T.refusals self.old.tables) (T.refusals self.new.tables) }
     {
@@ -73,7 +73,7 @@ impl<'z, T: Tables> Office<'z, T> {
         requires { IsSure T.is_open self.old
             → file_in self.old.seen.content upload.now.kind upload.now.name ≡ None }
         ensures makes { IsSure T.is_open self.new
-            → MakesInEachState self.old.seen self.new.seen result (λ midnight s.
+            → FollowsMachine self.old.seen self.new.seen result (λ midnight s.
             load_new midnight s moment upload.now) }
         ensures untouched { IsSure T.is_open self.new
             → RefusalLeaves self.old.seen self.new.seen (reply_of result) }
@@ -81,7 +81,7 @@ impl<'z, T: Tables> Office<'z, T> {
         ensures crash { AddsOnly T.is_honest T.is_open T.may_leave T.holds
             self.old.tables self.new.tables (IfReplied (reply_of result))
             (MadeInEachState self.old.seen (λ midnight s. load_new midnight s moment upload.now)) }
-        ensures refusals_counted { IsSure T.is_open self.new → StandsForSome self.old.seen
+        ensures refusals_counted { IsSure T.is_open self.new → RepresentsSome self.old.seen
             → CountsReply (reply_of result)
             (T.refusals self.old.tables) (T.refusals self.new.tables) }
     {
@@ -101,7 +101,7 @@ impl<'z, T: Tables> Office<'z, T> {
         ensures sure { IsSure T.is_open self.new → IsSure T.is_open self.old }
         ensures crash { AddsNothing T.is_honest T.is_open T.may_leave
             self.old.tables self.new.tables (IfTold result) }
-        ensures refusals_counted { IsSure T.is_open self.new → StandsForSome self.old.seen
+        ensures refusals_counted { IsSure T.is_open self.new → RepresentsSome self.old.seen
             → CountsAnswer result (T.refusals self.old.tables) (T.refusals self.new.tables) }
     {
         let rows = read_file(self.alloc, upload.kind, upload.body.as_slice())?;

@@ -6,9 +6,9 @@ ghost use Rattle.hh_office.specs.Crashes.{CrashAfterAll, CrashStep, IfReplied, M
 ghost use Rattle.hh_office.specs.steps.Loads.{NamesItsFile};
 ghost use Rattle.hh_office.specs.Machine.{step};
 ghost use Rattle.hh_office.specs.PartyViews.{ForbidsOthers, ShowsByView};
-ghost use Rattle.hh_office.specs.Promises.{ConservesAfter, ConservesAfterAll, HandleStep, RefusalLeaves, RepeatsOnce, RunAllStep, StandsAfter, StandsAfterAll};
-ghost use Rattle.hh_office.specs.steps.Promises.{MakesInEachState, reply_of};
-ghost use Rattle.hh_office.specs.Refusals.{CountsReplies, CountsReply, StandsForSome};
+ghost use Rattle.hh_office.specs.Promises.{ConservesAfter, ConservesAfterAll, HandleStep, RefusalLeaves, RepeatsOnce, RunAllStep, RepresentsAfter, RepresentsAfterAll};
+ghost use Rattle.hh_office.specs.steps.Promises.{FollowsMachine, reply_of};
+ghost use Rattle.hh_office.specs.Refusals.{CountsReplies, CountsReply, RepresentsSome};
 ghost use Rattle.hh_office.specs.Views.{IsSure};
 
 use crate::loads::is_named;
@@ -77,8 +77,8 @@ impl<'z, T: Tables> Office<'z, T> {
     pub fn handle(&mut self, moment: i64, request: &Request) -> Reply
         ensures step { IsSure T.is_open self.new
             → HandleStep self.old.seen self.new.seen moment request.now result }
-        ensures stands { IsSure T.is_open self.new
-            → StandsAfter self.old.seen self.new.seen moment request.now result }
+        ensures represents { IsSure T.is_open self.new
+            → RepresentsAfter self.old.seen self.new.seen moment request.now result }
         ensures untouched { IsSure T.is_open self.new
             → RefusalLeaves self.old.seen self.new.seen result }
         ensures once { IsSure T.is_open self.new
@@ -94,7 +94,7 @@ impl<'z, T: Tables> Office<'z, T> {
             (MadeInEachState self.old.seen (λ midnight s. step midnight s moment request.now)) }
         ensures left { CrashStep T.is_honest T.is_open T.may_leave T.holds
             self.old self.new moment request.now result }
-        ensures refusals_counted { IsSure T.is_open self.new → StandsForSome self.old.seen
+        ensures refusals_counted { IsSure T.is_open self.new → RepresentsSome self.old.seen
             → CountsReply result (T.refusals self.old.tables) (T.refusals self.new.tables) }
     {
         // Do nothing, but carry laws for the proof: the tables contain the machine's runs with their rows
@@ -125,7 +125,7 @@ impl<'z, T: Tables> Office<'z, T> {
         ensures crash { AddsOnly T.is_honest T.is_open T.may_leave T.holds
             self.old.tables self.new.tables (IfReplied result)
             (MadeInEachState self.old.seen (λ midnight s. step midnight s moment request.now)) }
-        ensures refusals_counted { IsSure T.is_open self.new → StandsForSome self.old.seen
+        ensures refusals_counted { IsSure T.is_open self.new → RepresentsSome self.old.seen
             → CountsReply result (T.refusals self.old.tables) (T.refusals self.new.tables) }
     {
         match self.act(moment, request) {
@@ -152,8 +152,8 @@ impl<'z, T: Tables> Office<'z, T> {
     pub fn run_all(&mut self, requests: &[(i64, Request)]) -> Result<Vec<Reply>, AllocError>
         ensures run { IsSure T.is_open self.new → IfOk result (λ replies.
             RunAllStep self.old.seen self.new.seen requests.now replies.items) }
-        ensures stands { IsSure T.is_open self.new → IfOk result (λ replies.
-            StandsAfterAll self.old.seen self.new.seen requests.now replies.items) }
+        ensures represents { IsSure T.is_open self.new → IfOk result (λ replies.
+            RepresentsAfterAll self.old.seen self.new.seen requests.now replies.items) }
         ensures sums { IsSure T.is_open self.new → IfOk result (λ replies.
             ConservesAfterAll self.old.seen self.new.seen requests.now replies.items) }
         ensures none { IsSure T.is_open self.new → OnErr result (self.new.seen ≡ self.old.seen) }
@@ -161,7 +161,7 @@ impl<'z, T: Tables> Office<'z, T> {
         ensures left { IfOk result (λ replies.
             CrashAfterAll T.is_honest T.is_open T.may_leave T.holds
             self.old self.new requests.now replies.items) }
-        ensures refusals_counted { IsSure T.is_open self.new → StandsForSome self.old.seen
+        ensures refusals_counted { IsSure T.is_open self.new → RepresentsSome self.old.seen
             → IfOk result (λ replies. CountsReplies replies.items
             (T.refusals self.old.tables) (T.refusals self.new.tables)) }
     {
@@ -186,7 +186,7 @@ impl<'z, T: Tables> Office<'z, T> {
             self.old.tables self.new.tables (IfReplied result)
             (MadeInEachState self.old.seen (λ midnight s.
             step midnight s request.now.0 request.now.1)) }
-        ensures refusals_counted { IsSure T.is_open self.new → StandsForSome self.old.seen
+        ensures refusals_counted { IsSure T.is_open self.new → RepresentsSome self.old.seen
             → CountsReply result (T.refusals self.old.tables) (T.refusals self.new.tables) }
     {
         is_named(&request.1);
@@ -196,7 +196,7 @@ impl<'z, T: Tables> Office<'z, T> {
     /// What becomes of a request that its key allows.
     fn act(&mut self, moment: i64, request: &Request) -> Result<Reply, Fault>
         ensures makes { IsSure T.is_open self.new
-            → MakesInEachState self.old.seen self.new.seen result (λ midnight s.
+            → FollowsMachine self.old.seen self.new.seen result (λ midnight s.
             step midnight s moment request.now) }
         ensures untouched { IsSure T.is_open self.new
             → RefusalLeaves self.old.seen self.new.seen (reply_of result) }
@@ -204,7 +204,7 @@ impl<'z, T: Tables> Office<'z, T> {
         ensures crash { AddsOnly T.is_honest T.is_open T.may_leave T.holds
             self.old.tables self.new.tables (IfReplied (reply_of result))
             (MadeInEachState self.old.seen (λ midnight s. step midnight s moment request.now)) }
-        ensures refusals_counted { IsSure T.is_open self.new → StandsForSome self.old.seen
+        ensures refusals_counted { IsSure T.is_open self.new → RepresentsSome self.old.seen
             → CountsReply (reply_of result)
             (T.refusals self.old.tables) (T.refusals self.new.tables) }
     {

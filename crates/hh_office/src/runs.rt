@@ -14,11 +14,11 @@ ghost use Rattle.hh_store.specs.Crashes.{AddsNothing, AddsOnly};
 ghost use Rattle.hh_store.specs.Reached.{AreReached};
 ghost use Rattle.hh_store.specs.StoreFaults.{CountsRefusal};
 ghost use Rattle.hh_office.specs.Crashes.{IfReplied, MadeInEachState};
-ghost use Rattle.hh_office.specs.Refusals.{CountsReply, IsElsewhere, StandsForSome};
+ghost use Rattle.hh_office.specs.Refusals.{CountsReply, IsElsewhere, RepresentsSome};
 ghost use Rattle.hh_office.specs.steps.Crashes.{IfTold, IsMadeContent, IsRunContent};
 ghost use Rattle.hh_office.specs.steps.Refusals.{CountsAnswer};
 ghost use Rattle.hh_office.specs.Promises.{RefusalLeaves};
-ghost use Rattle.hh_office.specs.steps.Promises.{MakesInEachState, reply_of};
+ghost use Rattle.hh_office.specs.steps.Promises.{FollowsMachine, reply_of};
 ghost use Rattle.hh_office.specs.steps.Reads.{latest_key};
 ghost use Rattle.hh_office.specs.Runs.{run};
 ghost use Rattle.hh_office.specs.steps.Settling.{IsEarly, IsNext, IsOverDay, Lacks, LacksNothing, IsRunMade, RefusesIn, SettlesIn, TellsOrder, WritesRun, rows_before};
@@ -45,7 +45,7 @@ impl<'z, T: Tables> Office<'z, T> {
     /// What becomes of a run that is ordered.
     pub(crate) fn run(&mut self, moment: i64, key: RunKey) -> Result<Reply, Fault>
         ensures makes { IsSure T.is_open self.new
-            → MakesInEachState self.old.seen self.new.seen result (λ midnight s.
+            → FollowsMachine self.old.seen self.new.seen result (λ midnight s.
             run midnight s moment key) }
         ensures untouched { IsSure T.is_open self.new
             → RefusalLeaves self.old.seen self.new.seen (reply_of result) }
@@ -53,7 +53,7 @@ impl<'z, T: Tables> Office<'z, T> {
         ensures crash { AddsOnly T.is_honest T.is_open T.may_leave T.holds
             self.old.tables self.new.tables (IfReplied (reply_of result))
             (MadeInEachState self.old.seen (λ midnight s. run midnight s moment key)) }
-        ensures refusals_counted { IsSure T.is_open self.new → StandsForSome self.old.seen
+        ensures refusals_counted { IsSure T.is_open self.new → RepresentsSome self.old.seen
             → CountsReply (reply_of result)
             (T.refusals self.old.tables) (T.refusals self.new.tables) }
     {
@@ -91,7 +91,7 @@ impl<'z, T: Tables> Office<'z, T> {
         requires former { IsSure T.is_open self.old
             → former ≡ latest_key key.date (runs_in self.old.seen.content key.date) }
         ensures makes { IsSure T.is_open self.new
-            → MakesInEachState self.old.seen self.new.seen result (λ midnight s.
+            → FollowsMachine self.old.seen self.new.seen result (λ midnight s.
             run midnight s moment key) }
         ensures untouched { IsSure T.is_open self.new
             → RefusalLeaves self.old.seen self.new.seen (reply_of result) }
@@ -99,7 +99,7 @@ impl<'z, T: Tables> Office<'z, T> {
         ensures crash { AddsOnly T.is_honest T.is_open T.may_leave T.holds
             self.old.tables self.new.tables (IfReplied (reply_of result))
             (MadeInEachState self.old.seen (λ midnight s. run midnight s moment key)) }
-        ensures refusals_counted { IsSure T.is_open self.new → StandsForSome self.old.seen
+        ensures refusals_counted { IsSure T.is_open self.new → RepresentsSome self.old.seen
             → CountsReply (reply_of result)
             (T.refusals self.old.tables) (T.refusals self.new.tables) }
     {

@@ -29,7 +29,7 @@ pub(crate) fn run_office(
     let script = script_of(rt, &host, paths.script)?;
     let lines = match read_script(rt.alloc(), &script) {
         Ok(lines) => lines,
-        Err(ScriptFault::Off { .. }) => return Err(MeasureStop::Words),
+        Err(ScriptFault::BadLine { .. }) => return Err(MeasureStop::Words),
         Err(ScriptFault::Memory) => return Err(MeasureStop::Refused(Refusal::Memory)),
     };
     let options = options(rt)?;

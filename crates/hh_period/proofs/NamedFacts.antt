@@ -14,10 +14,10 @@ use Rattle.hh_names.specs.declared.account.Account.{Account}
 use Rattle.hh_names.specs.Accounts.{account_cmp, bytes_cmp}
 use Rattle.hh_names.proofs.AccountLaws.{account_total, exact_accounts}
 use Rattle.hh_names.specs.declared.values.Contract.{Contract}
-use Rattle.hh_calc.specs.Terms.{BmUnit}
+use Rattle.hh_calc.specs.Terms.{UnitDataView}
 use Rattle.hh_texts.specs.declared.period_contracts.PeriodContractRow.{PeriodContractRow}
 use Rattle.hh_texts.specs.declared.period_meters.PeriodMeterRow.{PeriodMeterRow}
-use Rattle.hh_period.specs.Rows.{bm_unit_entry, bm_unit_of, in_account_order, in_force, named_accounts, period_accounts, period_contract_entry, seller_and_buyer}
+use Rattle.hh_period.specs.Rows.{unit_data_entry, unit_data_of, in_account_order, in_force, named_accounts, period_accounts, period_contract_entry, seller_and_buyer}
 use Rattle.hh_period.proofs.ContractFacts.{equal}
 
 module _ {K V : Type 0} (R : K → K → Ordering) (P : V → Type 0) where
@@ -103,22 +103,22 @@ all-back name P (x ∷ rows) all = All-cons (λ y. P (name y)) x rows (All-head 
 -- each lead of a unit in force is among the accounts; so is each of its subsidiaries, as it has none
 pub leads_among : (meters : List PeriodMeterRow) (contracts : List PeriodContractRow)
     → let accounts : List Account = period_accounts meters contracts in
-    All (λ u. Contains accounts u.lead × All (λ s. Contains accounts s.account) u.subsidiaries) (in_force (map bm_unit_entry meters))
+    All (λ u. Contains accounts u.lead × All (λ s. Contains accounts s.account) u.subsidiaries) (in_force (map unit_data_entry meters))
 leads_among meters contracts =
     let names : List Account = named_accounts meters contracts in
-    let P : BmUnit → Type 0 = λ u. Contains (in_account_order names) u.lead × All (λ s. Contains (in_account_order names) s.account) u.subsidiaries in
-    all-table bytes_cmp P (map bm_unit_entry meters)
-    (all-values P bm_unit_entry meters
-    (All-weaker (λ r. Contains (in_account_order names) r.lead) (λ r. P (bm_unit_of r)) (λ r h. (h, All-nil (λ s. Contains (in_account_order names) s.account))) meters
+    let P : UnitDataView → Type 0 = λ u. Contains (in_account_order names) u.lead × All (λ s. Contains (in_account_order names) s.account) u.subsidiaries in
+    all-table bytes_cmp P (map unit_data_entry meters)
+    (all-values P unit_data_entry meters
+    (All-weaker (λ r. Contains (in_account_order names) r.lead) (λ r. P (unit_data_of r)) (λ r h. (h, All-nil (λ s. Contains (in_account_order names) s.account))) meters
     (all-back (λ r. r.lead) (Contains (in_account_order names)) meters
     (All-weaker (Contains (map (λ r. r.lead) meters)) (Contains (in_account_order names))
     (λ a h. among names a (Contains-append_left (map (λ r. r.lead) meters) (flat_map seller_and_buyer contracts) a h))
     (map (λ r. r.lead) meters) (named_by (λ r. r.lead) meters)))))
 
 -- a unit in force has no subsidiaries
-pub subsidiaries_few : (meters : List PeriodMeterRow) → All (λ u. length u.subsidiaries ≤ 799) (in_force (map bm_unit_entry meters))
+pub subsidiaries_few : (meters : List PeriodMeterRow) → All (λ u. length u.subsidiaries ≤ 799) (in_force (map unit_data_entry meters))
 subsidiaries_few meters =
-    let P : BmUnit → Type 0 = λ u. length u.subsidiaries ≤ 799 in all-table bytes_cmp P (map bm_unit_entry meters) (all-values P bm_unit_entry meters (λ k d inside. omega arith))
+    let P : UnitDataView → Type 0 = λ u. length u.subsidiaries ≤ 799 in all-table bytes_cmp P (map unit_data_entry meters) (all-values P unit_data_entry meters (λ k d inside. omega arith))
 
 -- and so are seller and buyer of each contract in force
 pub counterparties_among : (meters : List PeriodMeterRow) (contracts : List PeriodContractRow)

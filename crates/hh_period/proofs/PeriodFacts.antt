@@ -6,13 +6,13 @@ use Rattle.hh_calc.specs.declared.result.AccountRow.{AccountRow}
 use Rattle.hh_calc.specs.Formulas.{figures}
 use Rattle.hh_calc.specs.Limits.{is_within_limits}
 use Rattle.hh_calc.specs.Settled.{figures_of, IsSettled}
-use Rattle.hh_calc.specs.Terms.{PeriodTerms, Settled}
+use Rattle.hh_calc.specs.Terms.{PeriodDataView, Settled}
 use Rattle.hh_period.specs.Outcome.{settled_text}
 use Rattle.hh_period.specs.PeriodText.{account_line, residual_line}
 use Rattle.hh_period.specs.steps.PeriodText.{settled_lines}
 
 -- the text of the settled figures is the text of the period
-pub settled_is : (p : PeriodTerms) (s : Settled) → IsSettled p s → is_within_limits p ≡ true
+pub settled_is : (p : PeriodDataView) (s : Settled) → IsSettled p s → is_within_limits p ≡ true
     → settled_text p ≡ Ok (settled_lines s)
 settled_is p s h within = rw within (ap Ok (λ i. lines i ++ residual_line (sym h.remainder i)))
   where

@@ -8,7 +8,7 @@ use Rattle.hh_names.specs.declared.fault.Refusal.TheVariants.{BadField, TooLarge
 use Rattle.hh_names.specs.Faults.{memory_fault, plain_fault, Refusing}
 use Rattle.hh_num.specs.Quantities.{price_value}
 use Rattle.hh_calc.specs.Limits.{is_within_limits}
-use Rattle.hh_calc.specs.Terms.{PeriodTerms}
+use Rattle.hh_calc.specs.Terms.{PeriodDataView}
 use Rattle.hh_texts.specs.PeriodFiles.{period_contract_rows, period_meter_rows}
 use Rattle.hh_period.specs.declared.rejection.Input.{Input}
 use Rattle.hh_period.specs.declared.rejection.Input.TheVariants.{Contracts, Meter, Price}
@@ -40,7 +40,7 @@ priced None = Err (rejection_in Price (plain_fault BadField))
 priced (Some price) = Ok price
 
 -- the period of the inputs: meter rows are judged first, then contract rows, then the price
-abbrev pub period_input : List ℕ → List ℕ → List ℕ → Outcome PeriodTerms
+abbrev pub period_input : List ℕ → List ℕ → List ℕ → Outcome PeriodDataView
 period_input meter contracts price = do
   meter_rows ← read_from Meter (period_meter_rows meter)
   rows ← read_from Contracts (period_contract_rows contracts)
@@ -49,7 +49,7 @@ period_input meter contracts price = do
   Ok (period_of meter_rows contract_rows value)
 
 -- the text of a period, if none of its figures exceeds a limit of a run
-abbrev pub settled_text : PeriodTerms → Outcome (List ℕ)
+abbrev pub settled_text : PeriodDataView → Outcome (List ℕ)
 settled_text p = if is_within_limits p then Ok (period_text p) else Err (record { fault = plain_fault TooLarge; input = None })
 
 -- the text for the inputs

@@ -5,7 +5,7 @@ use Rattle.hh_num.specs.Fixed.{fixed_text}
 use Rattle.hh_names.specs.Accounts.{account_text}
 use Rattle.hh_calc.specs.declared.result.Figures.{Figures}
 use Rattle.hh_calc.specs.Formulas.{figures, residual}
-use Rattle.hh_calc.specs.Terms.{PeriodTerms}
+use Rattle.hh_calc.specs.Terms.{PeriodDataView}
 
 -- a name and a number
 abbrev pub named : List ℕ → ℕ → ℤ → List ℕ
@@ -24,5 +24,5 @@ abbrev pub residual_line : ℤ → List ℕ
 residual_line pence = named (codes "residual ") 0 pence ++ 10 ∷ []
 
 -- a line for each account in order, then the residual
-abbrev pub period_text : PeriodTerms → List ℕ
+abbrev pub period_text : PeriodDataView → List ℕ
 period_text p = flat_map (λ a. account_line (figures p a)) p.accounts ++ residual_line (residual p)

@@ -11,17 +11,17 @@ use Rattle.hh_names.specs.declared.values.Counterparties.{Counterparties}
 use Rattle.hh_names.specs.Accounts.{account_cmp, bytes_cmp}
 use Rattle.hh_names.specs.CounterpartyRule.{counterparty_refusals}
 use Rattle.hh_names.specs.Faults.{first_met, row_fault}
-use Rattle.hh_calc.specs.Terms.{BmUnit, PeriodTerms, Rows}
+use Rattle.hh_calc.specs.Terms.{UnitDataView, PeriodDataView, Rows}
 use Rattle.hh_texts.specs.declared.period_contracts.PeriodContractRow.{PeriodContractRow}
 use Rattle.hh_texts.specs.declared.period_meters.PeriodMeterRow.{PeriodMeterRow}
 
 -- the BM Unit of a row; it is no interconnector, and has no subsidiaries
-abbrev pub bm_unit_of : PeriodMeterRow → BmUnit
-bm_unit_of r = record { unit = r.unit; lead = r.lead; interconnector = false; reading = r.reading; subsidiaries = [] }
+abbrev pub unit_data_of : PeriodMeterRow → UnitDataView
+unit_data_of r = record { unit = r.unit; lead = r.lead; interconnector = false; reading = r.reading; subsidiaries = [] }
 
 -- what a row puts under its unit
-abbrev pub bm_unit_entry : PeriodMeterRow → List ℕ × BmUnit
-bm_unit_entry r = (r.unit, bm_unit_of r)
+abbrev pub unit_data_entry : PeriodMeterRow → List ℕ × UnitDataView
+unit_data_entry r = (r.unit, unit_data_of r)
 
 -- what a row puts under its reference
 abbrev pub period_contract_entry : PeriodContractRow → List ℕ × Contract
@@ -48,10 +48,10 @@ abbrev pub period_accounts : List PeriodMeterRow → List PeriodContractRow → 
 period_accounts meters contracts = in_account_order (named_accounts meters contracts)
 
 -- the period of these rows and this price
-abbrev pub period_of : List PeriodMeterRow → List PeriodContractRow → ℤ → PeriodTerms
+abbrev pub period_of : List PeriodMeterRow → List PeriodContractRow → ℤ → PeriodDataView
 period_of meters contracts price = record {
   accounts = period_accounts meters contracts;
-  units = in_force (map bm_unit_entry meters);
+  units = in_force (map unit_data_entry meters);
   contracts = Rows (in_force (map period_contract_entry contracts));
   price = price;
 }

@@ -4,9 +4,9 @@ ghost use Rattle.std.specs.Prelude.{◌≡◌, ◌≤◌, length, map, IfOk, OnO
 ghost use Rattle.std.specs.List.{flat_map};
 ghost use Rattle.std.specs.List.Sorted.{IsStrictlySortedBy};
 ghost use Rattle.hh_names.specs.Accounts.{account_cmp};
-ghost use Rattle.hh_names.specs.Faults.{faults, Gives};
+ghost use Rattle.hh_names.specs.Faults.{faults, IsOutcomeOrNoMemory};
 ghost use Rattle.hh_rows.specs.RowKinds.{most_rows};
-ghost use Rattle.hh_period.specs.Rows.{accepted_rows, bm_unit_entry, bm_unit_of, in_force, period_accounts, period_contract_entry, seller_and_buyer};
+ghost use Rattle.hh_period.specs.Rows.{accepted_rows, unit_data_entry, unit_data_of, in_force, period_accounts, period_contract_entry, seller_and_buyer};
 ghost use Rattle.hh_period.specs.steps.Rows.{NamesMore};
 
 use hh_calc::UnitData;
@@ -16,8 +16,8 @@ use std::alloc::{AllocError, Global};
 use std::collections::{BTreeMap, BTreeSet};
 
 /// The BM Unit of a row. It is no interconnector, and has no subsidiaries.
-fn bm_unit_of(alloc: Global, row: &PeriodMeterRow) -> UnitData
-    ensures { result ≡ bm_unit_of row.now }
+fn unit_data_of(alloc: Global, row: &PeriodMeterRow) -> UnitData
+    ensures { result ≡ unit_data_of row.now }
 {
     UnitData::new(row.unit, row.lead, false, row.reading, Vec::new(alloc))
 }
@@ -27,11 +27,11 @@ pub(crate) fn units_in_force(
     alloc: Global,
     rows: &[PeriodMeterRow],
 ) -> Result<Vec<UnitData>, AllocError>
-    ensures { IfOk result (λ units. units.items ≡ in_force (map bm_unit_entry rows.now)) }
+    ensures { IfOk result (λ units. units.items ≡ in_force (map unit_data_entry rows.now)) }
 {
     let mut units = BTreeMap::new(alloc);
     for row in rows {
-        units.insert(row.unit, bm_unit_of(alloc, row))?;
+        units.insert(row.unit, unit_data_of(alloc, row))?;
     }
     units.into_values().collect(alloc)
 }
@@ -76,7 +76,7 @@ pub(crate) fn contracts_in_force(
     rows: &[PeriodContractRow],
 ) -> Result<Vec<Contract>, Fault>
     requires { length rows.now ≤ most_rows }
-    ensures accepted { Gives faults (λ _. rows.now) result (accepted_rows rows.now) }
+    ensures accepted { IsOutcomeOrNoMemory faults (λ _. rows.now) result (accepted_rows rows.now) }
     ensures contracts { IfOk result (λ all.
         all.items ≡ in_force (map period_contract_entry rows.now)) }
 {

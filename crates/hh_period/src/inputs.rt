@@ -2,9 +2,9 @@
 
 ghost use Rattle.std.specs.Prelude.{◌≡◌, ◌≤◌, length, map, Err, IfOk, OnOk, IsErrOf};
 ghost use Rattle.hh_devices.specs.DeviceChanges.{change};
-ghost use Rattle.hh_calc.specs.Ready.{AreInOrder, AreNamed, AreSubsidiariesFew};
+ghost use Rattle.hh_calc.specs.Ready.{AreInOrder, AreListed, AreSubsidiariesFew};
 ghost use Rattle.hh_devices.specs.Devices.{Failed};
-ghost use Rattle.hh_names.specs.Faults.{Gives, Refuses};
+ghost use Rattle.hh_names.specs.Faults.{IsOutcomeOrNoMemory, Refuses};
 ghost use Rattle.hh_num.specs.Quantities.{price_value};
 ghost use Rattle.hh_period.specs.declared.rejection.Rejection.{Rejection};
 ghost use Rattle.hh_texts.specs.PeriodFiles.{period_contract_rows, period_meter_rows};
@@ -84,7 +84,7 @@ pub fn period<S: Sink>(
 
 /// The rows of METER.
 fn meter_rows(alloc: Global, meter: &[u8]) -> Result<Vec<PeriodMeterRow>, Rejection>
-    ensures { Gives rejections (λ rows. rows.items) result
+    ensures { IsOutcomeOrNoMemory rejections (λ rows. rows.items) result
         (read_from Input.Meter (period_meter_rows meter.now)) }
 {
     match read_period_meters(alloc, meter) {
@@ -95,7 +95,7 @@ fn meter_rows(alloc: Global, meter: &[u8]) -> Result<Vec<PeriodMeterRow>, Reject
 
 /// The rows of CONTRACTS.
 fn contract_rows(alloc: Global, contracts: &[u8]) -> Result<Vec<PeriodContractRow>, Rejection>
-    ensures rows { Gives rejections (λ rows. rows.items) result
+    ensures rows { IsOutcomeOrNoMemory rejections (λ rows. rows.items) result
         (read_from Input.Contracts (period_contract_rows contracts.now)) }
     ensures few { IfOk result (λ rows. length rows.items ≤ most_rows) }
 {
@@ -108,7 +108,7 @@ fn contract_rows(alloc: Global, contracts: &[u8]) -> Result<Vec<PeriodContractRo
 /// The contracts in force, if none of the rows is refused.
 fn accepted_contracts(alloc: Global, rows: &[PeriodContractRow]) -> Result<Vec<Contract>, Rejection>
     requires { length rows.now ≤ most_rows }
-    ensures accepted { Gives rejections (λ _. rows.now) result
+    ensures accepted { IsOutcomeOrNoMemory rejections (λ _. rows.now) result
         (read_from Input.Contracts (accepted_rows rows.now)) }
     ensures contracts { IfOk result (λ all.
         all.items ≡ in_force (map period_contract_entry rows.now)) }
@@ -121,7 +121,8 @@ fn accepted_contracts(alloc: Global, rows: &[PeriodContractRow]) -> Result<Vec<C
 
 /// The price in PRICE.
 fn read_price(price: &[u8]) -> Result<Price, Rejection>
-    ensures { Gives rejections (λ value. value) result (priced (price_value price.now)) }
+    ensures { IsOutcomeOrNoMemory rejections (λ value. value) result
+        (priced (price_value price.now)) }
 {
     match Price::read(price) {
         Some(value) => Ok(value),
@@ -136,10 +137,10 @@ fn gather_period(
     contracts: &[u8],
     price: &[u8],
 ) -> Result<PeriodData, Rejection>
-    ensures gathered { Gives rejections (λ period. period) result
+    ensures gathered { IsOutcomeOrNoMemory rejections (λ period. period) result
         (period_input meter.now contracts.now price.now) }
     ensures ordered { IfOk result (λ period. AreInOrder period) }
-    ensures named { IfOk result (λ period. AreNamed period) }
+    ensures listed { IfOk result (λ period. AreListed period) }
     ensures few { IfOk result (λ period. AreSubsidiariesFew period) }
 {
     let meters = meter_rows(alloc, meter)?;
@@ -158,7 +159,7 @@ fn settle_inputs(
     contracts: &[u8],
     price: &[u8],
 ) -> Result<Vec<u8>, Rejection>
-    ensures { Gives rejections (λ text. text.items) result
+    ensures { IsOutcomeOrNoMemory rejections (λ text. text.items) result
         (period_outcome meter.now contracts.now price.now) }
 {
     let period = gather_period(alloc, meter, contracts, price)?;

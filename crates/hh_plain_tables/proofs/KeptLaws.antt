@@ -8,7 +8,7 @@ use Rattle.hh_rows.specs.declared.rows.Row.{Row}
 use Rattle.hh_rows.specs.declared.rows.Row.TheVariants as row
 use Rattle.hh_rules.specs.Entries.{contract_entry, meter_entry, party_entry, price_entry, reallocation_entry, unit_entry}
 use Rattle.hh_rules.specs.History.{Registered}
-use Rattle.hh_states.specs.Changes.{LoadWrites, put_row, put_rows, registered_with}
+use Rattle.hh_states.specs.Changes.{LoadChangeView, put_row, put_rows, registered_with}
 use Rattle.hh_plain_tables.specs.declared.changed_tables.ChangedTables.{ChangedTables}
 use Rattle.hh_plain_tables.specs.steps.KeptTables.{with_changed}
 
@@ -35,7 +35,7 @@ put_rows_by_table (row.Contract r ∷ rows) tables = put_rows_by_table rows (put
 put_rows_by_table (row.Reallocation r ∷ rows) tables = put_rows_by_table rows (put_row (row.Reallocation r) tables)
 
 -- taking over the tables that were made anew gives the tables after the load
-pub changed_with : (w : LoadWrites) (tables : Registered) (changed : ChangedTables)
+pub changed_with : (w : LoadChangeView) (tables : Registered) (changed : ChangedTables)
     → unwrap_or changed.parties tables.parties ≡ put_all bytes_cmp (filter_map party_entry w.rows) tables.parties
     → unwrap_or changed.units tables.units ≡ put_all bytes_cmp (filter_map unit_entry w.rows) tables.units
     → unwrap_or changed.references tables.references ≡ put_all bytes_cmp w.references tables.references

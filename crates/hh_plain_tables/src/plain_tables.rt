@@ -69,7 +69,7 @@ impl PlainTables {
     /// The tables of an office with these settings, in which nothing has been accepted. Takes no memory.
     pub fn new(alloc: Global, settings: Settings) -> PlainTables
         ensures empty { result ≡ empty_content settings }
-        ensures stands { (midnight : Midnights)
+        ensures represents { (midnight : Midnights)
             → result ≡ tables_of midnight (empty_state settings) }
     {
         PlainTables {

@@ -16,7 +16,7 @@ use Rattle.hh_tables.proofs.TableLaws.{find-in_key_order, is_some-find-latest, i
 use Rattle.hh_names.specs.declared.account.Account.{Account}
 use Rattle.hh_names.specs.Accounts.{account_cmp}
 use Rattle.hh_names.proofs.AccountLaws.{account_total, exact_accounts}
-use Rattle.hh_calc.specs.Formulas.{of_account}
+use Rattle.hh_calc.specs.Formulas.{if_same_account}
 use Rattle.hh_reports.specs.Nets.{sum_for, sums_of, Amounts}
 use Rattle.hh_reports.specs.Writers.{HasAmounts, SumsState}
 use Rattle.hh_reports.specs.steps.Nets.{greatest_amount, sum_in, AreSmall}
@@ -50,7 +50,7 @@ total_next f xs x = total-append f xs (x ∷ []) ∙ ap (λ z. total f xs +ℤ z
 absent : (a : Account) (amounts : Amounts) → is_some (find account_cmp a amounts) ≡ false → sum_for a amounts ≡ pos 0
 absent a [] none = refl
 absent a (e ∷ amounts) none =
-    elim (eq_by_cmp account_cmp a e.0) as (λ b. eq_by_cmp account_cmp a e.0 ≡ b → is_some (cond b (Some e.1) (find account_cmp a amounts)) ≡ false → of_account a e.0 e.1 +ℤ sum_for a amounts ≡ pos 0) [
+    elim (eq_by_cmp account_cmp a e.0) as (λ b. eq_by_cmp account_cmp a e.0 ≡ b → is_some (cond b (Some e.1) (find account_cmp a amounts)) ≡ false → if_same_account a e.0 e.1 +ℤ sum_for a amounts ≡ pos 0) [
       | true ↦ λ same there. cc
       | false ↦ λ other later.
           ap (λ b. cond b e.1 (pos 0) +ℤ sum_for a amounts) ((eq_by_cmp_equiv account_total).symm e.0 a ∙ other)
@@ -93,8 +93,8 @@ one_more amounts e =
     ∙ ap (λ t. cond (is_some (find account_cmp q t)) (Some (sum_for q (amounts ++ e ∷ []))) None) (table_of_last-append account_total exact_accounts amounts e)
     ∙ ap (λ o. cond (is_some o) (Some (sum_for q (amounts ++ e ∷ []))) None) (find-put account_cmp account_total q e.0 e.1 (table_of_last account_cmp amounts))))
   where
-    sum_after : (q : Account) → sum_for q (amounts ++ e ∷ []) ≡ sum_for q amounts +ℤ of_account q e.0 e.1
-    sum_after q = total_next (λ x. of_account q x.0 x.1) amounts e
+    sum_after : (q : Account) → sum_for q (amounts ++ e ∷ []) ≡ sum_for q amounts +ℤ if_same_account q e.0 e.1
+    sum_after q = total_next (λ x. if_same_account q x.0 x.1) amounts e
 
     beside : (q : Account) → cond (eq_by_cmp account_cmp q e.0) (Some (sum_for e.0 amounts +ℤ e.1)) (cond (is_some (find account_cmp q (table_of_last account_cmp amounts))) (Some (sum_for q amounts)) None)
         ≡ cond (is_some (cond (eq_by_cmp account_cmp q e.0) (Some e.1) (find account_cmp q (table_of_last account_cmp amounts)))) (Some (sum_for q (amounts ++ e ∷ []))) None

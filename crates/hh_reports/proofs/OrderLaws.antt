@@ -15,7 +15,7 @@ use Rattle.hh_names.specs.declared.account.Account.{Account}
 use Rattle.hh_names.specs.Accounts.{account_cmp}
 use Rattle.hh_names.proofs.AccountLaws.{account_total, exact_accounts}
 use Rattle.hh_calc.specs.declared.result.AccountRow.{AccountRow}
-use Rattle.hh_calc.specs.Formulas.{of_account}
+use Rattle.hh_calc.specs.Formulas.{if_same_account}
 use Rattle.hh_reports.specs.declared.run.ReportedRun.{ReportedRun}
 use Rattle.hh_reports.specs.DayReport.{day_report_text, heads_line, net_line, period_lines, periods_lines, rows_of_period, title_line}
 use Rattle.hh_reports.specs.Nets.{cash_moved, nets_from_rows, sum_for, sums_of, Amounts}
@@ -58,7 +58,7 @@ sums-permuted xs ys moved =
     same_entries account_cmp account_total exact_accounts _ _ (sums_sorted ys) (sums_sorted xs)
     (λ a. found ys a
     ∙ ap (λ b. cond b (Some (sum_for a ys)) None) (sym (list_any-IsPermutation (λ e. eq_by_cmp account_cmp a e.0) xs ys moved))
-    ∙ ap (λ z. cond (list_any (λ e. eq_by_cmp account_cmp a e.0) xs) (Some z) None) (total-permuted (λ e. of_account a e.0 e.1) xs ys moved)
+    ∙ ap (λ z. cond (list_any (λ e. eq_by_cmp account_cmp a e.0) xs) (Some z) None) (total-permuted (λ e. if_same_account a e.0 e.1) xs ys moved)
     ∙ sym (found xs a))
 
 -- the rows of a period are those whose numbers are equal to its own

@@ -5,7 +5,7 @@ use Rattle.hh_tables.specs.Tables.{Table, table_of_last}
 use Rattle.hh_names.specs.declared.account.Account.{Account}
 use Rattle.hh_names.specs.Accounts.{account_cmp}
 use Rattle.hh_calc.specs.declared.result.AccountRow.{AccountRow}
-use Rattle.hh_calc.specs.Formulas.{of_account}
+use Rattle.hh_calc.specs.Formulas.{if_same_account}
 use Rattle.hh_calc.specs.Settled.{paid_by}
 
 -- amounts, each with its account, in the order in which they came
@@ -14,7 +14,7 @@ Amounts = List (Account × ℤ)
 
 -- the sum of the amounts for an account
 abbrev pub sum_for : Account → Amounts → ℤ
-sum_for a amounts = total (λ e. of_account a e.0 e.1) amounts
+sum_for a amounts = total (λ e. if_same_account a e.0 e.1) amounts
 
 -- each account that has an amount, once and in account order, with the sum of its amounts
 abbrev pub sums_of : Amounts → Table Account ℤ

@@ -8,7 +8,7 @@ use Rattle.std.proofs.lemmas.List.Elements.{All-head}
 use Rattle.std.proofs.lemmas.List.{append-nil, append_assoc, drop_all, drop_more, map-append, take_all, take_more}
 use Rattle.jiff.specs.declared.tz.timezone.TimeZone.{TimeZone}
 use Rattle.hh_tables.proofs.TableLaws.{false_is_not_true}
-use Rattle.hh_names.specs.Faults.{ByRefusal, Gives, Refuses, faults, row_fault}
+use Rattle.hh_names.specs.Faults.{ByRefusal, IsOutcomeOrNoMemory, Refuses, faults, row_fault}
 use Rattle.hh_names.specs.declared.values.Counterparties.{Counterparties}
 use Rattle.hh_names.specs.declared.fault.Fault.{Fault}
 use Rattle.hh_names.specs.declared.fault.Refusal.{Refusal}
@@ -269,7 +269,7 @@ judged_to_end zone first moment rows i register file at_end all history serves =
 
 -- a fault that is passed on
 pub passed_on : {X Y : Type 0} (view : X → Y) (result : Result X Fault) (e : Fault) (outcome : Result Y Fault)
-    → IsErr result × IsErrAnd result (λ f. f ≡ e) → Refuses faults e outcome → Gives faults view result outcome
+    → IsErr result × IsErrAnd result (λ f. f ≡ e) → Refuses faults e outcome → IsOutcomeOrNoMemory faults view result outcome
 passed_on view (Ok x) e outcome passed refused = absurd (false_is_not_true passed.0)
 passed_on view (Err f) e outcome passed refused = subst (λ g. Refuses faults g outcome) (sym passed.1) refused
 

@@ -2,7 +2,7 @@
 use Rattle.std.specs.Prelude.{ℕ, ◌+◌, ℤ, List, [], ◌∷◌, ◌++◌, map, filter, length, not, Bool, Option, Some, None, Result, Ok, Err, if◌then◌else◌}
 use Rattle.std.specs.List.{cons_option}
 use Rattle.jiff.specs.declared.tz.timezone.TimeZone.{TimeZone}
-use Rattle.hh_names.specs.Faults.{faults, first_met, row_fault, Gives}
+use Rattle.hh_names.specs.Faults.{faults, first_met, row_fault, IsOutcomeOrNoMemory}
 use Rattle.hh_names.specs.declared.fault.Fault.{Fault}
 use Rattle.hh_names.specs.declared.fault.Refusal.{Refusal}
 use Rattle.hh_names.specs.declared.values.Counterparties.{Counterparties}
@@ -86,4 +86,4 @@ ServesAfterHistory zone register rows history =
 abbrev pub JudgesFile : TimeZone → RegisterView → ℤ → List Row → Result FileRowsView Fault → Type 0
 JudgesFile zone register moment rows answer =
     (history : History) → ServesAfterHistory zone register rows history
-    → Gives faults (λ file. file) answer (judged_file (timetable_of zone register) history (coming_at moment rows))
+    → IsOutcomeOrNoMemory faults (λ file. file) answer (judged_file (timetable_of zone register) history (coming_at moment rows))

@@ -1,7 +1,7 @@
 //! The rows of a file, judged one after the other.
 
 ghost use Rattle.std.specs.Prelude.{◌≡◌, ◌+◌, ◌<◌, false, length, IfOk, OnOk};
-ghost use Rattle.hh_names.specs.Faults.{faults, Gives};
+ghost use Rattle.hh_names.specs.Faults.{faults, IsOutcomeOrNoMemory};
 ghost use Rattle.hh_rows.specs.declared.rows.Row.TheVariants as rows;
 ghost use Rattle.hh_rules.specs.Effects.{fixes_reference, row_done};
 ghost use Rattle.hh_rules.specs.steps.Effects.{HasRoomFor};
@@ -152,7 +152,7 @@ impl Register {
     ) -> Result<RowDone, Fault>
         requires { IsKeptIn zone.now last.old.day }
         ensures kept { IsKeptIn zone.now last.new.day }
-        ensures judged { Gives faults (λ _. tt) result
+        ensures judged { IsOutcomeOrNoMemory faults (λ _. tt) result
             (judged_row_at zone.now self.old moment number row.now) }
         ensures next { OnOk result (self.new
             ≡ with_volumes_of self.old (register_after zone.now self.old moment row.now)) }

@@ -1,7 +1,7 @@
 //! Filling the register of a part with rows of the tables of what is registered and in force.
 
 ghost use Rattle.std.specs.Prelude.{◌≡◌, OnOk, OnErr};
-ghost use Rattle.hh_names.specs.Faults.{faults, Gives};
+ghost use Rattle.hh_names.specs.Faults.{faults, IsOutcomeOrNoMemory};
 ghost use Rattle.hh_rules.specs.RegisterView.{held_reallocation, holding_contract, holding_party, holding_price, holding_reading, holding_reallocation, holding_reference, holding_unit};
 
 use crate::register::Register;
@@ -89,7 +89,7 @@ impl Register {
         key: ReallocationKey,
         reallocation: Reallocation,
     ) -> Result<(), Fault>
-        ensures answer { Gives faults (λ _. tt) result
+        ensures answer { IsOutcomeOrNoMemory faults (λ _. tt) result
             (held_reallocation self.old key reallocation) }
         ensures ok { OnOk result (self.new ≡ holding_reallocation self.old key reallocation) }
         ensures err { OnErr result (self.new ≡ self.old) }

@@ -7,7 +7,7 @@ ghost use Rattle.hh_tables.specs.Tables.{IsTable};
 ghost use Rattle.hh_rows.specs.Keys.{contract_key_cmp, reallocation_key_cmp, settlement_period_cmp, unit_period_cmp};
 ghost use Rattle.hh_rows.specs.declared.rows.Row.TheVariants as rows;
 ghost use Rattle.hh_names.specs.Accounts.{bytes_cmp};
-ghost use Rattle.hh_names.specs.Faults.{faults, Gives};
+ghost use Rattle.hh_names.specs.Faults.{faults, IsOutcomeOrNoMemory};
 ghost use Rattle.hh_rules.specs.Effects.{fixes_reference, row_done};
 ghost use Rattle.hh_rules.specs.steps.Effects.{HasRoomFor};
 ghost use Rattle.hh_rules.specs.Percents.{percent_of_others};
@@ -205,7 +205,8 @@ impl Register {
         moment: i64,
         row: Row,
     ) -> Result<RowDone, Fault>
-        ensures judged { Gives faults (λ _. tt) result (judged_at zone.now self.old moment row) }
+        ensures judged { IsOutcomeOrNoMemory faults (λ _. tt) result
+            (judged_at zone.now self.old moment row) }
         ensures least { IfErr result (IsLeastFault zone.now self.old moment row) }
         ensures applied { OnOk result (self.new ≡ register_after zone.now self.old moment row) }
         ensures done { IfOk result (λ done. done ≡ done_at zone.now self.old moment row) }

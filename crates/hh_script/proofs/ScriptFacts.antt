@@ -6,7 +6,7 @@ use Rattle.std.proofs.lemmas.List.{append-nil, append_assoc, drop_all, length_pu
 use Rattle.std.proofs.lemmas.Bool.Decides.{nat_tests}
 use Rattle.hh_script.specs.Steps.{step_of, step_value}
 use Rattle.hh_script.specs.declared.script_line.ScriptLine.{ScriptLine}
-use Rattle.hh_script.specs.Script.{all_values, but_empty_last, first_off, is_off, lines_of, onto, script_value, unless_empty}
+use Rattle.hh_script.specs.Script.{all_values, but_empty_last, first_bad_line, is_bad_line, lines_of, onto, script_value, unless_empty}
 use Rattle.hh_script.proofs.LineFacts.{cut_parts, uncut}
 
 abbrev is_end : ℕ → Bool
@@ -56,7 +56,7 @@ all_behind-onto front x (Some xs) = ap Some (sym (append_assoc front (x ∷ []) 
 -- What was read so far, and what the rest has.
 pub record IsReadTo (bytes rest : List ℕ) (lines : List ScriptLine) : Type 0 where
   pub values : script_value bytes ≡ all_behind (map step_of lines) (script_value rest)
-  pub off : first_off bytes ≡ position_from is_off (length lines + 1) (lines_of rest)
+  pub off : first_bad_line bytes ≡ position_from is_bad_line (length lines + 1) (lines_of rest)
 
 -- One more line.
 pub read_more : (bytes rest : List ℕ) (lines : List ScriptLine) → IsReadTo bytes rest lines → (text more : List ℕ) (line : ScriptLine) (now : List ScriptLine) → lines_of rest ≡ text ∷ lines_of more
@@ -66,9 +66,9 @@ read_more bytes rest lines so_far text more line now is value last = record {
       ∙ ap (λ v. all_behind (map step_of lines) (onto v (script_value more))) (sym value)
       ∙ all_behind-onto (map step_of lines) (step_of line) (script_value more)
       ∙ ap (λ ls. all_behind ls (script_value more)) (sym (map-append step_of lines (line ∷ [])) ∙ ap (map step_of) (sym last));
-  off = so_far.off ∙ ap (position_from is_off (length lines + 1)) is
-      ∙ ap (λ v. cond (is_none v) (Some (length lines + 1)) (position_from is_off (length lines + 1 + 1) (lines_of more))) (sym value)
-      ∙ ap (λ n. position_from is_off (n + 1) (lines_of more)) (sym (ap length last ∙ length_push lines line));
+  off = so_far.off ∙ ap (position_from is_bad_line (length lines + 1)) is
+      ∙ ap (λ v. cond (is_none v) (Some (length lines + 1)) (position_from is_bad_line (length lines + 1 + 1) (lines_of more))) (sym value)
+      ∙ ap (λ n. position_from is_bad_line (n + 1) (lines_of more)) (sym (ap length last ∙ length_push lines line));
 }
 
 -- At the end all is read.

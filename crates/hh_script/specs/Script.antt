@@ -33,9 +33,9 @@ abbrev pub script_value : List ℕ → Option (List Step)
 script_value bytes = all_values step_value (lines_of bytes)
 
 -- whether a line is off its form
-abbrev pub is_off : List ℕ → Bool
-is_off line = is_none (step_value line)
+abbrev pub is_bad_line : List ℕ → Bool
+is_bad_line line = is_none (step_value line)
 
 -- the number of the first line that is off its form, from 1
-abbrev pub first_off : List ℕ → Option ℕ
-first_off bytes = position_from is_off 1 (lines_of bytes)
+abbrev pub first_bad_line : List ℕ → Option ℕ
+first_bad_line bytes = position_from is_bad_line 1 (lines_of bytes)

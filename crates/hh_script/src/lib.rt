@@ -1,10 +1,10 @@
 //! The lines of a script.
 #![tactic(auto)]
 
+mod bad_word;
 mod blemish;
 mod expected;
 mod load;
-mod off_word;
 mod report;
 mod run;
 mod script;
@@ -12,10 +12,10 @@ mod script_line;
 mod serve;
 mod words;
 
+pub use bad_word::BadWord;
 pub use blemish::Blemish;
 pub use expected::Expected;
 pub use load::LoadLine;
-pub use off_word::OffWord;
 pub use report::ReportLine;
 pub use run::RunLine;
 pub use script::{ScriptFault, read_script};

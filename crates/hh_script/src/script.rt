@@ -5,7 +5,7 @@ ghost use Rattle.hh_script.specs.Steps.{step_of};
 ghost use Rattle.hh_script.specs.Script.{lines_of, script_value};
 ghost use Rattle.hh_script.specs.Faults.{IsFaultOf};
 
-use crate::off_word::OffWord;
+use crate::bad_word::BadWord;
 use crate::script_line::ScriptLine;
 use crate::words::place_of;
 use std::alloc::Global;
@@ -14,7 +14,7 @@ use std::alloc::Global;
 #[derive(Clone, Copy, Debug, PartialEq, Eq)]
 pub enum ScriptFault {
     /// The first line that is off its form, numbered from 1, and its first wrong word.
-    Off { line: usize, word: OffWord },
+    BadLine { line: usize, word: BadWord },
     /// Memory was refused.
     Memory,
 }
@@ -24,12 +24,12 @@ pub enum ScriptFault {
 ///
 /// # Errors
 ///
-/// `Off` with the number of the first line that is off its form or has a word off its grammar, and with the
+/// `BadLine` with the number of the first line that is off its form or has a word off its grammar, and with the
 /// first such word. An empty line is off its form. `Memory` may take the place of any answer.
 pub fn read_script<'a>(alloc: Global, bytes: &'a [u8]) -> Result<Vec<ScriptLine<'a>>, ScriptFault>
     ensures lines { IfOk result (λ lines.
         script_value bytes.entry.now ≡ Some (map step_of lines.items)) }
-    ensures off { IfErr result (IsFaultOf bytes.entry.now) }
+    ensures bad_line { IfErr result (IsFaultOf bytes.entry.now) }
 {
     let mut lines = Vec::new(alloc);
     let mut rest = bytes;
@@ -42,9 +42,9 @@ pub fn read_script<'a>(alloc: Global, bytes: &'a [u8]) -> Result<Vec<ScriptLine<
                 }
             }
             None => {
-                return Err(ScriptFault::Off {
+                return Err(ScriptFault::BadLine {
                     line: lines.len() + 1,
-                    word: OffWord::of(line),
+                    word: BadWord::of(line),
                 });
             }
         }

@@ -11,15 +11,15 @@ use Rattle.hh_time.specs.Days.{Midnights}
 use Rattle.hh_time.specs.Zone.{midnight_in}
 use Rattle.hh_states.specs.States.{State}
 use Rattle.hh_day.specs.Headline.{Conserves, ReachedConserve}
-use Rattle.hh_office.specs.Promises.{Stands}
-use Rattle.hh_office.specs.Refusals.{StandsForSome}
+use Rattle.hh_office.specs.Promises.{Represents}
+use Rattle.hh_office.specs.Refusals.{RepresentsSome}
 use Rattle.hh_office.specs.Views.{OfficeView, midnight_of}
 use Rattle.hh_host.specs.Views.{HostView}
 use Rattle.hh_script.specs.declared.script_line.ScriptLine.{ScriptLine}
 use Rattle.hh_script.specs.Steps.{LoadStep, RunStep, Step, step_of}
 use Rattle.hh_desk.specs.declared.told.Told.{Told}
 use Rattle.hh_desk.specs.declared.told.Told.TheVariants.{Replied, Unreadable}
-use Rattle.hh_desk.specs.Doing.{IsRefusal, LeavesRefused, LoadDoes, RunDoes, StandsNow, no_memory}
+use Rattle.hh_desk.specs.Doing.{IsRefusal, LeavesRefused, LoadDoes, RunDoes, RepresentsNow, no_memory}
 use Rattle.hh_desk.specs.GivingUp.{CountsMore}
 use Rattle.hh_desk.proofs.GivingUpLaws.{more_at_first, more_later}
 use Rattle.hh_session.specs.declared.run.LinesStop.{LinesStop}
@@ -44,20 +44,20 @@ refused_undone Unreadable refusal = absurd refusal
 
 -- What a line does that is told by one line of text, given what came of it and what was written.
 module _ (old new : OfficeView) (device : DeviceChange) (told : Told) (does : State → Told → State → Type 0) (up : (s : State) → does s no_memory s)
-    (comes : (s : State) → Stands old s → (t : State) × does s told t × StandsNow old new t) (leaves : LeavesRefused old new told) where
-  given_up : IsRefusal told → (s : State) → Stands old s → StandsNow old new s
+    (comes : (s : State) → Represents old s → (t : State) × does s told t × RepresentsNow old new t) (leaves : LeavesRefused old new told) where
+  given_up : IsRefusal told → (s : State) → Represents old s → RepresentsNow old new s
   given_up refusal s stands =
       let same : new ≡ old = leaves refusal in
-      (subst (λ o. Stands o s) (sym same) stands, ap (λ (o : OfficeView). o.zone) same)
+      (subst (λ o. Represents o s) (sym same) stands, ap (λ (o : OfficeView). o.zone) same)
 
-  pub line_done : (done : Bool) → done ≡ told_done told → TellsLine device told → (s : State) → Stands old s
-      → (text : List ℕ) × (t : State) × IsLineOf (λ given. does s given t) done text × Appends device.old device.new text × StandsNow old new t
+  pub line_done : (done : Bool) → done ≡ told_done told → TellsLine device told → (s : State) → Represents old s
+      → (text : List ℕ) × (t : State) × IsLineOf (λ given. does s given t) done text × Appends device.old device.new text × RepresentsNow old new t
   line_done done is (inl went) s stands = let (t, comes_to, now) = comes s stands in (told_line told, t, (told, comes_to, is, refl), went, now)
   line_done done is (inr (refusal, went)) s stands =
       (told_line no_memory, s, (no_memory, up s, is ∙ refused_undone told refusal, refl), went, given_up refusal s stands)
 
-  pub line_cut : BeginsLine device told → (s : State) → Stands old s
-      → (done : Bool) × (text : List ℕ) × (t : State) × IsLineOf (λ given. does s given t) done text × AppendsFront device.old device.new text × StandsNow old new t
+  pub line_cut : BeginsLine device told → (s : State) → Represents old s
+      → (done : Bool) × (text : List ℕ) × (t : State) × IsLineOf (λ given. does s given t) done text × AppendsFront device.old device.new text × RepresentsNow old new t
   line_cut (inl went) s stands = let (t, comes_to, now) = comes s stands in (told_done told, told_line told, t, (told, comes_to, refl, refl), went, now)
   line_cut (inr (refusal, went)) s stands = (false, told_line no_memory, s, (no_memory, up s, refl, refl), went, given_up refusal s stands)
 
@@ -117,16 +117,16 @@ module _ (host : HostView) (old now new : OfficeView) (first mid last : ℕ)
     {S : Type 0} (taken : S → Option (List ℕ)) (failures : S → ℕ) (before between after : S) (strict : Bool)
     (steps : List Step) (step : Step) (ran : RunsScript host (CountsMore first mid) old now (change taken failures before between) (AllDone strict) steps) where
   -- the office represents some state after the lines so far
-  pub some_between : StandsForSome old → StandsForSome now
+  pub some_between : RepresentsSome old → RepresentsSome now
   some_between (s, stands) = let (text, t, does, went, (now_stands, zone)) = ran s stands in (t, now_stands)
 
-  module _ (up : StandsForSome old → first ≤ mid) (further : StandsForSome now → mid ≤ last) where
+  module _ (up : RepresentsSome old → first ≤ mid) (further : RepresentsSome now → mid ≤ last) where
     -- the count does not fall over the lines so far and one more
-    pub up_more : StandsForSome old → first ≤ last
+    pub up_more : RepresentsSome old → first ≤ last
     up_more some = omega (arith, up some, further (some_between some))
 
     module _ (may : List Step → Bool → Type 0) (next : Step) (keeps : (behind : List Step) (done : Bool) → AllDone strict behind done → may (behind ++ next ∷ []) done) where
-      does_both : (s t u : State) (text : List ℕ) (done : Bool) (line : List ℕ) → Stands old s → Stands now t → now.zone ≡ old.zone
+      does_both : (s t u : State) (text : List ℕ) (done : Bool) (line : List ℕ) → Represents old s → Represents now t → now.zone ≡ old.zone
           → ScriptDoes host (CountsMore first mid) (midnight_of old) (AllDone strict) s steps text t
           → may [] done → StepDoes host (CountsMore mid last) (midnight_of now) t next done line u
           → ScriptDoes host (CountsMore first last) (midnight_of old) may s (steps ++ next ∷ []) (text ++ line) u
@@ -183,7 +183,7 @@ module _ (host : HostView) (old now new : OfficeView) (first mid last : ℕ)
 
 -- The office was read after some lines. Its store had counted `first` refusals at first and `last` after the lines, and counts `later` now.
 module _ (host : HostView) (old new heard : OfficeView) (same : heard ≡ new) (first last later : ℕ) (device : DeviceChange) (may : List Step → Bool → Type 0) (steps : List Step)
-    (up : StandsForSome old → first ≤ last) (further : StandsForSome new → last ≤ later) where
+    (up : RepresentsSome old → first ≤ last) (further : RepresentsSome new → last ≤ later) where
   -- it is as it was after the lines
   heard_script : RunsScript host (CountsMore first last) old new device may steps → RunsScript host (CountsMore first later) old heard device may steps
   heard_script runs s stands =
@@ -192,12 +192,12 @@ module _ (host : HostView) (old new heard : OfficeView) (same : heard ≡ new) (
         t,
         script_then (CountsMore first last) (CountsMore first later) (more_at_first first last later (up (s, stands)) (further (t, now.0))) host (midnight_of old) may s steps text t does,
         went,
-        subst (λ o. StandsNow old o t) (sym same) now,
+        subst (λ o. RepresentsNow old o t) (sym same) now,
       )
 
 -- The tables of a state that an office represents add up.
 module _ (conserve : ReachedConserve) (host : HostView) (fails : Type 0) (old new : OfficeView) (device : DeviceChange) where
-  sums_now : (t : State) → StandsNow old new t → Conserves (midnight_of old) t new.content
+  sums_now : (t : State) → RepresentsNow old new t → Conserves (midnight_of old) t new.content
   sums_now t ((reached, is), zone) =
       subst (λ z. Conserves (midnight_in (plain_zone z)) t new.content) zone
       (subst (λ content. Conserves (midnight_of new) t content) (sym is) (conserve (midnight_of new) t reached))
@@ -252,14 +252,14 @@ module _ (host : HostView) (old now new heard : OfficeView) (first mid last late
     {S : Type 0} (taken : S → Option (List ℕ)) (failures : S → ℕ) (before between after : S) (strict : Bool)
     (lines : List ScriptLine) (i : ℕ) (line : ScriptLine) (inside : i < length lines) (is : line ≡ slice_index_or lines i line)
     (ran : RunsScript host (CountsMore first mid) old now (change taken failures before between) (AllDone strict) (map step_of (take i lines)))
-    (up : StandsForSome old → first ≤ mid) (further : StandsForSome now → mid ≤ last) (done : Bool)
+    (up : RepresentsSome old → first ≤ mid) (further : RepresentsSome now → mid ≤ last) (done : Bool)
     (runs : RunsStep host (CountsMore mid last) now new (change taken failures between after) (step_of line) done)
-    (same : heard ≡ new) (more : StandsForSome new → last ≤ later) where
-  ran_up : StandsForSome old → first ≤ last
+    (same : heard ≡ new) (more : RepresentsSome new → last ≤ later) where
+  ran_up : RepresentsSome old → first ≤ last
   ran_up = up_more host old now new first mid last taken failures before between after strict (map step_of (take i lines)) (step_of line) ran up further
 
   -- the count does not fall
-  pub line_heard_up : StandsForSome old → first ≤ later
+  pub line_heard_up : RepresentsSome old → first ≤ later
   line_heard_up some =
       let (t, stands) = some_between host old now new first mid last taken failures before between after strict (map step_of (take i lines)) (step_of line) ran some in
       let (text, u, does, went, (new_stands, zone)) = runs t stands in

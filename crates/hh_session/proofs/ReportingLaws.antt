@@ -12,15 +12,15 @@ use Rattle.hh_requests.specs.declared.reply.Reply.TheVariants as reply
 use Rattle.hh_states.specs.States.{State}
 use Rattle.hh_store.specs.Reached.{AreReached}
 use Rattle.hh_office.specs.declared.report.ReportStop.TheVariants.{Refused, Write}
-use Rattle.hh_office.specs.Promises.{Stands, gives_up}
-use Rattle.hh_office.specs.Refusals.{CountsStoreFault, StandsForSome}
+use Rattle.hh_office.specs.Promises.{Represents, gives_up}
+use Rattle.hh_office.specs.Refusals.{CountsStoreFault, RepresentsSome}
 use Rattle.hh_office.specs.Reports.{ReportsAs}
 use Rattle.hh_office.specs.Views.{OfficeView, midnight_of}
 use Rattle.hh_host.specs.Views.{HostView}
 use Rattle.hh_script.specs.Reports.{ReportStep}
 use Rattle.hh_script.specs.Steps.{WriteReport}
 use Rattle.hh_desk.specs.declared.told.Told.TheVariants.{Replied}
-use Rattle.hh_desk.specs.Doing.{StandsNow}
+use Rattle.hh_desk.specs.Doing.{RepresentsNow}
 use Rattle.hh_session.specs.steps.Course.{BeginsLine, RunsStep, StopsStep, TellsLine}
 use Rattle.hh_desk.specs.GivingUp.{CountsMore}
 use Rattle.hh_session.specs.Lines.{refusal_line}
@@ -30,7 +30,7 @@ use Rattle.hh_session.proofs.CourseLaws.{appends_more}
 use Rattle.hh_desk.proofs.GivingUpLaws.{fault_where}
 
 -- an office that represents a state has the tables of a state that the machine reaches
-pub reached_by : (office : OfficeView) → StandsForSome office → AreReached office.content
+pub reached_by : (office : OfficeView) → RepresentsSome office → AreReached office.content
 reached_by office (s, stands) = (midnight_of office, s, stands)
 
 front_behind : (before between after : Option (List ℕ)) (text line : List ℕ) → Appends before between text → AppendsFront between after line → AppendsFront before after (text ++ line)
@@ -78,8 +78,8 @@ module _ {S : Type 0} (taken : S → Option (List ℕ)) (failures : S → ℕ) (
 
 -- A line that asks for a report is a step of a script that leaves the office as it is.
 module _ (host : HostView) (fails : Type 0) (old new : OfficeView) (same : new ≡ old) (device : DeviceChange) (step : ReportStep) where
-  stays : (s : State) → Stands old s → StandsNow old new s
-  stays s stands = (subst (λ o. Stands o s) (sym same) stands, ap (λ (o : OfficeView). o.zone) same)
+  stays : (s : State) → Represents old s → RepresentsNow old new s
+  stays s stands = (subst (λ o. Represents o s) (sym same) stands, ap (λ (o : OfficeView). o.zone) same)
 
   pub report_step : (done : Bool) → RunsReport fails old device step done → RunsStep host fails old new device (WriteReport step) done
   report_step done runs s stands = let (text, does, went) = runs s stands in (text, s, (does, refl), went, stays s stands)

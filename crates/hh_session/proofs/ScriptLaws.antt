@@ -16,7 +16,7 @@ use Rattle.hh_day.specs.Headline.{Conserves, ReachedConserve}
 use Rattle.hh_office.specs.Views.{OfficeView, midnight_of}
 use Rattle.hh_host.specs.Views.{HostView}
 use Rattle.hh_script.specs.Steps.{Step}
-use Rattle.hh_desk.specs.Doing.{StandsNow}
+use Rattle.hh_desk.specs.Doing.{RepresentsNow}
 use Rattle.hh_desk.specs.GivingUp.{CountsMore}
 use Rattle.hh_session.specs.declared.run.LinesStop.{LinesStop}
 use Rattle.hh_session.specs.declared.run.LinesStop.TheVariants.{Line, Output}
@@ -55,7 +55,7 @@ module _ (host : HostView) (settings : Settings) (fine : AreSettings settings) (
   first = record { zone = zone; content = content }
 
   -- the tables of the state after it add up
-  sums_now : (t : State) → StandsNow first new t → Conserves (midnight_of first) t (tables_of (midnight_of first) t)
+  sums_now : (t : State) → RepresentsNow first new t → Conserves (midnight_of first) t (tables_of (midnight_of first) t)
   sums_now t ((reached, is), same) =
       conserve (midnight_of first) t (subst (λ z. IsReached (midnight_in (plain_zone z)) t) same reached)
 

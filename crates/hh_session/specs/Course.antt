@@ -6,12 +6,12 @@ use Rattle.hh_devices.specs.Devices.{AppendsFront}
 use Rattle.hh_time.specs.Days.{Midnights}
 use Rattle.hh_states.specs.States.{State}
 use Rattle.hh_day.specs.Headline.{Conserves}
-use Rattle.hh_office.specs.Promises.{Stands}
+use Rattle.hh_office.specs.Promises.{Represents}
 use Rattle.hh_office.specs.Views.{OfficeView, midnight_of}
 use Rattle.hh_host.specs.Views.{HostView}
 use Rattle.hh_script.specs.Steps.{LoadFile, MakeRun, Serve, Step, WriteReport}
 use Rattle.hh_desk.specs.declared.told.Told.{Told}
-use Rattle.hh_desk.specs.Doing.{LoadDoes, RunDoes, StandsNow}
+use Rattle.hh_desk.specs.Doing.{LoadDoes, RunDoes, RepresentsNow}
 use Rattle.hh_session.specs.declared.run.LinesStop.{LinesStop}
 use Rattle.hh_session.specs.declared.run.LinesStop.TheVariants.{Line, Output}
 use Rattle.hh_session.specs.Lines.{told_done, told_line}
@@ -78,14 +78,14 @@ MayStopBehind strict steps number = IsTrue strict × (0 < number) × (number ≤
 module _ (host : HostView) (fails : Type 0) (old new : OfficeView) (device : DeviceChange) where
   -- steps were run from each state that the office represented, and what they write was written
   abbrev pub RunsScript : (List Step → Bool → Type 0) → List Step → Type 0
-  RunsScript may steps = (s : State) → Stands old s
-      → (text : List ℕ) × (t : State) × ScriptDoes host fails (midnight_of old) may s steps text t × Appends device.old device.new text × StandsNow old new t
+  RunsScript may steps = (s : State) → Represents old s
+      → (text : List ℕ) × (t : State) × ScriptDoes host fails (midnight_of old) may s steps text t × Appends device.old device.new text × RepresentsNow old new t
 
   -- only the first of the steps were run, the last of these was cut short, and a beginning of what they write was written
   abbrev pub StopsScript : Bool → List Step → Type 0
-  StopsScript strict steps = (s : State) → Stands old s
+  StopsScript strict steps = (s : State) → Represents old s
       → (count : ℕ) × (text : List ℕ) × (t : State)
-      × ScriptDoes host fails (midnight_of old) (AllDoneButLast strict) s (cut_after count steps) text t × AppendsFront device.old device.new text × StandsNow old new t
+      × ScriptDoes host fails (midnight_of old) (AllDoneButLast strict) s (cut_after count steps) text t × AppendsFront device.old device.new text × RepresentsNow old new t
 
   -- The steps were not run to their end. Either the output failed. Or they are strict, and those up to a line were run: all but the last of
   -- these were done, and the last was not.
@@ -99,12 +99,12 @@ module _ (host : HostView) (fails : Type 0) (old new : OfficeView) where
   -- steps were run from each state that the office represented, and in the state after them the tables add up: the rows of each run,
   -- contracts, charges with shares, the credits of units, and postings
   abbrev pub ScriptConserves : (List Step → Bool → Type 0) → List Step → Type 0
-  ScriptConserves may steps = (s : State) → Stands old s
+  ScriptConserves may steps = (s : State) → Represents old s
       → (text : List ℕ) × (t : State) × ScriptDoes host fails (midnight_of old) may s steps text t × Conserves (midnight_of old) t new.content
 
   -- the tables add up in the state after the first of the steps
   abbrev pub FirstConserve : Bool → List Step → Type 0
-  FirstConserve strict steps = (s : State) → Stands old s
+  FirstConserve strict steps = (s : State) → Represents old s
       → (count : ℕ) × (text : List ℕ) × (t : State)
       × ScriptDoes host fails (midnight_of old) (AllDoneButLast strict) s (cut_after count steps) text t × Conserves (midnight_of old) t new.content
 

@@ -15,7 +15,7 @@ use Rattle.hh_states.specs.Content.{tables_of}
 use Rattle.hh_states.specs.States.{State, empty_state}
 use Rattle.hh_day.specs.Headline.{Conserves}
 use Rattle.hh_host.specs.Views.{HostView}
-use Rattle.hh_script.specs.Script.{first_off, script_value}
+use Rattle.hh_script.specs.Script.{first_bad_line, script_value}
 use Rattle.hh_script.specs.Steps.{Step}
 use Rattle.hh_session.specs.declared.run.LinesStop.{LinesStop}
 use Rattle.hh_session.specs.declared.run.LinesStop.TheVariants.{Line, Output}
@@ -68,7 +68,7 @@ module _ (host : HostView) (path : List ℕ) where
   -- why the steps are not known: the file cannot be read, is too large, or has a line off its form; or memory was refused
   abbrev pub IsUnread : ScriptStop → Type 0
   IsUnread stop.File = host.reads path None
-  IsUnread (stop.Off line word) = (all : List ℕ) × host.reads path (Some all) × (script_value all ≡ None) × (first_off all ≡ Some line)
+  IsUnread (stop.BadLine line word) = (all : List ℕ) × host.reads path (Some all) × (script_value all ≡ None) × (first_bad_line all ≡ Some line)
   IsUnread (stop.Refused fault) = ByRefusal fault.refusal (fault ≡ memory_fault)
       ((fault ≡ plain_fault FileTooLarge) × ((all : List ℕ) × host.reads path (Some all) × (most_script_bytes < length all)))
   IsUnread (stop.Early why) = ⊥

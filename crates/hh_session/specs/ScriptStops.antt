@@ -5,7 +5,7 @@ use Rattle.hh_names.specs.Faults.{memory_fault}
 use Rattle.hh_script.specs.declared.script.ScriptFault.{ScriptFault}
 use Rattle.hh_script.specs.declared.script.ScriptFault.TheVariants as script
 use Rattle.hh_session.specs.declared.script.ScriptStop.{ScriptStop}
-use Rattle.hh_session.specs.declared.script.ScriptStop.TheVariants.{Early, File, Off, Refused}
+use Rattle.hh_session.specs.declared.script.ScriptStop.TheVariants.{Early, File, BadLine, Refused}
 
 -- why a script is not run if the bytes of its file cannot be had
 abbrev pub unread_stop : InputFault → ScriptStop
@@ -14,7 +14,7 @@ unread_stop input.Memory = Refused memory_fault
 
 -- why a script is not run if its bytes are no script
 abbrev pub fault_stop : ScriptFault → ScriptStop
-fault_stop (script.Off line word) = Off line word
+fault_stop (script.BadLine line word) = BadLine line word
 fault_stop script.Memory = Refused memory_fault
 
 -- no line of the script was run

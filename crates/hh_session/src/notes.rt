@@ -2,7 +2,7 @@
 
 ghost use Rattle.std.specs.Prelude.{◌≡◌};
 ghost use Rattle.hh_office.specs.Views.{IsSure};
-ghost use Rattle.hh_serve.specs.Serves.{CountsUp};
+ghost use Rattle.hh_http_serve.specs.Serves.{CountsUp};
 
 use hh_desk::Told;
 use hh_host::Host;

@@ -17,7 +17,7 @@ use hh_names::{Fault, Refusal};
 use hh_office::Office;
 use hh_plain_tables::PlainTables;
 use hh_rows::Settings;
-use hh_script::{OffWord, ScriptFault, ScriptLine, read_script};
+use hh_script::{BadWord, ScriptFault, ScriptLine, read_script};
 use hh_time::london;
 use std::alloc::Global;
 
@@ -31,7 +31,7 @@ pub enum ScriptStop {
     File,
     /// The first line that is off its form, numbered from 1, and the first of its words that is. Nothing
     /// was run.
-    Off { line: usize, word: OffWord },
+    BadLine { line: usize, word: BadWord },
     /// It has too many bytes (10), or memory was refused (90). Nothing was run.
     Refused(Fault),
     /// Its lines were not run to their end.
@@ -60,7 +60,7 @@ impl From<ScriptFault> for ScriptStop {
 
     fn from(fault: ScriptFault) -> ScriptStop {
         match fault {
-            ScriptFault::Off { line, word } => ScriptStop::Off { line, word },
+            ScriptFault::BadLine { line, word } => ScriptStop::BadLine { line, word },
             ScriptFault::Memory => ScriptStop::Refused(Fault::of(Refusal::Memory)),
         }
     }
@@ -83,7 +83,7 @@ impl From<LinesStop> for ScriptStop {
 ///
 /// # Errors
 ///
-/// `File`, `Off` and `Refused`, with nothing written. `Early` as for `run_lines`.
+/// `File`, `BadLine` and `Refused`, with nothing written. `Early` as for `run_lines`.
 pub fn run_script<H: Host, N: Notes, O: Sink>(
     alloc: Global,
     settings: Settings,

@@ -14,10 +14,10 @@ use Rattle.std.proofs.Math.Nat.{div-add-mod, mod-lt, pow-suc, pow-zero, one-mul,
 use Rattle.std.proofs.Math.IntN.{neg_ℤ-neg_ℤ}
 use borrow.Author.Differences.{up, down, sum_is_lem}
 use Rattle.hh_num.specs.Totals.{total}
-use Rattle.hh_share.specs.Shares.{lower_quota, remainder, leftover, comes_before, rank, share_size, effective, shares, share_of}
+use Rattle.hh_share.specs.Shares.{lower_quota, remainder, leftover, comes_before, rank, share_size, counted_weights, shares, share_of}
 use Rattle.hh_share.specs.Departure.{distance, DepartsLeast}
 use Rattle.hh_share.proofs.CountLaws.{sum_by-enumerate}
-use Rattle.hh_share.proofs.SumLaws.{effective_positive, shares_sum}
+use Rattle.hh_share.proofs.SumLaws.{counted_weights_positive, shares_sum}
 
 -- ---- products of integers
 -- the square of the integer a less b
@@ -188,10 +188,10 @@ sums_over f share a b each place (w ∷ ws) (t ∷ ts) same =
     rw (sum_by-cons (λ c. f c.0 c.1) (w, s) (zip ws ss), sum_by-cons (λ c. f c.0 c.1) (w, t) (zip ws ts), plus-times t (total (λ t. t) ts) a, plus-times t (total (λ t. t) ts) b, plus-times s (total (λ s. s) ss) a, plus-times s (total (λ s. s) ss) b) (omega (arith, ints))
 
 -- No split of an amount departs less from the quotas than the shares do, by the weights that count.
-pub shares_depart_least : (amount : ℤ) (ws : List ℕ) → DepartsLeast amount (effective ws) (shares amount ws)
+pub shares_depart_least : (amount : ℤ) (ws : List ℕ) → DepartsLeast amount (counted_weights ws) (shares amount ws)
 shares_depart_least amount [] other split = omega arith
 shares_depart_least amount (w ∷ ws) other split =
-    let vs : List ℕ = effective (w ∷ ws) in
-    let line = shares_over vs (effective_positive (w ∷ ws) (omega arith)) amount in
+    let vs : List ℕ = counted_weights (w ∷ ws) in
+    let line = shares_over vs (counted_weights_positive (w ∷ ws) (omega arith)) amount in
     let h = sums_over (λ w t. distance amount vs w t ^ 2) (share_of amount vs) line.0 line.1 line.2 0 vs other split.0 in
     omega (arith, ints, rw (shares_sum amount (w ∷ ws) (λ some. omega arith), split.1) at h)

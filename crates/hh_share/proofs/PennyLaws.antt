@@ -8,7 +8,7 @@ use Rattle.std.proofs.lemmas.List.FromFn.{length-enumerate_from}
 use Rattle.std.proofs.lemmas.List.Sums.{sum_by-le, count_by-le-length}
 use Rattle.std.proofs.Math.Nat.{mod-lt}
 use Rattle.hh_share.specs.declared.shares.Quota.{Quota}
-use Rattle.hh_share.specs.Shares.{lower_quota, remainder, leftover, rank, effective, shares, shares_by, share_of, share_size, with_sign_of}
+use Rattle.hh_share.specs.Shares.{lower_quota, remainder, leftover, rank, counted_weights, shares, shares_by, share_of, share_size, with_sign_of}
 use Rattle.hh_share.specs.steps.Shares.{sizes_by}
 use Rattle.hh_share.specs.steps.Quotas.{quota_for}
 use Rattle.hh_share.specs.Ranking.{places_before}
@@ -28,7 +28,7 @@ sizes_within size ws positive =
     subst (λ a. share_size size ws a ≤ size) (sym is) (share_size_within size ws (positive (omega arith)) k within))
 
 -- the sizes, with the sign of the amount, are the shares
-pub shares_are : (amount : ℤ) (ws vs : List ℕ) → vs ≡ effective ws → map (with_sign_of amount) (sizes_by (unsigned_abs amount) vs) ≡ shares amount ws
+pub shares_are : (amount : ℤ) (ws vs : List ℕ) → vs ≡ counted_weights ws → map (with_sign_of amount) (sizes_by (unsigned_abs amount) vs) ≡ shares amount ws
 shares_are amount ws vs vs_is = joined (enumerate_from 0 vs) ∙ ap (shares_by amount) vs_is
   where
     joined : (cs : List (ℕ × ℕ)) → map (with_sign_of amount) (map (share_size (unsigned_abs amount) vs) cs) ≡ map (share_of amount vs) cs

@@ -9,9 +9,9 @@ use Rattle.std.proofs.Math.Nat.{mul_comm, add-mul, div-add-mod, mod-lt}
 use Rattle.std.proofs.Math.IntN.{neg_ℤ-+ℤ, negsuc-*ℤ-pos}
 use Rattle.hh_tables.proofs.TableLaws.{false_is_not_true}
 use Rattle.hh_num.proofs.SizeLaws.{unsigned_abs-neg, unsigned_abs-sub, neg-mul}
-use Rattle.hh_share.specs.Shares.{lower_quota, remainder, leftover, comes_before, rank, share_size, effective, shares, share_of, IsQuotaRounded, AreQuotasRounded}
+use Rattle.hh_share.specs.Shares.{lower_quota, remainder, leftover, comes_before, rank, share_size, counted_weights, shares, share_of, IsQuotaRounded, AreQuotasRounded}
 use Rattle.hh_share.proofs.CountLaws.{count_by-map, sum_by-enumerate}
-use Rattle.hh_share.proofs.SumLaws.{length-effective, length-shares, effective_positive, some_over, leftover_few, gets_more}
+use Rattle.hh_share.proofs.SumLaws.{length-counted_weights, length-shares, counted_weights_positive, some_over, leftover_few, gets_more}
 
 -- a test counts no more than the test or another
 or_more : (a b : Bool) → cond a 1 0 ≤ cond (a || b) 1 0
@@ -98,7 +98,7 @@ module _ (ws : List ℕ) (positive : 0 < sum ws) where
       (share_rounded amount place v) (shares_rounded amount (place + 1) vs)
 
 -- by the weights that count, each share is the quota of its weight, rounded
-pub quotas_rounded : (amount : ℤ) (ws : List ℕ) → AreQuotasRounded amount (effective ws) (shares amount ws)
+pub quotas_rounded : (amount : ℤ) (ws : List ℕ) → AreQuotasRounded amount (counted_weights ws) (shares amount ws)
 quotas_rounded amount [] = (refl, λ k d lt. absurd (omega arith))
 quotas_rounded amount (w ∷ ws) =
-    (length-shares amount (w ∷ ws) ∙ sym (length-effective (w ∷ ws)), shares_rounded (effective (w ∷ ws)) (effective_positive (w ∷ ws) (omega arith)) amount 0 (effective (w ∷ ws)))
+    (length-shares amount (w ∷ ws) ∙ sym (length-counted_weights (w ∷ ws)), shares_rounded (counted_weights (w ∷ ws)) (counted_weights_positive (w ∷ ws) (omega arith)) amount 0 (counted_weights (w ∷ ws)))

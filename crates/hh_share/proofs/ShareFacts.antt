@@ -7,12 +7,12 @@ use Rattle.std.proofs.lemmas.List.Folds.{fold-map}
 use Rattle.std.proofs.lemmas.List.{length-map, get_or-map}
 use Rattle.std.proofs.lemmas.Simd.{splat_is_map}
 use Rattle.hh_share.specs.declared.shares.Quota.{Quota}
-use Rattle.hh_share.specs.Shares.{lower_quota, effective}
+use Rattle.hh_share.specs.Shares.{lower_quota, counted_weights}
 use Rattle.hh_share.specs.steps.Quotas.{quota_for}
 use Rattle.hh_share.proofs.SumLaws.{lower_quotas_fit}
 
 -- if all weights are 0, the weights that count are ones
-pub all_ones : (n : ℕ) (ws : List ℕ) → n ≡ length ws → list_all (λ w. w == 0) ws ≡ true → replicate {A = ℕ} n 1 ≡ effective ws
+pub all_ones : (n : ℕ) (ws : List ℕ) → n ≡ length ws → list_all (λ w. w == 0) ws ≡ true → replicate {A = ℕ} n 1 ≡ counted_weights ws
 all_ones n ws e zeros = splat_is_map ws n 1 (sym e) ∙ sym (ap (λ b. cond b (map (λ w. 1) ws) ws) zeros)
 
 -- the sum of the whole pence of quotas

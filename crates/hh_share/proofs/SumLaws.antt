@@ -10,7 +10,7 @@ use Rattle.std.proofs.lemmas.Bool.{lt-ltb, le-ltb, eqb-false}
 use Rattle.std.proofs.Math.Nat.{add-mul, mul-add, mul_comm, div-add-mod, le_of_mul-le-mul_right}
 use Rattle.hh_num.specs.Totals.{total}
 use Rattle.hh_num.proofs.TotalLaws.{total-map, total-neg}
-use Rattle.hh_share.specs.Shares.{lower_quota, remainder, leftover, rank, share_of, share_size, effective, shares, with_sign_of, SumsTo}
+use Rattle.hh_share.specs.Shares.{lower_quota, remainder, leftover, rank, share_of, share_size, counted_weights, shares, with_sign_of, SumsTo}
 use Rattle.hh_share.proofs.CountLaws.{claimant_is, count_by-map, enumerate-map, sum_by-enumerate, sum_by-plus}
 use Rattle.hh_share.proofs.RankLaws.{ranks_below}
 
@@ -123,22 +123,22 @@ own_sign (pos n) = ap (λ b. cond b (neg_ℤ (pos n)) (pos n)) (le-ltb n 0 (omeg
 own_sign (negsuc n) = refl
 
 -- if there is a weight, the weights that count are not all 0
-pub effective_positive : (ws : List ℕ) → 0 < length ws → 0 < sum (effective ws)
-effective_positive [] h = absurd (omega arith)
-effective_positive (w ∷ ws) h =
+pub counted_weights_positive : (ws : List ℕ) → 0 < length ws → 0 < sum (counted_weights ws)
+counted_weights_positive [] h = absurd (omega arith)
+counted_weights_positive (w ∷ ws) h =
     elim (list_all (λ v. v == 0) (w ∷ ws)) as (λ b. list_all (λ v. v == 0) (w ∷ ws) ≡ b → 0 < sum (cond b (map (λ v. 1) (w ∷ ws)) (w ∷ ws))) [
       | true ↦ λ e. (let h : sum (map (λ v. 1) (w ∷ ws)) ≡ 1 + sum (map (λ v. 1) ws) = sum_by-cons (λ v. v) 1 (map (λ v. 1) ws) in omega arith)
       | false ↦ λ e. (let h : (sum (w ∷ ws) == 0) ≡ false = sum_by-zero (λ v. v) (w ∷ ws) ∙ e in let n : sum (w ∷ ws) ≢ 0 = eqb-false (sum (w ∷ ws)) 0 h in omega arith)
     ] refl
 
 -- there are as many weights that count as weights
-pub length-effective : (ws : List ℕ) → length (effective ws) ≡ length ws
-length-effective ws =
+pub length-counted_weights : (ws : List ℕ) → length (counted_weights ws) ≡ length ws
+length-counted_weights ws =
     elim (list_all (λ v. v == 0) ws) as (λ b. length (cond b (map (λ v. 1) ws) ws) ≡ length ws) [ true ↦ length-map ws (λ v. 1) | false ↦ refl ]
 
 -- if there are weights that count, they are not all 0
-pub effective_some : (ws : List ℕ) → 0 < length (effective ws) → 0 < sum (effective ws)
-effective_some ws h = effective_positive ws (subst (λ n. 0 < n) (length-effective ws) h)
+pub counted_weights_some : (ws : List ℕ) → 0 < length (counted_weights ws) → 0 < sum (counted_weights ws)
+counted_weights_some ws h = counted_weights_positive ws (subst (λ n. 0 < n) (length-counted_weights ws) h)
 
 -- the shares sum to the amount
 pub shares_sum : (amount : ℤ) (ws : List ℕ) → (amount ≢ pos 0 → 0 < length ws) → SumsTo amount (shares amount ws)
@@ -146,17 +146,17 @@ shares_sum (pos zero) [] some = refl
 shares_sum (pos (suc n)) [] some = absurd (let h : 0 < 0 = some (λ e. cc) in omega arith)
 shares_sum (negsuc n) [] some = absurd (let h : 0 < 0 = some (λ e. cc) in omega arith)
 shares_sum amount (w ∷ ws) some =
-    total-map (λ s. s) (share_of amount (effective (w ∷ ws))) (enumerate_from 0 (effective (w ∷ ws)))
-    ∙ total-signed amount (share_size (unsigned_abs amount) (effective (w ∷ ws))) (enumerate_from 0 (effective (w ∷ ws)))
-    ∙ ap (with_sign_of amount) (share_sizes_sum (unsigned_abs amount) (effective (w ∷ ws)) (effective_positive (w ∷ ws) (omega arith)))
+    total-map (λ s. s) (share_of amount (counted_weights (w ∷ ws))) (enumerate_from 0 (counted_weights (w ∷ ws)))
+    ∙ total-signed amount (share_size (unsigned_abs amount) (counted_weights (w ∷ ws))) (enumerate_from 0 (counted_weights (w ∷ ws)))
+    ∙ ap (with_sign_of amount) (share_sizes_sum (unsigned_abs amount) (counted_weights (w ∷ ws)) (counted_weights_positive (w ∷ ws) (omega arith)))
     ∙ own_sign amount
 
 -- there are as many shares as weights
 pub length-shares : (amount : ℤ) (ws : List ℕ) → length (shares amount ws) ≡ length ws
 length-shares amount ws =
-    length-map (enumerate_from 0 (effective ws)) (share_of amount (effective ws))
-    ∙ length-enumerate_from 0 (effective ws)
-    ∙ length-effective ws
+    length-map (enumerate_from 0 (counted_weights ws)) (share_of amount (counted_weights ws))
+    ∙ length-enumerate_from 0 (counted_weights ws)
+    ∙ length-counted_weights ws
 
 -- a sign leaves the size
 size-signed : (z : ℤ) (n : ℕ) → unsigned_abs (with_sign_of z n) ≡ n
@@ -166,9 +166,9 @@ size-signed z (suc n) = elim (int_lt z (pos 0)) as (λ b. unsigned_abs (cond b (
 -- no share is larger in size than the amount
 pub shares_within : (amount : ℤ) (ws : List ℕ) → All (λ s. unsigned_abs s ≤ unsigned_abs amount) (shares amount ws)
 shares_within amount ws = λ place d lt.
-    let vs : List ℕ = effective ws in
+    let vs : List ℕ = counted_weights ws in
     let listed : place < length (enumerate_from 0 vs) = subst (λ n. place < n) (length-map (enumerate_from 0 vs) (share_of amount vs)) lt in
     let inside : place < length vs = subst (λ n. place < n) (length-enumerate_from 0 vs) listed in
     let share_is = get_or-map (share_of amount vs) (enumerate_from 0 vs) place (0, 0) d listed ∙ ap (share_of amount vs) (claimant_is vs place inside) in
     let size_is = ap unsigned_abs share_is ∙ size-signed amount (share_size (unsigned_abs amount) vs (place, get_or vs place 0)) in
-    subst (λ n. n ≤ unsigned_abs amount) (sym size_is) (share_size_within (unsigned_abs amount) vs (effective_some ws (omega arith)) place inside)
+    subst (λ n. n ≤ unsigned_abs amount) (sym size_is) (share_size_within (unsigned_abs amount) vs (counted_weights_some ws (omega arith)) place inside)

@@ -4,8 +4,8 @@ use Rattle.std.specs.List.{enumerate_from, list_all, zip}
 use Rattle.hh_num.specs.Totals.{total}
 
 -- the weights that count: each counts as 1 if all are 0
-abbrev pub effective : List ℕ → List ℕ
-effective weights = if list_all (λ w. w == 0) weights then map (λ w. 1) weights else weights
+abbrev pub counted_weights : List ℕ → List ℕ
+counted_weights weights = if list_all (λ w. w == 0) weights then map (λ w. 1) weights else weights
 
 -- Of two places with their remainders, b comes before a: its remainder is larger, or equal with an earlier place.
 abbrev pub comes_before : ℕ × ℕ → ℕ × ℕ → Bool
@@ -48,7 +48,7 @@ shares_by amount weights = map (share_of amount weights) (enumerate_from 0 weigh
 
 -- the shares of an amount of pence: by the weights that count
 abbrev pub shares : ℤ → List ℕ → List ℤ
-shares amount weights = shares_by amount (effective weights)
+shares amount weights = shares_by amount (counted_weights weights)
 
 -- the pence of a split sum to this amount
 abbrev pub SumsTo : ℤ → List ℤ → Type 0

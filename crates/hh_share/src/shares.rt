@@ -2,7 +2,7 @@
 
 ghost use Rattle.std.specs.Prelude.{◌≡◌, ◌==◌, ℕ, ◌<◌, ◌≤◌, ◌^◌, ◌-◌, ◌*◌, ◌/◌, ◌%◌, ◌≢◌, pos, unsigned_abs, nat_le, nat_lt, if◌then◌else◌, ◌+◌, length, map, replicate, count_by, sum, sum_by, All, IfOk};
 ghost use Rattle.std.specs.List.{list_all};
-ghost use Rattle.hh_share.specs.Shares.{effective, shares, with_sign_of, AreQuotasRounded, SumsTo};
+ghost use Rattle.hh_share.specs.Shares.{counted_weights, shares, with_sign_of, AreQuotasRounded, SumsTo};
 ghost use Rattle.hh_share.specs.steps.Shares.{sizes_by};
 ghost use Rattle.hh_share.specs.Departure.{DepartsLeast};
 ghost use Rattle.hh_share.specs.steps.Quotas.{quota_for};
@@ -28,8 +28,8 @@ fn are_all_zero(weights: &[u64]) -> bool
 }
 
 /// The weights that count: each counts as 1 if all are 0.
-fn effective_weights(alloc: Global, weights: &[u64]) -> Result<Vec<u64>, AllocError>
-    ensures { IfOk result (λ v. v.items ≡ effective weights.now) }
+fn counted_weights(alloc: Global, weights: &[u64]) -> Result<Vec<u64>, AllocError>
+    ensures { IfOk result (λ v. v.items ≡ counted_weights weights.now) }
 {
     if are_all_zero(weights) {
         ones(alloc, weights.len())
@@ -175,10 +175,11 @@ pub fn apportion(alloc: Global, total: i64, weights: &[u64]) -> Result<Vec<i64>,
     ensures length { IfOk result (λ v. length v.items ≡ length weights.now) }
     ensures sum { IfOk result (λ v. SumsTo total v.items) }
     ensures within { IfOk result (λ v. All (λ s. unsigned_abs s ≤ unsigned_abs total) v.items) }
-    ensures quota { IfOk result (λ v. AreQuotasRounded total (effective weights.now) v.items) }
-    ensures least { IfOk result (λ v. DepartsLeast total (effective weights.now) v.items) }
+    ensures quota { IfOk result (λ v.
+        AreQuotasRounded total (counted_weights weights.now) v.items) }
+    ensures least { IfOk result (λ v. DepartsLeast total (counted_weights weights.now) v.items) }
 {
-    let weights = effective_weights(alloc, weights)?;
+    let weights = counted_weights(alloc, weights)?;
     let sizes = sizes_of(alloc, total.unsigned_abs(), &weights)?;
     with_sign(alloc, total, &sizes)
 }

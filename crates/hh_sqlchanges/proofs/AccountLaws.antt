@@ -6,7 +6,7 @@ use Rattle.hh_calc.specs.declared.result.AccountRow.{AccountRow}
 use Rattle.hh_calc.specs.Terms.{Settled}
 use Rattle.hh_runs.specs.declared.run_key.RunKey.{RunKey}
 use Rattle.hh_states.specs.declared.run_keys.ResultKey.{ResultKey}
-use Rattle.hh_states.specs.Changes.{RunWrites}
+use Rattle.hh_states.specs.Changes.{RunChangeView}
 use Rattle.hh_states.specs.Content.{result_entries, result_key}
 use Rattle.hh_states.specs.Runs.{settled_by}
 use Rattle.hh_states.specs.Steps.{new_run, timetable_at}
@@ -24,4 +24,4 @@ entries_of_own run [] = All-nil IsOfItsAccount
 entries_of_own run (q ∷ day) = All-append IsOfItsAccount (map (λ r. (result_key run q.0 r, r)) q.1.accounts) (result_entries run day) (period_of_own run q.0 q.1.accounts) (entries_of_own run day)
 
 pub of_their_accounts : RowsOfTheirAccounts
-of_their_accounts midnight content w (s, moment, key, stands, can, is) = subst (λ (v : RunWrites). AreOfTheirAccounts v.results) (sym is) (entries_of_own key (settled_by (timetable_at midnight s) s.history (new_run s key)))
+of_their_accounts midnight content w (s, moment, key, stands, can, is) = subst (λ (v : RunChangeView). AreOfTheirAccounts v.results) (sym is) (entries_of_own key (settled_by (timetable_at midnight s) s.history (new_run s key)))

@@ -17,7 +17,7 @@ use Rattle.hh_rules.specs.History.{Registered}
 use Rattle.hh_rules.specs.Positions.{position_key_cmp}
 use Rattle.hh_rules.specs.declared.positions.Position.{Position}
 use Rattle.hh_rules.specs.declared.positions.PositionKey.{PositionKey}
-use Rattle.hh_states.specs.Changes.{LoadWrites, RunWrites, effect_of_load}
+use Rattle.hh_states.specs.Changes.{LoadChangeView, RunChangeView, effect_of_load}
 use Rattle.hh_state_laws.proofs.RisingLaws.{filter-map}
 use Rattle.hh_keyed_rows.specs.declared.no_columns.NoColumns.{NoColumns}
 use Rattle.hh_beside.specs.Beside.{is_among}
@@ -107,7 +107,7 @@ pub marked_anew : {X E : Type 0} (changed : List (PositionKey × Position)) (per
     → WritesBeside changed periods old mid → OnOk result (Puts forms.marks (record {}) true mid new) → OnOk result (WritesBesideAnew changed periods old new)
 marked_anew changed periods old mid new result written = on_ok_weaker result (mark_put changed periods old mid new written)
 
-pub load_changed : {X E : Type 0} (w : LoadWrites) (changed : List (PositionKey × Position)) (periods : List SettlementPeriod) (old mid new : Database) (result : Result X E)
+pub load_changed : {X E : Type 0} (w : LoadChangeView) (changed : List (PositionKey × Position)) (periods : List SettlementPeriod) (old mid new : Database) (result : Result X E)
     → Becomes (effect_of_load w) old mid → OnOk result (WritesBeside changed periods mid new) → OnOk result (ChangesByLoad w changed periods old new)
 load_changed w changed periods old mid new result stored = on_ok_weaker result (λ written. record {
   stores = record {
@@ -120,7 +120,7 @@ load_changed w changed periods old mid new result stored = on_ok_weaker result (
 
 -- ---- beside a run
 
-run_untouched : (w : RunWrites) (old mid new : Database) → StoresRunAlone w old mid → Removes forms.touched (λ at. at.date == w.key.date) mid new → ChangesByRun w old new
+run_untouched : (w : RunChangeView) (old mid new : Database) → StoresRunAlone w old mid → Removes forms.touched (λ at. at.date == w.key.date) mid new → ChangesByRun w old new
 run_untouched w old mid new stored removed = record {
   stores = record {
     stays = stays_then old mid new stored.stores.stays (stays_office 28 mid new removed.is_office removed.others (omega arith) (omega arith));
@@ -130,18 +130,18 @@ run_untouched w old mid new stored removed = record {
   touched = ap (map (λ e. e.0)) removed.rows ∙ (sym (filter-map (λ at. not (at.date == w.key.date)) (λ e. e.0) _) ∙ ap (λ b. filter (λ at. not (at.date == w.key.date)) b.touched) stored.beside);
 }
 
-pub run_changed : {X E : Type 0} (w : RunWrites) (date : ℕ) → date ≡ w.key.date → (old mid new : Database) (result : Result X E) → StoresRunAlone w old mid
+pub run_changed : {X E : Type 0} (w : RunChangeView) (date : ℕ) → date ≡ w.key.date → (old mid new : Database) (result : Result X E) → StoresRunAlone w old mid
     → OnOk result (Removes forms.touched (λ at. at.date == date) mid new) → OnOk result (ChangesByRun w old new)
 run_changed w date is old mid new result stored = on_ok_weaker result (λ removed. run_untouched w old mid new stored
     (subst (λ (d : ℕ). Removes forms.touched (λ at. at.date == d) mid new) is removed))
 
 -- ---- what is kept beside the content is as it should be after the load or the run
 
-pub alike_after_load : (w : LoadWrites) (tables : Registered) (changed : List (PositionKey × Position)) (periods : List SettlementPeriod) (old new : Database) → ChangesByLoad w changed periods old new
+pub alike_after_load : (w : LoadChangeView) (tables : Registered) (changed : List (PositionKey × Position)) (periods : List SettlementPeriod) (old new : Database) → ChangesByLoad w changed periods old new
     → put_all position_key_cmp changed (beside_in old.trees).positions ≡ positions_with w.rows tables.contracts (beside_in old.trees).positions → HaveTheSame periods (filter_map touched_by w.rows)
     → AreAlike (beside_in new.trees) (beside_with_load w tables (beside_in old.trees))
 alike_after_load w tables changed periods old new changes positions same =
     (changes.positions ∙ positions, λ at. changes.touched at ∙ same_with_more periods (filter_map touched_by w.rows) (beside_in old.trees).touched same at)
 
-pub alike_after_run : (w : RunWrites) (old new : Database) → ChangesByRun w old new → AreAlike (beside_in new.trees) (beside_with_run w (beside_in old.trees))
+pub alike_after_run : (w : RunChangeView) (old new : Database) → ChangesByRun w old new → AreAlike (beside_in new.trees) (beside_with_run w (beside_in old.trees))
 alike_after_run w old new changes = (changes.positions, λ at. ap (λ ps. is_among ps at) changes.touched)

@@ -1,5 +1,6 @@
 pub mod AccountLaws
 pub mod BesideLaws
+pub mod GroupLaws
 pub mod LoadLaws
 pub mod RunLaws
 pub mod StayLaws

@@ -16,9 +16,9 @@ use Rattle.hh_rows.specs.declared.rows.Row.TheVariants as row
 use Rattle.hh_rows.specs.declared.rows.UnitRow.{UnitRow}
 use Rattle.hh_rules.specs.History.{Registered}
 use Rattle.hh_states.specs.declared.file_key.FileKey.{FileKey}
-use Rattle.hh_states.specs.Changes.{LoadWrites, effect_of_load, put_row, put_rows}
+use Rattle.hh_states.specs.Changes.{LoadChangeView, effect_of_load, put_row, put_rows}
 use Rattle.hh_states.specs.Content.{Content}
-use Rattle.hh_states.specs.States.{AcceptedFile, file_key_cmp}
+use Rattle.hh_states.specs.States.{KeptFileView, file_key_cmp}
 use Rattle.hh_sqlrows.specs.Contents.{result_of}
 use Rattle.hh_sqlrows.specs.Forms.{Puts, PutsAll}
 use Rattle.hh_sqlrows.specs.OfficeTables as forms
@@ -108,14 +108,14 @@ rows_more rs r old mid new all one =
 
 -- ---- the whole load
 
-abbrev with_file : FileKey → AcceptedFile → Content → Content
+abbrev with_file : FileKey → KeptFileView → Content → Content
 with_file key file c = record c { files = put file_key_cmp key file c.files }
 
 abbrev with_references : List (List ℕ × Counterparties) → Content → Content
 with_references es c = record c { registered = record (c.registered) { references = put_all bytes_cmp es c.registered.references } }
 
 module _ (old new : Database) where
-  file_put : (key : FileKey) (file : AcceptedFile) → Puts forms.files key file old new → Becomes (with_file key file) old new
+  file_put : (key : FileKey) (file : KeptFileView) → Puts forms.files key file old new → Becomes (with_file key file) old new
   file_put key file puts = record {
     stays = stays_office 16 old new puts.is_office puts.others (omega arith) (omega arith);
     content = λ kept i. record {
@@ -147,23 +147,23 @@ references_stand : (rs : List Row) (tables : Registered) → (put_rows rs tables
 references_stand [] tables = refl
 references_stand (r ∷ rs) tables = references_stand rs (put_row r tables)
 
-whole_load : (w : LoadWrites) (c : Content) → with_references w.references (with_file_rows w.rows (with_file w.key w.file c)) ≡ effect_of_load w c
+whole_load : (w : LoadChangeView) (c : Content) → with_references w.references (with_file_rows w.rows (with_file w.key w.file c)) ≡ effect_of_load w c
 whole_load w c = ap (λ references. record c {
   registered = record (put_rows w.rows c.registered) { references = put_all bytes_cmp w.references references };
   files = put file_key_cmp w.key w.file c.files;
 }) (references_stand w.rows c.registered)
 
-load_written : (w : LoadWrites) (old first second new : Database) → Puts forms.files w.key w.file old first → Becomes (with_file_rows w.rows) first second → PutsAll forms.references w.references second new → Becomes (effect_of_load w) old new
+load_written : (w : LoadChangeView) (old first second new : Database) → Puts forms.files w.key w.file old first → Becomes (with_file_rows w.rows) first second → PutsAll forms.references w.references second new → Becomes (effect_of_load w) old new
 load_written w old first second new file rows references =
     becomes_as (λ c. with_references w.references (with_file_rows w.rows (with_file w.key w.file c))) (effect_of_load w) old new (whole_load w)
     (becomes_then (λ c. with_file_rows w.rows (with_file w.key w.file c)) (with_references w.references) old second new
     (becomes_then (with_file w.key w.file) (with_file_rows w.rows) old first second (file_put old first w.key w.file file) rows)
     (references_put second new w.references references))
 
-pub load_made : {X E : Type 0} (w : LoadWrites) (key : FileKey) (file : AcceptedFile) (rows : List Row) (references : List (List ℕ × Counterparties))
+pub load_made : {X E : Type 0} (w : LoadChangeView) (key : FileKey) (file : KeptFileView) (rows : List Row) (references : List (List ℕ × Counterparties))
     → key ≡ w.key → file ≡ w.file → rows ≡ w.rows → references ≡ w.references → (old first second new : Database) (result : Result X E)
     → Puts forms.files key file old first → Becomes (with_file_rows rows) first second → OnOk result (PutsAll forms.references references second new) → OnOk result (Becomes (effect_of_load w) old new)
 load_made w key file rows references is_key is_file is_rows is_references old first second new result filed rowed referred = on_ok_weaker result (λ put. load_written w old first second new
-    (subst (λ (k : FileKey). Puts forms.files k w.file old first) is_key (subst (λ (f : AcceptedFile). Puts forms.files key f old first) is_file filed))
+    (subst (λ (k : FileKey). Puts forms.files k w.file old first) is_key (subst (λ (f : KeptFileView). Puts forms.files key f old first) is_file filed))
     (subst (λ (rs : List Row). Becomes (with_file_rows rs) first second) is_rows rowed)
     (subst (λ (es : List (List ℕ × Counterparties)). PutsAll forms.references es second new) is_references put)) referred

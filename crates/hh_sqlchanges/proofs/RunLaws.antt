@@ -14,7 +14,7 @@ use Rattle.hh_runs.specs.declared.summary.Summary.{Summary}
 use Rattle.hh_states.specs.declared.run_keys.CreditKey.{CreditKey}
 use Rattle.hh_states.specs.declared.run_keys.PostingKey.{PostingKey}
 use Rattle.hh_states.specs.declared.run_keys.ResultKey.{ResultKey}
-use Rattle.hh_states.specs.Changes.{RunWrites}
+use Rattle.hh_states.specs.Changes.{RunChangeView}
 use Rattle.hh_states.specs.Content.{Content, credit_key_cmp, posting_key_cmp, result_key_cmp}
 use Rattle.hh_states.specs.Runs.{run_key_cmp}
 use Rattle.hh_states.proofs.KeyLaws.{exact_result_keys}
@@ -124,7 +124,7 @@ module _ (old new : Database) where
 
 -- ---- the whole run
 
-run_written : (w : RunWrites) (old first second third new : Database) → Puts forms.runs w.key w.summary old first → PutsAll forms.results (map forms.amount_entry w.results) first second
+run_written : (w : RunChangeView) (old first second third new : Database) → Puts forms.runs w.key w.summary old first → PutsAll forms.results (map forms.amount_entry w.results) first second
     → PutsAll forms.credits w.credits second third → PutsAll forms.postings w.postings third new → StoresRunAlone w old new
 run_written w old first second third new run results credits postings =
     let one = run_put old first w.key w.summary run in
@@ -142,7 +142,7 @@ run_written w old first second third new run results credits postings =
       beside = four.beside ∙ (three.beside ∙ (beside_kept 20 first.trees second.trees results.others (omega arith) ∙ one.beside));
     }
 
-pub run_made : {X E : Type 0} (w : RunWrites) (key : RunKey) (summary : Summary) (results : List (ResultKey × AccountRow)) (credits : List (CreditKey × ℤ)) (postings : List (PostingKey × ℤ))
+pub run_made : {X E : Type 0} (w : RunChangeView) (key : RunKey) (summary : Summary) (results : List (ResultKey × AccountRow)) (credits : List (CreditKey × ℤ)) (postings : List (PostingKey × ℤ))
     → key ≡ w.key → summary ≡ w.summary → results ≡ w.results → credits ≡ w.credits → postings ≡ w.postings → (old first second third new : Database) (result : Result X E)
     → Puts forms.runs key summary old first → PutsAll forms.results (map forms.amount_entry results) first second → PutsAll forms.credits credits second third
     → OnOk result (PutsAll forms.postings postings third new) → OnOk result (StoresRunAlone w old new)

@@ -7,7 +7,7 @@ use Rattle.hh_rows.specs.declared.settlement_period.SettlementPeriod.{Settlement
 use Rattle.hh_rules.specs.Positions.{position_key_cmp}
 use Rattle.hh_rules.specs.declared.positions.Position.{Position}
 use Rattle.hh_rules.specs.declared.positions.PositionKey.{PositionKey}
-use Rattle.hh_states.specs.Changes.{LoadWrites, RunWrites, effect_of_load, effect_of_run}
+use Rattle.hh_states.specs.Changes.{LoadChangeView, RunChangeView, effect_of_load, effect_of_run}
 use Rattle.hh_beside.specs.DayLaws.{HaveTheSame}
 use Rattle.hh_sqlrows.specs.Contents.{beside_in, content_of, mark_in}
 use Rattle.hh_sqlrows.specs.Forms.{rows_under_keys}
@@ -22,26 +22,26 @@ pub record StaysOffice (old new : Database) : Type 0 where
   pub mark : rows_under_keys forms.marks new.trees ≡ rows_under_keys forms.marks old.trees
 
 -- The load is written: the content is the content after the load.
-pub record StoresLoad (w : LoadWrites) (old new : Database) : Type 0 where
+pub record StoresLoad (w : LoadChangeView) (old new : Database) : Type 0 where
   pub stays : StaysOffice old new
   pub content : (kept : Settings) → content_of kept new.trees ≡ effect_of_load w (content_of kept old.trees)
 
 -- The run is written: the content is the content after the run, if each of the run's rows is for the account that its key names.
-pub record StoresRun (w : RunWrites) (old new : Database) : Type 0 where
+pub record StoresRun (w : RunChangeView) (old new : Database) : Type 0 where
   pub stays : StaysOffice old new
   pub content : AreOfTheirAccounts w.results
       → (kept : Settings) → content_of kept new.trees ≡ effect_of_run w (content_of kept old.trees)
 
 -- The load is written. Beside the content, these positions replace those with their keys, and these Settlement Periods are touched as well
 -- as those that were.
-pub record ChangesByLoad (w : LoadWrites) (changed : List (PositionKey × Position)) (periods : List SettlementPeriod)
+pub record ChangesByLoad (w : LoadChangeView) (changed : List (PositionKey × Position)) (periods : List SettlementPeriod)
     (old new : Database) : Type 0 where
   pub stores : StoresLoad w old new
   pub positions : (beside_in new.trees).positions ≡ put_all position_key_cmp changed (beside_in old.trees).positions
   pub touched : HaveTheSame (beside_in new.trees).touched (periods ++ (beside_in old.trees).touched)
 
 -- The run is written. Beside the content, the positions are as they were, and no Settlement Period of the run's date is touched any more.
-pub record ChangesByRun (w : RunWrites) (old new : Database) : Type 0 where
+pub record ChangesByRun (w : RunChangeView) (old new : Database) : Type 0 where
   pub stores : StoresRun w old new
   pub positions : (beside_in new.trees).positions ≡ (beside_in old.trees).positions
   pub touched : (beside_in new.trees).touched ≡ filter (λ at. not (at.date == w.key.date)) (beside_in old.trees).touched

@@ -2,6 +2,7 @@
 #![tactic(auto)]
 
 mod beside_writing;
+mod file_rows;
 mod load_writing;
 mod own_accounts;
 mod run_writing;

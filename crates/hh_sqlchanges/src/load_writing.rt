@@ -7,16 +7,13 @@ ghost use Rattle.hh_sqlrows.specs.Statements.{CommitsNothing, Inside, KeepsCommi
 ghost use Rattle.hh_states.specs.Changes.{effect_of_load};
 ghost use Rattle.hh_sqlchanges.specs.Writes.{ChangesByLoad};
 ghost use Rattle.hh_sqlchanges.specs.steps.Becoming.{Becomes};
-ghost use Rattle.hh_sqlchanges.specs.steps.FileRows.{with_file_row, with_file_rows};
 
 use crate::beside_writing::write_beside;
+use crate::file_rows::write_file_rows;
 use hh_keyed_rows::RowFault;
-use hh_rows::{Row, SettlementPeriod};
+use hh_rows::SettlementPeriod;
 use hh_rules::{Position, PositionKey};
-use hh_sqlrows::{
-    replace_contract, replace_file, replace_meter, replace_party, replace_price,
-    replace_reallocation, replace_references, replace_unit,
-};
+use hh_sqlrows::{replace_file, replace_references};
 use hh_store::LoadChange;
 use sqlite::{Alter, Transaction};
 use std::alloc::Global;
@@ -67,54 +64,4 @@ fn write_content<S: Alter>(
     replace_file(tx, alloc, &change.key(), change.file())?;
     write_file_rows(tx, alloc, change.rows())?;
     replace_references(tx, alloc, change.references())
-}
-
-/// Writes rows of a file, one after the other.
-fn write_file_rows<S: Alter>(
-    tx: &mut Transaction<'_, S>,
-    alloc: Global,
-    rows: &[Row],
-) -> Result<(), RowFault>
-    ensures same_reference { tx.new.conn.ghost_name ≡ tx.old.conn.ghost_name }
-    ensures writes { let old = state S.Store tx.old.conn.now in
-        let new = state S.Store tx.new.conn.now in
-        Inside old new (IsOffice old.now
-        → OnOk result (Becomes (with_file_rows rows.now) old.now new.now)) }
-    ensures inside { StaysInside (state S.Store tx.old.conn.now)
-        (state S.Store tx.new.conn.now) result }
-    ensures left { KeepsCommit (state S.Store tx.old.conn.now) (state S.Store tx.new.conn.now) }
-    ensures survives { CommitsNothing (state S.Store tx.old.conn.now)
-        (state S.Store tx.new.conn.now) }
-{
-    'rows: for row in rows {
-        write_file_row(tx, alloc, row)?;
-    }
-    Ok(())
-}
-
-/// Writes a row of a file into the table of its kind.
-fn write_file_row<S: Alter>(
-    tx: &mut Transaction<'_, S>,
-    alloc: Global,
-    row: &Row,
-) -> Result<(), RowFault>
-    ensures same_reference { tx.new.conn.ghost_name ≡ tx.old.conn.ghost_name }
-    ensures writes { let old = state S.Store tx.old.conn.now in
-        let new = state S.Store tx.new.conn.now in
-        Inside old new (IsOffice old.now
-        → OnOk result (Becomes (with_file_row row.now) old.now new.now)) }
-    ensures inside { StaysInside (state S.Store tx.old.conn.now)
-        (state S.Store tx.new.conn.now) result }
-    ensures left { KeepsCommit (state S.Store tx.old.conn.now) (state S.Store tx.new.conn.now) }
-    ensures survives { CommitsNothing (state S.Store tx.old.conn.now)
-        (state S.Store tx.new.conn.now) }
-{
-    match row {
-        Row::Party(row) => replace_party(tx, alloc, row),
-        Row::Unit(row) => replace_unit(tx, alloc, row),
-        Row::Meter(row) => replace_meter(tx, alloc, row),
-        Row::Price(row) => replace_price(tx, alloc, row),
-        Row::Contract(row) => replace_contract(tx, alloc, row),
-        Row::Reallocation(row) => replace_reallocation(tx, alloc, row),
-    }
 }

@@ -1,11 +1,15 @@
 -- One reading of an office after the other: what both leave together, and what holds for both if one of them finds it.
 use Rattle.std.proofs.Common.{◌≡◌, ◌∙◌, ◌⊎◌, inl, inr, IsTrue, sym, subst}
+use Rattle.std.specs.Prelude.{⊤, Ok}
 use Rattle.sqlite.specs.Effect.{Database}
 use Rattle.sqlite.specs.State.{HasCleanDisk, State}
 use Rattle.hh_sqlrows.specs.Office.{IsOffice}
 use Rattle.hh_sqlrows.specs.Reads.{CommitsNothingOf, IsHonest, LeavesOffice, OfOffice, Stood}
-use Rattle.hh_sqlparts.specs.Readings.{SelectsOnly, OfSettled}
-use Rattle.hh_sqlparts.specs.steps.Readings.{HaveReadSafely}
+use Rattle.hh_sqlparts.specs.Readings.{ReadsSafely, SelectsOnly, OfSettled}
+
+-- readings were answered, and did no harm
+abbrev pub HaveReadSafely : State → State → Type 0
+HaveReadSafely old now = ReadsSafely {X = ⊤} {E = ⊤} old now (Ok tt)
 
 -- a statement that selects rows is a reading
 pub reading_of_statement : (old new : State) → Stood old new → LeavesOffice old new → SelectsOnly old new

@@ -2,4 +2,3 @@
 pub mod DayParts
 pub mod Moved
 pub mod Named
-pub mod Readings

@@ -1,5 +1,5 @@
 -- What the statements that write a row make of an office, for a table of any form.
-use Rattle.std.proofs.Common.{◌≡◌, ◌≢◌, ℕ, zero, suc, ◌+◌, ◌==◌, List, [], ◌∷◌, ◌++◌, append-nil, length, drop, slice_get, Bool, true, false, not, ◌&&◌, ◌||◌, Option, Some, None, Ok, Err, Result, OnOk, arith, inl, inr, refl, sym, ap, subst, ◌∙◌, ◌/◌}
+use Rattle.std.proofs.Common.{◌≡◌, ◌≢◌, ℕ, zero, suc, ◌+◌, ◌==◌, List, [], ◌∷◌, ◌++◌, append-nil, length, drop, slice_get, Bool, true, false, not, ◌&&◌, ◌||◌, Option, Some, None, Ok, Err, Result, OnOk, IfOk, arith, inl, inr, refl, sym, ap, subst, ◌∙◌, ◌/◌}
 use Rattle.std.specs.List.{AllByRecursion, flat_map, list_all, list_any}
 use Rattle.std.specs.Cmp.{IsTotalOrder}
 use Rattle.std.proofs.lemmas.Bool.{cases_Bool, and_parts, not-true, true≢false}
@@ -45,7 +45,8 @@ use Rattle.hh_keyed_rows.proofs.ReplaceLaws.{put_in_table, shaped_put}
 use Rattle.hh_keyed_rows.proofs.RuleLaws.{typed_length}
 use Rattle.hh_sqlrows.specs.OfficeSchema.{office}
 use Rattle.hh_sqlrows.specs.Office.{IsOffice, RowidsRise}
-use Rattle.hh_sqlrows.specs.Forms.{TableForm, KeepsOthers, Puts, PutsAll, rows_under_keys}
+use Rattle.hh_sqlrows.specs.Forms.{TableForm, KeepsOthers, Puts, PutsAll, PutsAllOrLeaves, rows_under_keys}
+use Rattle.hh_sqlrows.specs.steps.Trying.{ExecutesOrLeaves}
 use Rattle.hh_sqlrows.proofs.GroupLaws.{group_terms, group_values, parameters}
 use Rattle.hh_sqlrows.proofs.ManyLaws.{kept_again}
 use Rattle.hh_sqlrows.proofs.InsertLaws.{insert_by, insert_each_in_table, shaped_each}
@@ -270,6 +271,12 @@ module _ {K V : Type 0} (form : TableForm K V) (is_form : IsForm form) where
         → OnOk r ((count : ℕ) × ExecutesInside 0 sql (flat_map entry_columns es) old new (Ok count)) → OnOk r (PutsAll form es old.now new.now)
     inserts_all_by n long text (Ok done) fits h = inserts fits n long text h.0 h.1.0
     inserts_all_by n long text (Err e) fits h = tt
+
+    pub inserts_or_leaves_by : {E : Type 0} (n : ℕ) → length es ≡ n → IsInsertOf form sql n → (r : Result Bool E) → OnOk r (AllByRecursion (Fits form.key form.value) es)
+        → IfOk r (ExecutesOrLeaves sql (flat_map entry_columns es) old new) → IfOk r (PutsAllOrLeaves form es old.now new.now)
+    inserts_or_leaves_by n long text (Ok true) fits h = inserts fits n long text h.0 h.1.0
+    inserts_or_leaves_by n long text (Ok false) fits h = h
+    inserts_or_leaves_by n long text (Err e) fits h = tt
 
 -- one row whose values fit if the statement is executed
 module _ {K V : Type 0} (form : TableForm K V) (is_form : IsForm form) (k : K) (v : V) (old new : State) (is : IsOffice old.now) (sql : List ℕ) where

@@ -36,6 +36,16 @@ pub replace_meter_is : IsReplace meters replace_meter_text
 unfolding understood everything
 replace_meter_is = (refl, (refl, refl))
 
+abbrev pub insert_meter_group_text : List ℕ
+insert_meter_group_text =
+    codes "INSERT INTO meters (unit, day, period, metered, tlm, balancing) VALUES "
+    ++ codes "(?, ?, ?, ?, ?, ?), (?, ?, ?, ?, ?, ?), (?, ?, ?, ?, ?, ?), (?, ?, ?, ?, ?, ?), "
+    ++ codes "(?, ?, ?, ?, ?, ?), (?, ?, ?, ?, ?, ?), (?, ?, ?, ?, ?, ?), (?, ?, ?, ?, ?, ?)"
+
+pub insert_meter_group_is : IsInsertOf meters insert_meter_group_text 8
+unfolding understood everything
+insert_meter_group_is = (refl, (refl, refl))
+
 abbrev pub replace_price_text : List ℕ
 replace_price_text = codes "INSERT OR REPLACE INTO prices (day, period, price) VALUES (?1, ?2, ?3)"
 
@@ -58,6 +68,16 @@ replace_contract_text = codes "INSERT OR REPLACE INTO contracts (reference, day,
 pub replace_contract_is : IsReplace contracts replace_contract_text
 unfolding understood everything
 replace_contract_is = (refl, (refl, refl))
+
+abbrev pub insert_contract_group_text : List ℕ
+insert_contract_group_text =
+    codes "INSERT INTO contracts (reference, day, period, kwh) VALUES "
+    ++ codes "(?, ?, ?, ?), (?, ?, ?, ?), (?, ?, ?, ?), (?, ?, ?, ?), "
+    ++ codes "(?, ?, ?, ?), (?, ?, ?, ?), (?, ?, ?, ?), (?, ?, ?, ?)"
+
+pub insert_contract_group_is : IsInsertOf contracts insert_contract_group_text 8
+unfolding understood everything
+insert_contract_group_is = (refl, (refl, refl))
 
 abbrev pub replace_reallocation_text : List ℕ
 replace_reallocation_text =

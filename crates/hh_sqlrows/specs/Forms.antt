@@ -1,5 +1,5 @@
 -- Tables of an office as tables of a database: the form of their rows, and what a statement makes of them.
-use Rattle.std.specs.Prelude.{◌≡◌, ◌≢◌, ℕ, List, Bool, filter, not}
+use Rattle.std.specs.Prelude.{◌≡◌, ◌≢◌, ℕ, List, Bool, true, false, filter, not}
 use Rattle.std.specs.List.{AllByRecursion}
 use Rattle.std.specs.FinMap.{put}
 use Rattle.std.specs.declared.cmp.Ordering.{Ordering}
@@ -40,6 +40,11 @@ pub record PutsAll {K V : Type 0} (form : TableForm K V) (entries : List (K × V
   pub is_office : IsOffice new
   pub rows : rows_under_keys form new.trees ≡ tables.put_all form.order entries (rows_under_keys form old.trees)
   pub others : KeepsOthers form.table.tree old.trees new.trees
+
+-- the rows are kept under their keys, or the database is as it was
+abbrev pub PutsAllOrLeaves : {K V : Type 0} → TableForm K V → List (K × V) → Database → Database → Bool → Type 0
+PutsAllOrLeaves form entries old new true = PutsAll form entries old new
+PutsAllOrLeaves form entries old new false = new ≡ old
 
 -- The rows whose keys pass a test are removed, the others of the table are still there, and the other tables are as they were.
 pub record Removes {K V : Type 0} (form : TableForm K V) (test : K → Bool) (old new : Database) : Type 0 where

@@ -27,7 +27,7 @@ use Rattle.hh_states.specs.declared.run_keys.PostingKey.{PostingKey}
 use Rattle.hh_states.specs.declared.run_keys.ResultKey.{ResultKey}
 use Rattle.hh_states.specs.Content.{credit_key_cmp, posting_key_cmp, result_key_cmp}
 use Rattle.hh_states.specs.Runs.{run_key_cmp}
-use Rattle.hh_states.specs.States.{AcceptedFile, file_key_cmp}
+use Rattle.hh_states.specs.States.{KeptFileView, file_key_cmp}
 use Rattle.hh_keyed_rows.specs.declared.amounts.AccountAmounts.{AccountAmounts}
 use Rattle.hh_keyed_rows.specs.declared.no_columns.NoColumns.{NoColumns}
 use Rattle.hh_keyed_rows.specs.declared.one_row.OneRow.{OneRow}
@@ -87,7 +87,7 @@ reallocations = record {
 
 -- ---- the accepted files, and the runs
 
-abbrev pub files : TableForm FileKey AcceptedFile
+abbrev pub files : TableForm FileKey KeptFileView
 files = record { at = 8; table = files_table; order = file_key_cmp; key = file_key_columns; value = file_columns }
 
 abbrev pub runs : TableForm RunKey Summary

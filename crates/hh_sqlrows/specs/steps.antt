@@ -1,3 +1,4 @@
 pub mod Answers
 pub mod MakingTexts
 pub mod Streams
+pub mod Trying

@@ -5,19 +5,26 @@ ghost use Rattle.std.specs.Ordering.{is_eq, nat_cmp};
 ghost use Rattle.std.specs.FinMap.{find};
 ghost use Rattle.hh_rows.specs.Keys.{contract_key_cmp};
 ghost use Rattle.sqlite.specs.Held.{state};
-ghost use Rattle.hh_sqlrows.specs.Forms.{Puts, rows_under_keys};
+ghost use Rattle.hh_sqlrows.specs.Forms.{Puts, PutsAllOrLeaves, rows_under_keys};
 ghost use Rattle.hh_sqlrows.specs.Office.{IsOffice};
 ghost use Rattle.hh_sqlrows.specs.OfficeTables.{contracts};
 ghost use Rattle.hh_sqlrows.specs.Reads.{CommitsNothingOf, IsHonest, LeavesOffice, OfOffice, StaysOpen, Stood};
 ghost use Rattle.hh_sqlrows.specs.Statements.{CommitsNothing, Inside, KeepsCommit, StaysInside};
 
-use crate::statement::{select_by, select_entries, select_first, write_entry};
+use crate::statement::{GROUP, select_by, select_entries, select_first, try_entries, write_entry};
 use hh_keyed_rows::RowFault;
 use hh_num::Kwh;
 use hh_rows::{ContractKey, ContractRow};
 use hh_time::SettlementDate;
 use sqlite::{Alter, Connection, Transaction};
 use std::alloc::Global;
+
+/// What writes a group of volumes of contracts.
+const INSERT_GROUP: &str = concat!(
+    "INSERT INTO contracts (reference, day, period, kwh) VALUES ",
+    "(?, ?, ?, ?), (?, ?, ?, ?), (?, ?, ?, ?), (?, ?, ?, ?), ",
+    "(?, ?, ?, ?), (?, ?, ?, ?), (?, ?, ?, ?), (?, ?, ?, ?)"
+);
 
 /// The query for the row of a contract.
 const CONTRACT: &str =
@@ -48,6 +55,31 @@ pub fn replace_contract<S: Alter>(
         &row.key,
         &row.contract.volume,
     )
+}
+
+/// Writes a group of volumes of contracts by one statement, if their keys are new. `false` where one is not,
+/// one occurs twice, or these are more or fewer than a group. Nothing is written then.
+pub fn insert_contracts<S: Alter>(
+    tx: &mut Transaction<'_, S>,
+    alloc: Global,
+    rows: &[(ContractKey, Kwh)],
+) -> Result<bool, RowFault>
+    ensures same_reference { tx.new.conn.ghost_name ≡ tx.old.conn.ghost_name }
+    ensures puts { let old = state S.Store tx.old.conn.now in
+        let new = state S.Store tx.new.conn.now in
+        Inside old new (IsOffice old.now
+        → IfOk result (PutsAllOrLeaves contracts rows.now old.now new.now)) }
+    ensures inside { StaysInside (state S.Store tx.old.conn.now)
+        (state S.Store tx.new.conn.now) result }
+    ensures left { KeepsCommit (state S.Store tx.old.conn.now) (state S.Store tx.new.conn.now) }
+    ensures survives { CommitsNothing (state S.Store tx.old.conn.now)
+        (state S.Store tx.new.conn.now) }
+{
+    if rows.len() == GROUP {
+        try_entries(tx, alloc, INSERT_GROUP, rows)
+    } else {
+        Ok(false)
+    }
 }
 
 /// The volume of a contract.

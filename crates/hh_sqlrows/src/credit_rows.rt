@@ -10,16 +10,13 @@ ghost use Rattle.hh_sqlrows.specs.OfficeTables.{credits};
 ghost use Rattle.hh_sqlrows.specs.Reads.{CommitsNothingOf, IsHonest, LeavesOffice, OfOffice, StaysOpen, Stood};
 ghost use Rattle.hh_sqlrows.specs.Statements.{CommitsNothing, Inside, KeepsCommit, StaysInside};
 
-use crate::statement::{select_by, write_entries, write_entry};
+use crate::statement::{GROUP, select_by, write_entries, write_entry};
 use hh_keyed_rows::RowFault;
 use hh_num::Ticks;
 use hh_runs::RunKey;
 use hh_states::CreditKey;
 use sqlite::{Alter, Connection, Transaction};
 use std::alloc::Global;
-
-/// How many credits one statement writes.
-const GROUP: usize = 8;
 
 /// The statement that writes a group of credits.
 const INSERT_GROUP: &str = concat!(

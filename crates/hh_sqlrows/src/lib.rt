@@ -22,11 +22,13 @@ mod taker;
 mod touched_rows;
 mod unit_rows;
 
-pub use contract_rows::{replace_contract, select_contract, select_contracts, select_contracts_on};
+pub use contract_rows::{
+    insert_contracts, replace_contract, select_contract, select_contracts, select_contracts_on,
+};
 pub use credit_rows::{insert_credit, insert_credits, select_credits_of};
 pub use file_rows::{replace_file, select_file};
 pub use make::{make_table, make_tables};
-pub use meter_rows::{replace_meter, select_meter, select_meters_on};
+pub use meter_rows::{insert_meters, replace_meter, select_meter, select_meters_on};
 pub use office_rows::{insert_mark, insert_settings, replace_mark, select_mark, select_settings};
 pub use party_rows::{give_parties, replace_party, select_parties, select_party};
 pub use position_rows::{
@@ -40,6 +42,7 @@ pub use reference_rows::{
 };
 pub use result_rows::{give_results_of, insert_result, insert_results, select_results_of};
 pub use run_rows::{insert_run, select_run, select_runs, select_runs_on};
+pub use statement::GROUP;
 pub use taker::RowTaker;
 pub use touched_rows::{
     select_touched, select_touched_on, touch_period, touch_periods, untouch_on,

@@ -14,7 +14,7 @@ ghost use Rattle.hh_sqlrows.specs.Reads.{CommitsNothingOf, IsHonest, LeavesOffic
 ghost use Rattle.hh_sqlrows.specs.Statements.{CommitsNothing, Inside, KeepsCommit, StaysInside};
 
 use crate::giving::give_by;
-use crate::statement::{select_by, write_entries, write_entry};
+use crate::statement::{GROUP, select_by, write_entries, write_entry};
 use crate::taker::RowTaker;
 use hh_calc::AccountRow;
 use hh_devices::Sink;
@@ -24,9 +24,6 @@ use hh_states::ResultKey;
 use hh_store::OutputFault;
 use sqlite::{Alter, Connection, Transaction};
 use std::alloc::{AllocError, Global};
-
-/// How many rows one statement writes.
-const GROUP: usize = 8;
 
 /// The statement that writes a group of rows.
 const INSERT_GROUP: &str = concat!(

@@ -10,11 +10,15 @@ ghost use Rattle.hh_keyed_rows.specs.Laws.{Fits};
 ghost use Rattle.hh_sqlrows.specs.Reads.{IsHonest, StaysOpen, Stood};
 ghost use Rattle.hh_sqlrows.specs.Statements.{CommitsNothing, Inside, KeepsCommit, StaysInside};
 ghost use Rattle.hh_sqlrows.specs.steps.Answers.{IsFirst, IsPlainOf, IsRead};
+ghost use Rattle.hh_sqlrows.specs.steps.Trying.{ExecutesOrLeaves};
 
 use hh_keyed_rows::{Columned, RowFault, columns_of, read_entries};
 use sqlite::types::ValueRef;
-use sqlite::{Alter, Connection, Transaction};
+use sqlite::{Alter, Connection, Error, ErrorCode, Transaction};
 use std::alloc::{AllocError, Global};
+
+/// How many rows one statement writes, of those that are written a group at a time.
+pub const GROUP: usize = 8;
 
 /// Executes a statement whose parameters are the columns of a key and of its value.
 pub(crate) fn write_entry<S: Alter, K: Columned, V: Columned>(
@@ -67,6 +71,34 @@ pub(crate) fn write_entries<S: Alter, K: Columned, V: Columned>(
     let columns = columns_of_all(alloc, entries)?;
     match tx.execute(text, columns.as_slice()) {
         Ok(_) => Ok(()),
+        Err(error) => Err(RowFault::from(error)),
+    }
+}
+
+/// Executes a text as `write_entries` does. `false` where a constraint of the database refuses it.
+/// Nothing is written then.
+pub(crate) fn try_entries<S: Alter, K: Columned, V: Columned>(
+    tx: &mut Transaction<'_, S>,
+    alloc: Global,
+    text: &str,
+    entries: &[(K, V)],
+) -> Result<bool, RowFault>
+    ensures same_reference { tx.new.conn.ghost_name ≡ tx.old.conn.ghost_name }
+    ensures fit { OnOk result (AllByRecursion (Fits K.codec V.codec) entries.now) }
+    ensures writes { let old = state S.Store tx.old.conn.now in
+        let new = state S.Store tx.new.conn.now in
+        let columns = flat_map (columns_by K.codec V.codec) entries.now in
+        Inside old new (IfOk result (ExecutesOrLeaves text.now columns old new)) }
+    ensures inside { StaysInside (state S.Store tx.old.conn.now)
+        (state S.Store tx.new.conn.now) result }
+    ensures left { KeepsCommit (state S.Store tx.old.conn.now) (state S.Store tx.new.conn.now) }
+    ensures survives { CommitsNothing (state S.Store tx.old.conn.now)
+        (state S.Store tx.new.conn.now) }
+{
+    let columns = columns_of_all(alloc, entries)?;
+    match tx.execute(text, columns.as_slice()) {
+        Ok(_) => Ok(true),
+        Err(Error::SqliteFailure(ErrorCode::ConstraintViolation(_))) => Ok(false),
         Err(error) => Err(RowFault::from(error)),
     }
 }

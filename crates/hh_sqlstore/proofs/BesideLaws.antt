@@ -7,7 +7,7 @@ use Rattle.sqlite_trees.specs.Tree.{Trees}
 use Rattle.hh_tables.specs.Tables.{put_all}
 use Rattle.hh_time.specs.Days.{Midnights}
 use Rattle.hh_rows.specs.declared.settings.Settings.{Settings}
-use Rattle.hh_states.specs.Changes.{IsLoadFrom, IsRunFrom, LoadEffect, LoadWrites, RunEffect, RunWrites, effect_of_load, effect_of_run}
+use Rattle.hh_states.specs.Changes.{IsLoadFrom, IsRunFrom, LoadEffect, LoadChangeView, RunEffect, RunChangeView, effect_of_load, effect_of_run}
 use Rattle.hh_rules.specs.Positions.{position_key_cmp}
 use Rattle.hh_states.specs.PeriodSettlement.{row_in_force}
 use Rattle.hh_beside.specs.DayLaws.{HaveTheSame}
@@ -47,7 +47,7 @@ module _ (kept : Settings) (old new : Database) (marked : mark_in old.trees ≡ 
       let new_step : is_in_step_in kept new.trees ≡ true = step_is kept new.trees (same_mark ∙ marked) ∙ ap (λ (c : Content). agrees c (beside_in new.trees)) same ∙ agreeing in
       sym (as_if kept new.trees new_step) ∙ same
 
-  pub load_kept : LoadEffect → LoadsAgree → (midnight : Midnights) (w : LoadWrites) → IsLoadFrom midnight (stored_content kept old.trees) w → KeepsLoad w old new
+  pub load_kept : LoadEffect → LoadsAgree → (midnight : Midnights) (w : LoadChangeView) → IsLoadFrom midnight (stored_content kept old.trees) w → KeepsLoad w old new
       → stored_content kept new.trees ≡ effect_of_load w (stored_content kept old.trees)
   load_kept effect agree midnight w (s, load, stands, can, is) keeps =
       let before = in_state (tables_of midnight s) refl stands.1 in
@@ -61,7 +61,7 @@ module _ (kept : Settings) (old new : Database) (marked : mark_in old.trees ≡ 
       stored_as (effect_of_load w (tables_of midnight s)) made (subst (λ (c : Content). IsTrue (agrees c (beside_in new.trees))) (sym is_after) agreeing) refl
       ∙ ap (effect_of_load w) (sym stands.1)
 
-  pub run_kept : RunEffect → RunsAgree → RowsOfTheirAccounts → (midnight : Midnights) (w : RunWrites) → IsRunFrom midnight (stored_content kept old.trees) w → KeepsRun w old new
+  pub run_kept : RunEffect → RunsAgree → RowsOfTheirAccounts → (midnight : Midnights) (w : RunChangeView) → IsRunFrom midnight (stored_content kept old.trees) w → KeepsRun w old new
       → stored_content kept new.trees ≡ effect_of_run w (stored_content kept old.trees)
   run_kept effect agree own midnight w (s, moment, key, stands, can, is) keeps =
       let before = in_state (tables_of midnight s) refl stands.1 in

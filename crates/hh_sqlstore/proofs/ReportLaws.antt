@@ -10,7 +10,7 @@ use Rattle.hh_devices.specs.Devices.{AppendsFront, Failed}
 use Rattle.hh_tables.specs.Tables.{Table}
 use Rattle.hh_names.specs.declared.account.Account.{Account}
 use Rattle.hh_calc.specs.declared.result.AccountRow.{AccountRow}
-use Rattle.hh_calc.specs.Formulas.{of_account}
+use Rattle.hh_calc.specs.Formulas.{if_same_account}
 use Rattle.hh_runs.specs.declared.run_key.RunKey.{RunKey}
 use Rattle.hh_runs.specs.declared.summary.Summary.{Summary}
 use Rattle.hh_reports.specs.declared.fault.ReportFault.{ReportFault}
@@ -108,7 +108,7 @@ module _ {A : Type 0} (device : DeviceChange) (r : Result A OutputFault) where
 
   -- the sum of amounts is what is read from the postings of an account
   sum_read : (a : Account) (postings : Table PostingKey ℤ) → sum_for a (map posted_amount postings) ≡ total (λ e. e.1) (filter_map (posting_to a) postings)
-  sum_read a postings = total-map (λ (e : Account × ℤ). of_account a e.0 e.1) posted_amount postings ∙ sym (postings_read a postings)
+  sum_read a postings = total-map (λ (e : Account × ℤ). if_same_account a e.0 e.1) posted_amount postings ∙ sym (postings_read a postings)
 
   -- the balances
   pub balanced : (parties : List (List ℕ)) (postings : Table PostingKey ℤ) → Outputs device (balances_text parties (λ a. sum_for a (map posted_amount postings))) r

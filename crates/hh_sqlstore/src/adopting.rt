@@ -6,7 +6,7 @@ ghost use Rattle.hh_sqlrows.specs.OfficeSchema.{office};
 ghost use Rattle.hh_sqlrows.specs.Reads.{IsHonest, StaysOpen};
 ghost use Rattle.hh_keyed_rows.specs.declared.row_fault.RowFault.TheVariants.{Store};
 ghost use Rattle.hh_sqlstore.specs.Leaving.{LeavesDatabase, MayKeepBeside};
-ghost use Rattle.hh_sqlstore.specs.steps.Adopted.{AddsNothing, IsAdoptedFrom};
+ghost use Rattle.hh_sqlstore.specs.steps.Adopted.{CrashAddsNothing, IsAdoptedFrom};
 ghost use Rattle.hh_sqlstore.specs.steps.Kept.{IsMarked};
 ghost use Rattle.sqlite.specs.State.{HasCleanDisk};
 
@@ -31,7 +31,7 @@ pub(crate) fn settings_of_office<S: Rising>(
         LeavesDatabase old new }
     ensures crash { let old = state S.Store connection.old in
         let new = state S.Store connection.new in
-        AddsNothing old new }
+        CrashAddsNothing old new }
     ensures autocommit { OnOk result (connection.new.in_transaction ≡ false) }
     ensures stays { StaysOpen (state S.Store connection.old) (state S.Store connection.new) result }
     ensures honest { IsHonest (state S.Store connection.old) (state S.Store connection.new) }

@@ -75,7 +75,7 @@ impl<S: Alter> SqlTables<S> {
             → IsNewOffice settings (state S.Store tables.connection).committed) }
         ensures empty { IfOk result (λ tables. IsTrue (state S.Store tables.connection).is_open
             → content_in S.Store tables ≡ empty_content settings) }
-        ensures stands { IfOk result (λ tables. IsTrue (state S.Store tables.connection).is_open
+        ensures represents { IfOk result (λ tables. IsTrue (state S.Store tables.connection).is_open
             → (midnight : Midnights)
             → content_in S.Store tables ≡ tables_of midnight (empty_state settings)) }
         ensures unrefused { IfOk result (λ tables. tables.refusals ≡ 0) }

@@ -21,7 +21,7 @@ use Rattle.hh_rules.specs.Lateness.{Timetable}
 use Rattle.hh_calc.specs.declared.result.AccountRow.{AccountRow}
 use Rattle.hh_calc.specs.Formulas.{figures, residual_shares}
 use Rattle.hh_calc.specs.Settled.{paid_by}
-use Rattle.hh_calc.specs.Terms.{PeriodTerms, Settled}
+use Rattle.hh_calc.specs.Terms.{PeriodDataView, Settled}
 use Rattle.hh_calc.proofs.SpreadLaws.{total-IsPermutation, total-flat_map}
 use Rattle.hh_runs.specs.DayNets.{DayNets, day_net_of, differences, is_difference, net_change}
 use Rattle.hh_runs.specs.declared.run_key.RunKey.{RunKey}
@@ -59,13 +59,13 @@ module _ {X : Type 0} (same : X → X → Bool) (itself : (x : X) → same x x �
       others = all-weaken (λ w. same x w ≡ false) (λ w. same w x ≡ false) (λ w apart. turned w x ∙ apart) xs distinct.0
 
 -- the rows of accounts are of these accounts
-accounts_shown : (p : PeriodTerms) (accounts : List Account) (shares : List ℤ) → length (map (figures p) accounts) ≡ length shares → map (λ r. r.account) (account_rows (map (figures p) accounts) shares) ≡ accounts
+accounts_shown : (p : PeriodDataView) (accounts : List Account) (shares : List ℤ) → length (map (figures p) accounts) ≡ length shares → map (λ r. r.account) (account_rows (map (figures p) accounts) shares) ≡ accounts
 accounts_shown p [] shares same = refl
 accounts_shown p (a ∷ accounts) [] same = absurd (omega arith)
 accounts_shown p (a ∷ accounts) (x ∷ shares) same = ap (λ t. a ∷ t) (accounts_shown p accounts shares (omega arith))
 
 -- the sum of what the accounts of a settled period pay is that of its rows
-period_nets_sum : (p : PeriodTerms) → NoneAlike is_same_account p.accounts → total (λ a. period_net a (settled p)) p.accounts ≡ total paid_by (settled p).accounts
+period_nets_sum : (p : PeriodDataView) → NoneAlike is_same_account p.accounts → total (λ a. period_net a (settled p)) p.accounts ≡ total paid_by (settled p).accounts
 period_nets_sum p distinct =
     let rows : List AccountRow = (settled p).accounts in
     ap (total (λ a. period_net a (settled p))) (sym (accounts_shown p p.accounts (residual_shares p) (a_share_each p)))
@@ -99,7 +99,7 @@ module _ (timetable : Timetable) (history : History) where
     pays_nothing : (a : Account) → AllByRecursion (λ b. is_same_account b a ≡ false) (accounts_of timetable history run) → (numbers : List ℕ) → total (λ q. period_net a q.1) (settled_day seen (map period_at numbers)) ≡ pos 0
     pays_nothing a others [] = refl
     pays_nothing a others (n ∷ numbers) =
-        let p : PeriodTerms = terms_at seen (period_at n) in
+        let p : PeriodDataView = terms_at seen (period_at n) in
         λ i. none_counts (λ r. is_same_account r.account a) paid_by (settled p).accounts (rows_all (figures p) (λ b. refl) (λ b. is_same_account b a ≡ false) p.accounts (residual_shares p) others) i
         +ℤ pays_nothing a others numbers i
 

@@ -18,7 +18,7 @@ use Rattle.hh_rows.specs.declared.settlement_period.SettlementPeriod.{Settlement
 use Rattle.hh_rules.specs.History.{History, Registered, registered_in}
 use Rattle.hh_rules.specs.Lateness.{Timetable}
 use Rattle.hh_calc.specs.Formulas.{loss_adjusted}
-use Rattle.hh_calc.specs.Terms.{BmUnit}
+use Rattle.hh_calc.specs.Terms.{UnitDataView}
 use Rattle.hh_runs.specs.NextRun.{order_refusals}
 use Rattle.hh_runs.specs.declared.run_key.RunKey.{RunKey}
 use Rattle.hh_states.specs.declared.run_keys.CreditKey.{CreditKey}
@@ -125,7 +125,7 @@ runs_complete midnight s (by_run t moment key reached can) =
 
 module _ (tables : Registered) (credits : Table CreditKey ℤ) (run : RunKey) where
   -- what is credited from a unit in a Settlement Period is its loss-adjusted volume
-  abbrev IsExact : SettlementPeriod → BmUnit → Type 0
+  abbrev IsExact : SettlementPeriod → UnitDataView → Type 0
   IsExact at u = credited_from u.unit at.period run credits ≡ loss_adjusted u
 
   -- the reading of a unit in a Settlement Period, if there is one

@@ -20,7 +20,7 @@ use Rattle.hh_rules.specs.Lateness.{Timetable}
 use Rattle.hh_calc.specs.declared.result.CreditRow.{CreditRow}
 use Rattle.hh_calc.specs.Formulas.{loss_adjusted}
 use Rattle.hh_calc.specs.Settled.{IsUnitCredited}
-use Rattle.hh_calc.specs.Terms.{BmUnit, Settled}
+use Rattle.hh_calc.specs.Terms.{UnitDataView, Settled}
 use Rattle.hh_calc.proofs.SpreadLaws.{total-IsPermutation, total-flat_map}
 use Rattle.hh_runs.specs.declared.run_key.RunKey.{RunKey}
 use Rattle.hh_states.specs.declared.run_keys.CreditKey.{CreditKey}
@@ -148,7 +148,7 @@ module _ (midnight : Midnights) (s : State) where
 
   module _ (reached : IsReached midnight s) where
     -- the credits from a unit in the tables are those of the run in the Settlement Period
-    one_unit : (r : Run) → CountsAlone have_one_run_key s.runs r → (at : SettlementPeriod) → CountsAlone have_one_number (periods_of midnight r) at → (u : BmUnit)
+    one_unit : (r : Run) → CountsAlone have_one_run_key s.runs r → (at : SettlementPeriod) → CountsAlone have_one_number (periods_of midnight r) at → (u : UnitDataView)
         → IsUnitCredited (settled (terms_at (seen r) at)).credits u → credited_from u.unit at.period r.key (tables_of midnight s).credits ≡ loss_adjusted u
     one_unit r run_alone at alone u credited =
         total-IsPermutation (counted u.unit at.period r.key) (all_credits timetable s) (in_key_order credit_key_cmp (all_credits timetable s))

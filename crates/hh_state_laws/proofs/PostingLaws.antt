@@ -20,7 +20,7 @@ use Rattle.hh_names.specs.declared.account.Account.{Account}
 use Rattle.hh_names.specs.Accounts.{account_cmp}
 use Rattle.hh_names.proofs.AccountLaws.{account_total, exact_accounts}
 use Rattle.hh_rules.specs.Lateness.{Timetable}
-use Rattle.hh_calc.specs.Formulas.{of_account}
+use Rattle.hh_calc.specs.Formulas.{if_same_account}
 use Rattle.hh_calc.proofs.SpreadLaws.{total-IsPermutation, total-flat_map}
 use Rattle.hh_runs.specs.DayNets.{DayNets, day_net_of, differences, is_difference, net_change, with_change}
 use Rattle.hh_states.specs.declared.run_keys.PostingKey.{PostingKey}
@@ -194,7 +194,7 @@ module _ (timetable : Timetable) (s : State) where
   -- the rows of an account in the postings of all runs sum to what the runs post to it
   all_rows_of : (a : Account) → posted_to a (all_postings timetable s) ≡ posted timetable s a
   all_rows_of a =
-      let amount : PostingKey × ℤ → ℤ = λ e. of_account a e.0.account e.1 in
+      let amount : PostingKey × ℤ → ℤ = λ e. if_same_account a e.0.account e.1 in
       let entry : Option Run × Run → Account × ℤ → PostingKey × ℤ = λ r e. (record { run = r.1.key; account = e.0 }, e.1) in
       let nets : Option Run × Run → DayNets = λ r. postings_after timetable s.history r.0 r.1 in
       total-flat_map amount (λ (r : Option Run × Run). posting_entries r.1.key (nets r)) (runs_with_former s)
@@ -244,7 +244,7 @@ all_postings_distinct midnight s reached =
 pub postings_total : PostingsTotal
 postings_total midnight s a reached =
     let timetable : Timetable = timetable_at midnight s in
-    total-IsPermutation (λ e. of_account a e.0.account e.1) (all_postings timetable s) (in_key_order posting_key_cmp (all_postings timetable s))
+    total-IsPermutation (λ e. if_same_account a e.0.account e.1) (all_postings timetable s) (in_key_order posting_key_cmp (all_postings timetable s))
     (in_key_order_moves posting_key_total (all_postings timetable s) (all_postings_distinct midnight s reached))
     ∙ all_rows_of timetable s a
     ∙ posted_is_moved timetable s a

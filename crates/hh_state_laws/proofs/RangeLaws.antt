@@ -38,7 +38,7 @@ use Rattle.hh_rules.specs.History.{History, Registered, nothing_registered, regi
 use Rattle.hh_rules.specs.Lateness.{Timetable, accepted_at, is_in_time}
 use Rattle.hh_rules.proofs.HistoryLaws.{looks_back}
 use Rattle.hh_states.specs.Ranges.{AreOfRows, IsKeptFile, KeysNeverMeet, ReachedFiles, ReachedInRange}
-use Rattle.hh_states.specs.States.{AcceptedFile, State, file_key_cmp}
+use Rattle.hh_states.specs.States.{KeptFileView, State, file_key_cmp}
 use Rattle.hh_states.specs.Steps.{IsReached, at_first, by_load, by_run, kept_file, timetable_at}
 use Rattle.hh_states.specs.declared.file_key.FileKey.{FileKey}
 use Rattle.hh_state_laws.proofs.AcceptedLaws.{reached_holds}
@@ -174,7 +174,7 @@ counts_are_all timetable moment rows =
     ∙ length-filter_both (is_in_time timetable) (λ a. not (is_in_time timetable a)) (λ a. refl) coming
     ∙ length-map rows (accepted_at moment)
 
-abbrev OfFile : FileKey × AcceptedFile → Type 0
+abbrev OfFile : FileKey × KeptFileView → Type 0
 OfFile f = IsKeptFile f.0 f.1
 
 -- each file of a reached state has a name in its grammar, and no more bytes and rows than it may have
@@ -182,7 +182,7 @@ pub files_in_range : ReachedFiles
 files_in_range midnight s (at_first settings fine) = tt
 files_in_range midnight s (by_load t load reached can) =
     let timetable : Timetable = timetable_at midnight t in
-    let file : AcceptedFile = kept_file timetable load in
+    let file : KeptFileView = kept_file timetable load in
     let counts : file.applied + file.late ≡ length load.rows = counts_are_all timetable load.moment load.rows in
     all-append OfFile t.files ((load.key, file) ∷ []) (files_in_range midnight t reached)
     (record { named = can.named; small = can.file.small; few = subst (λ n. n ≤ most_rows) (sym counts) can.file.few }, tt)

@@ -38,8 +38,8 @@ use Rattle.hh_rules.specs.History.{Registered}
 use Rattle.hh_rules.specs.Refusals.{most_parties}
 use Rattle.hh_rules.specs.RegisterView.{reallocations_at}
 use Rattle.hh_calc.specs.declared.data.Subsidiary.{Subsidiary}
-use Rattle.hh_calc.specs.Ready.{AreContractsReady, HasFewSubsidiaries, IsContractNamed, IsUnitNamed}
-use Rattle.hh_calc.specs.Terms.{BmUnit}
+use Rattle.hh_calc.specs.Ready.{AreContractsReady, HasFewSubsidiaries, IsContractListed, IsUnitListed}
+use Rattle.hh_calc.specs.Terms.{UnitDataView}
 use Rattle.hh_names.specs.PartyAccounts.{both_accounts}
 use Rattle.hh_states.specs.PeriodSettlement.{accounts_on, reading_of, rows_in_force, subsidiaries_of, terms_at, unit_with, units_on}
 use Rattle.hh_states.specs.Readiness.{AreTermsConsistent, PeriodsReady, RunPeriodsReady}
@@ -323,7 +323,7 @@ module _ (tables : Registered) (consistent : AreConsistent tables) (at : Settlem
 
     module _ (reading : Reading) where
       -- the unit's lead account and subsidiaries are among the accounts
-      unit_named : IsUnitNamed accounts (unit_with tables at e reading)
+      unit_named : IsUnitListed accounts (unit_with tables at e reading)
       unit_named = (lead_there, All-from_recursion (λ s. Contains accounts s.account) (subsidiaries_of tables here) all_there)
 
       -- its subsidiaries are few
@@ -346,7 +346,7 @@ module _ (tables : Registered) (consistent : AreConsistent tables) (at : Settlem
   its_reading e = reading_of tables (record { unit = e.0; at = at })
 
   -- if each unit of the date with a reading has a property, so has each unit that is settled
-  each_unit : (P : BmUnit → Type 0) → ((e : List ℕ × UnitRegistration) → IsOfDate e → (reading : Reading) → P (unit_with tables at e reading)) → All P (terms_at tables at).units
+  each_unit : (P : UnitDataView → Type 0) → ((e : List ℕ × UnitRegistration) → IsOfDate e → (reading : Reading) → P (unit_with tables at e reading)) → All P (terms_at tables at).units
   each_unit P each =
       All-from_recursion P (terms_at tables at).units
       (all_made its_reading (unit_with tables at) P (units_on tables at.date)
@@ -387,10 +387,10 @@ module _ (tables : Registered) (consistent : AreConsistent tables) (at : Settlem
   contracts_named : AreContractsReady accounts (terms_at tables at).contracts
   contracts_named =
       let es : Table ContractKey ℤ = filter (λ e. eq_by_cmp settlement_period_cmp e.0.at at) tables.contracts in
-      All-from_recursion (IsContractNamed accounts) (map (λ (r : ContractRow). r.contract) (rows_in_force tables at))
-      (all-map (IsContractNamed accounts) (λ (r : ContractRow). r.contract) (rows_in_force tables at)
-      (all_made (λ (e : ContractKey × ℤ). find bytes_cmp e.0.reference tables.references) row_with (λ r. IsContractNamed accounts r.contract) es
-      (all-weaken IsContractOf (λ e. (c : Counterparties) → find bytes_cmp e.0.reference tables.references ≡ Some c → IsContractNamed accounts (row_with e c).contract) contract_there es
+      All-from_recursion (IsContractListed accounts) (map (λ (r : ContractRow). r.contract) (rows_in_force tables at))
+      (all-map (IsContractListed accounts) (λ (r : ContractRow). r.contract) (rows_in_force tables at)
+      (all_made (λ (e : ContractKey × ℤ). find bytes_cmp e.0.reference tables.references) row_with (λ r. IsContractListed accounts r.contract) es
+      (all-weaken IsContractOf (λ e. (c : Counterparties) → find bytes_cmp e.0.reference tables.references ≡ Some c → IsContractListed accounts (row_with e c).contract) contract_there es
       (all_passing (λ e. find contract_key_cmp e.0 tables.contracts ≡ Some e.1) (λ e. eq_by_cmp settlement_period_cmp e.0.at at) tables.contracts
       (each_found contract_key_total tables.contracts (sorted_distinct contract_key_cmp tables.contracts (from_true _ consistent.rising.contracts)))))))
 
@@ -399,7 +399,7 @@ module _ (tables : Registered) (consistent : AreConsistent tables) (at : Settlem
   terms_ready = record {
     ready = (
       parties_rise (filter (λ e. holds e.1.range at.date) tables.parties) (sorted-filter bytes_cmp (λ e. holds e.1.range at.date) tables.parties (from_true _ consistent.rising.parties)),
-      (each_unit (IsUnitNamed accounts) unit_named, contracts_named),
+      (each_unit (IsUnitListed accounts) unit_named, contracts_named),
       each_unit HasFewSubsidiaries unit_few,
     );
     units = pairs_differ (λ u v. u.unit ≢ v.unit) (terms_at tables at).units units_differ;

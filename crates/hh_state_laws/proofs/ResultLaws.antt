@@ -25,7 +25,7 @@ use Rattle.hh_rules.specs.Lateness.{Timetable}
 use Rattle.hh_calc.specs.declared.result.AccountRow.{AccountRow}
 use Rattle.hh_calc.specs.Formulas.{figures, residual_shares}
 use Rattle.hh_calc.specs.Settled.{moved_by_row}
-use Rattle.hh_calc.specs.Terms.{PeriodTerms, Settled}
+use Rattle.hh_calc.specs.Terms.{PeriodDataView, Settled}
 use Rattle.hh_calc.proofs.SpreadLaws.{total-flat_map}
 use Rattle.hh_runs.specs.DayNets.{day_net_of}
 use Rattle.hh_runs.specs.declared.run_key.RunKey.{RunKey}
@@ -72,7 +72,7 @@ accounts_rise timetable history date =
     each_own (e ∷ es) = (((second_below (bytes_cmp e.0 e.0) Less (tied_itself bytes_total e.0) refl, tt), (tt, tt)), each_own es)
 
 -- rows of accounts are in the order of the accounts
-rows_rise : (p : PeriodTerms) (accounts : List Account) (shares : List ℤ) → NoneAlike (is_not_below account_cmp) accounts → Rises account_cmp (λ (r : AccountRow). r.account) (account_rows (map (figures p) accounts) shares)
+rows_rise : (p : PeriodDataView) (accounts : List Account) (shares : List ℤ) → NoneAlike (is_not_below account_cmp) accounts → Rises account_cmp (λ (r : AccountRow). r.account) (account_rows (map (figures p) accounts) shares)
 rows_rise p [] shares h = tt
 rows_rise p (a ∷ accounts) [] h = tt
 rows_rise p (a ∷ accounts) (share ∷ shares) h =
@@ -95,7 +95,7 @@ module _ (key : RunKey) (timetable : Timetable) (history : History) (date count 
   -- the rows of one period rise by account
   pub period_rises : (at : SettlementPeriod) → Rises result_key_cmp (λ e. e.0) (rows_of (settled_at seen at))
   period_rises at =
-      let p : PeriodTerms = terms_at seen at in
+      let p : PeriodDataView = terms_at seen at in
       distinct-map (λ (a b : ResultKey × AccountRow). is_not_below result_key_cmp a.0 b.0) (λ r. (result_key key at r, r)) (settled p).accounts
       (others_below (settled p).accounts (rows_rise p p.accounts (residual_shares p) (accounts_rise timetable history at.date)))
     where

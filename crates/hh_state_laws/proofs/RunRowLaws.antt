@@ -20,7 +20,7 @@ use Rattle.hh_calc.specs.declared.result.AccountRow.{AccountRow}
 use Rattle.hh_calc.specs.declared.result.CreditRow.{CreditRow}
 use Rattle.hh_calc.specs.declared.result.Figures.{Figures}
 use Rattle.hh_calc.specs.Formulas.{credits_of, figures, residual_shares}
-use Rattle.hh_calc.specs.Terms.{PeriodTerms, Settled}
+use Rattle.hh_calc.specs.Terms.{PeriodDataView, Settled}
 use Rattle.hh_runs.specs.DayNets.{DayNets, differences, net_change}
 use Rattle.hh_runs.specs.declared.run_key.RunKey.{RunKey}
 use Rattle.hh_states.specs.declared.run_keys.CreditKey.{CreditKey}
@@ -148,7 +148,7 @@ module _ (key : RunKey) where
 
     result_blocks_distinct : (at : SettlementPeriod) → NoneAlike (have_one_key result_key_cmp) (result_block (settled_at seen at))
     result_blocks_distinct at =
-        let p : PeriodTerms = terms_at seen at in
+        let p : PeriodDataView = terms_at seen at in
         results_in_period key at (settled p).accounts (rows_distinct (figures p) (λ a. refl) p.accounts (residual_shares p) (accounts_distinct timetable history at.date))
 
     -- no result of a run occurs twice
@@ -164,7 +164,7 @@ module _ (key : RunKey) where
 
     credit_blocks_distinct : (at : SettlementPeriod) → NoneAlike (have_one_key credit_key_cmp) (credit_block (settled_at seen at))
     credit_blocks_distinct at =
-        let p : PeriodTerms = terms_at seen at in
+        let p : PeriodDataView = terms_at seen at in
         credits_in_period key at (settled p).credits (credits_distinct (credits_of p.units))
 
     -- no credit of a run occurs twice

@@ -14,7 +14,7 @@ use Rattle.hh_rules.specs.History.{Registered}
 use Rattle.hh_rules.specs.Lateness.{Timetable}
 use Rattle.hh_calc.specs.declared.result.AccountRow.{AccountRow}
 use Rattle.hh_calc.specs.Settled.{AddsUp, paid_by}
-use Rattle.hh_calc.specs.Terms.{PeriodTerms, Settled}
+use Rattle.hh_calc.specs.Terms.{PeriodDataView, Settled}
 use Rattle.hh_calc.proofs.SpreadLaws.{total-IsPermutation, total-flat_map}
 use Rattle.hh_runs.specs.declared.run_key.RunKey.{RunKey}
 use Rattle.hh_states.specs.declared.run_keys.ResultKey.{ResultKey}
@@ -123,7 +123,7 @@ module _ (amount : AccountRow → ℤ) (run : RunKey) (period : ℕ) where
       (λ r. one_run r.key (settled_by timetable s.history r)) s.runs zero)
 
 -- if an amount sums to zero in each period that adds up, it does in each Settlement Period of each run of a reached state
-each_period : (amount : AccountRow → ℤ) → ((p : PeriodTerms) (x : Settled) → AddsUp p x → total amount x.accounts ≡ pos 0) → (midnight : Midnights) (s : State) → IsReached midnight s
+each_period : (amount : AccountRow → ℤ) → ((p : PeriodDataView) (x : Settled) → AddsUp p x → total amount x.accounts ≡ pos 0) → (midnight : Midnights) (s : State) → IsReached midnight s
     → AllByRecursion (λ r. AllByRecursion (λ q. total amount q.1.accounts ≡ pos 0) (settled_by (timetable_at midnight s) s.history r)) s.runs
 each_period amount zero midnight s reached =
     let timetable : Timetable = timetable_at midnight s in

@@ -28,7 +28,7 @@ use Rattle.hh_calc.specs.declared.result.CreditRow.{CreditRow}
 use Rattle.hh_calc.specs.declared.result.Figures.{Figures}
 use Rattle.hh_calc.specs.Formulas.{all_figures, credits_of, figures, lead_credit, period_sums, residual, residual_shares, subsidiary_credit, unit_credits, weights}
 use Rattle.hh_calc.specs.Settled.{credit_cmp, figures_of, paid_by, shares_shown}
-use Rattle.hh_calc.specs.Terms.{BmUnit, PeriodTerms}
+use Rattle.hh_calc.specs.Terms.{UnitDataView, PeriodDataView}
 use Rattle.hh_calc.proofs.PeriodLaws.{adds_up}
 use Rattle.hh_states.specs.PeriodSettlement.{UnitAccount, account_rows, in_credit_order, keyed_credits, settled, unit_account_cmp}
 use Rattle.hh_states.specs.Sums.{CreditsEachOnce, SettledAddsUp, SettlesEachPeriod}
@@ -50,7 +50,7 @@ shares_are_shown (f ∷ fs) [] same = absurd (omega arith)
 shares_are_shown (f ∷ fs) (x ∷ shares) same = ap (λ t. x ∷ t) (shares_are_shown fs shares (omega arith))
 
 -- each account has a share
-pub a_share_each : (p : PeriodTerms) → length (all_figures p) ≡ length (residual_shares p)
+pub a_share_each : (p : PeriodDataView) → length (all_figures p) ≡ length (residual_shares p)
 a_share_each p =
     length-map p.accounts (figures p)
     ∙ sym (length-shares (residual p) (weights p) ∙ length-map p.accounts (λ a. (period_sums p a).weight))
@@ -61,7 +61,7 @@ some_account [] f g differs = absurd (differs refl)
 some_account (a ∷ accounts) f g differs = omega arith
 
 -- charges and shares together sum to zero
-pub period_balances : (p : PeriodTerms) → total paid_by (settled p).accounts ≡ pos 0
+pub period_balances : (p : PeriodDataView) → total paid_by (settled p).accounts ≡ pos 0
 period_balances p =
     let rows : List AccountRow = (settled p).accounts in
     let charge : Account → ℤ = λ a. (figures p a).charge in
@@ -83,7 +83,7 @@ told_apart_all {X = X} alike Differ told (x ∷ xs) h = (
 abbrev have_one_place : CreditRow → CreditRow → Bool
 have_one_place c d = eq_by_cmp unit_account_cmp (c.unit, c.account) (d.unit, d.account)
 
-module _ (u : BmUnit) where
+module _ (u : UnitDataView) where
   -- the credit to a subsidiary
   abbrev to_subsidiary : Subsidiary → CreditRow
   to_subsidiary s = record { unit = u.unit; account = s.account; credited = subsidiary_credit u s }
@@ -117,9 +117,9 @@ module _ (u : BmUnit) where
       (All-weaker (λ s. s.account ≢ u.lead) (λ s. AllByRecursion (λ d. have_one_place (to_subsidiary s) d ≡ false) (to_lead ∷ [])) (λ s apart. (other_place s.account u.lead apart, tt)) u.subsidiaries once.1)))
 
 -- no two credits of a period are alike
-period_credits_distinct : (p : PeriodTerms) → AllPairs (λ u v. u.unit ≢ v.unit) p.units → All CreditsEachOnce p.units → NoneAlike have_one_place (credits_of p.units)
+period_credits_distinct : (p : PeriodDataView) → AllPairs (λ u v. u.unit ≢ v.unit) p.units → All CreditsEachOnce p.units → NoneAlike have_one_place (credits_of p.units)
 period_credits_distinct p distinct once =
-    distinct_blocks (eq_by_cmp bytes_cmp) have_one_place (λ (u : BmUnit). u.unit) (λ (c : CreditRow). c.unit)
+    distinct_blocks (eq_by_cmp bytes_cmp) have_one_place (λ (u : UnitDataView). u.unit) (λ (c : CreditRow). c.unit)
     (λ c d. first_part (bytes_cmp c.unit d.unit) (account_cmp c.account d.account))
     unit_credits own_credits p.units
     (recursion_from_All (λ u. NoneAlike have_one_place (unit_credits u)) p.units (All-weaker CreditsEachOnce (λ u. NoneAlike have_one_place (unit_credits u)) unit_credits_distinct p.units once))

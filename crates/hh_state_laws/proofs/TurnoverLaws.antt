@@ -25,9 +25,9 @@ use Rattle.hh_rules.specs.Lateness.{Timetable}
 use Rattle.hh_share.proofs.SumLaws.{shares_within}
 use Rattle.hh_calc.specs.declared.result.AccountRow.{AccountRow}
 use Rattle.hh_calc.specs.declared.result.Figures.{Figures}
-use Rattle.hh_calc.specs.Formulas.{figures, of_account, residual, residual_shares, weights}
+use Rattle.hh_calc.specs.Formulas.{figures, if_same_account, residual, residual_shares, weights}
 use Rattle.hh_calc.specs.Limits.{greatest_cash, is_account_within, is_within_limits}
-use Rattle.hh_calc.specs.Terms.{PeriodTerms}
+use Rattle.hh_calc.specs.Terms.{PeriodDataView}
 use Rattle.hh_runs.specs.DayNets.{day_cash, day_net_of}
 use Rattle.hh_runs.specs.declared.run_key.RunKey.{RunKey}
 use Rattle.hh_states.specs.Amounts.{BalancesWithin, DayNetsWithin, PaidWithin, TurnoversWithin, balances, greatest_turnover, most_periods, turnover_in}
@@ -79,7 +79,7 @@ sum_by-made f g (x ∷ xs) = sum_by-cons f (g x) (map g xs) ∙ ap (λ n. f (g x
 
 -- the size of what an account pays by a row
 abbrev moved : Account → AccountRow → ℕ
-moved a r = unsigned_abs (of_account a r.account (r.charge +ℤ r.share))
+moved a r = unsigned_abs (if_same_account a r.account (r.charge +ℤ r.share))
 
 -- rows of other accounts move nothing for an account
 none_moved : (a : Account) (rows : List AccountRow) → AllByRecursion (λ r. is_same_account r.account a ≡ false) rows → sum_by (moved a) rows ≡ 0
@@ -121,14 +121,14 @@ rows_small figures_at most (a ∷ accounts) (x ∷ shares) charges small = (
     both y z one other = omega (arith, ints)
 
 -- no charge passes the limit if no figure of an account does
-charges_small : (p : PeriodTerms) (accounts : List Account) → list_all (is_account_within p) accounts ≡ true → AllByRecursion (λ a. unsigned_abs (figures p a).charge ≤ greatest_cash) accounts
+charges_small : (p : PeriodDataView) (accounts : List Account) → list_all (is_account_within p) accounts ≡ true → AllByRecursion (λ a. unsigned_abs (figures p a).charge ≤ greatest_cash) accounts
 charges_small p [] within = tt
 charges_small p (a ∷ accounts) within =
     let parts = and_parts (is_account_within p a) (list_all (is_account_within p) accounts) within in
     (leb-true _ _ (and_parts _ _ (and_parts _ _ parts.0).0).1, charges_small p accounts parts.1)
 
 -- a period that passes no limit
-module _ (p : PeriodTerms) (within : is_within_limits p ≡ true) where
+module _ (p : PeriodDataView) (within : is_within_limits p ≡ true) where
   -- has a small residual
   pub residual_small : unsigned_abs (residual p) ≤ greatest_cash
   residual_small = leb-true _ _ (and_parts _ _ within).1
@@ -246,7 +246,7 @@ paid_within midnight s a reached =
     (λ r h.
     let rows : List (ℕ × AccountRow) = rows_by_period (settled_by timetable s.history r) in
     subst (λ es. IsBetween day_cash.least day_cash.most (paid_in a es)) (sym h.1)
-    (is_day_net (paid_in a rows) (turnover_in a rows) (total_by_sizes (λ (e : ℕ × AccountRow). of_account a e.1.account (e.1.charge +ℤ e.1.share)) rows) h.0))
+    (is_day_net (paid_in a rows) (turnover_in a rows) (total_by_sizes (λ (e : ℕ × AccountRow). if_same_account a e.1.account (e.1.charge +ℤ e.1.share)) rows) h.0))
     s.runs
     (all_both (λ r. turnover_in a (rows_by_period (settled_by timetable s.history r)) ≤ greatest_turnover)
     (λ r. results_in (tables_of midnight s) r.key ≡ rows_by_period (settled_by timetable s.history r)) s.runs

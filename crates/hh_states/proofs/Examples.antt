@@ -20,13 +20,13 @@ use Rattle.hh_runs.specs.declared.run_kind.RunKind.{RunKind}
 use Rattle.hh_runs.specs.declared.run_kind.RunKind.TheVariants as kind
 use Rattle.hh_runs.specs.declared.summary.Summary.{Summary}
 use Rattle.hh_runs.specs.declared.run_key.RunKey.{RunKey}
-use Rattle.hh_states.specs.Changes.{effect_of_load, load_writes}
+use Rattle.hh_states.specs.Changes.{effect_of_load, load_change}
 use Rattle.hh_states.specs.Content.{Content, tables_of}
 use Rattle.hh_states.specs.DaySettlement.{from_one_to}
 use Rattle.hh_states.specs.PeriodSettlement.{settled, terms_at}
 use Rattle.hh_states.specs.Reads.{contracts_in, is_key_known}
 use Rattle.hh_states.specs.Runs.{postings_after}
-use Rattle.hh_states.specs.States.{AcceptedFile, State, empty_state}
+use Rattle.hh_states.specs.States.{KeptFileView, State, empty_state}
 use Rattle.hh_states.specs.Steps.{Load, after_load, after_run, kept_file, kept_summary, new_run, new_summary, registered_at, rows_coming, run_fault, timetable_at}
 
 -- 2024-07-01 is day 19905 and begins at 1719788400; each day here has 48 periods
@@ -135,10 +135,10 @@ prices_accepted : fault_in with_meters prices ≡ None
 prices_accepted = refl
 
 -- what is kept of a file, with the counts of its reply
-abbrev reply : State → Load → AcceptedFile
+abbrev reply : State → Load → KeptFileView
 reply s load = kept_file (timetable_at midnight s) load
 
-abbrev replied : ℕ → ℕ → AcceptedFile
+abbrev replied : ℕ → ℕ → KeptFileView
 replied applied late = record { body = []; applied = applied; late = late }
 
 replies :
@@ -148,7 +148,7 @@ replies = refl
 
 -- the tables after a load, from what the load writes; they are those of the state after it
 abbrev written : State → Load → Content
-written s load = effect_of_load (load_writes midnight s load) (tables_of midnight s)
+written s load = effect_of_load (load_change midnight s load) (tables_of midnight s)
 
 contracts_written : written with_units contracts ≡ tables_of midnight with_contracts
 contracts_written = refl

@@ -18,18 +18,18 @@ use Rattle.hh_states.specs.declared.run_keys.ResultKey.{ResultKey}
 use Rattle.hh_states.specs.declared.file_key.FileKey.{FileKey}
 use Rattle.hh_states.specs.Content.{Content, credit_entries, credit_key_cmp, posting_entries, posting_key_cmp, result_entries, result_key_cmp, tables_of}
 use Rattle.hh_states.specs.Runs.{Run, latest_run, postings_after, run_key_cmp, settled_by}
-use Rattle.hh_states.specs.States.{AcceptedFile, State, file_key_cmp}
+use Rattle.hh_states.specs.States.{KeptFileView, State, file_key_cmp}
 use Rattle.hh_states.specs.Steps.{CanLoad, CanRun, IsReached, Load, after_load, after_run, kept_file, new_run, new_summary, rows_coming, timetable_at}
 
 -- what a load writes: the file with the counts of its reply, its rows that are not late, and the references that it fixes
-pub record LoadWrites : Type 0 where
+pub record LoadChangeView : Type 0 where
   pub key : FileKey
-  pub file : AcceptedFile
+  pub file : KeptFileView
   pub rows : List Row
   pub references : List (List ℕ × Counterparties)
 
 -- what a run writes: its summary, the rows of its accounts, its credits and its postings
-pub record RunWrites : Type 0 where
+pub record RunChangeView : Type 0 where
   pub key : RunKey
   pub summary : Summary
   pub results : List (ResultKey × AccountRow)
@@ -46,18 +46,18 @@ put_rows [] tables = tables
 put_rows (r ∷ rows) tables = put_rows rows (put_row r tables)
 
 -- what is registered and in force after a load that writes this
-abbrev pub registered_with : LoadWrites → Registered → Registered
+abbrev pub registered_with : LoadChangeView → Registered → Registered
 registered_with w tables = record (put_rows w.rows tables) { references = put_all bytes_cmp w.references tables.references }
 
 -- the tables after a load that writes this
-abbrev pub effect_of_load : LoadWrites → Content → Content
+abbrev pub effect_of_load : LoadChangeView → Content → Content
 effect_of_load w content = record content {
   registered = registered_with w content.registered;
   files = put file_key_cmp w.key w.file content.files;
 }
 
 -- the tables after a run that writes this
-abbrev pub effect_of_run : RunWrites → Content → Content
+abbrev pub effect_of_run : RunChangeView → Content → Content
 effect_of_run w content = record content {
   runs = put run_key_cmp w.key w.summary content.runs;
   results = put_all result_key_cmp w.results content.results;
@@ -75,8 +75,8 @@ module _ (midnight : Midnights) (s : State) where
   references_fixed load = fixed_references (timetable_at midnight s) s.history (rows_coming load)
 
   -- what the machine writes for an accepted load
-  abbrev pub load_writes : Load → LoadWrites
-  load_writes load = record {
+  abbrev pub load_change : Load → LoadChangeView
+  load_change load = record {
     key = load.key;
     file = kept_file (timetable_at midnight s) load;
     rows = rows_in_time load;
@@ -84,8 +84,8 @@ module _ (midnight : Midnights) (s : State) where
   }
 
   -- what the machine writes for a new run
-  abbrev pub run_writes : RunKey → RunWrites
-  run_writes key =
+  abbrev pub run_change : RunKey → RunChangeView
+  run_change key =
       let run : Run = new_run s key in
       record {
         key = key;
@@ -97,23 +97,23 @@ module _ (midnight : Midnights) (s : State) where
 
 module _ (midnight : Midnights) (content : Content) where
   -- these are the tables of a state that the machine reaches
-  abbrev pub StandsFor : State → Type 0
-  StandsFor s = IsReached midnight s × (content ≡ tables_of midnight s)
+  abbrev pub TablesRepresent : State → Type 0
+  TablesRepresent s = IsReached midnight s × (content ≡ tables_of midnight s)
 
   -- the machine writes this for a load that it accepts in a state with these tables
-  abbrev pub IsLoadFrom : LoadWrites → Type 0
-  IsLoadFrom w = (s : State) × (load : Load) × StandsFor s × CanLoad midnight s load × (w ≡ load_writes midnight s load)
+  abbrev pub IsLoadFrom : LoadChangeView → Type 0
+  IsLoadFrom w = (s : State) × (load : Load) × TablesRepresent s × CanLoad midnight s load × (w ≡ load_change midnight s load)
 
   -- the machine writes this for a new run that it makes in a state with these tables
-  abbrev pub IsRunFrom : RunWrites → Type 0
-  IsRunFrom w = (s : State) × (moment : ℤ) × (key : RunKey) × StandsFor s × CanRun midnight s moment key × (w ≡ run_writes midnight s key)
+  abbrev pub IsRunFrom : RunChangeView → Type 0
+  IsRunFrom w = (s : State) × (moment : ℤ) × (key : RunKey) × TablesRepresent s × CanRun midnight s moment key × (w ≡ run_change midnight s key)
 
 -- the tables of the state after a load are those of the state before, with what the load writes put into them
 abbrev pub LoadEffect : Type 0
 LoadEffect = (midnight : Midnights) (s : State) (load : Load) → IsReached midnight s → CanLoad midnight s load
-    → tables_of midnight (after_load midnight s load) ≡ effect_of_load (load_writes midnight s load) (tables_of midnight s)
+    → tables_of midnight (after_load midnight s load) ≡ effect_of_load (load_change midnight s load) (tables_of midnight s)
 
 -- the tables of the state after a run are those of the state before, with what the run writes put into them
 abbrev pub RunEffect : Type 0
 RunEffect = (midnight : Midnights) (s : State) (moment : ℤ) (key : RunKey) → CanRun midnight s moment key
-    → tables_of midnight (after_run s key) ≡ effect_of_run (run_writes midnight s key) (tables_of midnight s)
+    → tables_of midnight (after_run s key) ≡ effect_of_run (run_change midnight s key) (tables_of midnight s)

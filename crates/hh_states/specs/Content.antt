@@ -21,7 +21,7 @@ use Rattle.hh_states.specs.declared.run_keys.CreditKey.{CreditKey}
 use Rattle.hh_states.specs.declared.run_keys.PostingKey.{PostingKey}
 use Rattle.hh_states.specs.declared.run_keys.ResultKey.{ResultKey}
 use Rattle.hh_states.specs.Runs.{Run, postings_after, run_key_cmp, settled_by, summary_after, with_former}
-use Rattle.hh_states.specs.States.{AcceptedFile, State, file_key_cmp, office_timetable}
+use Rattle.hh_states.specs.States.{KeptFileView, State, file_key_cmp, office_timetable}
 
 -- results in the order of their runs, then of their periods, then of their accounts
 abbrev pub result_key_cmp : ResultKey → ResultKey → Ordering
@@ -43,7 +43,7 @@ posting_key_cmp = then_cmp (on (λ k. k.run) run_key_cmp) (on (λ k. k.account) 
 pub record Content : Type 0 where
   pub settings : Settings
   pub registered : Registered
-  pub files : Table FileKey AcceptedFile
+  pub files : Table FileKey KeptFileView
   pub runs : Table RunKey Summary
   pub results : Table ResultKey AccountRow
   pub credits : Table CreditKey ℤ

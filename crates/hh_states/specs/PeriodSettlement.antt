@@ -24,7 +24,7 @@ use Rattle.hh_calc.specs.declared.result.AccountRow.{AccountRow}
 use Rattle.hh_calc.specs.declared.result.CreditRow.{CreditRow}
 use Rattle.hh_calc.specs.declared.result.Figures.{Figures}
 use Rattle.hh_calc.specs.Formulas.{all_figures, credits_of, residual, residual_shares}
-use Rattle.hh_calc.specs.Terms.{BmUnit, PeriodTerms, Rows, Settled, bm_unit, period_terms, settled_period}
+use Rattle.hh_calc.specs.Terms.{UnitDataView, PeriodDataView, Rows, Settled, unit_data, period_data, settled_period}
 
 module _ (tables : Registered) where
   -- the accounts of a date: both accounts of each party whose range has the date, in their order
@@ -59,19 +59,19 @@ module _ (tables : Registered) where
     rows_in_force = filter_map row_in_force (filter (λ e. eq_by_cmp settlement_period_cmp e.0.at at) tables.contracts)
 
     -- what a unit is settled from, with this reading
-    abbrev pub unit_with : List ℕ × UnitRegistration → Reading → BmUnit
+    abbrev pub unit_with : List ℕ × UnitRegistration → Reading → UnitDataView
     unit_with e reading =
-        bm_unit e.0 (lead_on tables e.0 e.1 at.date) e.1.interconnector reading (subsidiaries_of (record { unit = e.0; at = at }))
+        unit_data e.0 (lead_on tables e.0 e.1 at.date) e.1.interconnector reading (subsidiaries_of (record { unit = e.0; at = at }))
 
     -- what a unit is settled from, if it has a reading
-    abbrev pub unit_at : List ℕ × UnitRegistration → Option BmUnit
+    abbrev pub unit_at : List ℕ × UnitRegistration → Option UnitDataView
     unit_at e = option_map (unit_with e) (reading_of (record { unit = e.0; at = at }))
 
     -- What a Settlement Period is settled from. No run is made if a price or a reading is missing; here a missing price counts as 0,
     -- and a unit without a reading is left out.
-    abbrev pub terms_at : PeriodTerms
+    abbrev pub terms_at : PeriodDataView
     terms_at =
-        period_terms (accounts_on at.date) (filter_map unit_at (units_on at.date))
+        period_data (accounts_on at.date) (filter_map unit_at (units_on at.date))
         (Rows (map (λ r. r.contract) rows_in_force)) (unwrap_or (price_of at) (pos 0))
 
 -- an account's row, from its figures and its share of the residual
@@ -108,6 +108,6 @@ in_credit_order credits =
     map (λ e. record { unit = e.0.0; account = e.0.1; credited = e.1 }) (in_key_order unit_account_cmp (keyed_credits credits))
 
 -- a period, settled: the accounts' rows, the credits in order, and the residual
-abbrev pub settled : PeriodTerms → Settled
+abbrev pub settled : PeriodDataView → Settled
 settled p =
     settled_period (account_rows (all_figures p) (residual_shares p)) (in_credit_order (credits_of p.units)) (residual p)

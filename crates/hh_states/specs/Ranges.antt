@@ -10,7 +10,7 @@ use Rattle.hh_rows.specs.Values.{AreCounterparties, AreSettings, IsContractKey, 
 use Rattle.hh_rules.specs.History.{Registered}
 use Rattle.hh_states.specs.Content.{Content, tables_of}
 use Rattle.hh_states.specs.declared.file_key.FileKey.{FileKey}
-use Rattle.hh_states.specs.States.{AcceptedFile, State}
+use Rattle.hh_states.specs.States.{KeptFileView, State}
 use Rattle.hh_states.specs.Steps.{IsReached, registered_at}
 
 -- each key and value of what is registered and in force is one that a row can have
@@ -24,7 +24,7 @@ pub record AreOfRows (tables : Registered) : Type 0 where
   pub reallocations : AllByRecursion (λ e. IsReallocationRow (record { key = e.0; reallocation = e.1 })) tables.reallocations
 
 -- a file that is kept has a name in its grammar, and no more bytes and rows than it may have
-pub record IsKeptFile (key : FileKey) (file : AcceptedFile) : Type 0 where
+pub record IsKeptFile (key : FileKey) (file : KeptFileView) : Type 0 where
   pub named : IsTrue (is_file_name key.name)
   pub small : length file.body ≤ most_bytes
   pub few : file.applied + file.late ≤ most_rows

@@ -5,7 +5,7 @@ use Rattle.hh_time.specs.Days.{Midnights}
 use Rattle.hh_rows.specs.declared.settlement_period.SettlementPeriod.{SettlementPeriod}
 use Rattle.hh_rules.specs.History.{Registered}
 use Rattle.hh_calc.specs.Ready.{AreUnitsDistinct, IsReady}
-use Rattle.hh_calc.specs.Terms.{PeriodTerms}
+use Rattle.hh_calc.specs.Terms.{PeriodDataView}
 use Rattle.hh_states.specs.DaySettlement.{missing_meter, missing_price, too_large}
 use Rattle.hh_states.specs.PeriodSettlement.{terms_at}
 use Rattle.hh_states.specs.Runs.{periods_of, seen_by}
@@ -15,7 +15,7 @@ use Rattle.hh_states.specs.Sums.{CreditsEachOnce}
 
 -- What a period is settled from fits together: the period may be settled, no unit occurs twice, and no unit credits an account
 -- twice.
-pub record AreTermsConsistent (p : PeriodTerms) : Type 0 where
+pub record AreTermsConsistent (p : PeriodDataView) : Type 0 where
   pub ready : IsReady p
   pub units : AreUnitsDistinct p
   pub credits : All CreditsEachOnce p.units

@@ -26,7 +26,7 @@ use Rattle.hh_states.specs.Content.{Content, tables_of}
 use Rattle.hh_states.specs.DaySettlement.{periods_on}
 use Rattle.hh_states.specs.PeriodSettlement.{rows_in_force}
 use Rattle.hh_states.specs.Runs.{run_key_cmp}
-use Rattle.hh_states.specs.States.{AcceptedFile, State, file_key_cmp}
+use Rattle.hh_states.specs.States.{KeptFileView, State, file_key_cmp}
 
 -- whether the seller or the buyer of a contract is this account
 abbrev pub names_account : Account → ContractRow → Bool
@@ -70,7 +70,7 @@ module _ (content : Content) where
   is_key_known key = is_key_known_in content.registered key
 
   -- what is kept of the file of this kind and name, if one was accepted
-  abbrev pub file_in : FileKind → List ℕ → Option AcceptedFile
+  abbrev pub file_in : FileKind → List ℕ → Option KeptFileView
   file_in kind name = find file_key_cmp (record { kind = kind; name = name }) content.files
 
   -- the register of everything that is registered and in force

@@ -16,7 +16,7 @@ abbrev pub file_key_cmp : FileKey → FileKey → Ordering
 file_key_cmp = then_cmp (on (λ k. kind_word k.kind) bytes_cmp) (on (λ k. k.name) bytes_cmp)
 
 -- what is kept of an accepted file: its bytes, and how many of its rows were applied and how many came late
-pub record AcceptedFile : Type 0 where
+pub record KeptFileView : Type 0 where
   pub body : List ℕ
   pub applied : ℕ
   pub late : ℕ
@@ -25,7 +25,7 @@ pub record AcceptedFile : Type 0 where
 pub record State : Type 0 where
   pub settings : Settings
   pub history : History
-  pub files : List (FileKey × AcceptedFile)
+  pub files : List (FileKey × KeptFileView)
   pub runs : List Run
 
 -- the state in which nothing has been accepted

@@ -25,7 +25,7 @@ use Rattle.hh_states.specs.declared.file_key.FileKey.{FileKey}
 use Rattle.hh_states.specs.Content.{all_summaries}
 use Rattle.hh_states.specs.DaySettlement.{missing_meter, missing_price, periods_on, too_large}
 use Rattle.hh_states.specs.Runs.{Run, latest_run, run_key_cmp, runs_of_date, summary_after}
-use Rattle.hh_states.specs.States.{AcceptedFile, State, empty_state, file_key_cmp, office_timetable}
+use Rattle.hh_states.specs.States.{KeptFileView, State, empty_state, file_key_cmp, office_timetable}
 
 -- a file that comes at a moment: the kind and name under which it comes, its bytes, and the rows that are read from them
 pub record Load : Type 0 where
@@ -39,7 +39,7 @@ abbrev pub rows_coming : Load → History
 rows_coming load = coming_at load.moment load.rows
 
 -- what is kept of a load that is accepted: its bytes, with the counts of its reply
-abbrev pub kept_file : Timetable → Load → AcceptedFile
+abbrev pub kept_file : Timetable → Load → KeptFileView
 kept_file timetable load =
     let rows : History = rows_coming load in
     record { body = load.body; applied = length (timely_rows timetable rows); late = late_count timetable rows }

@@ -12,10 +12,10 @@ use Rattle.hh_rows.specs.declared.settlement_period.SettlementPeriod.{Settlement
 use Rattle.hh_rules.specs.History.{History, Registered}
 use Rattle.hh_rules.specs.Lateness.{Timetable}
 use Rattle.hh_calc.specs.declared.result.AccountRow.{AccountRow}
-use Rattle.hh_calc.specs.Formulas.{loss_adjusted, of_account}
-use Rattle.hh_calc.specs.Ready.{AreInOrder, AreNamed, AreUnitsDistinct}
+use Rattle.hh_calc.specs.Formulas.{loss_adjusted, if_same_account}
+use Rattle.hh_calc.specs.Ready.{AreInOrder, AreListed, AreUnitsDistinct}
 use Rattle.hh_calc.specs.Settled.{AddsUp, IsSettled, paid_by}
-use Rattle.hh_calc.specs.Terms.{BmUnit, PeriodTerms}
+use Rattle.hh_calc.specs.Terms.{UnitDataView, PeriodDataView}
 use Rattle.hh_runs.specs.DayNets.{day_net_of}
 use Rattle.hh_runs.specs.declared.run_key.RunKey.{RunKey}
 use Rattle.hh_states.specs.declared.run_keys.CreditKey.{CreditKey}
@@ -45,7 +45,7 @@ module _ (timetable : Timetable) (s : State) where
 
 -- the sum of postings to an account
 abbrev pub posted_to : Account → Table PostingKey ℤ → ℤ
-posted_to a postings = total (λ e. of_account a e.0.account e.1) postings
+posted_to a postings = total (λ e. if_same_account a e.0.account e.1) postings
 
 -- for each account, the postings in the tables of a reached state sum to what the latest runs of all dates move
 abbrev pub PostingsTotal : Type 0
@@ -68,18 +68,18 @@ DayNetsAreSums =
     → day_net_of (nets_of timetable history (Some run)) a ≡ day_net (settled_by timetable history run) a
 
 -- no account is credited twice from a unit: its subsidiaries' accounts differ from each other and from its lead
-abbrev pub CreditsEachOnce : BmUnit → Type 0
+abbrev pub CreditsEachOnce : UnitDataView → Type 0
 CreditsEachOnce u = AllPairs (λ s t. s.account ≢ t.account) u.subsidiaries × All (λ s. s.account ≢ u.lead) u.subsidiaries
 
 -- a period's settlement is what IsSettled says, if no unit occurs twice and no unit credits an account twice
 abbrev pub SettlesEachPeriod : Type 0
 SettlesEachPeriod =
-    (p : PeriodTerms) → AreUnitsDistinct p → All CreditsEachOnce p.units → IsSettled p (settled p)
+    (p : PeriodDataView) → AreUnitsDistinct p → All CreditsEachOnce p.units → IsSettled p (settled p)
 
 -- so it adds up, if also the accounts are in order and each lead, subsidiary, seller and buyer is among them
 abbrev pub SettledAddsUp : Type 0
 SettledAddsUp =
-    (p : PeriodTerms) → AreInOrder p → AreNamed p → AreUnitsDistinct p → All CreditsEachOnce p.units
+    (p : PeriodDataView) → AreInOrder p → AreListed p → AreUnitsDistinct p → All CreditsEachOnce p.units
     → AddsUp p (settled p)
 
 -- in each state that the machine reaches, each Settlement Period that a run settles adds up, by what the run saw

@@ -1,15 +1,15 @@
 -- What a crash may leave of tables, after calls on them.
 use Rattle.std.specs.Prelude.{◌≡◌, ◌⊎◌, Bool, IsTrue}
 use Rattle.hh_time.specs.Days.{Midnights}
-use Rattle.hh_states.specs.Changes.{IsLoadFrom, IsRunFrom, LoadWrites, RunWrites, effect_of_load, effect_of_run}
+use Rattle.hh_states.specs.Changes.{IsLoadFrom, IsRunFrom, LoadChangeView, RunChangeView, effect_of_load, effect_of_run}
 use Rattle.hh_states.specs.Content.{Content}
 
 -- the new content is the old one with a load written, if the machine makes that load
-abbrev pub MakesLoad : LoadWrites → Content → Content → Type 0
+abbrev pub MakesLoad : LoadChangeView → Content → Content → Type 0
 MakesLoad load old new = (midnight : Midnights) → IsLoadFrom midnight old load → new ≡ effect_of_load load old
 
 -- the new content is the old one with a run written, if the machine makes that run
-abbrev pub MakesRun : RunWrites → Content → Content → Type 0
+abbrev pub MakesRun : RunChangeView → Content → Content → Type 0
 MakesRun run old new = (midnight : Midnights) → IsRunFrom midnight old run → new ≡ effect_of_run run old
 
 -- For a call on tables: whether their disk has returned what was written, whether they are open, and what a crash may leave of them.

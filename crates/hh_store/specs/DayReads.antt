@@ -6,7 +6,7 @@ use Rattle.hh_rules.specs.History.{Registered}
 use Rattle.hh_calc.specs.Limits.{is_within_limits}
 use Rattle.hh_calc.specs.Formulas.{netted}
 use Rattle.hh_calc.specs.Ready.{HasNetVolumes}
-use Rattle.hh_calc.specs.Terms.{PeriodTerms}
+use Rattle.hh_calc.specs.Terms.{PeriodDataView}
 use Rattle.hh_states.specs.DaySettlement.{missing_meter, missing_price}
 use Rattle.hh_states.specs.PeriodSettlement.{settled, terms_at}
 use Rattle.hh_store.specs.declared.day_data.DayData.{DayData}
@@ -23,12 +23,12 @@ abbrev pub count_changed : List PeriodState → ℕ
 count_changed periods = length (filter is_changed periods)
 
 -- the terms with the accounts' net volumes instead of the contract volumes in force; each is at most 100,000,000 MWh in size
-pub record IsNetted (terms p : PeriodTerms) : Type 0 where
+pub record IsNetted (terms p : PeriodDataView) : Type 0 where
   pub same : p ≡ netted terms
   pub sizes : HasNetVolumes p.contracts
 
 -- a Settlement Period with these terms is settled from this; or this is its settlement, and it is within the limits
-abbrev pub IsStateOf : PeriodTerms → PeriodState → Type 0
+abbrev pub IsStateOf : PeriodDataView → PeriodState → Type 0
 IsStateOf terms (Changed p) = (p ≡ terms) ⊎ IsNetted terms p
 IsStateOf terms (Same s) = (s ≡ settled terms) × IsTrue (is_within_limits terms)
 

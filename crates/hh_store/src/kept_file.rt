@@ -14,9 +14,9 @@ pub struct KeptFile {
 }
 
 impl Model for KeptFile {
-    ghost use Rattle.hh_states.specs.States.{AcceptedFile};
+    ghost use Rattle.hh_states.specs.States.{KeptFileView};
 
-    ghost Value = { AcceptedFile };
+    ghost Value = { KeptFileView };
 
     ghost view = { λ f. record { body = f.body.items; applied = f.applied; late = f.late } };
 }

@@ -20,9 +20,9 @@ pub struct LoadChange {
 }
 
 impl Model for LoadChange {
-    ghost use Rattle.hh_states.specs.Changes.{LoadWrites};
+    ghost use Rattle.hh_states.specs.Changes.{LoadChangeView};
 
-    ghost Value = { LoadWrites };
+    ghost Value = { LoadChangeView };
 
     ghost view = { λ c. record {
       key = record { kind = c.kind; name = c.name };

@@ -20,9 +20,9 @@ pub struct RunChange {
 }
 
 impl Model for RunChange {
-    ghost use Rattle.hh_states.specs.Changes.{RunWrites};
+    ghost use Rattle.hh_states.specs.Changes.{RunChangeView};
 
-    ghost Value = { RunWrites };
+    ghost Value = { RunChangeView };
 
     ghost view = { λ c. record {
       key = c.key;

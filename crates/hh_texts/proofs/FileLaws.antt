@@ -18,7 +18,7 @@ use Rattle.hh_names.specs.declared.account.Account.{Account}
 use Rattle.hh_names.specs.declared.account.Side.{Side}
 use Rattle.hh_names.specs.declared.fault.Fault.{Fault}
 use Rattle.hh_names.specs.declared.fault.Refusal.TheVariants.{BadRecord, FileTooLarge, TooManyRows}
-use Rattle.hh_names.specs.Faults.{Gives, faults, plain_fault, row_fault}
+use Rattle.hh_names.specs.Faults.{IsOutcomeOrNoMemory, faults, plain_fault, row_fault}
 use Rattle.hh_names.specs.Accounts.{account_from, account_value, side_value}
 use Rattle.hh_names.specs.Fields.{period_value, yes_no_value}
 use Rattle.hh_names.specs.Words.{access_key_value, is_word, party_value, reference_value, unit_value, word_value}
@@ -350,7 +350,7 @@ file_reads k body rows e =
     record { small = read.0; few = read.1; each = read.2 }
 
 -- this holds for what reading the file gives
-pub read_fits : (k : FileKind) (body : List ℕ) (result : Result (Vec Row Global) Fault) → Gives faults (λ (rows : Vec Row Global). rows.items) result (file_rows k body)
+pub read_fits : (k : FileKind) (body : List ℕ) (result : Result (Vec Row Global) Fault) → IsOutcomeOrNoMemory faults (λ (rows : Vec Row Global). rows.items) result (file_rows k body)
     → IfOk result (λ (rows : Vec Row Global). IsFileOf k body rows.items)
 read_fits k body (Err fault) gives = tt
 read_fits k body (Ok rows) gives = file_reads k body rows.items gives

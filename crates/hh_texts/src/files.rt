@@ -3,7 +3,7 @@
 ghost use Rattle.std.specs.Prelude.{◌≡◌, IfOk};
 ghost use Rattle.csv.specs.Records.{fields_of};
 ghost use Rattle.hh_texts.specs.Files.{contract_row, file_rows, kind_form, kind_forms, meter_row, party_row, price_row, reallocation_row, unit_row};
-ghost use Rattle.hh_names.specs.Faults.{faults, Gives};
+ghost use Rattle.hh_names.specs.Faults.{faults, IsOutcomeOrNoMemory};
 ghost use Rattle.hh_rows.specs.RowKinds.{IsFileOf};
 
 use crate::fields::field_in;
@@ -179,7 +179,8 @@ fn read_reallocation(fields: &ByteRecord) -> Result<Row, u32>
 /// registered or in force. So the rows of a file that can be read are rows of its kind, each field is in
 /// its grammar and range, and there are no more rows and bytes than there may be.
 pub fn read_file(alloc: Global, kind: FileKind, bytes: &[u8]) -> Result<Vec<Row>, Fault>
-    ensures rows { Gives faults (λ rows. rows.items) result (file_rows kind bytes.now) }
+    ensures rows { IsOutcomeOrNoMemory faults (λ rows. rows.items) result
+        (file_rows kind bytes.now) }
     ensures fits { IfOk result (λ rows. IsFileOf kind bytes.now rows.items) }
 {
     read_rows(alloc, &[kind], bytes)

@@ -2,7 +2,7 @@
 
 ghost use Rattle.std.specs.Prelude.{◌≡◌, ◌≤◌, length, map, option_map, IfOk};
 ghost use Rattle.csv.specs.Records.{fields_of};
-ghost use Rattle.hh_names.specs.Faults.{faults, Gives};
+ghost use Rattle.hh_names.specs.Faults.{faults, IsOutcomeOrNoMemory};
 ghost use Rattle.hh_texts.specs.Records.{IsReading, left_of};
 ghost use Rattle.hh_rows.specs.RowKinds.{most_rows};
 ghost use Rattle.hh_texts.specs.Rows.{FileForm, form_under, rows_of, rows_from, same_fields};
@@ -43,7 +43,7 @@ pub trait Form {
 /// `FileTooLarge` is tested first, then `BadHeader`, and then by row, from 1 without the header,
 /// `TooManyRows`, `BadRecord` and `BadField`. `Memory` may be answered instead of anything else.
 pub fn read_rows<F: Form>(alloc: Global, forms: &[F], bytes: &[u8]) -> Result<Vec<F::Row>, Fault>
-    ensures rows { Gives faults (λ rows. rows.items) result
+    ensures rows { IsOutcomeOrNoMemory faults (λ rows. rows.items) result
         (rows_of (map F.form forms.now) bytes.now) }
     ensures few { IfOk result (λ rows. length rows.items ≤ most_rows) }
 {
@@ -102,7 +102,7 @@ fn rows_under<F: Form>(
     reader: &mut Reader<&[u8]>,
 ) -> Result<Vec<F::Row>, Fault>
     requires { IsReading reader.old }
-    ensures rows { Gives faults (λ rows. rows.items) result
+    ensures rows { IsOutcomeOrNoMemory faults (λ rows. rows.items) result
         (rows_from (length (F.form form.now).header) (F.form form.now).row 1
         (left_of reader.old)) }
     ensures few { IfOk result (λ rows. length rows.items ≤ most_rows) }

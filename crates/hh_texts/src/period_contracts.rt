@@ -1,7 +1,7 @@
 //! The file of contract volumes from which one Settlement Period is settled.
 
 ghost use Rattle.std.specs.Prelude.{◌≤◌, length, IfOk};
-ghost use Rattle.hh_names.specs.Faults.{faults, Gives};
+ghost use Rattle.hh_names.specs.Faults.{faults, IsOutcomeOrNoMemory};
 ghost use Rattle.hh_texts.specs.PeriodFiles.{period_contract_form, period_contract_row, period_contract_rows};
 ghost use Rattle.hh_rows.specs.RowKinds.{most_rows};
 
@@ -52,7 +52,8 @@ impl Form for PeriodContracts {
 /// The rows of a file of contract volumes, or the first fault in it, in the order of
 /// `read_rows`.
 pub fn read_period_contracts(alloc: Global, bytes: &[u8]) -> Result<Vec<PeriodContractRow>, Fault>
-    ensures rows { Gives faults (λ rows. rows.items) result (period_contract_rows bytes.now) }
+    ensures rows { IsOutcomeOrNoMemory faults (λ rows. rows.items) result
+        (period_contract_rows bytes.now) }
     ensures few { IfOk result (λ rows. length rows.items ≤ most_rows) }
 {
     read_rows(alloc, &[PeriodContracts], bytes)

@@ -3,7 +3,7 @@ use Rattle.std.proofs.Common.{◌≡◌, ◌∙◌, ℕ, ◌≤◌, ◌<◌, min
 use Rattle.std.proofs.lemmas.Bool.{cases_lt}
 use Rattle.std.proofs.lemmas.List.{length-append, length-take, take-append-le, take_all, take_at}
 use Rattle.std.specs.Io.KnownBytes.{Consumes, prepend_known}
-use Rattle.hh_heads.specs.Found.{HasGiven}
+use Rattle.hh_http_heads.specs.Found.{HasGiven}
 use Rattle.hh_wire.specs.steps.Stops.{Fills, FallsShort}
 
 -- a buffer that is filled with the bytes at hand and the rest, by whether those at hand are enough

@@ -8,11 +8,11 @@ use Rattle.httparse.specs.Spans.{AreFieldsAt, IsRequestAt, header_bytes, name_an
 use Rattle.httparse.specs.declared.spans.HeaderSpan.{HeaderSpan}
 use Rattle.httparse.specs.declared.spans.RequestSpans.{RequestSpans}
 use Rattle.hh_requests.specs.declared.request.Request.{Request}
-use Rattle.hh_heads.specs.Found.{FindsHead, HasGiven}
-use Rattle.hh_heads.specs.Fronts.{IsFront}
-use Rattle.hh_heads.specs.Headings.{Heading, asks_head, heading_of}
-use Rattle.hh_replies.specs.declared.refusal.RequestRefusal.{RequestRefusal}
-use Rattle.hh_replies.specs.declared.refusal.RequestRefusal.TheVariants as refusal
+use Rattle.hh_http_heads.specs.Found.{FindsHead, HasGiven}
+use Rattle.hh_http_heads.specs.Fronts.{IsFront}
+use Rattle.hh_http_heads.specs.Headings.{Heading, asks_head, heading_of}
+use Rattle.hh_http_replies.specs.declared.refusal.RequestRefusal.{RequestRefusal}
+use Rattle.hh_http_replies.specs.declared.refusal.RequestRefusal.TheVariants as refusal
 use Rattle.hh_wire.specs.Behind.{ReadsBehind}
 use Rattle.hh_wire.specs.steps.Behind.{fault_behind}
 use Rattle.hh_wire.specs.Message.{Awaits, ByCause, FailsAwaiting, LacksBody, Message, IsMessage, Reads, asked_by}

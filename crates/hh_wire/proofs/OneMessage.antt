@@ -3,8 +3,8 @@ use Rattle.std.proofs.Common.{◌≡◌, ◌∙◌, ℕ, ◌<◌, List, [], ◌+
 use Rattle.std.proofs.lemmas.List.{length-append}
 use Rattle.httparse.proofs.GrammarLemmas.{request_unique}
 use Rattle.httparse.specs.Grammar.{RequestHead, print_request}
-use Rattle.hh_heads.specs.Fronts.{IsFront}
-use Rattle.hh_heads.specs.Headings.{heading_of}
+use Rattle.hh_http_heads.specs.Fronts.{IsFront}
+use Rattle.hh_http_heads.specs.Headings.{heading_of}
 use Rattle.hh_wire.specs.Message.{IsMessage, Message, asked_by}
 
 -- a head has some bytes

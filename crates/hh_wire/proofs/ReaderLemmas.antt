@@ -23,7 +23,7 @@ use Rattle.hh_rows.specs.declared.file_kind.FileKind.TheVariants as kind
 use Rattle.hh_runs.specs.RunKinds.{all_run_kinds, run_kind_code, run_kind_value}
 use Rattle.hh_runs.specs.declared.run_kind.RunKind.{RunKind}
 use Rattle.hh_runs.specs.declared.run_kind.RunKind.TheVariants as run
-use Rattle.hh_replies.proofs.TextLemmas.{size_below}
+use Rattle.hh_http_replies.proofs.TextLemmas.{size_below}
 use Rattle.hh_wire.specs.steps.Paths.{is_part, is_part_byte}
 
 -- ---- kinds

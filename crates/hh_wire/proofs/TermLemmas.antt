@@ -4,11 +4,11 @@ use Rattle.std.specs.Prelude.{nat_lt, unwrap_or}
 use Rattle.std.specs.Result.{IsErrAnd}
 use Rattle.std.proofs.lemmas.Bool.Decides.{nat_tests}
 use Rattle.hh_requests.specs.declared.request.Request.{Request}
-use Rattle.hh_heads.specs.Heads.{HoldsTerms}
-use Rattle.hh_heads.specs.Headings.{Heading, length_given, length_of}
-use Rattle.hh_heads.specs.Lengths.{saturated}
-use Rattle.hh_heads.specs.declared.terms.Terms.{Terms}
-use Rattle.hh_replies.specs.declared.refusal.RequestRefusal.{RequestRefusal}
+use Rattle.hh_http_heads.specs.Heads.{HoldsTerms}
+use Rattle.hh_http_heads.specs.Headings.{Heading, length_given, length_of}
+use Rattle.hh_http_heads.specs.Lengths.{saturated}
+use Rattle.hh_http_heads.specs.declared.terms.Terms.{Terms}
+use Rattle.hh_http_replies.specs.declared.refusal.RequestRefusal.{RequestRefusal}
 use Rattle.hh_wire.specs.Behind.{Asks, ReadsBehind}
 use Rattle.hh_wire.specs.Message.{Message, asked_by, asked_with}
 use Rattle.hh_wire.specs.declared.stop.Stop.{Stop}

@@ -1,8 +1,8 @@
 -- What comes of reading on after a head.
 use Rattle.std.specs.Prelude.{◌≡◌, Result, Ok, Err}
 use Rattle.hh_requests.specs.declared.request.Request.{Request}
-use Rattle.hh_heads.specs.Headings.{Heading}
-use Rattle.hh_replies.specs.declared.refusal.RequestRefusal.{RequestRefusal}
+use Rattle.hh_http_heads.specs.Headings.{Heading}
+use Rattle.hh_http_replies.specs.declared.refusal.RequestRefusal.{RequestRefusal}
 use Rattle.hh_wire.specs.declared.incoming.Incoming.TheVariants.{Asked}
 use Rattle.hh_wire.specs.declared.stop.Stop.{Stop}
 use Rattle.hh_wire.specs.declared.stop.Stop.TheVariants.{Read, Refused}

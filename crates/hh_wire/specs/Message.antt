@@ -2,12 +2,12 @@
 use Rattle.std.specs.Prelude.{◌≡◌, ◌≢◌, ◌⊎◌, ℕ, ◌<◌, ◌≤◌, nat_lt, List, [], length, take, Bool, false, not, ◌&&◌, is_none, if◌then◌else◌, Option, Some, None, Result, Ok, Err, bytes_eq}
 use Rattle.httparse.specs.Grammar.{RequestHead}
 use Rattle.hh_devices.specs.Devices.{Failed}
-use Rattle.hh_heads.specs.Found.{HasGiven}
-use Rattle.hh_heads.specs.Fronts.{AwaitsHead, HasNoFront, IsFront}
-use Rattle.hh_heads.specs.Headings.{Heading, asks_head, heading_of, is_bad, key_shown, length_given, length_of}
-use Rattle.hh_replies.specs.declared.refusal.Refused.{Refused}
-use Rattle.hh_replies.specs.declared.refusal.RequestRefusal.{RequestRefusal}
-use Rattle.hh_replies.specs.declared.refusal.RequestRefusal.TheVariants as refusal
+use Rattle.hh_http_heads.specs.Found.{HasGiven}
+use Rattle.hh_http_heads.specs.Fronts.{AwaitsHead, HasNoFront, IsFront}
+use Rattle.hh_http_heads.specs.Headings.{Heading, asks_head, heading_of, is_bad, key_shown, length_given, length_of}
+use Rattle.hh_http_replies.specs.declared.refusal.Refused.{Refused}
+use Rattle.hh_http_replies.specs.declared.refusal.RequestRefusal.{RequestRefusal}
+use Rattle.hh_http_replies.specs.declared.refusal.RequestRefusal.TheVariants as refusal
 use Rattle.hh_wire.specs.declared.incoming.Incoming.{Incoming}
 use Rattle.hh_wire.specs.declared.incoming.Incoming.TheVariants.{Closed, Asked}
 use Rattle.hh_wire.specs.declared.incoming.WireFault.{WireFault}

@@ -1,7 +1,7 @@
 -- What is known if reading ends before a request is whole: the count of the source's failures, and what the source gave.
 use Rattle.std.specs.Prelude.{◌≡◌, ℕ, List, Option, Result, Ok, Err}
 use Rattle.hh_devices.specs.Devices.{Failed}
-use Rattle.hh_heads.specs.Found.{HasGiven}
+use Rattle.hh_http_heads.specs.Found.{HasGiven}
 use Rattle.hh_wire.specs.declared.stop.Stop.{Stop}
 use Rattle.hh_wire.specs.declared.stop.Stop.TheVariants.{Read, Refused}
 

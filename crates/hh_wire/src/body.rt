@@ -3,14 +3,14 @@
 ghost use Rattle.std.specs.Prelude.{◌≡◌, ◌<◌, ◌≤◌, ◌++◌, length, IfOk, IfSome, OnErr};
 ghost use Rattle.std.specs.Io.KnownBytes.{prepend_known};
 ghost use Rattle.hh_devices.specs.Devices.{CountsErr};
-ghost use Rattle.hh_heads.specs.Found.{HasGiven};
+ghost use Rattle.hh_http_heads.specs.Found.{HasGiven};
 ghost use Rattle.hh_wire.specs.Stops.{CountsStop, StopsWith};
 ghost use Rattle.hh_wire.specs.steps.Stops.{Fills, FallsShort, ReadsBody};
 
 use crate::stop::Stop;
 use hh_devices::{DeviceFailed, Source};
-use hh_heads::fill;
-use hh_replies::RequestRefusal;
+use hh_http_heads::fill;
+use hh_http_replies::RequestRefusal;
 use std::alloc::Global;
 
 /// Reads a body of this length. Its first bytes came with its head. Bytes after the body are left, and

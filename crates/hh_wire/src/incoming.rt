@@ -3,7 +3,7 @@
 ghost use Rattle.std.specs.Prelude.{◌≡◌};
 
 use hh_devices::DeviceFailed;
-use hh_replies::Refused;
+use hh_http_replies::Refused;
 use hh_requests::Request;
 
 /// What a client sent.

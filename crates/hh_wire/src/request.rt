@@ -2,7 +2,7 @@
 
 ghost use Rattle.std.specs.Prelude.{◌≡◌, ℕ, List, ◌++◌, IfSome};
 ghost use Rattle.std.specs.Io.KnownBytes.{prepend_known};
-ghost use Rattle.hh_heads.specs.Heads.{HoldsTerms, heading_in};
+ghost use Rattle.hh_http_heads.specs.Heads.{HoldsTerms, heading_in};
 ghost use Rattle.hh_wire.specs.Behind.{Asks, ReadsBehind};
 ghost use Rattle.hh_wire.specs.Message.{CountsRead, FailsAwaiting, IsMessage, LacksBody, Message, Reads, asked_by, asked_with};
 ghost use Rattle.hh_wire.specs.Stops.{CountsStop, StopsWith};
@@ -15,8 +15,8 @@ use crate::route::{action_at, method_of};
 use crate::router::{Route, Routes};
 use crate::stop::Stop;
 use hh_devices::Source;
-use hh_heads::{Front, MOST_HEAD_BYTES, MOST_HEADERS, Terms, WholeHead, read_front};
-use hh_replies::{Refused, RequestRefusal};
+use hh_http_heads::{Front, MOST_HEAD_BYTES, MOST_HEADERS, Terms, WholeHead, read_front};
+use hh_http_replies::{Refused, RequestRefusal};
 use hh_requests::{Action, Bytes, Request};
 use httparse::spans::EMPTY_HEADER_SPAN;
 use matchit::Router;

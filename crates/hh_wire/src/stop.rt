@@ -4,8 +4,8 @@ ghost use Rattle.std.specs.Prelude.{◌≡◌};
 
 use crate::incoming::WireFault;
 use hh_devices::DeviceFailed;
-use hh_heads::{BrokenRule, WholeHead};
-use hh_replies::{Refused, RequestRefusal};
+use hh_http_heads::{BrokenRule, WholeHead};
+use hh_http_replies::{Refused, RequestRefusal};
 use std::alloc::AllocError;
 
 /// Why reading ends before a request is whole.
@@ -28,7 +28,7 @@ impl From<DeviceFailed> for Stop {
 }
 
 impl From<AllocError> for Stop {
-    ghost use Rattle.hh_replies.specs.declared.refusal.RequestRefusal.TheVariants.{Memory};
+    ghost use Rattle.hh_http_replies.specs.declared.refusal.RequestRefusal.TheVariants.{Memory};
     ghost use Rattle.hh_wire.specs.declared.stop.Stop.TheVariants.{Refused};
 
     ghost from_gives = { λ _ stop. stop ≡ Refused Memory };
@@ -49,7 +49,7 @@ impl From<RequestRefusal> for Stop {
 }
 
 impl From<BrokenRule> for Stop {
-    ghost use Rattle.hh_replies.specs.declared.refusal.RequestRefusal.TheVariants.{BadRequest};
+    ghost use Rattle.hh_http_replies.specs.declared.refusal.RequestRefusal.TheVariants.{BadRequest};
     ghost use Rattle.hh_wire.specs.declared.stop.Stop.TheVariants.{Refused};
 
     ghost from_gives = { λ _ stop. stop ≡ Refused BadRequest };
@@ -61,7 +61,7 @@ impl From<BrokenRule> for Stop {
 
 impl Stop {
     ghost use Rattle.hh_wire.specs.steps.Behind.{fault_behind};
-    ghost use Rattle.hh_heads.specs.Heads.{heading_in};
+    ghost use Rattle.hh_http_heads.specs.Heads.{heading_in};
 
     /// The fault of a request after its head was read.
     pub fn behind(self, head: &WholeHead<'_>) -> WireFault

@@ -8,7 +8,7 @@ use Rattle.std.specs.Str.{bytes_eq}
 use Rattle.clap.specs.Words.{Text}
 use Rattle.hh_words.specs.KeyFiles.{KeyOption, behind, file_with_key, names_file, operator_key, path_at, path_named, shown_key}
 use Rattle.hh_words.specs.Options.{has_option, is_end, is_explain, is_script, is_strict, is_taken, without, words_left}
-use Rattle.hh_words.specs.PlainWords.{is_file_option, is_key_option, is_option, is_plain}
+use Rattle.hh_words.specs.PlainWords.{is_file_option, is_key_option, is_option, has_no_option}
 
 -- what two tests say together
 
@@ -69,14 +69,14 @@ without_none test fails (word ∷ words) h =
     stays (is_end word) (test word) word words (without test words) (fails word first.0) (without_none test fails words first.1)
 
 -- neither option is asked for
-pub plain_explain : (words : List Text) → is_plain words ≡ true → has_option is_explain (drop 1 words) ≡ false
+pub plain_explain : (words : List Text) → has_no_option words ≡ true → has_option is_explain (drop 1 words) ≡ false
 plain_explain words h = has_none is_explain no_explain (drop 1 words) h
 
-pub plain_strict : (words : List Text) → is_plain words ≡ true → (is_script (drop 1 words) && has_option is_strict (drop 1 words)) ≡ false
+pub plain_strict : (words : List Text) → has_no_option words ≡ true → (is_script (drop 1 words) && has_option is_strict (drop 1 words)) ≡ false
 plain_strict words h = both_false (is_script (drop 1 words)) (has_option is_strict (drop 1 words)) (has_none is_strict no_strict (drop 1 words) h)
 
 -- and all words are kept
-pub plain_left : (words : List Text) → is_plain words ≡ true → words_left words ≡ words
+pub plain_left : (words : List Text) → has_no_option words ≡ true → words_left words ≡ words
 plain_left [] h = refl
 plain_left (name ∷ words) h = ap (λ l. name ∷ l) (without_none (is_taken (is_script words)) (not_taken (is_script words)) words h)
 
@@ -118,7 +118,7 @@ by_command false true words h = names_none operator_key no_operator words h
 by_command false false words h = refl
 
 -- no file with a key is named
-pub plain_names_none : (words : List Text) → is_plain words ≡ true → file_with_key words ≡ None
+pub plain_names_none : (words : List Text) → has_no_option words ≡ true → file_with_key words ≡ None
 plain_names_none [] h = refl
 plain_names_none (name ∷ []) h = refl
 plain_names_none (name ∷ command ∷ words) h =

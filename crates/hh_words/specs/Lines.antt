@@ -97,8 +97,8 @@ TellsUsage words (Wrong text) = fault_of settle_app words ≡ [] → EndsWithUsa
 TellsUsage words Memory = Unit {0}
 
 -- what the program tells about its version
-abbrev pub version : Text
-version = codes "settle 1.0.0, tables of version 1\n"
+abbrev pub version_text : Text
+version_text = codes "settle 1.0.0, tables of version 1\n"
 
 -- words that ask for the version: only `--version` after the program's own name
 abbrev pub asks_version : List Text → Bool

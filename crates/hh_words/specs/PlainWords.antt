@@ -18,5 +18,5 @@ abbrev pub is_option : Text → Bool
 is_option word = is_explain word || (is_strict word || is_key_option word)
 
 -- none of the words after the program's own name is one of the options
-abbrev pub is_plain : List Text → Bool
-is_plain words = list_all (λ word. not (is_option word)) (drop 1 words)
+abbrev pub has_no_option : List Text → Bool
+has_no_option words = list_all (λ word. not (is_option word)) (drop 1 words)

@@ -3,7 +3,7 @@
 ghost use Rattle.std.specs.Prelude.{◌≡◌, ◌==◌, ◌++◌, ◌∷◌, [], IfOk, None, OnOk, map, option_map, string_bytes, true};
 ghost use Rattle.std.specs.List.{before_first};
 ghost use Rattle.hh_words.specs.KeyFiles.{behind, file_with_key, first_line, key_option, key_written, names_file, path_at, path_named, text_or_nothing, with_key, word_with, words_with};
-ghost use Rattle.hh_words.specs.PlainWords.{is_plain};
+ghost use Rattle.hh_words.specs.PlainWords.{has_no_option};
 ghost use Rattle.hh_words.specs.steps.KeyTexts.{texts_of};
 
 use crate::options::{push_all, push_word};
@@ -41,7 +41,7 @@ const OPERATOR_KEY: KeyOption = KeyOption {
 pub fn file_with_key(words: &[String]) -> Option<&str>
     ensures path { option_map (λ path. path.now) result
         ≡ file_with_key (map string_bytes words.now) }
-    ensures plain { is_plain (map string_bytes words.now) ≡ true → result ≡ None }
+    ensures plain { has_no_option (map string_bytes words.now) ≡ true → result ≡ None }
 {
     let (_, rest) = words.split_first()?;
     let (command, rest) = rest.split_first()?;

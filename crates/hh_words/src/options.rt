@@ -3,7 +3,7 @@
 ghost use Rattle.std.specs.Prelude.{◌≡◌, ◌++◌, ◌∷◌, [], IfOk, OnOk, false, map, string_bytes, true};
 ghost use Rattle.std.specs.Str.{bytes_eq};
 ghost use Rattle.hh_words.specs.Options.{asks_explain, asks_strict, has_option, is_script, is_taken, without, words_left};
-ghost use Rattle.hh_words.specs.PlainWords.{is_plain};
+ghost use Rattle.hh_words.specs.PlainWords.{has_no_option};
 
 use std::alloc::{AllocError, Global};
 
@@ -27,7 +27,7 @@ pub fn take_options(alloc: Global, words: &[String]) -> Result<(Options, Vec<Str
         map string_bytes taken.1.items ≡ words_left (map string_bytes words.now)) }
 
     // Words without these options are kept as they are.
-    ensures plain { is_plain (map string_bytes words.now) ≡ true → IfOk result (λ taken.
+    ensures plain { has_no_option (map string_bytes words.now) ≡ true → IfOk result (λ taken.
         (taken.0.explain ≡ false) × (taken.0.strict ≡ false)
         × (map string_bytes taken.1.items ≡ map string_bytes words.now)) }
 {

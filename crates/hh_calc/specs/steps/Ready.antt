@@ -2,8 +2,8 @@
 use Rattle.std.specs.Prelude.{List}
 use Rattle.hh_names.specs.declared.account.Account.{Account}
 use Rattle.hh_calc.specs.declared.result.CreditRow.{CreditRow}
-use Rattle.hh_calc.specs.Ready.{IsNamed}
+use Rattle.hh_calc.specs.Ready.{IsListed}
 
 -- the account of a credit is one of these
-abbrev pub IsCreditNamed : List Account → CreditRow → Type 0
-IsCreditNamed accounts c = IsNamed accounts c.account
+abbrev pub IsCreditListed : List Account → CreditRow → Type 0
+IsCreditListed accounts c = IsListed accounts c.account

@@ -6,8 +6,8 @@ use Rattle.hh_names.specs.declared.values.Contract.{Contract}
 use Rattle.hh_names.specs.Accounts.{is_same_account}
 use Rattle.hh_calc.specs.declared.result.CreditRow.{CreditRow}
 use Rattle.hh_calc.specs.declared.sums.AccountSums.{AccountSums}
-use Rattle.hh_calc.specs.Formulas.{balancing_of, credited_of, net_by, net_entry_of, net_of, of_account, unit_credits, weight_of}
-use Rattle.hh_calc.specs.Terms.{BmUnit, ContractTerms}
+use Rattle.hh_calc.specs.Formulas.{balancing_of, credited_of, net_by, net_entry_of, net_of, if_same_account, unit_credits, weight_of}
+use Rattle.hh_calc.specs.Terms.{UnitDataView, ContractTerms}
 
 abbrev pub no_sums : AccountSums
 no_sums = record { credited = pos 0; balancing = pos 0; contracts = pos 0; weight = 0 }
@@ -41,9 +41,9 @@ contract_amounts volume = record { credited = pos 0; balancing = pos 0; contract
 -- an account's sums after amounts are added to the sums of an account
 abbrev pub with_amounts : Account → AccountSums → Account → AccountSums → AccountSums
 with_amounts to amounts a held = record {
-  credited = held.credited +ℤ of_account a to amounts.credited;
-  balancing = held.balancing +ℤ of_account a to amounts.balancing;
-  contracts = held.contracts +ℤ of_account a to amounts.contracts;
+  credited = held.credited +ℤ if_same_account a to amounts.credited;
+  balancing = held.balancing +ℤ if_same_account a to amounts.balancing;
+  contracts = held.contracts +ℤ if_same_account a to amounts.contracts;
   weight = held.weight + (if is_same_account to a then amounts.weight else 0);
 }
 
@@ -57,7 +57,7 @@ with_credits weighs credits a held = record {
 }
 
 -- an account's sums after a unit's credits and its balancing volume are added
-abbrev pub with_unit : BmUnit → Account → AccountSums → AccountSums
+abbrev pub with_unit : UnitDataView → Account → AccountSums → AccountSums
 with_unit u a held = record {
   credited = held.credited +ℤ total (credited_of a) (unit_credits u);
   balancing = held.balancing +ℤ balancing_of a u;

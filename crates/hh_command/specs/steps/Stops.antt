@@ -1,21 +1,21 @@
 -- How wrong words and a line of a script off its form are told.
 use Rattle.std.specs.Prelude.{◌≡◌, ◌==◌, ℕ, Bool, List, length, if◌then◌else◌}
 use Rattle.hh_devices.specs.DeviceChanges.{DeviceChange}
-use Rattle.hh_script.specs.declared.off_word.OffWord.{OffWord}
+use Rattle.hh_script.specs.declared.bad_word.BadWord.{BadWord}
 use Rattle.hh_command.specs.declared.stop.Stop.{Stop}
 use Rattle.hh_command.specs.declared.stop.Stop.TheVariants as stop
 use Rattle.hh_host.specs.Views.{HostView}
 use Rattle.hh_kept_office.specs.Places.{Places}
 use Rattle.hh_words.specs.Lines.{Line, usage}
-use Rattle.hh_command.specs.Stops.{HasStatusOne, StopsLine, Tells, TellsOff, UnlessExplained}
+use Rattle.hh_command.specs.Stops.{HasStatusOne, StopsLine, Tells, TellsBadLine, UnlessExplained}
 
 -- a stop is a line of a script off its form, and `told` holds for the line and the word
-abbrev pub IsOffAnd : (ℕ → OffWord → Type 0) → Stop → Type 0
-IsOffAnd told s = (line : ℕ) × (word : OffWord) × (s ≡ stop.Off line word) × told line word
+abbrev pub IsBadLineAnd : (ℕ → BadWord → Type 0) → Stop → Type 0
+IsBadLineAnd told s = (line : ℕ) × (word : BadWord) × (s ≡ stop.BadLine line word) × told line word
 
 -- the reason of a stop is told
 abbrev pub TellsStop : DeviceChange → Stop → Type 0
-TellsStop device (stop.Off line word) = TellsOff device line word
+TellsStop device (stop.BadLine line word) = TellsBadLine device line word
 TellsStop device s = Tells device s
 
 -- what is told about wrong words: the text, or how the program is used if the text is empty
@@ -31,5 +31,5 @@ abbrev pub IsToldOne : Bool → DeviceChange → Stop → Type 0
 IsToldOne explain err s = HasStatusOne s × UnlessExplained explain (Tells err s)
 
 -- a stop is a line of a script off its form and is told, unless explanations are asked for
-abbrev pub IsToldOff : Bool → DeviceChange → Stop → Type 0
-IsToldOff explain err = IsOffAnd (λ line word. UnlessExplained explain (TellsOff err line word))
+abbrev pub IsToldBadLine : Bool → DeviceChange → Stop → Type 0
+IsToldBadLine explain err = IsBadLineAnd (λ line word. UnlessExplained explain (TellsBadLine err line word))

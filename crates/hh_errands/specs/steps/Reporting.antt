@@ -5,7 +5,7 @@ use Rattle.hh_devices.specs.DeviceChanges.{DeviceChange}
 use Rattle.hh_devices.specs.Devices.{AppendsFront}
 use Rattle.hh_names.specs.declared.fault.Refusal.{Refusal}
 use Rattle.hh_states.specs.States.{State}
-use Rattle.hh_office.specs.Promises.{Stands}
+use Rattle.hh_office.specs.Promises.{Represents}
 use Rattle.hh_office.specs.Reports.{report_for}
 use Rattle.hh_office.specs.Views.{OfficeView, midnight_of}
 use Rattle.hh_script.specs.Reports.{ReportStep}
@@ -23,4 +23,4 @@ module _ (fails : Type 0) (device : DeviceChange) (report : Result (List ℕ) Re
 -- the command ends with the report that the machine's state gives, in each state that the office represents
 abbrev pub EndsReport : Type 0 → OfficeView → DeviceChange → ReportStep → Result Unit ErrandStop → Type 0
 EndsReport fails office device asked result =
-    (s : State) → Stands office s → ReportEnds fails device (report_for (midnight_of office) s asked.key asked.report) result
+    (s : State) → Represents office s → ReportEnds fails device (report_for (midnight_of office) s asked.key asked.report) result

@@ -85,9 +85,9 @@ abbrev pub is_after : SettlementPeriod → SettlementPeriod → Bool
 is_after a b = is_gt (settlement_period_cmp a b)
 
 -- no reading is of a Settlement Period after this one, if there is one
-abbrev pub AreUntil : Option SettlementPeriod → Table UnitPeriod Reading → Type 0
-AreUntil None readings = Unit {0}
-AreUntil (Some last) readings = All (λ e. is_after e.0.at last ≡ false) readings
+abbrev pub NoneAfter : Option SettlementPeriod → Table UnitPeriod Reading → Type 0
+NoneAfter None readings = Unit {0}
+NoneAfter (Some last) readings = All (λ e. is_after e.0.at last ≡ false) readings
 
 -- no percentage in force is negative
 abbrev pub NoneNegative : Table ReallocationKey Reallocation → Type 0

@@ -5,7 +5,7 @@ use Rattle.hh_calc.specs.Terms.{Settled}
 use Rattle.hh_rows.specs.declared.settlement_period.SettlementPeriod.{SettlementPeriod}
 use Rattle.hh_runs.specs.declared.run_key.RunKey.{RunKey}
 use Rattle.hh_requests.specs.declared.reply.Reply.{Reply}
-use Rattle.hh_states.specs.Changes.{LoadWrites, RunWrites}
+use Rattle.hh_states.specs.Changes.{LoadChangeView, RunChangeView}
 use Rattle.hh_states.specs.Content.{Content}
 use Rattle.hh_office.specs.Crashes.{with_content}
 use Rattle.hh_office.specs.Machine.{loaded_reply}
@@ -20,15 +20,15 @@ IfTold (Ok x) holds = holds
 IfTold (Err fault) holds = UnlessFailed fault holds
 
 -- a load makes this content from the office's content
-abbrev pub IsLoadedContent : OfficeView → LoadWrites → Content → Type 0
+abbrev pub IsLoadedContent : OfficeView → LoadChangeView → Content → Type 0
 IsLoadedContent office load content = WritesLoad office (with_content office content) load
 
 -- an accepted file, for which this is written, makes this content from the office's content
-abbrev pub IsAcceptedContent : OfficeView → LoadWrites → Content → Type 0
+abbrev pub IsAcceptedContent : OfficeView → LoadChangeView → Content → Type 0
 IsAcceptedContent office load content = Accepts office (with_content office content) load (loaded_reply load.file)
 
 -- a run makes this content from the office's content
-abbrev pub IsRunContent : OfficeView → RunWrites → Content → Type 0
+abbrev pub IsRunContent : OfficeView → RunChangeView → Content → Type 0
 IsRunContent office run content = WritesRun office (with_content office content) run
 
 -- a run of these settled periods makes this content from the office's content

@@ -9,13 +9,13 @@ use Rattle.hh_requests.specs.declared.request.Action.{Action}
 use Rattle.hh_requests.specs.declared.request.Action.TheVariants as ask
 use Rattle.hh_requests.specs.declared.request.Upload.{Upload}
 use Rattle.hh_texts.specs.Files.{file_rows}
-use Rattle.hh_states.specs.Changes.{LoadWrites, load_writes}
+use Rattle.hh_states.specs.Changes.{LoadChangeView, load_change}
 use Rattle.hh_states.specs.Content.{tables_of}
 use Rattle.hh_states.specs.States.{State}
 use Rattle.hh_states.specs.Steps.{CanLoad, Load, after_load, timetable_at}
 use Rattle.hh_office.specs.Machine.{key_of, loaded_reply}
 use Rattle.hh_office.specs.Transitions.{Transition}
-use Rattle.hh_office.specs.Promises.{MakesTransition, Stands, UnlessFailed}
+use Rattle.hh_office.specs.Promises.{MakesTransition, Represents, UnlessFailed}
 use Rattle.hh_office.specs.Views.{OfficeView, midnight_of}
 
 -- if a file is sent, its name is in its grammar
@@ -38,10 +38,10 @@ Answers (Err fault) outcome = UnlessFailed fault (outcome ≡ Err fault)
 -- a new file is judged as in each state that the office represents
 abbrev pub Judges : OfficeView → ℤ → Upload → Result FileRowsView Fault → Type 0
 Judges office moment upload result =
-    (s : State) → Stands office s → Answers result (judged_upload (midnight_of office) s moment upload)
+    (s : State) → Represents office s → Answers result (judged_upload (midnight_of office) s moment upload)
 
 -- what is written for a file whose rows were judged
-abbrev pub writes_of : Upload → FileRowsView → LoadWrites
+abbrev pub writes_of : Upload → FileRowsView → LoadChangeView
 writes_of upload judged = record {
   key = key_of upload;
   file = record { body = upload.body; applied = length judged.rows; late = judged.late };
@@ -50,17 +50,17 @@ writes_of upload judged = record {
 }
 
 -- for each load for which the machine writes this, what is written makes the tables of the state after the load
-abbrev pub WritesLoad : OfficeView → OfficeView → LoadWrites → Type 0
+abbrev pub WritesLoad : OfficeView → OfficeView → LoadChangeView → Type 0
 WritesLoad old new writes =
-    (s : State) (load : Load) → Stands old s → CanLoad (midnight_of old) s load → writes ≡ load_writes (midnight_of old) s load
+    (s : State) (load : Load) → Represents old s → CanLoad (midnight_of old) s load → writes ≡ load_change (midnight_of old) s load
     → new ≡ record old { content = tables_of (midnight_of old) (after_load (midnight_of old) s load) }
 
 -- what becomes of a load that is accepted in a state and has this reply
-abbrev pub accepted : OfficeView → State → Load → LoadWrites → Transition
+abbrev pub accepted : OfficeView → State → Load → LoadChangeView → Transition
 accepted office s load writes = record { reply = loaded_reply writes.file; state = after_load (midnight_of office) s load }
 
 -- for each load for which the machine writes this, what is written makes the load's transition
-abbrev pub Accepts : OfficeView → OfficeView → LoadWrites → Reply → Type 0
+abbrev pub Accepts : OfficeView → OfficeView → LoadChangeView → Reply → Type 0
 Accepts old new writes given =
-    (s : State) (load : Load) → Stands old s → CanLoad (midnight_of old) s load → writes ≡ load_writes (midnight_of old) s load
+    (s : State) (load : Load) → Represents old s → CanLoad (midnight_of old) s load → writes ≡ load_change (midnight_of old) s load
     → MakesTransition old new given (accepted old s load writes)

@@ -18,7 +18,7 @@ use Rattle.hh_runs.specs.RunKinds.{run_kind_cmp}
 use Rattle.hh_runs.specs.declared.run_key.RunKey.{RunKey}
 use Rattle.hh_requests.specs.declared.reply.Reply.{Reply}
 use Rattle.hh_requests.specs.declared.reply.Reply.TheVariants as reply
-use Rattle.hh_states.specs.Changes.{RunWrites, run_writes}
+use Rattle.hh_states.specs.Changes.{RunChangeView, run_change}
 use Rattle.hh_states.specs.Content.{Content, tables_of}
 use Rattle.hh_states.specs.DaySettlement.{missing_meter, missing_price}
 use Rattle.hh_states.specs.Reads.{results_in, runs_in}
@@ -27,7 +27,7 @@ use Rattle.hh_states.specs.Steps.{CanRun, after_run, missing_meter_fault, period
 use Rattle.hh_store.specs.DayReads.{ArePeriodsOf}
 use Rattle.hh_store.specs.declared.day_data.PeriodState.{PeriodState}
 use Rattle.hh_day.specs.NewRuns.{IsWrittenFor, day_in}
-use Rattle.hh_office.specs.Promises.{Stands, UnlessFailed}
+use Rattle.hh_office.specs.Promises.{Represents, UnlessFailed}
 use Rattle.hh_office.specs.Views.{OfficeView, midnight_of}
 
 -- the fault by which the order of runs refuses a further run on a date that has these runs
@@ -70,19 +70,19 @@ IsEarly midnight moment date fault = (is_over midnight date moment ≡ false) ×
 module _ (office : OfficeView) (moment : ℤ) (date : ℕ) where
   -- the Settlement Periods of a date are settled as `day` in each state that the office represents, and nothing speaks against it
   abbrev pub SettlesIn : List (SettlementPeriod × Settled) → Type 0
-  SettlesIn day = (s : State) → Stands office s
+  SettlesIn day = (s : State) → Represents office s
       → (settle_fault (midnight_of office) s moment date ≡ None) × (day ≡ day_in (midnight_of office) s date)
 
   -- they are not settled for this reason, unless the request was given up
   abbrev pub RefusesIn : Fault → Type 0
-  RefusesIn fault = (s : State) → Stands office s
+  RefusesIn fault = (s : State) → Represents office s
       → UnlessFailed fault (settle_fault (midnight_of office) s moment date ≡ Some fault)
 
 -- for each run for which the machine writes this, what is written makes the tables of the state after the run
-abbrev pub WritesRun : OfficeView → OfficeView → RunWrites → Type 0
+abbrev pub WritesRun : OfficeView → OfficeView → RunChangeView → Type 0
 WritesRun old new writes =
-    (s : State) (moment : ℤ) (key : RunKey) → Stands old s → CanRun (midnight_of old) s moment key
-    → writes ≡ run_writes (midnight_of old) s key → new ≡ record old { content = tables_of (midnight_of old) (after_run s key) }
+    (s : State) (moment : ℤ) (key : RunKey) → Represents old s → CanRun (midnight_of old) s moment key
+    → writes ≡ run_change (midnight_of old) s key → new ≡ record old { content = tables_of (midnight_of old) (after_run s key) }
 
 -- the rows of a date's run before a new one, in the tables of an office; none if there is no such run
 abbrev pub rows_before : Content → Option RunKey → List (ℕ × AccountRow)
@@ -93,7 +93,7 @@ rows_before content (Some run) = results_in content run
 -- reply is the run's summary.
 pub record IsRunMade (old new : OfficeView) (key : RunKey) (day : List (SettlementPeriod × Settled)) (former : Option RunKey)
     (given : Reply) : Type 0 where
-  pub writes : RunWrites
+  pub writes : RunChangeView
   pub written : IsWrittenFor key day (rows_before old.content former) writes
   pub kept : WritesRun old new writes
   pub replied : given ≡ reply.Ran writes.key writes.summary

@@ -8,7 +8,7 @@ use Rattle.hh_runs.specs.declared.run_key.RunKey.{RunKey}
 use Rattle.hh_states.specs.declared.run_keys.CreditKey.{CreditKey}
 use Rattle.hh_states.specs.declared.run_keys.PostingKey.{PostingKey}
 use Rattle.hh_states.specs.declared.run_keys.ResultKey.{ResultKey}
-use Rattle.hh_states.specs.Changes.{RunWrites}
+use Rattle.hh_states.specs.Changes.{RunChangeView}
 use Rattle.hh_states.specs.Content.{credit_key_cmp, posting_key_cmp, result_key_cmp}
 use Rattle.hh_states.specs.Runs.{run_key_cmp}
 use Rattle.hh_store.specs.declared.run_change.RunRows.{RunRows}
@@ -25,7 +25,7 @@ abbrev pub no_runs : RunTables
 no_runs = record { runs = []; results = []; credits = []; postings = [] }
 
 -- the tables with what is written for a run
-abbrev pub kept_with : RunWrites → RunTables → RunTables
+abbrev pub kept_with : RunChangeView → RunTables → RunTables
 kept_with w kept = record {
   runs = put run_key_cmp w.key w.summary kept.runs;
   results = put_all result_key_cmp w.results kept.results;

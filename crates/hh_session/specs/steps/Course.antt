@@ -4,12 +4,12 @@ use Rattle.std.specs.Io.KnownBytes.{Appends}
 use Rattle.hh_devices.specs.DeviceChanges.{DeviceChange}
 use Rattle.hh_devices.specs.Devices.{AppendsFront}
 use Rattle.hh_states.specs.States.{State}
-use Rattle.hh_office.specs.Promises.{Stands}
+use Rattle.hh_office.specs.Promises.{Represents}
 use Rattle.hh_office.specs.Views.{OfficeView, midnight_of}
 use Rattle.hh_host.specs.Views.{HostView}
 use Rattle.hh_script.specs.Steps.{Step}
 use Rattle.hh_desk.specs.declared.told.Told.{Told}
-use Rattle.hh_desk.specs.Doing.{IsRefusal, StandsNow, no_memory}
+use Rattle.hh_desk.specs.Doing.{IsRefusal, RepresentsNow, no_memory}
 use Rattle.hh_session.specs.Lines.{told_line}
 use Rattle.hh_session.specs.Course.{StepDoes, cut_short}
 
@@ -28,10 +28,10 @@ module _ (device : DeviceChange) (told : Told) where
 module _ (host : HostView) (fails : Type 0) (old new : OfficeView) (device : DeviceChange) where
   -- a step was run from each state that the office represented, it was done or not, and what it writes was written
   abbrev pub RunsStep : Step → Bool → Type 0
-  RunsStep step done = (s : State) → Stands old s
-      → (text : List ℕ) × (t : State) × StepDoes host fails (midnight_of old) s step done text t × Appends device.old device.new text × StandsNow old new t
+  RunsStep step done = (s : State) → Represents old s
+      → (text : List ℕ) × (t : State) × StepDoes host fails (midnight_of old) s step done text t × Appends device.old device.new text × RepresentsNow old new t
 
   -- a step was run from each state that the office represented, it was cut short, and a beginning of what it writes was written
   abbrev pub StopsStep : Step → Type 0
-  StopsStep step = (s : State) → Stands old s
-      → (done : Bool) × (text : List ℕ) × (t : State) × StepDoes host fails (midnight_of old) s (cut_short step) done text t × AppendsFront device.old device.new text × StandsNow old new t
+  StopsStep step = (s : State) → Represents old s
+      → (done : Bool) × (text : List ℕ) × (t : State) × StepDoes host fails (midnight_of old) s (cut_short step) done text t × AppendsFront device.old device.new text × RepresentsNow old new t

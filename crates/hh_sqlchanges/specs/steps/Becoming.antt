@@ -1,5 +1,5 @@
 -- What one step of writing makes of the content, and of what is kept beside it.
-use Rattle.std.specs.Prelude.{◌≡◌, List, ◌++◌}
+use Rattle.std.specs.Prelude.{◌≡◌, Bool, true, false, List, ◌++◌}
 use Rattle.hh_tables.specs.Tables.{put_all}
 use Rattle.sqlite.specs.Effect.{Database}
 use Rattle.hh_rows.specs.declared.settings.Settings.{Settings}
@@ -7,7 +7,7 @@ use Rattle.hh_rows.specs.declared.settlement_period.SettlementPeriod.{Settlement
 use Rattle.hh_rules.specs.Positions.{position_key_cmp}
 use Rattle.hh_rules.specs.declared.positions.Position.{Position}
 use Rattle.hh_rules.specs.declared.positions.PositionKey.{PositionKey}
-use Rattle.hh_states.specs.Changes.{RunWrites}
+use Rattle.hh_states.specs.Changes.{RunChangeView}
 use Rattle.hh_states.specs.Content.{Content}
 use Rattle.hh_beside.specs.DayLaws.{HaveTheSame}
 use Rattle.hh_sqlrows.specs.Contents.{beside_in, content_of}
@@ -19,8 +19,13 @@ pub record Becomes (effect : Content → Content) (old new : Database) : Type 0 
   pub content : (kept : Settings) → content_of kept new.trees ≡ effect (content_of kept old.trees)
   pub beside : beside_in new.trees ≡ beside_in old.trees
 
+-- the content becomes what this makes of it, or the database is as it was
+abbrev pub BecomesOrLeaves : (Content → Content) → Database → Database → Bool → Type 0
+BecomesOrLeaves effect old new true = Becomes effect old new
+BecomesOrLeaves effect old new false = new ≡ old
+
 -- The rows of a run are written, and nothing else changed.
-pub record StoresRunAlone (w : RunWrites) (old new : Database) : Type 0 where
+pub record StoresRunAlone (w : RunChangeView) (old new : Database) : Type 0 where
   pub stores : StoresRun w old new
   pub beside : beside_in new.trees ≡ beside_in old.trees
 

@@ -12,5 +12,5 @@ pub record IsAdoptedFrom (kept : Settings) (s : State) : Type 0 where
   pub settings : HasSettings kept s.now.trees
 
 -- a crash leaves nothing that it would not have left before of the open connection
-abbrev pub AddsNothing : State → State → Type 0
-AddsNothing old new = IsTrue old.is_open → Survives old new (λ _. ⊥)
+abbrev pub CrashAddsNothing : State → State → Type 0
+CrashAddsNothing old new = IsTrue old.is_open → Survives old new (λ _. ⊥)

@@ -3,7 +3,7 @@ use Rattle.std.specs.Prelude.{◌≡◌, ◌⊎◌, IsTrue}
 use Rattle.sqlite.specs.Effect.{Database}
 use Rattle.sqlite.specs.State.{HasCleanDisk, State}
 use Rattle.sqlite_trees.specs.Tree.{Trees}
-use Rattle.hh_states.specs.Changes.{LoadWrites, RunWrites}
+use Rattle.hh_states.specs.Changes.{LoadChangeView, RunChangeView}
 use Rattle.hh_beside.specs.Keeping.{beside_with_load, beside_with_run}
 use Rattle.hh_beside.specs.Laws.{AreAlike}
 use Rattle.hh_sqlrows.specs.Contents.{beside_in, registered_of}
@@ -21,12 +21,12 @@ pub record IsChangedBy (Change : Database → Database → Type 0) (old new : St
   pub changed : IsOffice old.now → Change old.now new.now
 
 -- a load is written, and what is kept beside the content is changed for it
-abbrev pub KeepsLoad : LoadWrites → Database → Database → Type 0
+abbrev pub KeepsLoad : LoadChangeView → Database → Database → Type 0
 KeepsLoad w old new =
     StoresLoad w old new × AreAlike (beside_in new.trees) (beside_with_load w (registered_of old.trees) (beside_in old.trees))
 
 -- a run is written, and what is kept beside the content is changed for it
-abbrev pub KeepsRun : RunWrites → Database → Database → Type 0
+abbrev pub KeepsRun : RunChangeView → Database → Database → Type 0
 KeepsRun w old new = StoresRun w old new × AreAlike (beside_in new.trees) (beside_with_run w (beside_in old.trees))
 
 -- nothing was changed, if the disk has returned what was written

@@ -1,8 +1,8 @@
 -- What a head asks for, and the fault after it was read.
 use Rattle.std.specs.Prelude.{◌≡◌, Result, Ok, Err}
 use Rattle.hh_requests.specs.declared.request.Action.{Action}
-use Rattle.hh_heads.specs.Headings.{Heading, asks_head, key_shown}
-use Rattle.hh_replies.specs.declared.refusal.RequestRefusal.{RequestRefusal}
+use Rattle.hh_http_heads.specs.Headings.{Heading, asks_head, key_shown}
+use Rattle.hh_http_replies.specs.declared.refusal.RequestRefusal.{RequestRefusal}
 use Rattle.hh_wire.specs.Message.{Message, refusal_message}
 use Rattle.hh_wire.specs.declared.incoming.Incoming.TheVariants.{Asked}
 use Rattle.hh_wire.specs.declared.incoming.WireFault.{WireFault}

@@ -5,8 +5,8 @@ use Rattle.hh_calc.specs.steps.Sums.{greatest_credit, greatest_sum, greatest_uni
 use Rattle.hh_calc.proofs.SumLaws.{all_within}
 use Rattle.hh_calc.proofs.ledger.add_net_contracts.Goals as goal
 
-pub add_contracts-requires-clause-named : goal.add_contracts-requires-clause-named
-add_contracts-requires-clause-named c =
+pub add_contracts-requires-clause-listed : goal.add_contracts-requires-clause-listed
+add_contracts-requires-clause-listed c =
     let seen : contracts_given c.args.contracts.now ≡ Rows c.deref.result.now = ap contracts_given c.in-Rows.is ∙ ap Rows (sym c.deref.ensures.value) in
     subst (AreContractsReady c.args.accounts.now) seen c.requires.ready
 

@@ -1,11 +1,11 @@
 use Rattle.hh_calc.proofs.LedgerLaws.{contracts_after}
 use Rattle.hh_calc.proofs.ledger.add_period.Goals as goal
 
-pub add_units-requires-clause-named : goal.add_units-requires-clause-named
-add_units-requires-clause-named c = rw (c.accounts.ensures, c.units.ensures) c.requires.named.0
+pub add_units-requires-clause-listed : goal.add_units-requires-clause-listed
+add_units-requires-clause-listed c = rw (c.accounts.ensures, c.units.ensures) c.requires.listed.0
 
 pub add_net_contracts-requires-clause-ready : goal.add_net_contracts-requires-clause-ready
-add_net_contracts-requires-clause-ready c = rw (c.accounts-2.ensures, c.contracts.ensures) c.requires.named.1
+add_net_contracts-requires-clause-ready c = rw (c.accounts-2.ensures, c.contracts.ensures) c.requires.listed.1
 
 pub returns-clause-sums : goal.returns-clause-sums
 returns-clause-sums c =

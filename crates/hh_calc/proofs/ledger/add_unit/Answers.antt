@@ -1,16 +1,16 @@
 use Rattle.std.proofs.Common.{◌∙◌, ◌≡◌, length, rules, sym, subst}
 use Rattle.std.specs.Prelude.{All}
-use Rattle.hh_calc.specs.steps.Ready.{IsCreditNamed}
+use Rattle.hh_calc.specs.steps.Ready.{IsCreditListed}
 use Rattle.hh_calc.specs.steps.Sums.{greatest_volume}
 use Rattle.hh_calc.proofs.CreditLaws.{unit_named}
 use Rattle.hh_calc.proofs.LedgerLaws.{appended, reordered, unit_added, unit_grown, unit_room}
 use Rattle.hh_calc.proofs.ledger.add_unit.Goals as goal
 
-pub add_credits-requires-clause-named : goal.add_credits-requires-clause-named
-add_credits-requires-clause-named c =
+pub add_credits-requires-clause-listed : goal.add_credits-requires-clause-listed
+add_credits-requires-clause-listed c =
     let first : c.len-first.result ≡ length c.args.credits.now.items = search rules in
     let are = appended _ _ _ _ first (c.deref.ensures.value ∙ c.in_ok-push_credits.ensures.credits) in
-    subst (All (IsCreditNamed c.args.accounts.now)) (sym are) (unit_named c.args.accounts.now c.args.unit.now c.requires.named)
+    subst (All (IsCreditListed c.args.accounts.now)) (sym are) (unit_named c.args.accounts.now c.args.unit.now c.requires.listed)
 
 pub add_to-requires-clause-room : goal.add_to-requires-clause-room
 add_to-requires-clause-room c =

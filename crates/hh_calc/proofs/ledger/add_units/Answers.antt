@@ -1,7 +1,7 @@
 use Rattle.std.proofs.Common.{[], ◌∙◌, ◌+◌, ◌*◌, arith, length, map, take, length-append}
 use Rattle.std.proofs.lemmas.List.Sorted.{length_permutation, IsPermutation-refl}
 use Rattle.hh_calc.specs.Formulas.{unit_credits, unit_sums}
-use Rattle.hh_calc.specs.Ready.{HasFewSubsidiaries, IsUnitNamed}
+use Rattle.hh_calc.specs.Ready.{HasFewSubsidiaries, IsUnitListed}
 use Rattle.hh_calc.specs.steps.Sums.{greatest_credit, greatest_sum, greatest_unit_sum, greatest_volume}
 use Rattle.hh_calc.proofs.LedgerLaws.{credits_placed, none_within, sums_start, units_step}
 use Rattle.hh_calc.proofs.SumLaws.{all_read, all_within}
@@ -14,8 +14,8 @@ loop-unit-init c = record {
   small = none_within c.args.accounts.now _ _ c.requires.start;
 }
 
-pub add_unit-requires-clause-named : goal.add_unit-requires-clause-named
-add_unit-requires-clause-named c = all_read (IsUnitNamed c.args.accounts.now) c.args.units.now c.loop-unit.unit-index _ c.requires.named (omega arith) c.unit-item.is
+pub add_unit-requires-clause-listed : goal.add_unit-requires-clause-listed
+add_unit-requires-clause-listed c = all_read (IsUnitListed c.args.accounts.now) c.args.units.now c.loop-unit.unit-index _ c.requires.listed (omega arith) c.unit-item.is
 
 pub add_unit-requires-clause-few : goal.add_unit-requires-clause-few
 add_unit-requires-clause-few c = all_read HasFewSubsidiaries c.args.units.now c.loop-unit.unit-index _ c.requires.few (omega arith) c.unit-item.is

@@ -6,4 +6,4 @@ use Rattle.hh_calc.proofs.ready.are_contracts_ready.Goals as goal
 pub returns-in-Rows : goal.returns-in-Rows
 returns-in-Rows c =
     let seen : contracts_given c.args.contracts.now ≡ Rows c.deref.result.now = ap contracts_given c.in-Rows.is ∙ ap Rows (sym c.deref.ensures.value) in
-    subst (λ t. IsTrue c.are_contracts_named.result ↔ AreContractsReady c.args.accounts.now t) (sym seen) c.are_contracts_named.ensures
+    subst (λ t. IsTrue c.are_contracts_listed.result ↔ AreContractsReady c.args.accounts.now t) (sym seen) c.are_contracts_listed.ensures

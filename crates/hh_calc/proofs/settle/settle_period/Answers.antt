@@ -13,7 +13,7 @@ pub returns-clause-sums : goal.returns-clause-sums
 returns-clause-sums c =
     let credits = IsPermutation-trans _ _ _ c.in_ok-ledger.ensures.credits c.sorted_credits.ensures.same in
     let settled : IsSettled c.args.period.now c.new.result = search (rules, credits) in
-    adds_up c.args.period.now c.new.result c.requires.ordered c.requires.named settled
+    adds_up c.args.period.now c.new.result c.requires.ordered c.requires.listed settled
 
 pub returns-clause-least : goal.returns-clause-least
 returns-clause-least c =

@@ -1,5 +1,5 @@
 use Rattle.std.proofs.Common.{[], ◌*◌, ◌+◌, arith, length, take}
-use Rattle.hh_calc.specs.Ready.{IsContractNamed}
+use Rattle.hh_calc.specs.Ready.{IsContractListed}
 use Rattle.hh_calc.specs.steps.Sums.{greatest_sum, greatest_unit_sum, greatest_volume, with_contract, with_contracts}
 use Rattle.hh_calc.proofs.SumLaws.{all_read, all_within, changed_on, contract_step, grown_on, no_contracts, not_grown, unchanged}
 use Rattle.hh_calc.proofs.sums.add_contracts.Goals as goal
@@ -10,8 +10,8 @@ loop-contract-init c = record {
   grown = not_grown (0 * (2 * greatest_volume)) c.args.sums.now;
 }
 
-pub add_contract-requires-clause-named : goal.add_contract-requires-clause-named
-add_contract-requires-clause-named c = all_read (IsContractNamed c.args.accounts.now) c.args.contracts.now c.loop-contract.contract-index _ c.requires.named (omega arith) c.contract-item.is
+pub add_contract-requires-clause-listed : goal.add_contract-requires-clause-listed
+add_contract-requires-clause-listed c = all_read (IsContractListed c.args.accounts.now) c.args.contracts.now c.loop-contract.contract-index _ c.requires.listed (omega arith) c.contract-item.is
 
 pub add_contract-requires-clause-room : goal.add_contract-requires-clause-room
 add_contract-requires-clause-room c =

@@ -1,5 +1,5 @@
 use Rattle.std.proofs.Common.{◌∙◌, ◌*◌, ◌+◌, [], ap, arith, length, take}
-use Rattle.hh_calc.specs.steps.Ready.{IsCreditNamed}
+use Rattle.hh_calc.specs.steps.Ready.{IsCreditListed}
 use Rattle.hh_calc.specs.steps.Sums.{greatest_credit, greatest_sum, with_amounts, with_credits}
 use Rattle.hh_calc.proofs.SumLaws.{all_read, all_within, changed_on, credit_step, grown_on, no_credits, not_grown, unchanged}
 use Rattle.hh_calc.proofs.sums.add_credits.Goals as goal
@@ -10,8 +10,8 @@ loop-credit-init c = record {
   grown = not_grown (0 * greatest_credit) c.args.sums.now;
 }
 
-pub add_to-requires-clause-named : goal.add_to-requires-clause-named
-add_to-requires-clause-named c = all_read (IsCreditNamed c.args.accounts.now) c.args.credits.now c.loop-credit.credit-index _ c.requires.named (omega arith) c.credit-item.is
+pub add_to-requires-clause-listed : goal.add_to-requires-clause-listed
+add_to-requires-clause-listed c = all_read (IsCreditListed c.args.accounts.now) c.args.credits.now c.loop-credit.credit-index _ c.requires.listed (omega arith) c.credit-item.is
 
 pub add_to-requires-clause-room : goal.add_to-requires-clause-room
 add_to-requires-clause-room c =

@@ -13,8 +13,8 @@ returns-clause-stopped g c one = (
   ((c.stopped-status.ensures.one one).0, tt),
 )
 
-pub returns-clause-off : goal.returns-clause-off
-returns-clause-off g c two =
+pub returns-clause-bad_line : goal.returns-clause-bad_line
+returns-clause-bad_line g c two =
     let (line, word, same, told) = c.stopped-status.ensures.two two in (
       c.in-Err.stop,
       at_err (StopsLine (g.D.Host.view c.args.host.now) (places_of g.D.DatabaseHost.finds g.D.DatabaseHost.refuses g.D.DatabaseHost.opens g.D.DatabaseHost.closes g.D.DatabaseHost.discards (shown_by g.S.Store) c.args.host.now)

@@ -1,5 +1,5 @@
 use Rattle.std.proofs.Common.{sym, ◌∙◌}
-use Rattle.hh_command.proofs.TellFacts.{off_and_told, one_and_told}
+use Rattle.hh_command.proofs.TellFacts.{bad_line_and_told, one_and_told}
 use Rattle.hh_command.proofs.telling.stopped.Goals as goal
 
 pub returns-clause-one : goal.returns-clause-one
@@ -8,4 +8,4 @@ returns-clause-one g c one =
     (status, one_and_told _ c.args.stop status c.tell.ensures)
 
 pub returns-clause-two : goal.returns-clause-two
-returns-clause-two g c two = off_and_told _ c.args.stop (sym c.status-status.ensures ∙ two) c.tell.ensures
+returns-clause-two g c two = bad_line_and_told _ c.args.stop (sym c.status-status.ensures ∙ two) c.tell.ensures

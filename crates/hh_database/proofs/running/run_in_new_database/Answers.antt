@@ -17,7 +17,7 @@ returns-in-Ok-clause-done g c =
     let old = content_in g.S.Store c.in-Ok.tables in
     ok_by _ c.run_over_database.result (λ after writes sure up.
     let db = (state g.S.Store after.connection).committed in
-    writes_new host device db after.refusals c.args.settings c.are_settings.ensures old (c.in-Ok.ensures.stands (sure up)) (AllDone c.args.strict) steps
+    writes_new host device db after.refusals c.args.settings c.are_settings.ensures old (c.in-Ok.ensures.represents (sure up)) (AllDone c.args.strict) steps
     (subst (λ n. WritesOver host (CountsMore n after.refusals) device db steps old (AllDone c.args.strict)) c.in-Ok.ensures.unrefused (writes up)))
     c.run_over_database.ensures.done c.run_over_database.ensures.sure
 
@@ -29,7 +29,7 @@ returns-in-Ok-clause-cut g c =
     let old = content_in g.S.Store c.in-Ok.tables in
     err_by _ c.run_over_database.result (λ e cuts sure. if_early e.0 _ _ (λ why cut up.
     let db = (state g.S.Store e.1.connection).committed in
-    early_new host device db e.1.refusals c.args.settings c.are_settings.ensures old (c.in-Ok.ensures.stands (sure up)) c.args.strict steps why
+    early_new host device db e.1.refusals c.args.settings c.are_settings.ensures old (c.in-Ok.ensures.represents (sure up)) c.args.strict steps why
     (subst (λ n. EarlyOver host (CountsMore n e.1.refusals) device db c.args.strict steps old why) c.in-Ok.ensures.unrefused (cut up))) cuts)
     c.run_over_database.ensures.cut c.run_over_database.ensures.sure
 

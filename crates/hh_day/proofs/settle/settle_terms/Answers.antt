@@ -2,8 +2,8 @@ use Rattle.std.proofs.Common.{◌∙◌, ap, Err}
 use Rattle.hh_day.proofs.SettleLaws.{settles_beyond, settles_within}
 use Rattle.hh_day.proofs.settle.settle_terms.Goals as goal
 
-pub settle_period-requires-clause-named : goal.settle_period-requires-clause-named
-settle_period-requires-clause-named c = (c.is_ready.ensures.0 c.if-not-is_ready.false).1
+pub settle_period-requires-clause-listed : goal.settle_period-requires-clause-listed
+settle_period-requires-clause-listed c = (c.is_ready.ensures.0 c.if-not-is_ready.false).1
 
 pub returns-in-Ok-clause-settles : goal.returns-in-Ok-clause-settles
 returns-in-Ok-clause-settles c =

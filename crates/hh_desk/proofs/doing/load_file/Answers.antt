@@ -1,6 +1,6 @@
 use Rattle.std.proofs.Common.{rules, subst, arith, w64, SFits, ap, inl, ◌∙◌, ℤ}
 use Rattle.std.proofs.lemmas.Int.{to_z-of_z}
-use Rattle.hh_office.specs.Promises.{HandleStep, StandsAfter}
+use Rattle.hh_office.specs.Promises.{HandleStep, RepresentsAfter}
 use Rattle.hh_requests.specs.declared.request.Request.{Request}
 use Rattle.hh_states.specs.States.{State}
 use Rattle.hh_office.specs.Machine.{next}
@@ -22,7 +22,7 @@ returns-in-Ok-clause-runs g c sure =
     let (all, read, is) = c.in-Ok.ensures.request in
     load_answered (g.H.Host.view c.args.host.now) old new _ _ load all 1048577 (omega arith) read c.in-Ok.request is c.handle.result (c.handle.ensures.refusals_counted sure)
     (subst (λ m. HandleStep old new m c.in-Ok.request c.handle.result) (to_z-of_z w64 load.moment fits) (c.handle.ensures.step sure))
-    (subst (λ m. StandsAfter old new m c.in-Ok.request c.handle.result) (to_z-of_z w64 load.moment fits) (c.handle.ensures.stands sure))
+    (subst (λ m. RepresentsAfter old new m c.in-Ok.request c.handle.result) (to_z-of_z w64 load.moment fits) (c.handle.ensures.represents sure))
 
 pub returns-in-Ok-clause-refusals_up : goal.returns-in-Ok-clause-refusals_up
 returns-in-Ok-clause-refusals_up g c sure some = reply_up _ _ c.handle.result (c.handle.ensures.refusals_counted sure some)

@@ -1,6 +1,6 @@
 use Rattle.std.proofs.Common.{rules, subst, w64, SFits, ap, inl, ◌∙◌, ℤ}
 use Rattle.std.proofs.lemmas.Int.{to_z-of_z}
-use Rattle.hh_office.specs.Promises.{HandleStep, StandsAfter}
+use Rattle.hh_office.specs.Promises.{HandleStep, RepresentsAfter}
 use Rattle.hh_requests.specs.declared.request.Request.{Request}
 use Rattle.hh_states.specs.States.{State}
 use Rattle.hh_office.specs.Machine.{next}
@@ -20,7 +20,7 @@ returns-in-Ok-clause-runs g c sure =
     let fits : SFits w64 run.moment = search rules in
     run_answered old new _ _ run c.in-Ok.request c.in-Ok.ensures c.handle.result (c.handle.ensures.refusals_counted sure)
     (subst (λ m. HandleStep old new m c.in-Ok.request c.handle.result) (to_z-of_z w64 run.moment fits) (c.handle.ensures.step sure))
-    (subst (λ m. StandsAfter old new m c.in-Ok.request c.handle.result) (to_z-of_z w64 run.moment fits) (c.handle.ensures.stands sure))
+    (subst (λ m. RepresentsAfter old new m c.in-Ok.request c.handle.result) (to_z-of_z w64 run.moment fits) (c.handle.ensures.represents sure))
 
 pub returns-in-Ok-clause-refusals_up : goal.returns-in-Ok-clause-refusals_up
 returns-in-Ok-clause-refusals_up g c sure some = reply_up _ _ c.handle.result (c.handle.ensures.refusals_counted sure some)

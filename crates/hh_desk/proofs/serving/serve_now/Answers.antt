@@ -27,5 +27,5 @@ returns-clause-serves g c sure =
       told = c.in-Ok.ensures;
       served = subst (λ moment. ServesAll (CountsMore counted counts) old new (Some e ∷ []) (Some moment ∷ [])) (to_z-of_z w64 c.in-Ok.moment fits)
           (one_served old new counted counts _ e c.serve_one.result
-          (c.serve_one.ensures.served sure) (c.serve_one.ensures.stands sure) c.serve_one.ensures.read c.serve_one.ensures.written);
+          (c.serve_one.ensures.served sure) (c.serve_one.ensures.represents sure) c.serve_one.ensures.read c.serve_one.ensures.written);
     }

@@ -1,7 +1,7 @@
 use Rattle.std.proofs.Common.{Err, subst, sym}
 use Rattle.hh_devices.specs.DeviceChanges.{change}
 use Rattle.hh_states.specs.States.{State}
-use Rattle.hh_office.specs.Promises.{Stands}
+use Rattle.hh_office.specs.Promises.{Represents}
 use Rattle.hh_office.specs.Refusals.{CountsReportStop, CountsStoreFault}
 use Rattle.hh_office.specs.Reports.{ReportsAs, report_for}
 use Rattle.hh_office.specs.Views.{midnight_of}
@@ -22,7 +22,7 @@ returns-in-Err-Refused-clause-done g c sure =
     let fault = c.in-Err-Refused.fault in
     let earlier = g.T.Tables.refusals c.args.office.now.tables in
     let later = g.T.Tables.refusals c.report.new.self.tables in
-    let store : (s : State) → Stands c.args.office.now.seen s → CountsStoreFault fault earlier later =
+    let store : (s : State) → Represents c.args.office.now.seen s → CountsStoreFault fault earlier later =
     λ s stands. subst (λ stop. CountsReportStop {A = Unit {0}} (Err stop) earlier later) c.in-Err-Refused.field-0-is
     (c.in-Err-Refused.ensures.refusals_counted sure (midnight_of c.args.office.now.seen, s, stands)) in
     ok_both c.tell_refused.result _ _ _
@@ -43,7 +43,7 @@ returns-in-Err-Refused-clause-cut g c sure =
     let fault = c.in-Err-Refused.fault in
     let earlier = g.T.Tables.refusals c.args.office.now.tables in
     let later = g.T.Tables.refusals c.report.new.self.tables in
-    let store : (s : State) → Stands c.args.office.now.seen s → CountsStoreFault fault earlier later =
+    let store : (s : State) → Represents c.args.office.now.seen s → CountsStoreFault fault earlier later =
     λ s stands. subst (λ stop. CountsReportStop {A = Unit {0}} (Err stop) earlier later) c.in-Err-Refused.field-0-is
     (c.in-Err-Refused.ensures.refusals_counted sure (midnight_of c.args.office.now.seen, s, stands)) in
     OnErr-map c.tell_refused.result _ _

@@ -5,7 +5,7 @@ use Rattle.sqlite.specs.Held.{state}
 use Rattle.hh_sqlrows.specs.Forms.{rows_under_keys}
 use Rattle.hh_sqlrows.specs.OfficeTables.{references}
 use Rattle.hh_sqlparts.specs.Readings.{SelectsOnly, OfSettled}
-use Rattle.hh_sqlparts.specs.steps.Readings.{HaveReadSafely}
+use Rattle.hh_sqlparts.proofs.ReadingLaws.{HaveReadSafely}
 use Rattle.hh_sqlparts.specs.steps.Named.{entry_under}
 use Rattle.hh_sqlparts.proofs.named_entries.references_under.Given as goal
 

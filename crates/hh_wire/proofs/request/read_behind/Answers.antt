@@ -1,5 +1,5 @@
 use Rattle.std.proofs.Common.{Ok, arith}
-use Rattle.hh_heads.specs.Heads.{heading_in}
+use Rattle.hh_http_heads.specs.Heads.{heading_in}
 use Rattle.hh_wire.specs.Message.{asked_with}
 use Rattle.hh_wire.proofs.TermLemmas.{comes_refused, comes_whole}
 use Rattle.hh_wire.proofs.request.read_behind.Goals as goal

@@ -1,6 +1,6 @@
 use Rattle.std.proofs.Common.{◌≡◌, length, subst, sym, Err, IfSome, arith}
-use Rattle.hh_heads.specs.Found.{FindsFront}
-use Rattle.hh_heads.specs.Heads.{heading_in}
+use Rattle.hh_http_heads.specs.Found.{FindsFront}
+use Rattle.hh_http_heads.specs.Heads.{heading_in}
 use Rattle.hh_wire.specs.Message.{FailsAwaiting, Reads}
 use Rattle.hh_wire.specs.declared.incoming.WireFault.{WireFault}
 use Rattle.hh_wire.proofs.MessageLemmas.{request_read, stop_awaits, stop_read}

@@ -1,6 +1,6 @@
 use Rattle.std.proofs.Common.{ap, ◌∙◌}
 use Rattle.std.specs.Prelude.{filter_map}
-use Rattle.hh_calc.specs.Terms.{contracts_given, period_terms}
+use Rattle.hh_calc.specs.Terms.{contracts_given, period_data}
 use Rattle.hh_states.specs.PeriodSettlement.{unit_at}
 use Rattle.hh_kept_rows.proofs.kept_register.KeptRegister.data_with.Goals as goal
 
@@ -9,7 +9,7 @@ returns c =
     let tables = c.args.self.now in
     let at = c.args.at.now in
     c.new.ensures
-    ∙ (λ i. period_terms
+    ∙ (λ i. period_data
     ((c.in_ok-accounts.ensures.items ∙ c.deref.ensures.value ∙ c.requires.accounts) i)
     ((c.in_ok-units.ensures ∙ ap (filter_map (unit_at tables at)) (c.deref-2.ensures.value ∙ c.requires.units)) i)
     (contracts_given c.args.contracts) (c.price_at-price.ensures i))

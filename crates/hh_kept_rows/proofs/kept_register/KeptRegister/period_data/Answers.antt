@@ -1,6 +1,6 @@
 use Rattle.std.proofs.Common.{map, ap, ◌∙◌}
 use Rattle.std.specs.Prelude.{filter_map}
-use Rattle.hh_calc.specs.Terms.{period_terms, Rows}
+use Rattle.hh_calc.specs.Terms.{period_data, Rows}
 use Rattle.hh_states.specs.PeriodSettlement.{unit_at}
 use Rattle.hh_kept_rows.specs.steps.KeptContracts.{period_contracts}
 use Rattle.hh_kept_rows.proofs.DayLaws.{rows_at}
@@ -11,7 +11,7 @@ returns c =
     let tables = c.args.self.now in
     let at = c.args.at.now in
     c.new.ensures
-    ∙ (λ i. period_terms
+    ∙ (λ i. period_data
     ((c.in_ok-accounts.ensures.items ∙ c.deref.ensures.value ∙ c.requires.roll.accounts) i)
     ((c.in_ok-units.ensures ∙ ap (filter_map (unit_at tables at)) (c.deref-2.ensures.value ∙ c.requires.roll.units)) i)
     (Rows ((c.requires.contracts ∙ ap (λ rows. period_contracts rows at.period) c.requires.roll.contracts ∙ ap (map (λ r. r.contract)) (rows_at tables at)) i))

@@ -5,14 +5,14 @@ use Rattle.hh_requests.specs.declared.reply.Reply.TheVariants as reply
 use Rattle.hh_states.specs.Reads.{runs_in}
 use Rattle.hh_office.specs.Enquiries.{account_reply}
 use Rattle.hh_office.specs.Promises.{MakesTransition}
-use Rattle.hh_office.specs.steps.Promises.{TellsInEachState}
+use Rattle.hh_office.specs.steps.Promises.{AnswersAsMachine}
 use Rattle.hh_office.specs.steps.Reads.{latest_key}
 use Rattle.hh_office.specs.Transitions.{unchanged}
 use Rattle.hh_office.specs.Views.{OfficeView, midnight_of}
 use Rattle.hh_office.proofs.EnquiryLaws.{account_none}
 use Rattle.hh_office.proofs.StepLaws.{comes_same}
 use Rattle.hh_office.proofs.RefusalLaws.{reached_by}
-use Rattle.hh_office.specs.Refusals.{CountsReply, StandsForSome}
+use Rattle.hh_office.specs.Refusals.{CountsReply, RepresentsSome}
 use Rattle.hh_office.specs.steps.Promises.{reply_of}
 use Rattle.hh_office.proofs.office.Office.account.Goals as goal
 
@@ -22,7 +22,7 @@ account_in-requires g c sure =
 
 pub returns-in-Some-clause-makes : goal.returns-in-Some-clause-makes
 returns-in-Some-clause-makes g c sure s stands =
-    subst (λ o. TellsInEachState o c.account_in.new.self.seen c.account_in.result (λ midnight s. account_reply midnight s c.args.account.now c.args.date)) (c.in_ok-run.ensures.same (c.account_in.ensures.sure sure))
+    subst (λ o. AnswersAsMachine o c.account_in.new.self.seen c.account_in.result (λ midnight s. account_reply midnight s c.args.account.now c.args.date)) (c.in_ok-run.ensures.same (c.account_in.ensures.sure sure))
     (c.account_in.ensures.makes sure) s stands
 
 pub returns-in-None-clause-makes : goal.returns-in-None-clause-makes
@@ -38,4 +38,4 @@ returns-in-Some-clause-refusals_counted g c sure some =
     let before = c.account_in.ensures.sure sure in
     let same = c.in_ok-run.ensures.same before in
     subst (λ n. CountsReply (reply_of c.account_in.result) n (g.T.Tables.refusals c.account_in.new.self.tables)) (c.in_ok-run.ensures.refusals_counted before (reached_by c.args.self.now.seen some))
-    (c.account_in.ensures.refusals_counted sure (subst StandsForSome (sym same) some))
+    (c.account_in.ensures.refusals_counted sure (subst RepresentsSome (sym same) some))

@@ -5,7 +5,7 @@ use Rattle.hh_office.specs.Crashes.{IfReplied, MadeInEachState}
 use Rattle.hh_office.specs.Machine.{step}
 use Rattle.hh_office.specs.Promises.{HandleStep}
 use Rattle.hh_office.proofs.CrashLaws.{crash_step}
-use Rattle.hh_office.proofs.HandleLaws.{conserves_after, stands_after}
+use Rattle.hh_office.proofs.HandleLaws.{conserves_after, represents_after}
 use Rattle.hh_office.proofs.OnceLaws.{repeats}
 use Rattle.hh_office.proofs.ViewLaws.{forbids_others, shows_by_view}
 use Rattle.hh_office.proofs.office.Office.handle.Goals as goal
@@ -18,9 +18,9 @@ pub returns-clause-once : goal.returns-clause-once
 returns-clause-once g c sure =
     repeats c.kept_summaries.ensures c.load_effect.ensures c.run_effect.ensures c.accepted_files_in_range.ensures c.args.self.now.seen c.reply_to-reply.new.self.seen c.args.moment c.args.request.now c.reply_to-reply.result (returns-clause-step g c sure)
 
-pub returns-clause-stands : goal.returns-clause-stands
-returns-clause-stands g c sure =
-    stands_after c.args.self.now.seen c.reply_to-reply.new.self.seen c.args.moment c.args.request.now c.reply_to-reply.result c.is_named.ensures (returns-clause-step g c sure)
+pub returns-clause-represents : goal.returns-clause-represents
+returns-clause-represents g c sure =
+    represents_after c.args.self.now.seen c.reply_to-reply.new.self.seen c.args.moment c.args.request.now c.reply_to-reply.result c.is_named.ensures (returns-clause-step g c sure)
 
 pub returns-clause-sums : goal.returns-clause-sums
 returns-clause-sums g c sure =

@@ -5,11 +5,11 @@ use Rattle.hh_rows.specs.RowKinds.{most_bytes}
 use Rattle.hh_office.specs.Machine.{load_beside, load_new, repeat_reply, load}
 use Rattle.hh_office.specs.Transitions.{unchanged}
 use Rattle.hh_office.specs.Promises.{MakesTransition}
-use Rattle.hh_office.specs.steps.Promises.{MakesInEachState, reply_of}
+use Rattle.hh_office.specs.steps.Promises.{FollowsMachine, reply_of}
 use Rattle.hh_office.specs.Views.{midnight_of}
 use Rattle.hh_office.proofs.StepLaws.{comes_by_kept, comes_same, comes_unchanged}
 use Rattle.hh_office.proofs.RefusalLaws.{reached_by, repeat_counts}
-use Rattle.hh_office.specs.Refusals.{CountsReply, StandsForSome}
+use Rattle.hh_office.specs.Refusals.{CountsReply, RepresentsSome}
 use Rattle.hh_office.proofs.CrashLaws.{only_made_then}
 use Rattle.hh_office.specs.Crashes.{IfReplied, MadeInEachState, with_content}
 use Rattle.hh_office.proofs.office.Office.load.Goals as goal
@@ -32,7 +32,7 @@ returns-in-None-clause-makes g c sure s stands =
     let new = c.load_new.new.self.seen in
     let before = c.load_new.ensures.sure sure in
     let small = le-ltb most_bytes (length upload.body) (subst (λ b. length b ≤ most_bytes) c.as_slice.ensures c.if-as_slice-gt-MOST_BYTES.false) in
-    let does = subst (λ o. MakesInEachState o new c.load_new.result (λ midnight s. load_new midnight s (to_z w64 (of_z w64 c.args.moment)) upload)) (c.in_ok-file.ensures.same before) (c.load_new.ensures.makes sure) in
+    let does = subst (λ o. FollowsMachine o new c.load_new.result (λ midnight s. load_new midnight s (to_z w64 (of_z w64 c.args.moment)) upload)) (c.in_ok-file.ensures.same before) (c.load_new.ensures.makes sure) in
     comes_by_kept office s c.args.moment upload stands c.kept_files.ensures None (sym c.in-None.is ∙ c.in_ok-file.ensures.value before) small new (reply_of c.load_new.result)
     (subst (λ m. MakesTransition office new (reply_of c.load_new.result) (load_new (midnight_of office) s m upload)) (to_z-of_z w64 c.args.moment c.ranges.moment) (does s stands))
 
@@ -48,7 +48,7 @@ returns-in-None-clause-refusals_counted g c sure some =
     let before = c.load_new.ensures.sure sure in
     let same = c.in_ok-file.ensures.same before in
     subst (λ n. CountsReply (reply_of c.load_new.result) n (g.T.Tables.refusals c.load_new.new.self.tables)) (c.in_ok-file.ensures.refusals_counted before (reached_by c.args.self.now.seen some))
-    (c.load_new.ensures.refusals_counted sure (subst StandsForSome (sym same) some))
+    (c.load_new.ensures.refusals_counted sure (subst RepresentsSome (sym same) some))
 
 pub returns-in-None-clause-crash : goal.returns-in-None-clause-crash
 returns-in-None-clause-crash g c =

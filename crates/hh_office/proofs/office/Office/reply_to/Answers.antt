@@ -7,19 +7,19 @@ use Rattle.hh_store.specs.Crashes.{AddsOnly}
 use Rattle.hh_office.specs.Crashes.{IfReplied, MadeInEachState}
 use Rattle.hh_office.specs.Machine.{step}
 use Rattle.hh_office.specs.Promises.{RefusalLeaves}
-use Rattle.hh_office.specs.steps.Promises.{MakesInEachState, reply_of}
+use Rattle.hh_office.specs.steps.Promises.{FollowsMachine, reply_of}
 use Rattle.hh_office.specs.Refusals.{CountsReply}
 use Rattle.hh_office.proofs.office.Office.reply_to.Goals as goal
 
 pub returns-in-Ok-clause-step : goal.returns-in-Ok-clause-step
 returns-in-Ok-clause-step g c sure =
-    subst (λ m. MakesInEachState c.args.self.now.seen c.act.new.self.seen (Ok c.in-Ok.reply) (λ midnight s. step midnight s m c.args.request.now)) (to_z-of_z w64 c.args.moment c.ranges.moment)
-    (subst (λ r. MakesInEachState c.args.self.now.seen c.act.new.self.seen r (λ midnight s. step midnight s (to_z w64 (of_z w64 c.args.moment)) c.args.request.now)) c.in-Ok.is (c.act.ensures.makes sure))
+    subst (λ m. FollowsMachine c.args.self.now.seen c.act.new.self.seen (Ok c.in-Ok.reply) (λ midnight s. step midnight s m c.args.request.now)) (to_z-of_z w64 c.args.moment c.ranges.moment)
+    (subst (λ r. FollowsMachine c.args.self.now.seen c.act.new.self.seen r (λ midnight s. step midnight s (to_z w64 (of_z w64 c.args.moment)) c.args.request.now)) c.in-Ok.is (c.act.ensures.makes sure))
 
 pub returns-in-Err-clause-step : goal.returns-in-Err-clause-step
 returns-in-Err-clause-step g c sure =
-    subst (λ m. MakesInEachState c.args.self.now.seen c.act.new.self.seen (Err c.in-Err.fault) (λ midnight s. step midnight s m c.args.request.now)) (to_z-of_z w64 c.args.moment c.ranges.moment)
-    (subst (λ r. MakesInEachState c.args.self.now.seen c.act.new.self.seen r (λ midnight s. step midnight s (to_z w64 (of_z w64 c.args.moment)) c.args.request.now)) c.in-Err.is (c.act.ensures.makes sure))
+    subst (λ m. FollowsMachine c.args.self.now.seen c.act.new.self.seen (Err c.in-Err.fault) (λ midnight s. step midnight s m c.args.request.now)) (to_z-of_z w64 c.args.moment c.ranges.moment)
+    (subst (λ r. FollowsMachine c.args.self.now.seen c.act.new.self.seen r (λ midnight s. step midnight s (to_z w64 (of_z w64 c.args.moment)) c.args.request.now)) c.in-Err.is (c.act.ensures.makes sure))
 
 pub returns-in-Ok-clause-untouched : goal.returns-in-Ok-clause-untouched
 returns-in-Ok-clause-untouched g c sure =

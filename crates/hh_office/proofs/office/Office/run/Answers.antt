@@ -3,7 +3,7 @@ use Rattle.std.proofs.lemmas.Int.{to_z-of_z}
 use Rattle.hh_requests.specs.declared.reply.Reply.TheVariants as reply
 use Rattle.hh_states.specs.Reads.{runs_in}
 use Rattle.hh_office.specs.Promises.{MakesTransition}
-use Rattle.hh_office.specs.steps.Promises.{MakesInEachState, reply_of}
+use Rattle.hh_office.specs.steps.Promises.{FollowsMachine, reply_of}
 use Rattle.hh_office.specs.steps.Reads.{latest_key}
 use Rattle.hh_office.specs.Runs.{run}
 use Rattle.hh_office.specs.steps.Settling.{IsNext, TellsOrder}
@@ -11,7 +11,7 @@ use Rattle.hh_office.specs.Views.{OfficeView, midnight_of}
 use Rattle.hh_office.proofs.RunLaws.{run_kept, run_out_of_order}
 use Rattle.hh_office.proofs.StepLaws.{comes_same, passed_reply}
 use Rattle.hh_office.proofs.RefusalLaws.{elsewhere_counted, reached_by, refused_alike}
-use Rattle.hh_office.specs.Refusals.{CountsReply, StandsForSome}
+use Rattle.hh_office.specs.Refusals.{CountsReply, RepresentsSome}
 use Rattle.hh_office.proofs.CrashLaws.{only_made_then}
 use Rattle.hh_office.specs.Crashes.{IfReplied, MadeInEachState}
 use Rattle.hh_office.proofs.office.Office.run.Goals as goal
@@ -51,7 +51,7 @@ returns-clause-makes g c sure s stands =
     let at = c.new_run.ensures.sure sure in
     let office = c.args.self.now.seen in
     let new = c.new_run.new.self.seen in
-    let does = subst (λ o. MakesInEachState o new c.new_run.result (λ midnight s. run midnight s (to_z w64 (of_z w64 c.args.moment)) c.args.key)) (c.in_ok-runs.ensures.same at) (c.new_run.ensures.makes sure) in
+    let does = subst (λ o. FollowsMachine o new c.new_run.result (λ midnight s. run midnight s (to_z w64 (of_z w64 c.args.moment)) c.args.key)) (c.in_ok-runs.ensures.same at) (c.new_run.ensures.makes sure) in
     subst (λ m. MakesTransition office new (reply_of c.new_run.result) (run (midnight_of office) s m c.args.key)) (to_z-of_z w64 c.args.moment c.ranges.moment) (does s stands)
 
 pub returns-in_err-summary-clause-refusals_counted : goal.returns-in_err-summary-clause-refusals_counted
@@ -65,7 +65,7 @@ returns-clause-refusals_counted g c sure some =
     let before = c.new_run.ensures.sure sure in
     let same = c.in_ok-runs.ensures.same before in
     subst (λ n. CountsReply (reply_of c.new_run.result) n (g.T.Tables.refusals c.new_run.new.self.tables)) (c.in_ok-runs.ensures.refusals_counted before (reached_by c.args.self.now.seen some))
-    (c.new_run.ensures.refusals_counted sure (subst StandsForSome (sym same) some))
+    (c.new_run.ensures.refusals_counted sure (subst RepresentsSome (sym same) some))
 
 pub returns-clause-crash : goal.returns-clause-crash
 returns-clause-crash g c =

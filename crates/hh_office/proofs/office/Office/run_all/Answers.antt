@@ -3,7 +3,7 @@ use Rattle.std.proofs.lemmas.List.{take_more}
 use Rattle.hh_office.specs.Promises.{RunAllStep}
 use Rattle.hh_office.specs.Refusals.{CountsReplies}
 use Rattle.hh_office.proofs.RefusalLaws.{counts_more}
-use Rattle.hh_office.proofs.HandleLaws.{conserves_after_all, stands_after_all, stands_for_some}
+use Rattle.hh_office.proofs.HandleLaws.{conserves_after_all, represents_after_all, represents_some}
 use Rattle.hh_office.proofs.CrashLaws.{AreReplied, behind_reply, crash_after_all, replied_before}
 use Rattle.hh_office.proofs.ListLaws.{all_named, run_more, run_to_the_end}
 use Rattle.hh_office.proofs.OnceLaws.{AreNamed, named_more}
@@ -33,7 +33,7 @@ loop-request-preserved g c =
           let last = g.T.Tables.refusals c.handle_timed.new.self.tables in
           subst (λ given. CountsReplies given first last) (sym pushed)
           (counts_more before c.handle_timed.result first (g.T.Tables.refusals c.loop-request.self.tables) last (c.loop-request.invariant.refusals_counted standing some)
-          (c.handle_timed.ensures.refusals_counted sure (stands_for_some old c.loop-request.self.seen (take i requests) before c.loop-request.invariant.named ran some)));
+          (c.handle_timed.ensures.refusals_counted sure (represents_some old c.loop-request.self.seen (take i requests) before c.loop-request.invariant.named ran some)));
       crash = λ honest.
           let last = c.handle_timed.ensures.crash honest in
           let before_it = c.loop-request.invariant.crash last.0 in (
@@ -46,13 +46,13 @@ loop-request-preserved g c =
       room = omega arith;
     }
 
-pub returns-clause-stands : goal.returns-clause-stands
-returns-clause-stands g c sure =
+pub returns-clause-represents : goal.returns-clause-represents
+returns-clause-represents g c sure =
     let i = c.loop-request.request-index in
     let end : i ≡ length c.args.requests.now = omega arith in
     let run : RunAllStep c.args.self.now.seen c.loop-request.self.seen c.args.requests.now c.loop-request.replies.items =
     run_to_the_end c.args.self.now.seen c.loop-request.self.seen c.args.requests.now c.loop-request.replies.items i end (c.loop-request.invariant.run sure) in
-    stands_after_all c.args.self.now.seen c.loop-request.self.seen c.args.requests.now c.loop-request.replies.items (all_named c.args.requests.now i end c.loop-request.invariant.named) run
+    represents_after_all c.args.self.now.seen c.loop-request.self.seen c.args.requests.now c.loop-request.replies.items (all_named c.args.requests.now i end c.loop-request.invariant.named) run
 
 pub returns-clause-sums : goal.returns-clause-sums
 returns-clause-sums g c sure =

@@ -21,8 +21,8 @@ returns-in-Ok-clause-is_new g c stands = (c.in-Ok.ensures.made (clean_while_open
 pub returns-in-Ok-clause-empty : goal.returns-in-Ok-clause-empty
 returns-in-Ok-clause-empty g c stands = sym (content_is (empty_content c.args.settings) _ (c.in-Ok.ensures.made (clean_while_open g.S.Store c.make_office.new.connection g.met.S.Store.shut_if_dirty stands)).is_new.holds)
 
-pub returns-in-Ok-clause-stands : goal.returns-in-Ok-clause-stands
-returns-in-Ok-clause-stands g c stands midnight = sym (content_is (empty_content c.args.settings) _ (c.in-Ok.ensures.made (clean_while_open g.S.Store c.make_office.new.connection g.met.S.Store.shut_if_dirty stands)).is_new.holds)
+pub returns-in-Ok-clause-represents : goal.returns-in-Ok-clause-represents
+returns-in-Ok-clause-represents g c stands midnight = sym (content_is (empty_content c.args.settings) _ (c.in-Ok.ensures.made (clean_while_open g.S.Store c.make_office.new.connection g.met.S.Store.shut_if_dirty stands)).is_new.holds)
 
 pub returns-in-Err-clause-undone : goal.returns-in-Err-clause-undone
 returns-in-Err-clause-undone g c stands = c.in-Err.ensures.undone (clean_while_open g.S.Store c.make_office.new.connection g.met.S.Store.shut_if_dirty stands) stands

@@ -1,0 +1,15 @@
+use Rattle.std.proofs.Common.{◌∙◌, ap}
+use Rattle.sqlite.specs.Held.{state}
+use Rattle.sqlite.specs.declared.error.Error.TheVariants.{SqliteFailure}
+use Rattle.hh_sqlrows.proofs.InsideLaws.{refused_whole}
+use Rattle.hh_sqlrows.proofs.statement.try_entries.Goals as goal
+
+pub returns-in-Err-SqliteFailure-ConstraintViolation-clause-writes : goal.returns-in-Err-SqliteFailure-ConstraintViolation-clause-writes
+returns-in-Err-SqliteFailure-ConstraintViolation-clause-writes g c clean inside =
+    let it = c.in-Err-SqliteFailure-ConstraintViolation in
+    (refused_whole _ _ (state g.S.Store c.args.tx.now.conn.now) (state g.S.Store c.execute.new.self.conn.now) _ _ (it.field-0-is ∙ ap SqliteFailure it.field-0-0-is) (it.ensures.runs clean inside)).0.now_is
+
+pub returns-in-Err-SqliteFailure-ConstraintViolation-clause-inside : goal.returns-in-Err-SqliteFailure-ConstraintViolation-clause-inside
+returns-in-Err-SqliteFailure-ConstraintViolation-clause-inside g c clean inside =
+    let it = c.in-Err-SqliteFailure-ConstraintViolation in
+    (refused_whole _ _ (state g.S.Store c.args.tx.now.conn.now) (state g.S.Store c.execute.new.self.conn.now) _ _ (it.field-0-is ∙ ap SqliteFailure it.field-0-0-is) (it.ensures.runs clean inside)).0.mode ∙ inside
