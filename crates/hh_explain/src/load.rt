@@ -6,7 +6,7 @@ use crate::records::Found;
 use crate::wrong_rows::WrongRow;
 use hh_names::{Fault, Refusal};
 use hh_rows::{FileKind, Row};
-use hh_texts::Form;
+use hh_texts::{Form, LastDate};
 use std::alloc::{AllocError, Global};
 
 /// A file of rows that was to be loaded.
@@ -83,7 +83,7 @@ fn row_refused(alloc: Global, file: &RowsFile<'_>, fault: &Fault) -> Result<Stri
 /// The row that a record of a kind reads as, if it does.
 fn row_in(kind: FileKind, found: &Found<'_>) -> Option<Row> {
     if found.fields.len() == kind.header().len() {
-        kind.read_row(&found.fields).ok()
+        kind.read_row(&found.fields, &mut LastDate::new()).ok()
     } else {
         None
     }

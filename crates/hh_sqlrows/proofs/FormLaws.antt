@@ -262,11 +262,6 @@ module _ {K V : Type 0} (form : TableForm K V) (is_form : IsForm form) where
         }
 
     -- rows that one statement writes, and whose values fit if it is executed
-    pub puts_all_by : {E : Type 0} (n : ℕ) → length es ≡ n → IsReplaceOf form sql n → (r : Result Unit E) → OnOk r (AllByRecursion (Fits form.key form.value) es)
-        → OnOk r ((count : ℕ) × ExecutesInside 0 sql (flat_map entry_columns es) old new (Ok count)) → OnOk r (PutsAll form es old.now new.now)
-    puts_all_by n long text (Ok done) fits h = replaces fits n long text h.0 h.1.0
-    puts_all_by n long text (Err e) fits h = tt
-
     pub inserts_all_by : {E : Type 0} (n : ℕ) → length es ≡ n → IsInsertOf form sql n → (r : Result Unit E) → OnOk r (AllByRecursion (Fits form.key form.value) es)
         → OnOk r ((count : ℕ) × ExecutesInside 0 sql (flat_map entry_columns es) old new (Ok count)) → OnOk r (PutsAll form es old.now new.now)
     inserts_all_by n long text (Ok done) fits h = inserts fits n long text h.0 h.1.0

@@ -8,6 +8,7 @@ ghost use Rattle.hh_rows.specs.RowKinds.{IsFileOf};
 
 use crate::fields::field_in;
 use crate::form::{Form, read_rows};
+use crate::last_date::LastDate;
 use csv::ByteRecord;
 use hh_names::{
     AccessKey, Account, Contract, Counterparties, Fault, PartyId, PeriodNumber, Reading,
@@ -51,14 +52,14 @@ impl Form for FileKind {
         }
     }
 
-    fn read_row(&self, fields: &ByteRecord) -> Result<Row, u32> {
+    fn read_row(&self, fields: &ByteRecord, last: &mut LastDate) -> Result<Row, u32> {
         match self {
             FileKind::Parties => read_party(fields),
             FileKind::Units => read_unit(fields),
-            FileKind::Meters => read_meter(fields),
-            FileKind::Prices => read_price(fields),
-            FileKind::Contracts => read_contract(fields),
-            FileKind::Reallocations => read_reallocation(fields),
+            FileKind::Meters => read_meter(fields, last),
+            FileKind::Prices => read_price(fields, last),
+            FileKind::Contracts => read_contract(fields, last),
+            FileKind::Reallocations => read_reallocation(fields, last),
         }
     }
 }
@@ -100,11 +101,11 @@ fn read_unit(fields: &ByteRecord) -> Result<Row, u32>
 
 /// The row of a record of meter volumes, or the first column that cannot be read.
 #[tactic(auto, unfolding(crate::specs::Files::meter_row))]
-fn read_meter(fields: &ByteRecord) -> Result<Row, u32>
+fn read_meter(fields: &ByteRecord, last: &mut LastDate) -> Result<Row, u32>
     ensures { result ≡ meter_row (fields_of fields.now) }
 {
     let unit = UnitId::read(field_in(fields, 0)).ok_or(1u32)?;
-    let date = SettlementDate::read(field_in(fields, 1)).ok_or(2u32)?;
+    let date = last.read(field_in(fields, 1)).ok_or(2u32)?;
     let period = PeriodNumber::read(field_in(fields, 2)).ok_or(3u32)?;
     let at = SettlementPeriod { date, period };
     Ok(Row::Meter(MeterRow {
@@ -119,10 +120,10 @@ fn read_meter(fields: &ByteRecord) -> Result<Row, u32>
 
 /// The row of a record of prices, or the first column that cannot be read.
 #[tactic(auto, unfolding(crate::specs::Files::price_row))]
-fn read_price(fields: &ByteRecord) -> Result<Row, u32>
+fn read_price(fields: &ByteRecord, last: &mut LastDate) -> Result<Row, u32>
     ensures { result ≡ price_row (fields_of fields.now) }
 {
-    let date = SettlementDate::read(field_in(fields, 0)).ok_or(1u32)?;
+    let date = last.read(field_in(fields, 0)).ok_or(1u32)?;
     let period = PeriodNumber::read(field_in(fields, 1)).ok_or(2u32)?;
     let at = SettlementPeriod { date, period };
     let price = Price::read(field_in(fields, 2)).ok_or(3u32)?;
@@ -131,13 +132,13 @@ fn read_price(fields: &ByteRecord) -> Result<Row, u32>
 
 /// The row of a record of contracts, or the first column that cannot be read.
 #[tactic(auto, unfolding(crate::specs::Files::contract_row))]
-fn read_contract(fields: &ByteRecord) -> Result<Row, u32>
+fn read_contract(fields: &ByteRecord, last: &mut LastDate) -> Result<Row, u32>
     ensures { result ≡ contract_row (fields_of fields.now) }
 {
     let reference = Reference::read(field_in(fields, 0)).ok_or(1u32)?;
     let seller = Account::read(field_in(fields, 1)).ok_or(2u32)?;
     let buyer = Account::read(field_in(fields, 2)).ok_or(3u32)?;
-    let date = SettlementDate::read(field_in(fields, 3)).ok_or(4u32)?;
+    let date = last.read(field_in(fields, 3)).ok_or(4u32)?;
     let period = PeriodNumber::read(field_in(fields, 4)).ok_or(5u32)?;
     let at = SettlementPeriod { date, period };
     Ok(Row::Contract(ContractRow {
@@ -151,12 +152,12 @@ fn read_contract(fields: &ByteRecord) -> Result<Row, u32>
 
 /// The row of a record of reallocations, or the first column that cannot be read.
 #[tactic(auto, unfolding(crate::specs::Files::reallocation_row))]
-fn read_reallocation(fields: &ByteRecord) -> Result<Row, u32>
+fn read_reallocation(fields: &ByteRecord, last: &mut LastDate) -> Result<Row, u32>
     ensures { result ≡ reallocation_row (fields_of fields.now) }
 {
     let unit = UnitId::read(field_in(fields, 0)).ok_or(1u32)?;
     let account = Account::read(field_in(fields, 1)).ok_or(2u32)?;
-    let date = SettlementDate::read(field_in(fields, 2)).ok_or(3u32)?;
+    let date = last.read(field_in(fields, 2)).ok_or(3u32)?;
     let period = PeriodNumber::read(field_in(fields, 3)).ok_or(4u32)?;
     let at = SettlementPeriod { date, period };
     let unit_period = UnitPeriod { unit, at };

@@ -7,6 +7,7 @@ ghost use Rattle.hh_texts.specs.Records.{IsReading, left_of};
 ghost use Rattle.hh_rows.specs.RowKinds.{most_rows};
 ghost use Rattle.hh_texts.specs.Rows.{FileForm, form_under, rows_of, rows_from, same_fields};
 
+use crate::last_date::LastDate;
 use crate::records::{next_record, records_in};
 use csv::{ByteRecord, Reader};
 use hh_names::{Fault, Refusal};
@@ -33,8 +34,8 @@ pub trait Form {
         ensures { map (λ name. name.now) result.now ≡ (form self.now).header };
 
     /// The row that a record of as many fields reads as, or the first column, counted from 1, that
-    /// cannot be read.
-    fn read_row(&self, fields: &ByteRecord) -> Result<Self::Row, u32>
+    /// cannot be read. `last` is the date that was read last.
+    fn read_row(&self, fields: &ByteRecord, last: &mut LastDate) -> Result<Self::Row, u32>
         requires { length (fields_of fields.now) ≡ length (form self.now).header }
         ensures { result ≡ (form self.now).row (fields_of fields.now) };
 }
@@ -110,6 +111,7 @@ fn rows_under<F: Form>(
     let columns = form.header().len();
     let mut rows = Vec::with_capacity(alloc, room)?;
     let mut fields = ByteRecord::new(alloc);
+    let mut last = LastDate::new();
     for row in 1..=MOST_ROWS {
         if !next_record(reader, &mut fields)? {
             return Ok(rows);
@@ -117,7 +119,7 @@ fn rows_under<F: Form>(
         if fields.len() != columns {
             return Err(Fault::at_row(Refusal::BadRecord, row));
         }
-        match form.read_row(&fields) {
+        match form.read_row(&fields, &mut last) {
             Ok(read) => rows.push(read)?,
             Err(column) => return Err(Fault::at_field(row, column)),
         }

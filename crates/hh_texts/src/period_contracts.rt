@@ -7,6 +7,7 @@ ghost use Rattle.hh_rows.specs.RowKinds.{most_rows};
 
 use crate::fields::field_in;
 use crate::form::{Form, read_rows};
+use crate::last_date::LastDate;
 use csv::ByteRecord;
 use hh_names::{Account, Contract, Counterparties, Fault, Reference};
 use hh_num::Kwh;
@@ -35,7 +36,7 @@ impl Form for PeriodContracts {
     }
 
     #[tactic(auto, unfolding(crate::specs::PeriodFiles::period_contract_row))]
-    fn read_row(&self, fields: &ByteRecord) -> Result<PeriodContractRow, u32> {
+    fn read_row(&self, fields: &ByteRecord, _: &mut LastDate) -> Result<PeriodContractRow, u32> {
         Ok(PeriodContractRow {
             reference: Reference::read(field_in(fields, 0)).ok_or(1u32)?,
             contract: Contract {

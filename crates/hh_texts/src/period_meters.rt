@@ -7,6 +7,7 @@ ghost use Rattle.hh_rows.specs.RowKinds.{most_rows};
 
 use crate::fields::field_in;
 use crate::form::{Form, read_rows};
+use crate::last_date::LastDate;
 use csv::ByteRecord;
 use hh_names::{Account, Fault, Reading, UnitId};
 use hh_num::{Kwh, Tlm};
@@ -37,7 +38,7 @@ impl Form for PeriodMeters {
     }
 
     #[tactic(auto, unfolding(crate::specs::PeriodFiles::period_meter_row))]
-    fn read_row(&self, fields: &ByteRecord) -> Result<PeriodMeterRow, u32> {
+    fn read_row(&self, fields: &ByteRecord, _: &mut LastDate) -> Result<PeriodMeterRow, u32> {
         Ok(PeriodMeterRow {
             unit: UnitId::read(field_in(fields, 0)).ok_or(1u32)?,
             lead: Account::read(field_in(fields, 1)).ok_or(2u32)?,
