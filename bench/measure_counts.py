@@ -16,6 +16,7 @@ The outputs of a program and its peer are compared. Instructions are those of th
 what the C library chooses by the processor. Where valgrind isn't installed, a line says so and none are counted.
 Page faults, memory and processor time are what the system tells of a process, the median of the rounds: faults that
 needed no disk, the greatest memory that was in use at once, and the time of the program and of the system on its behalf.
+All have the environment that `./settle` gives the program: with pages of 2 MB, unless GLIBC_TUNABLES says otherwise.
 Of read_file and settle_period the script measures runs of one call and of eleven, and tells a tenth of the
 difference; memory is that of the longer run. It needs `rustc`."""
 import argparse

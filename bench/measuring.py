@@ -1,11 +1,18 @@
 """What the measuring scripts share: their words, the Rust peers, and the tables of times."""
 import argparse
+import os
 import pathlib
 import statistics
 import subprocess
 import sys
 
 BENCH = pathlib.Path(__file__).resolve().parent
+sys.path.insert(0, str(BENCH.parent / "tools"))
+
+from running import environment  # noqa: E402
+
+# All that is measured, the peers too, has the environment that `./settle` gives the program.
+os.environ.update(environment())
 
 
 def read_words(description, crate, times=None):

@@ -119,6 +119,13 @@ class OfTheScript(unittest.TestCase):
         self.assertEqual(self.call("word")[:2], (0, b"first|word|"))
         self.calls()
 
+    def put_program(self, commands):
+        """These commands of the shell are the program that was built last."""
+        program, note = self.out / "hh_settle", self.out / "settle.built"
+        program.write_text(f"#!/bin/sh\n{commands}\n")
+        sources = note.read_text().split()[0]
+        note.write_text(f"{sources}\n{sum_of(program)}\n")
+
     def is_quiet(self, text, *words, **how):
         """The program is run at once: no crate is proved, and nothing is told."""
         self.assertEqual(self.call(*words, **how), (0, text, ""))
@@ -359,11 +366,15 @@ class HowItIsCalled(OfTheScript):
     def test_signals_are_as_a_shell_leaves_them(self):
         """A program that is stopped by a closed pipe is stopped under the script too."""
         self.build()
-        program = self.out / "hh_settle"
-        program.write_text("#!/bin/sh\nkill -PIPE $$\necho on\n")
-        noted = (self.out / "settle.built").read_text().split()[0]
-        (self.out / "settle.built").write_text(f"{noted}\n{sum_of(program)}\n")
+        self.put_program("kill -PIPE $$\necho on")
         self.assertEqual(self.call("word"), (-signal.SIGPIPE, b"", ""))
+
+    def test_the_c_library_uses_large_pages_unless_told_otherwise(self):
+        self.build()
+        self.put_program('printf %s "$GLIBC_TUNABLES"')
+        self.assertEqual(self.call("word"), (0, b"glibc.malloc.hugetlb=1", ""))
+        for wanted in ("glibc.malloc.hugetlb=0", "glibc.malloc.arena_max=1", ""):
+            self.assertEqual(self.call("word", GLIBC_TUNABLES=wanted), (0, wanted.encode(), ""))
 
     def test_two_calls_at_once(self):
         asked = self.ask("waits", "low")

@@ -6,7 +6,7 @@ import signal
 
 from command_words import command_of, database_of
 from progress import Progress
-from running import TURNED_OFF
+from running import TURNED_OFF, environment
 from sources import PROGRAM
 from telling import INTERRUPTS, say
 from terminal import Terminal
@@ -25,7 +25,7 @@ class Child:
                 signal.signal(number, self.interrupt)
         streams = [(os.POSIX_SPAWN_DUP2, end, number) for number in (1, 2) if os.isatty(number)]
         how = {"file_actions": streams, "setsigdef": TURNED_OFF}
-        self.process = os.posix_spawn(PROGRAM, [PROGRAM, *words], os.environ, **how)
+        self.process = os.posix_spawn(PROGRAM, [PROGRAM, *words], environment(), **how)
         for number in self.came:
             os.kill(self.process, number)
 
