@@ -1,5 +1,6 @@
 """Runs the commands of the README, of `examples/` and of the guide, those of each page one after the other in a folder with the
-examples, and compares what they print, word for word. A line of three points means lines that a document leaves out."""
+examples, and compares what they print, word for word. A line of three points means lines that a document leaves out. And each
+link from page to page leads to a file and a heading."""
 import contextlib
 import csv
 import pathlib
@@ -13,9 +14,11 @@ import tempfile
 import unittest
 
 from programs import HOME, SETTLE, need
+from test_index import slug_of
 
 DOCUMENTS = "README.md", "examples/README.md", "docs/guide.md"
 BLOCK = re.compile(r"^```[^\n`]*\n(.*?)^```[ \t]*$", re.MULTILINE | re.DOTALL)
+LINK = re.compile(r"\]\(([^)\s#]*)(?:#([^)\s]*))?\)")
 COMMAND = re.compile(r"\A(?:\./)?settle ([^\n]*)\n\Z")
 
 
@@ -115,6 +118,23 @@ class Documents(unittest.TestCase):
         self.assertEqual((made.returncode, made.stdout, made.stderr), (0, printed, ""))
         day = next(after for words, after in commands_of((HOME / "docs/guide.md").read_text(encoding="utf-8")) if words.endswith("day.script"))
         self.assertEqual(printed, "".join(line for line in day.splitlines(True) if line.startswith(("refused ", "fault "))))
+
+
+class Links(unittest.TestCase):
+    def test_each_link_leads_somewhere(self):
+        pages = [page for folder in (".", "docs", "tests", "crates", "bench", "examples") for page in (HOME / folder).glob("*.md")]
+        found = [(page, *link) for page in pages for link in LINK.findall(BLOCK.sub("", page.read_text(encoding="utf-8")))]
+        self.assertGreater(len(found), 300)
+        for page, file, anchor in found:
+            if "://" not in file:
+                with self.subTest(f"{page.relative_to(HOME)}: {file}#{anchor}"):
+                    self.check(page.parent / file if file else page, anchor)
+
+    def check(self, target, anchor):
+        self.assertTrue(target.exists())
+        if anchor:
+            text = BLOCK.sub("", target.read_text(encoding="utf-8"))
+            self.assertIn(anchor, map(slug_of, re.findall(r"(?m)^#+ (.*)$", text)))
 
 
 class Found(unittest.TestCase):

@@ -1,14 +1,17 @@
 """The index of rules in docs/architecture.md: each definition, function, wrong body, test and heading that a row names exists.
-And each crate has its row on the pages that list them."""
+And each crate has its row on the pages that list them. And each function in the picture of the way of a file and of a run
+exists, and the one rule that is followed from end to end has what its row says."""
 import functools
 import re
 import unittest
 
 from programs import HOME
+from test_promises import clauses_at
 
 PAGE = HOME / "docs" / "architecture.md"
 HEAD = "| Rule | Definition | Code | Wrong body | Test | Stated in |"
 NAME = re.compile(r"`([^`]+)`")
+PATH = re.compile(r"\bhh_\w+(?:::\w+)+")
 LINK = re.compile(r"\]\(([\w.]+)#([\w-]+)\)")
 
 
@@ -24,6 +27,12 @@ def rows_of(text):
 @functools.cache
 def text_of(folder, ending):
     return "\n".join(file.read_text(encoding="utf-8") for file in sorted(HOME.glob(f"{folder}/*{ending}")))
+
+
+@functools.cache
+def names_of_tests():
+    tests = text_of("crates/*/src/**", ".rt") + text_of("tests", ".py")
+    return set(re.findall(r"(?:#\[test\]\n\s*fn|\bdef) (\w+)\(", tests))
 
 
 def slug_of(heading):
@@ -52,6 +61,31 @@ class Index(unittest.TestCase):
                 self.assertRegex(layers, rf"(?m)^\|[^|]*\| `{crate}` \|")
                 self.assertRegex(proved, rf"(?m)^\| [^|]*`{crate}`[^|]* \|")
 
+    def test_the_way_of_a_file_and_of_a_run(self):
+        """Each function is where its path says, and the picture is short."""
+        picture = self.section("The way of a file and of a run").split("```")[1]
+        paths = PATH.findall(picture)
+        self.assertGreater(len(paths), 40)
+        self.assertEqual([], [path for path in paths if clauses_at(path) is None])
+        lines = picture.strip().split("\n")
+        self.assertLessEqual(len(lines), 60)
+        self.assertLessEqual(max(map(len, lines)), 100)
+
+    def test_the_rule_that_is_followed(self):
+        """The section names all that the rule's row names. The files and the other rules that it names are there."""
+        section = self.section("One rule from end to end")
+        (row,) = [cells for cells in rows_of(PAGE.read_text(encoding="utf-8")) if cells[0] == "A late row"]
+        for name in NAME.findall(" ".join(row)):
+            self.assertIn(name, section)
+        for place in re.findall(r"`((?:crates|tests)/[^` ]*\.\w+)`", section):
+            self.assertTrue((HOME / place).is_file(), place)
+        for name in re.findall(r'"([A-Z][^".]*)"', section):
+            self.assertIn(f"| {name} |", PAGE.read_text(encoding="utf-8"))
+
+    def section(self, heading):
+        """The text of a section of the page."""
+        return PAGE.read_text(encoding="utf-8").split(f"\n## {heading}\n")[1].split("\n## ")[0]
+
     def check_definition(self, cell):
         """A definition is in the file that the cell names. Returns the crate of the file."""
         place, *names = NAME.findall(cell)
@@ -77,10 +111,10 @@ class Index(unittest.TestCase):
         names = NAME.findall(cell)
         self.assertTrue(names)
         for name in names:
-            tests = text_of("crates/*/src/**", ".rt") + text_of("tests", ".py")
-            self.assertTrue(re.search(rf"(?:#\[test\]\n\s*fn|\bdef) {re.escape(name)}\(", tests), name)
+            self.assertIn(name, names_of_tests())
 
     def check_page(self, cell):
+        self.assertTrue(LINK.findall(cell), "no page is named")
         for file, anchor in LINK.findall(cell):
             headings = re.findall(r"(?m)^#+ (.*)$", (HOME / "docs" / file).read_text(encoding="utf-8"))
             self.assertIn(anchor, map(slug_of, headings))
