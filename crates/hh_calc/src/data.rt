@@ -116,6 +116,14 @@ pub enum Contracts {
     Net(Vec<NetKwh>),
 }
 
+/// The places where the accounts of a contract's seller and buyer are looked for first among the accounts
+/// of a period. Any places will do: wrong ones only cost time.
+#[derive(Clone, Copy, Debug)]
+pub struct ContractPlaces {
+    pub seller: usize,
+    pub buyer: usize,
+}
+
 /// A period's accounts, units, contracts and price.
 #[derive(Debug, Drop)]
 pub struct PeriodData {
@@ -123,6 +131,8 @@ pub struct PeriodData {
     units: Vec<UnitData>,
     contracts: Contracts,
     price: Price,
+    /// The places where the accounts of the contract rows are looked for first, one row's after another's.
+    near: Option<Vec<ContractPlaces>>,
 }
 
 impl Model for PeriodData {
@@ -149,6 +159,26 @@ impl PeriodData {
             units,
             contracts,
             price,
+            near: None,
+        }
+    }
+
+    /// The same period, the accounts of whose contract rows are looked for at these places first, one row's
+    /// after another's. Any places will do, also too few: wrong ones only cost time.
+    pub fn with_contracts_near(self, places: Vec<ContractPlaces>) -> PeriodData
+        ensures { result ≡ self }
+    {
+        PeriodData {
+            near: Some(places),
+            ..self
+        }
+    }
+
+    /// Where to look first for the accounts of the contract rows, one row's after another's.
+    pub(crate) fn contracts_near(&self) -> &[ContractPlaces] {
+        match &self.near {
+            Some(places) => places,
+            None => &[],
         }
     }
 

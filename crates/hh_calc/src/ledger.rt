@@ -8,7 +8,7 @@ ghost use Rattle.hh_calc.specs.Ready.{AreAccountsInOrder, AreContractsReady, Are
 ghost use Rattle.hh_calc.specs.steps.Sums.{greatest_credit, greatest_sum, greatest_unit_sum, greatest_volume, no_sums, with_net_by, with_unit, AreChanged, AreGrown, IsWithin};
 
 use crate::credits::{push_credits, put_last_in_place};
-use crate::data::{Contracts, PeriodData, UnitData};
+use crate::data::{ContractPlaces, Contracts, PeriodData, UnitData};
 use crate::result::CreditRow;
 use crate::sums::{
     AccountSums, add_contracts, add_credits, add_nets, add_to, amounts_of_balancing,
@@ -80,8 +80,14 @@ fn add_units(
     Ok(())
 }
 
-/// Adds to the sums of each account what it sells less what it buys, from the rows or its net volume.
-fn add_net_contracts(accounts: &[Account], contracts: &Contracts, sums: &mut [AccountSums])
+/// Adds to the sums of each account what it sells less what it buys, from the rows or its net volume. Looks
+/// for the accounts of rows at the places `near` first.
+fn add_net_contracts(
+    accounts: &[Account],
+    contracts: &Contracts,
+    near: &[ContractPlaces],
+    sums: &mut [AccountSums],
+)
     requires ordered { AreAccountsInOrder accounts.now }
     requires ready { AreContractsReady accounts.now (contracts_given contracts.now) }
     requires each { length sums.old ≡ length accounts.now }
@@ -91,7 +97,7 @@ fn add_net_contracts(accounts: &[Account], contracts: &Contracts, sums: &mut [Ac
     ensures small { All (IsWithin greatest_sum) sums.new }
 {
     match contracts {
-        Contracts::Rows(rows) => add_contracts(accounts, rows, sums),
+        Contracts::Rows(rows) => add_contracts(accounts, rows, near, sums),
         Contracts::Net(nets) => add_nets(accounts, nets, sums),
     }
 }
@@ -113,7 +119,12 @@ fn add_period(
     ensures small { OnOk result (All (IsWithin greatest_sum) sums.new) }
 {
     add_units(period.accounts(), period.units(), credits, sums)?;
-    add_net_contracts(period.accounts(), period.contracts(), sums);
+    add_net_contracts(
+        period.accounts(),
+        period.contracts(),
+        period.contracts_near(),
+        sums,
+    );
     Ok(())
 }
 

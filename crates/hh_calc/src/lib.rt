@@ -10,6 +10,6 @@ mod result;
 mod settle;
 mod sums;
 
-pub use data::{Contracts, PeriodData, Subsidiary, UnitData};
+pub use data::{ContractPlaces, Contracts, PeriodData, Subsidiary, UnitData};
 pub use result::{AccountRow, CalcFault, CreditRow, Figures, PeriodResult};
 pub use settle::settle_period;

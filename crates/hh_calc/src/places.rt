@@ -4,6 +4,7 @@ ghost use Rattle.std.specs.Prelude.{◌≡◌, ◌<◌, length, true, IfSome, Is
 ghost use Rattle.std.specs.List.{HoldsAt};
 ghost use Rattle.hh_calc.specs.Ready.{AreAccountsInOrder, IsListed};
 
+use crate::data::ContractPlaces;
 use hh_names::Account;
 
 /// The place of an account among these, if it is one of them. Looks at the place `near` first, which may
@@ -20,6 +21,17 @@ pub(crate) fn place_of(accounts: &[Account], account: &Account, near: usize) -> 
     match accounts.binary_search(account) {
         Ok(place) => Some(place),
         Err(_) => None,
+    }
+}
+
+/// The places to look at first for the accounts of the contract row at a place, which may be any.
+pub(crate) fn places_of_row(near: &[ContractPlaces], row: usize) -> ContractPlaces {
+    match near.get(row) {
+        Some(places) => *places,
+        None => ContractPlaces {
+            seller: 0,
+            buyer: 0,
+        },
     }
 }
 

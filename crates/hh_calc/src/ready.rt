@@ -7,8 +7,8 @@ ghost use Rattle.hh_names.specs.Accounts.{account_cmp};
 ghost use Rattle.hh_calc.specs.Ready.{AreAccountsInOrder, AreContractsReady, AreNetsReady, AreSubsidiariesListed, HasFewSubsidiaries, IsContractListed, IsListed, IsNetVolume, IsReady, IsUnitListed};
 ghost use Rattle.hh_calc.specs.Terms.{contracts_given};
 
-use crate::data::{Contracts, PeriodData, Subsidiary, UnitData};
-use crate::places::place_of;
+use crate::data::{ContractPlaces, Contracts, PeriodData, Subsidiary, UnitData};
+use crate::places::{place_of, places_of_row};
 use hh_names::{Account, Contract};
 use hh_num::NetKwh;
 use std::cmp::Ordering;
@@ -93,22 +93,28 @@ fn are_subsidiaries_few(units: &[UnitData]) -> bool
     true
 }
 
-/// Whether the seller and the buyer of a contract are among these accounts.
-fn is_contract_listed(accounts: &[Account], contract: &Contract) -> bool
+/// Whether the seller and the buyer of a contract are among these accounts. Looks at the places `near`
+/// first, which may be any.
+fn is_contract_listed(accounts: &[Account], contract: &Contract, near: ContractPlaces) -> bool
     requires { AreAccountsInOrder accounts.now }
     ensures { IsTrue result ↔ IsContractListed accounts.now contract.now }
 {
-    is_listed(accounts, &contract.counterparties.seller, 0)
-        && is_listed(accounts, &contract.counterparties.buyer, 0)
+    is_listed(accounts, &contract.counterparties.seller, near.seller)
+        && is_listed(accounts, &contract.counterparties.buyer, near.buyer)
 }
 
-/// Whether the seller and the buyer of each contract are among these accounts.
-fn are_contracts_listed(accounts: &[Account], contracts: &[Contract]) -> bool
+/// Whether the seller and the buyer of each contract are among these accounts. Looks at the places `near`
+/// first, which may be any.
+fn are_contracts_listed(
+    accounts: &[Account],
+    contracts: &[Contract],
+    near: &[ContractPlaces],
+) -> bool
     requires { AreAccountsInOrder accounts.now }
     ensures { IsTrue result ↔ All (IsContractListed accounts.now) contracts.now }
 {
-    for contract in contracts {
-        if !is_contract_listed(accounts, contract) {
+    for (place, contract) in contracts.iter().enumerate() {
+        if !is_contract_listed(accounts, contract, places_of_row(near, place)) {
             return false;
         }
     }
@@ -134,13 +140,14 @@ fn are_nets_ready(accounts: &[Account], nets: &[NetKwh]) -> bool
     nets.len() == accounts.len() && sum_of_nets(nets) == 0
 }
 
-/// Whether contracts may be settled for these accounts.
-fn are_contracts_ready(accounts: &[Account], contracts: &Contracts) -> bool
+/// Whether contracts may be settled for these accounts. Looks for the accounts of rows at the places `near`
+/// first, which may be any.
+fn are_contracts_ready(accounts: &[Account], contracts: &Contracts, near: &[ContractPlaces]) -> bool
     requires { AreAccountsInOrder accounts.now }
     ensures { IsTrue result ↔ AreContractsReady accounts.now (contracts_given contracts.now) }
 {
     match contracts {
-        Contracts::Rows(rows) => are_contracts_listed(accounts, rows),
+        Contracts::Rows(rows) => are_contracts_listed(accounts, rows, near),
         Contracts::Net(nets) => are_nets_ready(accounts, nets),
     }
 }
@@ -158,7 +165,7 @@ impl PeriodData {
         if !are_units_listed(self.accounts(), self.units()) {
             return false;
         }
-        if !are_contracts_ready(self.accounts(), self.contracts()) {
+        if !are_contracts_ready(self.accounts(), self.contracts(), self.contracts_near()) {
             return false;
         }
         are_subsidiaries_few(self.units())

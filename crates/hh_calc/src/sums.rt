@@ -7,8 +7,8 @@ ghost use Rattle.hh_calc.specs.Ready.{most_subsidiaries, AreAccountsInOrder, IsC
 ghost use Rattle.hh_calc.specs.steps.Ready.{IsCreditListed};
 ghost use Rattle.hh_calc.specs.steps.Sums.{added_at, greatest_credit, greatest_sum, greatest_unit_sum, greatest_volume, balancing_amounts, contract_amounts, credit_amounts, no_sums, sums_plus, with_amounts, with_contract, with_contracts, with_credits, with_nets, AreChanged, AreGrown, IsCreditSmall, IsWithin};
 
-use crate::data::UnitData;
-use crate::places::place_of;
+use crate::data::{ContractPlaces, UnitData};
+use crate::places::{place_of, places_of_row};
 use crate::result::CreditRow;
 use hh_names::{Account, Contract};
 use hh_num::NetKwh;
@@ -162,8 +162,14 @@ fn amounts_of_contract(volume: i128) -> AccountSums
     }
 }
 
-/// Adds the volume of a contract to its seller's sums, and takes it from its buyer's.
-fn add_contract(accounts: &[Account], contract: &Contract, sums: &mut [AccountSums])
+/// Adds the volume of a contract to its seller's sums, and takes it from its buyer's. Looks for their
+/// accounts at the places `near` first.
+fn add_contract(
+    accounts: &[Account],
+    contract: &Contract,
+    near: ContractPlaces,
+    sums: &mut [AccountSums],
+)
     requires ordered { AreAccountsInOrder accounts.now }
     requires listed { IsContractListed accounts.now contract.now }
     requires each { length sums.old ≡ length accounts.now }
@@ -176,21 +182,27 @@ fn add_contract(accounts: &[Account], contract: &Contract, sums: &mut [AccountSu
     add_to(
         accounts,
         &counterparties.seller,
-        0,
+        near.seller,
         amounts_of_contract(volume),
         sums,
     );
     add_to(
         accounts,
         &counterparties.buyer,
-        0,
+        near.buyer,
         amounts_of_contract(-volume),
         sums,
     );
 }
 
-/// Adds the volume of each contract to its seller's sums, and takes it from its buyer's.
-pub(crate) fn add_contracts(accounts: &[Account], contracts: &[Contract], sums: &mut [AccountSums])
+/// Adds the volume of each contract to its seller's sums, and takes it from its buyer's. Looks for the
+/// accounts of each row at the places `near` first.
+pub(crate) fn add_contracts(
+    accounts: &[Account],
+    contracts: &[Contract],
+    near: &[ContractPlaces],
+    sums: &mut [AccountSums],
+)
     requires ordered { AreAccountsInOrder accounts.now }
     requires listed { All (IsContractListed accounts.now) contracts.now }
     requires each { length sums.old ≡ length accounts.now }
@@ -198,8 +210,8 @@ pub(crate) fn add_contracts(accounts: &[Account], contracts: &[Contract], sums: 
     ensures added { AreChanged accounts.now (with_contracts contracts.now) sums.old sums.new }
     ensures grown { AreGrown (length contracts.now * (2 * greatest_volume)) sums.old sums.new }
 {
-    for contract in contracts {
-        add_contract(accounts, contract, sums);
+    for (place, contract) in contracts.iter().enumerate() {
+        add_contract(accounts, contract, places_of_row(near, place), sums);
     }
 }
 

@@ -13,6 +13,7 @@ use hh_host::Host;
 use hh_inputs::InputFault;
 use hh_office::Office;
 use hh_requests::{Action, Bytes, Request, Upload};
+use hh_rows::FileBody;
 use hh_script::{LoadLine, RunLine};
 use hh_store::Tables;
 use hh_texts::MOST_BYTES;
@@ -101,7 +102,7 @@ fn read_request<H: Host>(
         action: Action::Load(Upload {
             kind: load.kind,
             name: load.name,
-            body: Bytes::new(body),
+            body: FileBody::new(alloc, body)?,
         }),
     })
 }

@@ -53,7 +53,7 @@ pub fn run_errand_in_database<S: Rising, H: Host, O: Sink>(
         (state S.Store result.1.connection) (errand_of errand.now) result.0 }
 {
     match SqlTables::adopt(alloc, connection) {
-        Ok(tables) => run_over_database(alloc, tables, host, errand, out),
+        Ok(tables) => run_with_tables(alloc, tables, host, errand, out),
         Err((fault, connection)) => {
             let after = AfterUse {
                 connection,
@@ -65,7 +65,7 @@ pub fn run_errand_in_database<S: Rising, H: Host, O: Sink>(
 }
 
 /// Does the same with tables that were taken over.
-fn run_over_database<S: Rising, H: Host, O: Sink>(
+fn run_with_tables<S: Rising, H: Host, O: Sink>(
     alloc: Global,
     tables: SqlTables<S>,
     host: &H,

@@ -9,10 +9,10 @@ use hh_rows::ContractRow;
 use std::alloc::{AllocError, Global};
 
 /// The most Settlement Periods that a date has.
-const MOST_PERIODS: usize = 50;
+pub(crate) const MOST_PERIODS: usize = 50;
 
 /// The fewest Settlement Periods that a date has. Room for the contracts of each is made by this.
-const LEAST_PERIODS: usize = 46;
+pub(crate) const LEAST_PERIODS: usize = 46;
 
 /// The contracts of rows by their Settlement Periods, 1 to 50. Those of one period keep their order.
 pub(crate) fn by_period(
@@ -84,7 +84,7 @@ pub(crate) fn contracts_at(
 }
 
 /// The place of a Settlement Period, counted from 0.
-fn place_of(period: PeriodNumber) -> usize
+pub(crate) fn place_of(period: PeriodNumber) -> usize
     ensures place { result + 1 ≡ period }
     ensures inside { result < 50 }
 {

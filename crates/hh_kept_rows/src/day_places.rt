@@ -1,16 +1,22 @@
 //! The places where the rows of a Settlement Day are likely to be.
 
+use crate::contract_places::{contract_places, places_at};
 use crate::kept_day::{DayRoll, unit_period};
 use crate::kept_register::KeptRegister;
-use hh_names::{Account, Reallocation};
+use hh_calc::ContractPlaces;
+use hh_names::{Account, PeriodNumber, Reallocation};
 use hh_rows::{ReallocationKey, SettlementPeriod, UnitPeriod};
 use std::alloc::{AllocError, Global};
 
 /// For each unit of a date, the places of its rows of the date in the tables, and of its lead account among
-/// the accounts. Each search looks there first. It finds the same whatever the places are: a wrong place
-/// only costs time.
+/// the accounts. For each contract of a Settlement Period, the places of its accounts among the accounts.
+/// Each search looks there first. It finds the same whatever the places are: a wrong place only costs time.
 #[derive(Drop)]
-pub(crate) struct DayPlaces(Vec<UnitPlaces>);
+pub(crate) struct DayPlaces {
+    units: Vec<UnitPlaces>,
+    /// The places of the contracts of the Settlement Periods 1 to 50, by their periods.
+    contracts: Vec<Vec<ContractPlaces>>,
+}
 
 /// The places of a unit's rows of a date in the tables, and of its lead account among the accounts.
 #[derive(Clone, Copy)]
@@ -28,7 +34,7 @@ pub(crate) struct UnitPlaces {
 impl DayPlaces {
     /// The places to look at first for the rows of the unit at this place among the units of the date.
     pub(crate) fn of_unit(&self, unit: usize) -> UnitPlaces {
-        match self.0.get(unit) {
+        match self.units.get(unit) {
             Some(places) => *places,
             None => UnitPlaces {
                 lead: 0,
@@ -37,6 +43,15 @@ impl DayPlaces {
                 reallocations_end: 0,
             },
         }
+    }
+
+    /// The places to look at first for the accounts of the contracts of a Settlement Period.
+    pub(crate) fn of_contracts(
+        &self,
+        alloc: Global,
+        period: PeriodNumber,
+    ) -> Result<Vec<ContractPlaces>, AllocError> {
+        places_at(alloc, &self.contracts, period)
     }
 }
 
@@ -67,23 +82,24 @@ impl UnitPlaces {
 }
 
 impl KeptRegister {
-    /// The places of the rows that the units of a date have in these Settlement Periods of the date, and of
-    /// their lead accounts.
+    /// The places of the rows that the units of a date have in these Settlement Periods of the date, of their
+    /// lead accounts, and of the accounts of the contracts of the date.
     pub(crate) fn places_of(
         &self,
         alloc: Global,
         roll: &DayRoll,
         periods: &[SettlementPeriod],
     ) -> Result<DayPlaces, AllocError> {
-        let mut places = Vec::with_capacity(alloc, roll.units.len())?;
+        let mut units = Vec::with_capacity(alloc, roll.units.len())?;
         if let (Some(first), Some(last)) = (periods.first(), periods.last()) {
             for unit in roll.units.as_slice() {
-                let lead = place_of_lead(&roll.accounts, &self.lead_on(unit, first.date));
+                let lead = place_among(&roll.accounts, &self.lead_on(unit, first.date));
                 let (first, last) = (unit_period(&unit.0, first), unit_period(&unit.0, last));
-                places.push(self.places_between(lead, &first, &last))?;
+                units.push(self.places_between(lead, &first, &last))?;
             }
         }
-        Ok(DayPlaces(places))
+        let contracts = contract_places(alloc, &roll.accounts, &roll.contracts)?;
+        Ok(DayPlaces { units, contracts })
     }
 
     /// The places of a unit's rows from one Settlement Period up to another, with this place of its lead
@@ -99,7 +115,7 @@ impl KeptRegister {
     }
 }
 
-/// The place of a lead account among the accounts of a date, or 0 if it isn't one of them.
-fn place_of_lead(accounts: &[Account], lead: &Account) -> usize {
-    accounts.binary_search(lead).unwrap_or(0)
+/// The place of an account among the accounts of a date, or 0 if it isn't one of them.
+pub(crate) fn place_among(accounts: &[Account], account: &Account) -> usize {
+    accounts.binary_search(account).unwrap_or(0)
 }

@@ -283,7 +283,8 @@ impl KeptRegister {
         for at in periods {
             let contracts = contracts_of(alloc, &of_periods, at.period)?;
             let terms = self.period_data(alloc, roll, places, contracts, at)?;
-            found.push(PeriodState::Changed(terms))?;
+            let near = places.of_contracts(alloc, at.period)?;
+            found.push(PeriodState::Changed(terms.with_contracts_near(near)))?;
         }
         Ok(found)
     }

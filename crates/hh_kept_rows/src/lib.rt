@@ -2,6 +2,7 @@
 //! rows are judged, the contracts of an account, what a Settlement Day is settled from, and the reports.
 #![tactic(auto)]
 
+mod contract_places;
 mod contracts_by_period;
 mod day_beside;
 mod day_places;

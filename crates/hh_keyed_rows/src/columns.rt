@@ -7,6 +7,7 @@ ghost use Rattle.hh_keyed_rows.specs.Codecs.{blob_column, int_column, nat_column
 ghost use Rattle.hh_keyed_rows.specs.declared.row_fault.RowFault.TheVariants.{Store};
 
 use crate::row_fault::RowFault;
+use hh_rows::FileBody;
 use sqlite::Row;
 use sqlite::types::ValueRef;
 use std::alloc::{AllocError, Global};
@@ -96,14 +97,17 @@ impl<'a> Columns<'a> {
         }
     }
 
-    /// Reads bytes from the next column, and copies them.
-    pub fn next_bytes(&mut self) -> Result<Vec<u8>, RowFault>
-        ensures ok { IfOk result (λ bytes.
-            blob_column.read self.old ≡ Some (bytes.items, self.new)) }
+    /// Reads the bytes of a file from the next column, and copies them.
+    pub fn next_body(&mut self) -> Result<FileBody, RowFault>
+        ensures ok { IfOk result (λ body.
+            blob_column.read self.old ≡ Some (body, self.new)) }
         ensures err { IfErr result (λ fault. fault ≡ Store → blob_column.read self.old ≡ None) }
     {
         match self.next() {
-            Some(ValueRef::Blob(bytes)) => Ok(Vec::from_slice(self.alloc, bytes)?),
+            Some(ValueRef::Blob(bytes)) => {
+                let body = Vec::from_slice(self.alloc, bytes)?;
+                Ok(FileBody::new(self.alloc, body)?)
+            }
             _ => Err(RowFault::Store),
         }
     }

@@ -155,7 +155,7 @@ impl Columned for KeptFile {
     }
 
     fn from_columns(columns: &mut Columns<'_>) -> Result<KeptFile, RowFault> {
-        let body = columns.next_bytes()?;
+        let body = columns.next_body()?;
         let applied = u32::from_columns(columns)?;
         let late = u32::from_columns(columns)?;
         Ok(KeptFile::new(body, applied, late))

@@ -1,14 +1,11 @@
 -- What is written of a report that stops for a fault of the store.
 use Rattle.std.proofs.Common.{◌≡◌, ℕ, List, [], refl, sym, subst, Option, Some, None, Result, Ok, Err}
-use Rattle.std.specs.Prelude.{IfSome, IsErr, IsErrAnd, false, is_none, option_map}
+use Rattle.std.specs.Prelude.{IsErr, IsErrAnd}
 use Rattle.std.specs.Io.KnownBytes.{Appends}
 use Rattle.std.proofs.lemmas.List.{append-nil}
 use Rattle.hh_devices.specs.DeviceChanges.{DeviceChange}
 use Rattle.hh_tables.proofs.TableLaws.{false_is_not_true}
-use Rattle.hh_runs.specs.declared.run_key.RunKey.{RunKey}
-use Rattle.hh_runs.specs.declared.summary.Summary.{Summary}
-use Rattle.hh_reports.specs.declared.run.ReportedRun.{ReportedRun}
-use Rattle.hh_store.specs.Outputs.{Outputs, reported_as}
+use Rattle.hh_store.specs.Outputs.{Outputs}
 use Rattle.hh_store.specs.StoreFaults.{store_fault}
 use Rattle.hh_store.specs.declared.output_fault.OutputFault.{OutputFault}
 use Rattle.hh_store.specs.declared.output_fault.OutputFault.TheVariants as output
@@ -47,12 +44,8 @@ module _ (device : DeviceChange) where
   stopped text output.Write went = went
 
   -- a report that stops while it is being written
-  pub report_stopped : (found : Option Summary) (key : RunKey) (text : ReportedRun → List ℕ) → is_none found ≡ false
-      → (e : OutputFault) (result : Result (Unit {0}) ReportStop) → IsErr result × IsErrAnd result (λ stop. stop ≡ stop_for e)
-      → IfSome (option_map text (option_map (reported_as key) found)) (λ bytes. Outputs device {A = Unit {0}} bytes (Err e))
-      → ReportsAs device (or_no_run (option_map text (option_map (reported_as key) found))) result
-  report_stopped None key text there e result passed went = absurd (false_is_not_true (sym there))
-  report_stopped (Some summary) key text there e (Ok x) passed went = absurd (false_is_not_true passed.0)
-  report_stopped (Some summary) key text there e (Err stop) passed went =
-      subst (λ (s : ReportStop). WritesReport device {A = Unit {0}} (text (reported_as key summary)) (Err s)) (sym passed.1)
-      (stopped (text (reported_as key summary)) e went)
+  pub report_stopped : (text : List ℕ) (e : OutputFault) (result : Result (Unit {0}) ReportStop) → IsErr result × IsErrAnd result (λ stop. stop ≡ stop_for e)
+      → Outputs device {A = Unit {0}} text (Err e) → WritesReport device text result
+  report_stopped text e (Ok x) passed went = absurd (false_is_not_true passed.0)
+  report_stopped text e (Err stop) passed went =
+      subst (λ (s : ReportStop). WritesReport device {A = Unit {0}} text (Err s)) (sym passed.1) (stopped text e went)

@@ -25,7 +25,7 @@ use hh_rules::{FileRows, Register};
 use hh_state_laws::{kept_files, load_effect};
 use hh_store::{KeptFile, LoadChange, StoreFault, Tables};
 use hh_texts::{MOST_BYTES, read_file};
-use std::alloc::{AllocError, Global};
+use std::alloc::AllocError;
 
 impl<'z, T: Tables> Office<'z, T> {
     /// What becomes of a file that is sent.
@@ -138,7 +138,7 @@ impl<'z, T: Tables> Office<'z, T> {
             → CountsReply (reply_of result)
             (T.refusals self.old.tables) (T.refusals self.new.tables) }
     {
-        let change = change_of(self.alloc, upload, judged)?;
+        let change = change_of(upload, judged)?;
         let reply = loaded_reply(change.file());
         self.commit(change)?;
         Ok(reply)
@@ -171,12 +171,12 @@ pub(crate) fn is_named(request: &Request)
     }
 }
 
-/// What is written for a file whose rows were judged.
-fn change_of(alloc: Global, upload: &Upload, judged: FileRows) -> Result<LoadChange, AllocError>
+/// What is written for a file whose rows were judged. It shares the file's bytes.
+fn change_of(upload: &Upload, judged: FileRows) -> Result<LoadChange, AllocError>
     requires { length judged.rows ≤ most_rows }
     ensures { IfOk result (λ change. change ≡ writes_of upload.now judged) }
 {
-    let body = Vec::from_slice(alloc, upload.body.as_slice())?;
+    let body = upload.body.share()?;
     let file = KeptFile::new(body, judged.rows().len() as u32, judged.late());
     let (rows, references) = judged.into_parts();
     Ok(LoadChange::new(upload.kind, upload.name, file, rows, references))

@@ -149,10 +149,10 @@ impl<'z, T: Tables> Office<'z, T> {
             → CountsReportStop result (T.refusals self.old.tables) (T.refusals self.new.tables) }
         ensures sure { IsSure T.is_open self.new → IsSure T.is_open self.old }
     {
-        if self.kept_run(run)?.is_none() {
+        let Some(summary) = self.kept_run(run)? else {
             return Err(ReportStop::of(Refusal::NoRun));
-        }
-        Ok(self.tables.day_report(run, out)?)
+        };
+        Ok(self.tables.day_report(run, &summary, out)?)
     }
 
     /// Writes the results of a run that exists.
@@ -168,10 +168,10 @@ impl<'z, T: Tables> Office<'z, T> {
             → CountsReportStop result (T.refusals self.old.tables) (T.refusals self.new.tables) }
         ensures sure { IsSure T.is_open self.new → IsSure T.is_open self.old }
     {
-        if self.kept_run(run)?.is_none() {
+        let Some(summary) = self.kept_run(run)? else {
             return Err(ReportStop::of(Refusal::NoRun));
-        }
-        Ok(self.tables.export(run, out)?)
+        };
+        Ok(self.tables.export(run, &summary, out)?)
     }
 
     /// Writes the balances of both accounts of every registered party.

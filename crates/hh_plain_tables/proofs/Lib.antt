@@ -1,2 +1,5 @@
 mod KeptLaws
+mod KeptRunLaws
+mod NewRunLaws
 mod RefusalLaws
+mod RunLaws

@@ -1,3 +1,4 @@
 -- Definitions that only contracts of private functions use, for the steps of proofs. No public contract depends on them.
 pub mod KeptTables
 pub mod KeptRuns
+pub mod OwnRows

@@ -1,62 +1,48 @@
 //! What is kept of runs, in memory.
 
-ghost use Rattle.std.specs.Prelude.{◌≡◌, filter_map, length, take, IfOk, IsTrue, OnErr, OnOk};
-ghost use Rattle.std.specs.FinMap.{find, put};
-ghost use Rattle.hh_tables.specs.Tables.{put_all};
-ghost use Rattle.hh_states.specs.Content.{credit_key_cmp, posting_key_cmp, result_key_cmp};
+ghost use Rattle.std.specs.Prelude.{◌≡◌, ◌++◌, filter_map, IfOk, OnErr, OnOk};
+ghost use Rattle.std.specs.FinMap.{put};
+ghost use Rattle.hh_tables.specs.Tables.{put_all, IsTable};
+ghost use Rattle.hh_states.specs.Content.{posting_key_cmp};
 ghost use Rattle.hh_states.specs.Reads.{posting_to, result_in, summary_on};
 ghost use Rattle.hh_states.specs.Runs.{run_key_cmp};
-ghost use Rattle.hh_plain_tables.specs.steps.KeptRuns.{are_behind, kept_with, no_runs, with_run, HasMoreRows};
+ghost use Rattle.hh_plain_tables.specs.steps.KeptRuns.{kept_with, no_runs, IsNewRun};
 
+use crate::kept_run::{KeptRun, are_of_run};
 use hh_calc::AccountRow;
 use hh_kept_rows::{postings_to, results_of, runs_on};
 use hh_names::{Account, PeriodNumber};
-use hh_num::{Pence, Ticks};
+use hh_num::Pence;
 use hh_runs::{RunKey, RunKind, Summary};
-use hh_states::{CreditKey, PostingKey, ResultKey};
-use hh_store::{RunChange, RunRows};
+use hh_states::PostingKey;
+use hh_store::RunChange;
 use hh_tables::ListTable;
 use hh_time::SettlementDate;
 use std::alloc::{AllocError, Global};
 use std::marker::Model;
 
-/// The runs with their summaries, the rows of their accounts, their credits and their postings, as lists
-/// in the order of their keys. Contracts see the four tables.
+/// The runs, each with its summary, the rows of its accounts and its credits, and the postings of all
+/// runs, as lists in the order of their keys. The rows of a run are a list of their own, so a new run
+/// copies no rows. Contracts see the four tables.
 #[derive(Drop)]
 pub(crate) struct KeptRuns {
-    runs: ListTable<RunKey, Summary>,
-    results: ListTable<ResultKey, AccountRow>,
-    credits: ListTable<CreditKey, Ticks>,
+    runs: ListTable<RunKey, KeptRun>,
     postings: ListTable<PostingKey, Pence>,
 }
 
 impl Model for KeptRuns {
-    ghost use Rattle.hh_plain_tables.specs.steps.KeptRuns.{RunTables};
+    ghost use Rattle.hh_plain_tables.specs.steps.KeptRuns.{RunTables, credits_kept, results_kept, summaries_of, AreKept};
 
     ghost Value = { RunTables };
 
     ghost view = { λ k. record {
-      runs = k.runs;
-      results = k.results;
-      credits = k.credits;
+      runs = summaries_of k.runs;
+      results = results_kept k.runs;
+      credits = credits_kept k.runs;
       postings = k.postings;
     } };
-}
 
-/// The tables that a run changes, made anew, without that of the runs themselves.
-#[derive(Drop)]
-struct ChangedRuns {
-    results: ListTable<ResultKey, AccountRow>,
-    credits: ListTable<CreditKey, Ticks>,
-    postings: ListTable<PostingKey, Pence>,
-}
-
-/// How many rows each table that a run changes has, without that of the runs themselves.
-#[derive(Clone, Copy)]
-struct Lengths {
-    results: usize,
-    credits: usize,
-    postings: usize,
+    ghost invariant = { λ k. AreKept k.runs };
 }
 
 impl KeptRuns {
@@ -66,138 +52,32 @@ impl KeptRuns {
     {
         KeptRuns {
             runs: ListTable::new(alloc),
-            results: ListTable::new(alloc),
-            credits: ListTable::new(alloc),
             postings: ListTable::new(alloc),
         }
     }
 
-    /// Puts in what is written for a run, whole or not at all. `Err` only if memory is refused.
+    /// Puts in what is written for a new run, whole or not at all. Results and credits of another run are
+    /// never written for a run: nothing is kept of a run that has any. `Err` only if memory is refused.
     pub(crate) fn put(&mut self, alloc: Global, change: RunChange) -> Result<(), AllocError>
-        ensures ok { OnOk result (self.new ≡ kept_with change self.old) }
+        ensures ok { IsNewRun change self.old
+            → OnOk result (self.new ≡ kept_with change self.old) }
         ensures err { OnErr result (self.new ≡ self.old) }
     {
         let (key, summary) = (change.key(), change.summary());
         let rows = change.into_rows();
-        if self.come_behind(&rows) {
-            return self.put_behind(key, summary, rows);
+        if !are_of_run(&key, &rows) {
+            return Ok(());
         }
-        let changed = self.changed_by(alloc, rows)?;
-        self.put_summary(key, summary)?;
-        self.take_over(changed);
+        let run = KeptRun::of_rows(alloc, summary, rows.results, rows.credits)?;
+        put_run(
+            alloc,
+            &mut self.runs,
+            key,
+            run,
+            &mut self.postings,
+            rows.postings,
+        )?;
         Ok(())
-    }
-
-    /// Whether the rows of a run come behind those that are kept, in each of the three tables.
-    fn come_behind(&self, rows: &RunRows) -> bool
-        ensures { result ≡ are_behind rows.now self.now }
-    {
-        self.results.come_behind(&rows.results)
-            && self.credits.come_behind(&rows.credits)
-            && self.postings.come_behind(&rows.postings)
-    }
-
-    /// Puts in a run whose rows come behind those that are kept, whole or not at all. If it fails, the
-    /// tables are cut back to the rows that they had. `Err` only if memory is refused.
-    fn put_behind(&mut self, key: RunKey, summary: Summary, rows: RunRows) -> Result<(), AllocError>
-        requires behind { IsTrue (are_behind rows self.old) }
-        ensures ok { OnOk result (self.new ≡ with_run key summary rows self.old) }
-        ensures err { OnErr result (self.new ≡ self.old) }
-    {
-        let lengths = self.lengths();
-        let moved = self.move_behind(key, summary, rows);
-        if moved.is_err() {
-            self.cut_back(&lengths);
-        }
-        moved
-    }
-
-    /// Moves the rows of a run behind those that are kept, table by table, and puts in its summary. `Err`
-    /// only if memory is refused: some tables then have its rows already.
-    fn move_behind(
-        &mut self,
-        key: RunKey,
-        summary: Summary,
-        rows: RunRows,
-    ) -> Result<(), AllocError>
-        requires behind { IsTrue (are_behind rows self.old) }
-        ensures ok { OnOk result (self.new ≡ with_run key summary rows self.old) }
-        ensures err { OnErr result (HasMoreRows self.old self.new) }
-    {
-        self.results.put_behind(rows.results)?;
-        self.credits.put_behind(rows.credits)?;
-        self.postings.put_behind(rows.postings)?;
-        self.put_summary(key, summary)
-    }
-
-    /// How many rows each of the three tables has.
-    fn lengths(&self) -> Lengths
-        ensures results { result.results ≡ length self.now.results }
-        ensures credits { result.credits ≡ length self.now.credits }
-        ensures postings { result.postings ≡ length self.now.postings }
-    {
-        Lengths {
-            results: self.results.len(),
-            credits: self.credits.len(),
-            postings: self.postings.len(),
-        }
-    }
-
-    /// Cuts each of the three tables back to these lengths. Takes no memory, and can't fail.
-    fn cut_back(&mut self, lengths: &Lengths)
-        ensures { self.new ≡ record {
-          runs = self.old.runs;
-          results = take lengths.now.results self.old.results;
-          credits = take lengths.now.credits self.old.credits;
-          postings = take lengths.now.postings self.old.postings;
-        } }
-    {
-        self.results.truncate(lengths.results);
-        self.credits.truncate(lengths.credits);
-        self.postings.truncate(lengths.postings);
-    }
-
-    /// The tables with the rows of a run, made anew. `Err` only if memory is refused.
-    fn changed_by(&self, alloc: Global, rows: RunRows) -> Result<ChangedRuns, AllocError>
-        ensures results { IfOk result (λ changed. changed.results
-            ≡ put_all result_key_cmp rows.results.items self.now.results) }
-        ensures credits { IfOk result (λ changed. changed.credits
-            ≡ put_all credit_key_cmp rows.credits.items self.now.credits) }
-        ensures postings { IfOk result (λ changed. changed.postings
-            ≡ put_all posting_key_cmp rows.postings.items self.now.postings) }
-    {
-        let results = self.results.with_rows(alloc, rows.results)?;
-        let credits = self.credits.with_rows(alloc, rows.credits)?;
-        let postings = self.postings.with_rows(alloc, rows.postings)?;
-        Ok(ChangedRuns {
-            results,
-            credits,
-            postings,
-        })
-    }
-
-    /// Puts in the summary of a run. `Err` only if memory is refused.
-    fn put_summary(&mut self, key: RunKey, summary: Summary) -> Result<(), AllocError>
-        ensures ok { OnOk result (self.new
-            ≡ record self.old { runs = put run_key_cmp key summary self.old.runs }) }
-        ensures err { OnErr result (self.new ≡ self.old) }
-    {
-        self.runs.put_row(key, summary)?;
-        Ok(())
-    }
-
-    /// Takes over the tables that were made anew. Takes no memory, and can't fail.
-    fn take_over(&mut self, changed: ChangedRuns)
-        ensures { self.new ≡ record {
-          runs = self.old.runs;
-          results = changed.results;
-          credits = changed.credits;
-          postings = changed.postings;
-        } }
-    {
-        self.results = changed.results;
-        self.credits = changed.credits;
-        self.postings = changed.postings;
     }
 
     /// The runs of a date with their summaries, in order. `Err` only if memory is refused.
@@ -208,7 +88,16 @@ impl KeptRuns {
     ) -> Result<Vec<(RunKind, Summary)>, AllocError>
         ensures { IfOk result (λ runs. runs.items ≡ filter_map (summary_on date) self.now.runs) }
     {
-        runs_on(alloc, date, self.runs.rows())
+        let runs = self.summaries(alloc)?;
+        runs_on(alloc, date, &runs)
+    }
+
+    /// All runs with their summaries, in order. `Err` only if memory is refused.
+    fn summaries(&self, alloc: Global) -> Result<Vec<(RunKey, Summary)>, AllocError>
+        ensures { IfOk result (λ runs. runs.items ≡ self.now.runs) }
+    {
+        let runs = self.runs.rows();
+        runs.iter().map(|run| (run.0, run.1.summary)).collect(alloc)
     }
 
     /// The rows of a run's accounts, by Settlement Period, then by account. `Err` only if memory is
@@ -221,7 +110,10 @@ impl KeptRuns {
         ensures { IfOk result (λ rows.
             rows.items ≡ filter_map (result_in run.now) self.now.results) }
     {
-        results_of(alloc, run, self.results.rows())
+        match self.runs.find(run) {
+            Some(kept) => results_of(alloc, run, kept.results.rows()),
+            None => Ok(Vec::new(alloc)),
+        }
     }
 
     /// What the runs posted to an account, by the dates of the runs, then by their kinds. `Err` only if
@@ -237,17 +129,60 @@ impl KeptRuns {
         postings_to(alloc, account, self.postings.rows())
     }
 
-    /// The summary of a run, if the run exists.
-    pub(crate) fn summary_of(&self, run: &RunKey) -> Option<Summary>
-        ensures { result ≡ find run_key_cmp run.now self.now.runs }
-    {
-        self.runs.get(run)
-    }
-
     /// All postings of runs, in the order of their keys.
     pub(crate) fn postings(&self) -> &[(PostingKey, Pence)]
         ensures { result.now ≡ self.now.postings }
     {
         self.postings.rows()
     }
+}
+
+/// Puts a run into the table of runs, and its postings into that of the postings, whole or not at all.
+/// `Err` only if memory is refused.
+fn put_run(
+    alloc: Global,
+    runs: &mut ListTable<RunKey, KeptRun>,
+    key: RunKey,
+    run: KeptRun,
+    postings: &mut ListTable<PostingKey, Pence>,
+    rows: Vec<(PostingKey, Pence)>,
+) -> Result<(), AllocError>
+    ensures run { OnOk result (runs.new ≡ put run_key_cmp key run runs.old) }
+    ensures postings { OnOk result (postings.new
+        ≡ put_all posting_key_cmp rows.items postings.old) }
+    ensures run_err { OnErr result (runs.new ≡ runs.old) }
+    ensures postings_err { OnErr result (postings.new ≡ postings.old) }
+{
+    if postings.come_behind(&rows) {
+        return put_behind(runs, key, run, postings, rows);
+    }
+    let all = postings.with_rows(alloc, rows)?;
+    runs.put_row(key, run)?;
+    *postings = all;
+    Ok(())
+}
+
+/// The same, for postings that come behind those of the table. If the run can't be put in, the table is
+/// cut back to the postings that it had. `Err` only if memory is refused.
+fn put_behind(
+    runs: &mut ListTable<RunKey, KeptRun>,
+    key: RunKey,
+    run: KeptRun,
+    postings: &mut ListTable<PostingKey, Pence>,
+    rows: Vec<(PostingKey, Pence)>,
+) -> Result<(), AllocError>
+    requires behind { IsTable posting_key_cmp (postings.old ++ rows.items) }
+    ensures run { OnOk result (runs.new ≡ put run_key_cmp key run runs.old) }
+    ensures postings { OnOk result (postings.new
+        ≡ put_all posting_key_cmp rows.items postings.old) }
+    ensures run_err { OnErr result (runs.new ≡ runs.old) }
+    ensures postings_err { OnErr result (postings.new ≡ postings.old) }
+{
+    let count = postings.len();
+    postings.put_behind(rows)?;
+    let put = runs.put_row(key, run);
+    if put.is_err() {
+        postings.truncate(count);
+    }
+    put
 }

@@ -3,6 +3,7 @@
 
 mod changed_tables;
 mod entries;
+mod kept_run;
 mod kept_runs;
 mod plain_tables;
 

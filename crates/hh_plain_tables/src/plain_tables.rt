@@ -1,6 +1,6 @@
 //! The tables of an office, kept in memory.
 
-ghost use Rattle.std.specs.Prelude.{◌≡◌, ◌≢◌, ◌⊎◌, IfErr, IfOk, IfSome, IsOk, OnErr, OnOk, true};
+ghost use Rattle.std.specs.Prelude.{◌≡◌, ◌≢◌, ◌⊎◌, IfErr, IfOk, IsOk, OnErr, OnOk, true};
 ghost use Rattle.hh_devices.specs.DeviceChanges.{change};
 ghost use Rattle.hh_time.specs.Days.{Midnights};
 ghost use Rattle.hh_rules.specs.RegisterView.{ServesFor};
@@ -12,7 +12,7 @@ ghost use Rattle.hh_states.specs.Soundness.{AreSound};
 ghost use Rattle.hh_states.specs.States.{empty_state};
 ghost use Rattle.hh_store.specs.Crashes.{MakesLoad, MakesRun};
 ghost use Rattle.hh_store.specs.DayReads.{IsDayData};
-ghost use Rattle.hh_store.specs.Outputs.{CountsOutcome, Outputs, balances_in, day_report_in, export_in};
+ghost use Rattle.hh_store.specs.Outputs.{CountsOutcome, Outputs, balances_in, day_report_with, export_with};
 ghost use Rattle.hh_store.specs.Reached.{AreReached};
 ghost use Rattle.hh_store.specs.StoreFaults.{CountsRefusal};
 
@@ -144,7 +144,7 @@ impl Tables for PlainTables {
     {
         let key = FileKey { kind, name: *name };
         match self.files.find(&key) {
-            Some(file) => Ok(Some(file.copy(self.alloc)?)),
+            Some(file) => Ok(Some(file.copy()?)),
             None => Ok(None),
         }
     }
@@ -207,32 +207,36 @@ impl Tables for PlainTables {
         Ok(self.runs.postings_to(self.alloc, account)?)
     }
 
-    fn export<S: Sink>(&mut self, run: &RunKey, out: &mut S) -> Result<(), OutputFault>
-        ensures writes { IfSome (export_in self.old run.now) (λ text.
-            Outputs (change S.taken S.failures out.old out.new) text result) }
+    fn export<S: Sink>(
+        &mut self,
+        run: &RunKey,
+        summary: &Summary,
+        out: &mut S,
+    ) -> Result<(), OutputFault>
+        ensures writes { Outputs (change S.taken S.failures out.old out.new)
+            (export_with self.old run.now summary.now) result }
         ensures counted { CountsOutcome (change S.taken S.failures out.old out.new) result }
         ensures never_store { IfErr result (λ fault. fault ≢ OutputFault.Store) }
         ensures same { self.new ≡ self.old }
     {
-        let Some(summary) = self.runs.summary_of(run) else {
-            return Ok(());
-        };
         let rows = self.runs.results_of(self.alloc, run)?;
-        write_results_of(self.alloc, run, &summary, &rows, out)
+        write_results_of(self.alloc, run, summary, &rows, out)
     }
 
-    fn day_report<S: Sink>(&mut self, run: &RunKey, out: &mut S) -> Result<(), OutputFault>
-        ensures writes { IfSome (day_report_in self.old run.now) (λ text.
-            Outputs (change S.taken S.failures out.old out.new) text result) }
+    fn day_report<S: Sink>(
+        &mut self,
+        run: &RunKey,
+        summary: &Summary,
+        out: &mut S,
+    ) -> Result<(), OutputFault>
+        ensures writes { Outputs (change S.taken S.failures out.old out.new)
+            (day_report_with self.old run.now summary.now) result }
         ensures counted { CountsOutcome (change S.taken S.failures out.old out.new) result }
         ensures never_store { IfErr result (λ fault. fault ≢ OutputFault.Store) }
         ensures same { self.new ≡ self.old }
     {
-        let Some(summary) = self.runs.summary_of(run) else {
-            return Ok(());
-        };
         let rows = self.runs.results_of(self.alloc, run)?;
-        write_day_report_of(self.alloc, run, &summary, &rows, out)
+        write_day_report_of(self.alloc, run, summary, &rows, out)
     }
 
     fn balances<S: Sink>(&mut self, out: &mut S) -> Result<(), OutputFault>

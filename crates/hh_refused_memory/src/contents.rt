@@ -73,9 +73,9 @@ fn tell_call<T: Tables>(tables: &mut T, call: &Call, text: &mut Text) -> Result<
 fn tell_run<T: Tables>(tables: &mut T, run: &RunKey, text: &mut Text) -> Result<(), TrialStop> {
     let runs = tables.runs(run.date)?;
     text.tell(&runs)?;
-    if runs.iter().any(|made| made.0 == run.kind) {
+    if let Some((_, summary)) = runs.iter().find(|made| made.0 == run.kind) {
         let mut sink = MemorySink::with_room(text.alloc, ROOM)?;
-        tables.export(run, &mut sink)?;
+        tables.export(run, summary, &mut sink)?;
         text.put(sink.taken())?;
     }
     Ok(())

@@ -3,12 +3,12 @@
 ghost use Rattle.std.specs.Prelude.{◌≡◌};
 
 use hh_names::{Account, FileName};
-use hh_rows::FileKind;
+use hh_rows::{FileBody, FileKind};
 use hh_runs::RunKey;
 use hh_time::SettlementDate;
 use std::marker::Model;
 
-/// Bytes as they came: those of a file or a key. Contracts see the list of them.
+/// The bytes of a key, as they came. Contracts see the list of them.
 #[derive(Debug, Drop)]
 pub struct Bytes {
     items: Vec<u8>,
@@ -43,7 +43,7 @@ impl Bytes {
 pub struct Upload {
     pub kind: FileKind,
     pub name: FileName,
-    pub body: Bytes,
+    pub body: FileBody,
 }
 
 /// What is asked for.

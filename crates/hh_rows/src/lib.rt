@@ -2,6 +2,7 @@
 #![tactic(auto)]
 
 mod date_range;
+mod file_body;
 mod file_kind;
 mod keys;
 mod rows;
@@ -9,6 +10,7 @@ mod settings;
 mod settlement_period;
 
 pub use date_range::DateRange;
+pub use file_body::FileBody;
 pub use file_kind::FileKind;
 pub use keys::{ContractKey, ReallocationKey, UnitPeriod};
 pub use rows::{

@@ -323,15 +323,6 @@ pub select_file_is : IsSelect files (1 ∷ 2 ∷ []) (1 ∷ 2 ∷ []) select_fil
 unfolding understood everything
 select_file_is = record { names = codes "kind" ∷ codes "name" ∷ codes "body" ∷ codes "applied" ∷ codes "late" ∷ []; command = refl; unlisted = refl; plain = (refl, refl) }
 
-abbrev pub select_run_text : List ℕ
-select_run_text =
-    codes "SELECT day, kind, periods, accounts, residual, postings FROM runs WHERE day = ?1 AND kind = ?2 ORDER BY "
-    ++ codes "day, kind"
-
-pub select_run_is : IsSelect runs (1 ∷ 2 ∷ []) (1 ∷ 2 ∷ []) select_run_text
-unfolding understood everything
-select_run_is = record { names = codes "day" ∷ codes "kind" ∷ codes "periods" ∷ codes "accounts" ∷ codes "residual" ∷ codes "postings" ∷ []; command = refl; unlisted = refl; plain = (refl, refl) }
-
 abbrev pub select_runs_on_text : List ℕ
 select_runs_on_text = codes "SELECT day, kind, periods, accounts, residual, postings FROM runs WHERE day = ?1 ORDER BY day, kind"
 

@@ -41,7 +41,7 @@ pub use reference_rows::{
     replace_reference, replace_references, select_reference, select_references,
 };
 pub use result_rows::{give_results_of, insert_result, insert_results, select_results_of};
-pub use run_rows::{insert_run, select_run, select_runs, select_runs_on};
+pub use run_rows::{insert_run, select_runs, select_runs_on};
 pub use statement::GROUP;
 pub use taker::RowTaker;
 pub use touched_rows::{

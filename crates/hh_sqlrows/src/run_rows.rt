@@ -2,8 +2,6 @@
 
 ghost use Rattle.std.specs.Prelude.{◌≡◌, false, IsTrue, OnOk, IfOk, filter};
 ghost use Rattle.std.specs.Ordering.{is_eq, nat_cmp};
-ghost use Rattle.std.specs.FinMap.{find};
-ghost use Rattle.hh_states.specs.Runs.{run_key_cmp};
 ghost use Rattle.sqlite.specs.Held.{state};
 ghost use Rattle.hh_sqlrows.specs.Forms.{Puts, rows_under_keys};
 ghost use Rattle.hh_sqlrows.specs.Office.{IsOffice};
@@ -11,7 +9,7 @@ ghost use Rattle.hh_sqlrows.specs.OfficeTables.{runs};
 ghost use Rattle.hh_sqlrows.specs.Reads.{CommitsNothingOf, IsHonest, LeavesOffice, OfOffice, StaysOpen, Stood};
 ghost use Rattle.hh_sqlrows.specs.Statements.{CommitsNothing, Inside, KeepsCommit, StaysInside};
 
-use crate::statement::{select_by, select_entries, select_first, write_entry};
+use crate::statement::{select_by, select_entries, write_entry};
 use hh_keyed_rows::RowFault;
 use hh_runs::{RunKey, Summary};
 use hh_time::SettlementDate;
@@ -42,31 +40,6 @@ pub fn insert_run<S: Alter>(
         "INSERT INTO runs (day, kind, periods, accounts, residual, postings) VALUES (?1, ?2, ?3, ?4, ?5, ?6)",
         key,
         summary,
-    )
-}
-
-/// The summary of a run.
-pub fn select_run<S: Alter>(
-    conn: &mut Connection<S>,
-    alloc: Global,
-    key: &RunKey,
-) -> Result<Option<Summary>, RowFault>
-    ensures value { let old = state S.Store conn.old in
-        let new = state S.Store conn.new in
-        OfOffice old new (IfOk result (λ found.
-        found ≡ find run_key_cmp key.now (rows_under_keys runs old.now.trees))) }
-    ensures stood { Stood (state S.Store conn.old) (state S.Store conn.new) }
-    ensures left { LeavesOffice (state S.Store conn.old) (state S.Store conn.new) }
-    ensures mode { conn.old.in_transaction ≡ false → conn.new.in_transaction ≡ false }
-    ensures stays { StaysOpen (state S.Store conn.old) (state S.Store conn.new) result }
-    ensures honest { IsHonest (state S.Store conn.old) (state S.Store conn.new) }
-    ensures survives { CommitsNothingOf (state S.Store conn.old) (state S.Store conn.new) }
-{
-    select_first(
-        conn,
-        alloc,
-        "SELECT day, kind, periods, accounts, residual, postings FROM runs WHERE day = ?1 AND kind = ?2 ORDER BY day, kind",
-        key,
     )
 }
 

@@ -1,6 +1,6 @@
 -- Reports that are written from the tables of a database.
 use Rattle.std.proofs.Common.{◌≡◌, ◌∙◌, ◌++◌, ℕ, List, [], ◌∷◌, Option, None, Some, Result, Ok, Err, map, append_assoc, refl, sym, ap, subst}
-use Rattle.std.specs.Prelude.{ℤ, IfSome, IsErrAnd, filter_map, option_map}
+use Rattle.std.specs.Prelude.{ℤ, IsErrAnd, filter_map}
 use Rattle.std.specs.Io.KnownBytes.{Appends}
 use Rattle.std.proofs.lemmas.List.{append-nil}
 use Rattle.hh_num.specs.Totals.{total}
@@ -11,8 +11,6 @@ use Rattle.hh_tables.specs.Tables.{Table}
 use Rattle.hh_names.specs.declared.account.Account.{Account}
 use Rattle.hh_calc.specs.declared.result.AccountRow.{AccountRow}
 use Rattle.hh_calc.specs.Formulas.{if_same_account}
-use Rattle.hh_runs.specs.declared.run_key.RunKey.{RunKey}
-use Rattle.hh_runs.specs.declared.summary.Summary.{Summary}
 use Rattle.hh_reports.specs.declared.fault.ReportFault.{ReportFault}
 use Rattle.hh_reports.specs.declared.fault.ReportFault.TheVariants as report
 use Rattle.hh_reports.specs.declared.run.ReportedRun.{ReportedRun}
@@ -23,7 +21,7 @@ use Rattle.hh_reports.specs.Output.{CountsFault}
 use Rattle.hh_states.specs.Reads.{posting_to}
 use Rattle.hh_states.specs.declared.run_keys.PostingKey.{PostingKey}
 use Rattle.hh_states.proofs.ReadLaws.{postings_read}
-use Rattle.hh_store.specs.Outputs.{CountsOutcome, CountsOutput, Outputs, reported_as}
+use Rattle.hh_store.specs.Outputs.{CountsOutcome, CountsOutput, Outputs}
 use Rattle.hh_store.specs.StoreFaults.{output_fault}
 use Rattle.hh_store.specs.declared.output_fault.OutputFault.{OutputFault}
 use Rattle.hh_store.specs.declared.output_fault.OutputFault.TheVariants as output
@@ -99,12 +97,12 @@ counted_by device text (Err fault) went = went.1
 -- ---- what was written is the report
 
 module _ {A : Type 0} (device : DeviceChange) (r : Result A OutputFault) where
-  -- of a run, if it exists
-  pub reported_so : (text_of : ReportedRun → List (ℕ × AccountRow) → List ℕ) (run : RunKey) (found : Option Summary) (rows listed : List (ℕ × AccountRow)) → rows ≡ listed
-      → IfSome found (λ summary. Outputs device (text_of (reported_as run summary) rows) r)
-      → IfSome (option_map (λ q. text_of q listed) (option_map (reported_as run) found)) (λ text. Outputs device text r)
-  reported_so text_of run None rows listed same went = tt
-  reported_so text_of run (Some summary) rows listed same went = subst (λ es. Outputs device (text_of (reported_as run summary) es) r) same went
+  -- of a run as its reports show it, from the rows that are listed
+  pub reported_so : (text_of : ReportedRun → List (ℕ × AccountRow) → List ℕ) (shown run : ReportedRun) → shown ≡ run
+      → (rows listed : List (ℕ × AccountRow)) → rows ≡ listed
+      → Outputs device (text_of shown rows) r → Outputs device (text_of run listed) r
+  reported_so text_of shown run is rows listed same went =
+      subst (λ q. Outputs device (text_of q listed) r) is (subst (λ es. Outputs device (text_of shown es) r) same went)
 
   -- the sum of amounts is what is read from the postings of an account
   sum_read : (a : Account) (postings : Table PostingKey ℤ) → sum_for a (map posted_amount postings) ≡ total (λ e. e.1) (filter_map (posting_to a) postings)

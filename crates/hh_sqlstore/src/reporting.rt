@@ -1,18 +1,16 @@
 //! Reports that are written while their rows are read from the database, one after the other.
 
-ghost use Rattle.std.specs.Prelude.{◌≡◌, [], false, map, IfOk, IfSome};
-ghost use Rattle.std.specs.FinMap.{find};
+ghost use Rattle.std.specs.Prelude.{◌≡◌, [], false, map, IfOk};
 ghost use Rattle.sqlite.specs.Held.{state};
 ghost use Rattle.hh_devices.specs.DeviceChanges.{change};
 ghost use Rattle.hh_reports.specs.DayReport.{day_report_text};
 ghost use Rattle.hh_reports.specs.Exports.{balances_text, results_text};
 ghost use Rattle.hh_reports.specs.Nets.{Amounts, sum_for};
 ghost use Rattle.hh_reports.specs.Writers.{HasAmounts};
-ghost use Rattle.hh_states.specs.Runs.{run_key_cmp};
 ghost use Rattle.hh_store.specs.Outputs.{CountsOutcome, Outputs, reported_as};
 ghost use Rattle.hh_sqlrows.specs.Contents.{period_row, posted_amount, rows_of_run};
 ghost use Rattle.hh_sqlrows.specs.Forms.{rows_under_keys};
-ghost use Rattle.hh_sqlrows.specs.OfficeTables.{parties, postings, runs};
+ghost use Rattle.hh_sqlrows.specs.OfficeTables.{parties, postings};
 ghost use Rattle.hh_sqlparts.specs.Readings.{OfSettled, ReadsSafely, SelectsOnly};
 
 use hh_devices::Sink;
@@ -20,13 +18,13 @@ use hh_reports::{
     AccountSums, BalancesWriter, DayReportWriter, ReportedRun, ResultsWriter, reports_go_on,
 };
 use hh_runs::{RunKey, Summary};
-use hh_sqlrows::{give_parties, give_postings, give_results_of, select_run};
+use hh_sqlrows::{give_parties, give_postings, give_results_of};
 use hh_store::OutputFault;
 use sqlite::{Alter, Connection};
 use std::alloc::Global;
 
 /// A run as its reports show it.
-fn reported_as(run: &RunKey, summary: &Summary) -> ReportedRun
+pub(crate) fn reported_as(run: &RunKey, summary: &Summary) -> ReportedRun
     ensures { result ≡ reported_as run.now summary.now }
 {
     ReportedRun {
@@ -36,33 +34,8 @@ fn reported_as(run: &RunKey, summary: &Summary) -> ReportedRun
     }
 }
 
-/// Writes the results of a run, if the run exists.
-pub(crate) fn write_export<S: Alter, O: Sink>(
-    conn: &mut Connection<S>,
-    alloc: Global,
-    run: &RunKey,
-    out: &mut O,
-) -> Result<(), OutputFault>
-    ensures writes { let old = state S.Store conn.old in
-        let new = state S.Store conn.new in
-        OfSettled old new
-        (IfSome (find run_key_cmp run.now (rows_under_keys runs old.now.trees)) (λ summary.
-        Outputs (change O.taken O.failures out.old out.new)
-        (results_text (reported_as run.now summary)
-        (map period_row (rows_of_run run.now old.now.trees))) result)) }
-    ensures counted { CountsOutcome (change O.taken O.failures out.old out.new) result }
-    ensures reading { SelectsOnly (state S.Store conn.old) (state S.Store conn.new) }
-    ensures safe { ReadsSafely (state S.Store conn.old) (state S.Store conn.new) result }
-    ensures mode { conn.old.in_transaction ≡ false → conn.new.in_transaction ≡ false }
-{
-    let Some(summary) = select_run(conn, alloc, run)? else {
-        return Ok(());
-    };
-    write_results(conn, alloc, run, &reported_as(run, &summary), out)
-}
-
 /// Writes the results of a run, whose rows are selected here.
-fn write_results<S: Alter, O: Sink>(
+pub(crate) fn write_results<S: Alter, O: Sink>(
     conn: &mut Connection<S>,
     alloc: Global,
     run: &RunKey,
@@ -85,33 +58,8 @@ fn write_results<S: Alter, O: Sink>(
     Ok(writer.finish(out)?)
 }
 
-/// Writes the day report of a run, if the run exists.
-pub(crate) fn write_day_report<S: Alter, O: Sink>(
-    conn: &mut Connection<S>,
-    alloc: Global,
-    run: &RunKey,
-    out: &mut O,
-) -> Result<(), OutputFault>
-    ensures writes { let old = state S.Store conn.old in
-        let new = state S.Store conn.new in
-        OfSettled old new
-        (IfSome (find run_key_cmp run.now (rows_under_keys runs old.now.trees)) (λ summary.
-        Outputs (change O.taken O.failures out.old out.new)
-        (day_report_text (reported_as run.now summary)
-        (map period_row (rows_of_run run.now old.now.trees))) result)) }
-    ensures counted { CountsOutcome (change O.taken O.failures out.old out.new) result }
-    ensures reading { SelectsOnly (state S.Store conn.old) (state S.Store conn.new) }
-    ensures safe { ReadsSafely (state S.Store conn.old) (state S.Store conn.new) result }
-    ensures mode { conn.old.in_transaction ≡ false → conn.new.in_transaction ≡ false }
-{
-    let Some(summary) = select_run(conn, alloc, run)? else {
-        return Ok(());
-    };
-    write_day(conn, alloc, run, &reported_as(run, &summary), out)
-}
-
 /// Writes the day report of a run, whose rows are selected here.
-fn write_day<S: Alter, O: Sink>(
+pub(crate) fn write_day_report<S: Alter, O: Sink>(
     conn: &mut Connection<S>,
     alloc: Global,
     run: &RunKey,

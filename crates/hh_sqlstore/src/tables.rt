@@ -8,7 +8,7 @@ ghost use Rattle.hh_sqlstore.specs.Stores.{IsHonestDisk, content_in};
 use crate::changing::{keep_load, keep_run};
 use crate::faults::{refuse, refuse_report};
 use crate::parts::{contracts_of_account, data_of_day, register_of};
-use crate::reporting::{write_balances, write_day_report, write_export};
+use crate::reporting::{reported_as, write_balances, write_day_report, write_results};
 use crate::rows::{is_key_known, postings_to_account, results_of_run, runs_of_date};
 use crate::sql_tables::SqlTables;
 use hh_beside::{loads_agree, runs_agree};
@@ -133,15 +133,27 @@ impl<S: Alter> Tables for SqlTables<S> {
         }
     }
 
-    fn export<O: Sink>(&mut self, run: &RunKey, out: &mut O) -> Result<(), OutputFault> {
-        match write_export(&mut self.connection, self.alloc, run, out) {
+    fn export<O: Sink>(
+        &mut self,
+        run: &RunKey,
+        summary: &Summary,
+        out: &mut O,
+    ) -> Result<(), OutputFault> {
+        let reported = reported_as(run, summary);
+        match write_results(&mut self.connection, self.alloc, run, &reported, out) {
             Ok(written) => Ok(written),
             Err(fault) => Err(refuse_report(&mut self.refusals, fault)),
         }
     }
 
-    fn day_report<O: Sink>(&mut self, run: &RunKey, out: &mut O) -> Result<(), OutputFault> {
-        match write_day_report(&mut self.connection, self.alloc, run, out) {
+    fn day_report<O: Sink>(
+        &mut self,
+        run: &RunKey,
+        summary: &Summary,
+        out: &mut O,
+    ) -> Result<(), OutputFault> {
+        let reported = reported_as(run, summary);
+        match write_day_report(&mut self.connection, self.alloc, run, &reported, out) {
             Ok(written) => Ok(written),
             Err(fault) => Err(refuse_report(&mut self.refusals, fault)),
         }

@@ -22,6 +22,14 @@ abbrev pub reported_as : RunKey → Summary → ReportedRun
 reported_as key summary = record { date = key.date; kind = key.kind; periods = summary.periods }
 
 module _ (content : Content) where
+  -- the day report of a run with this summary, by its rows in the table of results
+  abbrev pub day_report_with : RunKey → Summary → List ℕ
+  day_report_with key summary = day_report_text (reported_as key summary) (results_in content key)
+
+  -- the results of a run with this summary, by its rows in that table
+  abbrev pub export_with : RunKey → Summary → List ℕ
+  export_with key summary = results_text (reported_as key summary) (results_in content key)
+
   -- a run as its reports show it, if it exists
   abbrev pub reported_in : RunKey → Option ReportedRun
   reported_in key = option_map (reported_as key) (find run_key_cmp key content.runs)

@@ -2,13 +2,14 @@
 
 ghost use Rattle.std.specs.Prelude.{◌≡◌, IfOk};
 
-use std::alloc::{AllocError, Global};
+use hh_rows::FileBody;
+use std::alloc::AllocError;
 use std::marker::Model;
 
 /// What is kept of an accepted file, so that a repeat of it gets the same reply (profile).
 #[derive(Debug, Drop)]
 pub struct KeptFile {
-    body: Vec<u8>,
+    body: FileBody,
     applied: u32,
     late: u32,
 }
@@ -18,13 +19,13 @@ impl Model for KeptFile {
 
     ghost Value = { KeptFileView };
 
-    ghost view = { λ f. record { body = f.body.items; applied = f.applied; late = f.late } };
+    ghost view = { λ f. record { body = f.body; applied = f.applied; late = f.late } };
 }
 
 impl KeptFile {
     /// A file of these bytes, with the numbers of rows that were applied and that came late.
-    pub fn new(body: Vec<u8>, applied: u32, late: u32) -> KeptFile
-        ensures { result ≡ record { body = body.items; applied = applied; late = late } }
+    pub fn new(body: FileBody, applied: u32, late: u32) -> KeptFile
+        ensures { result ≡ record { body = body; applied = applied; late = late } }
     {
         KeptFile {
             body,
@@ -33,12 +34,12 @@ impl KeptFile {
         }
     }
 
-    /// A copy. `Err` only if memory is refused.
-    pub fn copy(&self, alloc: Global) -> Result<KeptFile, AllocError>
+    /// A copy, which shares the bytes. `Err` only if they have too many holders to be counted.
+    pub fn copy(&self) -> Result<KeptFile, AllocError>
         ensures { IfOk result (λ file. file ≡ self.now) }
     {
         Ok(KeptFile {
-            body: Vec::from_slice(alloc, &self.body)?,
+            body: self.body.share()?,
             applied: self.applied,
             late: self.late,
         })
@@ -48,7 +49,7 @@ impl KeptFile {
     pub fn body(&self) -> &[u8]
         ensures { result.now ≡ self.now.body }
     {
-        &self.body
+        self.body.as_slice()
     }
 
     /// How many rows were applied: all but the late ones.

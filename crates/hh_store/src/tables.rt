@@ -1,6 +1,6 @@
 //! The tables of an office, however they are kept.
 
-ghost use Rattle.std.specs.Prelude.{◌≡◌, ℕ, Bool, IfOk, IfSome, IsTrue, OnOk, OnErr};
+ghost use Rattle.std.specs.Prelude.{◌≡◌, ℕ, Bool, IfOk, IsTrue, OnOk, OnErr};
 ghost use Rattle.hh_devices.specs.DeviceChanges.{change};
 ghost use Rattle.hh_time.specs.Days.{Midnights};
 ghost use Rattle.hh_rules.specs.RegisterView.{ServesFor};
@@ -10,7 +10,7 @@ ghost use Rattle.hh_states.specs.DaySettlement.{periods_on};
 ghost use Rattle.hh_states.specs.Reads.{contracts_in, file_in, is_key_known, party_in, postings_in, reference_in, results_in, runs_in, unit_in, whole_register};
 ghost use Rattle.hh_store.specs.Crashes.{AddsNothing, AddsOnly, LeavesContent, MakesLoad, MakesRun};
 ghost use Rattle.hh_store.specs.DayReads.{IsDayData};
-ghost use Rattle.hh_store.specs.Outputs.{CountsOutcome, Outputs, balances_in, day_report_in, export_in};
+ghost use Rattle.hh_store.specs.Outputs.{CountsOutcome, Outputs, balances_in, day_report_with, export_with};
 ghost use Rattle.hh_store.specs.Reached.{AreReached};
 ghost use Rattle.hh_store.specs.StoreFaults.{CountsRefusal, CountsReportRefusal};
 
@@ -191,18 +191,22 @@ pub trait Tables {
         ensures refusals_counted { IsTrue (is_open self.new) → AreReached (content self.old)
             → CountsRefusal result (refusals self.old) (refusals self.new) };
 
-    /// Writes the results of a run as comma-separated values, from its rows in the tables, in the order of
-    /// `results`. Writes nothing else. A call that fails may have written a beginning. For a run that does
-    /// not exist, it is only promised that the tables stay the same.
+    /// Writes the results of a run with this summary as comma-separated values, from its rows in the tables,
+    /// in the order of `results`. Writes nothing else. A call that fails may have written a beginning.
     ///
     /// # Errors
     ///
     /// `Memory` if memory was refused. `Store` if the store refuses for another reason, or has content that
     /// no office wrote. `Write` only if the output failed or took nothing in this call.
-    fn export<S: Sink>(&mut self, run: &RunKey, out: &mut S) -> Result<(), OutputFault>
+    fn export<S: Sink>(
+        &mut self,
+        run: &RunKey,
+        summary: &Summary,
+        out: &mut S,
+    ) -> Result<(), OutputFault>
         ensures writes { IsTrue (is_open self.new)
-            → IfSome (export_in (content self.old) run.now) (λ text.
-            Outputs (change S.taken S.failures out.old out.new) text result) }
+            → Outputs (change S.taken S.failures out.old out.new)
+            (export_with (content self.old) run.now summary.now) result }
         ensures counted { CountsOutcome (change S.taken S.failures out.old out.new) result }
         ensures same { IsTrue (is_open self.new) → content self.new ≡ content self.old }
         ensures stood { IsTrue (is_open self.new) → IsTrue (is_open self.old) }
@@ -210,17 +214,21 @@ pub trait Tables {
         ensures refusals_counted { IsTrue (is_open self.new) → AreReached (content self.old)
             → CountsReportRefusal result (refusals self.old) (refusals self.new) };
 
-    /// Writes the day report of a run, from its rows in the tables. Writes nothing else. A call that fails
-    /// may have written a beginning. For a run that does not exist, it is only promised that the tables
-    /// stay the same.
+    /// Writes the day report of a run with this summary, from its rows in the tables. Writes nothing else. A
+    /// call that fails may have written a beginning.
     ///
     /// # Errors
     ///
     /// The same as for `export`.
-    fn day_report<S: Sink>(&mut self, run: &RunKey, out: &mut S) -> Result<(), OutputFault>
+    fn day_report<S: Sink>(
+        &mut self,
+        run: &RunKey,
+        summary: &Summary,
+        out: &mut S,
+    ) -> Result<(), OutputFault>
         ensures writes { IsTrue (is_open self.new)
-            → IfSome (day_report_in (content self.old) run.now) (λ text.
-            Outputs (change S.taken S.failures out.old out.new) text result) }
+            → Outputs (change S.taken S.failures out.old out.new)
+            (day_report_with (content self.old) run.now summary.now) result }
         ensures counted { CountsOutcome (change S.taken S.failures out.old out.new) result }
         ensures same { IsTrue (is_open self.new) → content self.new ≡ content self.old }
         ensures stood { IsTrue (is_open self.new) → IsTrue (is_open self.old) }

@@ -3,8 +3,8 @@
 
 use crate::trouble::Trouble;
 use hh_names::FileName;
-use hh_requests::{Action, Bytes, Request, Upload};
-use hh_rows::FileKind;
+use hh_requests::{Action, Request, Upload};
+use hh_rows::{FileBody, FileKind};
 use hh_runs::{RunKey, RunKind};
 use hh_tests_report::market::{FILES, LOADED_AT, ORDERED_AT, asked, run, upload_of};
 use hh_time::SettlementDate;
@@ -101,7 +101,7 @@ fn load(alloc: Global, arrival: &Arrival) -> Result<Request, Trouble> {
     let upload = Upload {
         kind: arrival.kind,
         name: FileName::read(arrival.name).ok_or(Trouble::Word)?,
-        body: Bytes::new(arrival.text.as_bytes().to_vec(alloc)?),
+        body: FileBody::new(alloc, arrival.text.as_bytes().to_vec(alloc)?)?,
     };
     Ok(asked(alloc, Action::Load(upload))?)
 }

@@ -65,12 +65,12 @@ fn tell_run<T: Tables>(tables: &mut T, run: &RunKey, text: &mut Text) -> Result<
     let runs = tables.runs(run.date)?;
     text.tell(&runs)?;
     text.tell(&tables.results(run)?)?;
-    if runs.iter().any(|made| made.0 == run.kind) {
+    if let Some((_, summary)) = runs.iter().find(|made| made.0 == run.kind) {
         let mut sink = MemorySink::with_room(text.alloc, ROOM)?;
-        tables.export(run, &mut sink)?;
+        tables.export(run, summary, &mut sink)?;
         text.put(sink.taken())?;
         let mut sink = MemorySink::with_room(text.alloc, ROOM)?;
-        tables.day_report(run, &mut sink)?;
+        tables.day_report(run, summary, &mut sink)?;
         text.put(sink.taken())?;
     }
     Ok(())

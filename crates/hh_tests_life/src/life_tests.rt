@@ -3,8 +3,8 @@
 
 use hh_file_life::{Ending, FileCommand, LifeStop, make_office, run_all};
 use hh_names::{FileName, Refusal};
-use hh_requests::{Action, Bytes, Reply, Upload};
-use hh_rows::{FileKind, Settings};
+use hh_requests::{Action, Reply, Upload};
+use hh_rows::{FileBody, FileKind, Settings};
 use hh_tests_report::market::{LOADED_AT, PARTIES, asked, settings};
 use hh_time::london;
 use sqlite::Files;
@@ -20,7 +20,7 @@ fn load(alloc: Global, text: &str, ending: Ending) -> Result<FileCommand, Fail> 
     let upload = Upload {
         kind: FileKind::Parties,
         name: FileName::read(b"f1.csv").ok_or("name")?,
-        body: Bytes::new(text.as_bytes().to_vec(alloc)?),
+        body: FileBody::new(alloc, text.as_bytes().to_vec(alloc)?)?,
     };
     Ok(FileCommand {
         moment: LOADED_AT,

@@ -7,8 +7,8 @@ use hh_keyed_rows::RowFault;
 use hh_names::{Account, FileName, PeriodNumber};
 use hh_num::NetKwh;
 use hh_office::Office;
-use hh_requests::{Bytes, Upload};
-use hh_rows::{FileKind, Settings, SettlementPeriod};
+use hh_requests::Upload;
+use hh_rows::{FileBody, FileKind, Settings, SettlementPeriod};
 use hh_rules::{Position, PositionKey};
 use hh_runs::RunKey;
 use hh_sqlrows::{replace_positions, select_position};
@@ -105,7 +105,7 @@ fn is_arrived<T: Tables>(
     let Some(name) = FileName::read(arrival.name) else {
         return Ok(false);
     };
-    let body = Bytes::new(arrival.text.as_bytes().to_vec(alloc)?);
+    let body = FileBody::new(alloc, arrival.text.as_bytes().to_vec(alloc)?)?;
     let upload = Upload {
         kind: arrival.kind,
         name,

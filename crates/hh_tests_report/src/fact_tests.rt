@@ -5,8 +5,8 @@ use crate::market::{LOADED_AT, is_loaded, loaded, settings};
 use hh_names::FileName;
 use hh_office::Office;
 use hh_plain_tables::PlainTables;
-use hh_requests::{Bytes, Upload};
-use hh_rows::{FileKind, Settings};
+use hh_requests::Upload;
+use hh_rows::{FileBody, FileKind, Settings};
 use hh_sqlstore::SqlTables;
 use hh_store::{StoreFault, Tables};
 use hh_time::{SettlementDate, london};
@@ -30,7 +30,7 @@ fn reading(alloc: Global) -> Result<Option<Upload>, AllocError> {
     Ok(Some(Upload {
         kind: FileKind::Meters,
         name,
-        body: Bytes::new(READING.as_bytes().to_vec(alloc)?),
+        body: FileBody::new(alloc, READING.as_bytes().to_vec(alloc)?)?,
     }))
 }
 

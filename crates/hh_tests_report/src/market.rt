@@ -4,7 +4,7 @@
 use hh_names::{FileName, OperatorKey};
 use hh_office::Office;
 use hh_requests::{Action, Bytes, Reply, Request, Upload};
-use hh_rows::{FileKind, LeadMinutes, Settings};
+use hh_rows::{FileBody, FileKind, LeadMinutes, Settings};
 use hh_runs::{RunKey, RunKind};
 use hh_store::Tables;
 use hh_time::SettlementDate;
@@ -115,7 +115,7 @@ pub fn is_loaded<T: Tables>(
 
 /// The market's file of a kind, under this name.
 pub fn upload_of(alloc: Global, kind: FileKind, name: FileName) -> Result<Upload, AllocError> {
-    let body = Bytes::new(text_of(alloc, kind)?.into_bytes());
+    let body = FileBody::new(alloc, text_of(alloc, kind)?.into_bytes())?;
     Ok(Upload { kind, name, body })
 }
 

@@ -239,7 +239,8 @@ fn write_run<S: Alter>(tx: &mut Transaction<'_, S>, alloc: Global) -> Result<(),
 fn write_office<S: Alter>(tx: &mut Transaction<'_, S>, alloc: Global) -> Result<(), RowFault> {
     insert_settings(tx, alloc, &given(settings())?)?;
     insert_mark(tx, alloc, true)?;
-    let file = KeptFile::new(Vec::from_slice(alloc, b"unit,")?, 1, 2);
+    let body = FileBody::new(alloc, Vec::from_slice(alloc, b"unit,")?)?;
+    let file = KeptFile::new(body, 1, 2);
     replace_file(tx, alloc, &given(file_key())?, &file)
 }
 
@@ -351,7 +352,6 @@ fn what_a_run_wrote_is_read_again(rt: HostRuntime) -> Result<(), Fail> {
     let key = given(run_key())?;
     let result = given(account_row())?;
     let posting = (given(posting_key())?, given(Pence::new(38))?);
-    assert_eq!(rt; select_run(&mut conn, rt.alloc(), &key)?, summary());
     assert_eq!(rt;
         select_runs_on(&mut conn, rt.alloc(), &key.date)?.as_slice(),
         [(key, given(summary())?)].as_slice()

@@ -2,6 +2,7 @@
 
 ghost use Rattle.std.specs.Prelude.{◌≡◌};
 ghost use Rattle.hh_time.specs.DateText.{date_value};
+ghost use Rattle.hh_time.specs.Days.{last_date};
 
 use hh_time::{SettlementDate, dates_read_back};
 use std::marker::Model;
@@ -30,7 +31,9 @@ impl Model for LastDate {
 
 impl LastDate {
     /// Before any date was read: the last date of all.
-    pub fn new() -> LastDate {
+    pub fn new() -> LastDate
+        ensures { result ≡ last_date }
+    {
         LastDate::of(SettlementDate::last())
     }
 

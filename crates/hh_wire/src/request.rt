@@ -18,6 +18,7 @@ use hh_devices::Source;
 use hh_http_heads::{Front, MOST_HEAD_BYTES, MOST_HEADERS, Terms, WholeHead, read_front};
 use hh_http_replies::{Refused, RequestRefusal};
 use hh_requests::{Action, Bytes, Request};
+use hh_rows::FileBody;
 use httparse::spans::EMPTY_HEADER_SPAN;
 use matchit::Router;
 use std::alloc::Global;
@@ -104,6 +105,7 @@ fn request_with(
     ensures { let heading = heading_in head.now in
         Asks heading (asked_with heading body.items) result }
 {
+    let body = FileBody::new(alloc, body)?;
     let router = routes.take(alloc)?;
     let asked = action_asked(&router, head, terms, body);
     routes.put_back(router);
@@ -119,14 +121,14 @@ fn action_asked(
     router: &Router<Route>,
     head: &WholeHead<'_>,
     terms: &Terms<'_>,
-    body: Vec<u8>,
+    body: FileBody,
 ) -> Result<Action, RequestRefusal>
     requires routes { router.now ≡ rows }
     requires terms { HoldsTerms (heading_in head.now) terms.now }
     ensures { let heading = heading_in head.now in
-        AsksFor heading (asked_with heading body.items) result }
+        AsksFor heading (asked_with heading body) result }
 {
-    let Some(action) = action_at(router, head.target, Bytes::new(body)) else {
+    let Some(action) = action_at(router, head.target, body) else {
         return Err(RequestRefusal::NoRoute);
     };
     let allow = method_of(&action);

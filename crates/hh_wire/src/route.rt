@@ -7,8 +7,8 @@ ghost use Rattle.hh_wire.specs.Routes.{action_at, method_of, parts_of};
 
 use crate::router::{Route, route_at};
 use hh_names::{Account, FileName};
-use hh_requests::{Action, Bytes, Upload};
-use hh_rows::FileKind;
+use hh_requests::{Action, Upload};
+use hh_rows::{FileBody, FileKind};
 use hh_runs::{RunKey, RunKind};
 use hh_time::SettlementDate;
 use http::Method;
@@ -16,7 +16,7 @@ use matchit::Router;
 
 /// What a path asks for with a body (profile). It is `None` if there is no such path, or if a part of it
 /// can't be read. Only a file that is sent uses the body.
-pub(crate) fn action_at(router: &Router<Route>, target: &[u8], body: Bytes) -> Option<Action>
+pub(crate) fn action_at(router: &Router<Route>, target: &[u8], body: FileBody) -> Option<Action>
     requires { router.now ≡ rows }
     ensures { result ≡ action_at (parts_of target.now) body }
 {
@@ -27,7 +27,7 @@ pub(crate) fn action_at(router: &Router<Route>, target: &[u8], body: Bytes) -> O
 }
 
 /// What a path with this route asks for with a body, or `None` if a part of it can't be read.
-fn action_of(route: Route, target: &[u8], body: Bytes) -> Option<Action>
+fn action_of(route: Route, target: &[u8], body: FileBody) -> Option<Action>
     ensures { result ≡ action_of route (parts_of target.now) body }
 {
     let (_, path) = split_part(target)?;
@@ -67,7 +67,7 @@ fn one_part(route: Route, part: &[u8]) -> Option<Action>
 }
 
 /// What the two parts of a path with this route ask for.
-fn two_parts(route: Route, first: &[u8], second: &[u8], body: Bytes) -> Option<Action>
+fn two_parts(route: Route, first: &[u8], second: &[u8], body: FileBody) -> Option<Action>
     ensures { result ≡ two_parts_of route first.now second.now body }
 {
     match route {

@@ -1,7 +1,8 @@
 -- What is kept of runs in memory: four tables, and what a run puts into them.
-use Rattle.std.specs.Prelude.{◌≡◌, ℤ, [], ◌++◌, ◌&&◌, Bool, length, take}
-use Rattle.std.specs.FinMap.{is_sorted, put}
-use Rattle.hh_tables.specs.Tables.{Table, put_all}
+use Rattle.std.specs.Prelude.{◌≡◌, ℤ, [], map, None, IsTrue}
+use Rattle.std.specs.FinMap.{find, put}
+use Rattle.std.specs.List.{flat_map, list_all}
+use Rattle.hh_tables.specs.Tables.{Table, put_all, IsTable}
 use Rattle.hh_calc.specs.declared.result.AccountRow.{AccountRow}
 use Rattle.hh_runs.specs.declared.summary.Summary.{Summary}
 use Rattle.hh_runs.specs.declared.run_key.RunKey.{RunKey}
@@ -11,7 +12,8 @@ use Rattle.hh_states.specs.declared.run_keys.ResultKey.{ResultKey}
 use Rattle.hh_states.specs.Changes.{RunChangeView}
 use Rattle.hh_states.specs.Content.{credit_key_cmp, posting_key_cmp, result_key_cmp}
 use Rattle.hh_states.specs.Runs.{run_key_cmp}
-use Rattle.hh_store.specs.declared.run_change.RunRows.{RunRows}
+use Rattle.hh_plain_tables.specs.declared.kept_run.KeptRun.{KeptRun}
+use Rattle.hh_plain_tables.specs.steps.OwnRows.{are_credits_of, are_results_of}
 
 -- the runs with their summaries, the rows of their accounts, their credits and their postings
 pub record RunTables : Type 0 where
@@ -33,26 +35,24 @@ kept_with w kept = record {
   postings = put_all posting_key_cmp w.postings kept.postings;
 }
 
--- the tables with the summary and the rows of a run
-abbrev pub with_run : RunKey → Summary → RunRows → RunTables → RunTables
-with_run key summary rows = kept_with (record {
-  key = key;
-  summary = summary;
-  results = rows.results.items;
-  credits = rows.credits.items;
-  postings = rows.postings.items;
-})
+-- the run of a change is not there yet, and the results and credits that are written for it are its own
+pub record IsNewRun (w : RunChangeView) (kept : RunTables) : Type 0 where
+  pub new : find run_key_cmp w.key kept.runs ≡ None
+  pub results : IsTrue (are_results_of w.key w.results)
+  pub credits : IsTrue (are_credits_of w.key w.credits)
 
--- in each table, whether the rows of a run come behind those that are kept
-abbrev pub are_behind : RunRows → RunTables → Bool
-are_behind rows kept =
-    is_sorted result_key_cmp (kept.results ++ rows.results.items)
-    && is_sorted credit_key_cmp (kept.credits ++ rows.credits.items)
-    && is_sorted posting_key_cmp (kept.postings ++ rows.postings.items)
+-- runs that are kept each with its rows: their summaries, the rows of their accounts, and their credits
+abbrev pub summaries_of : Table RunKey KeptRun → Table RunKey Summary
+summaries_of runs = map (λ e. (e.0, e.1.summary)) runs
 
--- the runs are the same, and each other table begins with the rows that it had
-pub record HasMoreRows (old new : RunTables) : Type 0 where
-  pub runs : new.runs ≡ old.runs
-  pub results : take (length old.results) new.results ≡ old.results
-  pub credits : take (length old.credits) new.credits ≡ old.credits
-  pub postings : take (length old.postings) new.postings ≡ old.postings
+abbrev pub results_kept : Table RunKey KeptRun → Table ResultKey AccountRow
+results_kept runs = flat_map (λ e. e.1.results) runs
+
+abbrev pub credits_kept : Table RunKey KeptRun → Table CreditKey ℤ
+credits_kept runs = flat_map (λ e. e.1.credits) runs
+
+-- the runs are in the order of their keys, and what is kept of each is its own
+pub record AreKept (runs : Table RunKey KeptRun) : Type 0 where
+  pub rising : IsTable run_key_cmp runs
+  pub results : IsTrue (list_all (λ e. are_results_of e.0 e.1.results) runs)
+  pub credits : IsTrue (list_all (λ e. are_credits_of e.0 e.1.credits) runs)

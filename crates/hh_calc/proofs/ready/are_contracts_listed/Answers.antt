@@ -6,11 +6,11 @@ use Rattle.hh_calc.proofs.ready.are_contracts_listed.Goals as goal
 
 pub returns-then-not-is_contract_listed : goal.returns-then-not-is_contract_listed
 returns-then-not-is_contract_listed c =
-    failed _ (λ all. cc (c.if-not-is_contract_listed.ensures.1 (all_read (IsContractListed c.args.accounts.now) c.args.contracts.now c.loop-contract.contract-index c.contract-item.result all (omega arith) c.contract-item.is)))
+    failed _ (λ all. cc (c.if-not-is_contract_listed.ensures.1 (all_read (IsContractListed c.args.accounts.now) c.args.contracts.now c.loop-place.place c.index-contracts-place.result all (omega arith) c.index-contracts-place.is)))
 
-pub loop-contract-preserved : goal.loop-contract-preserved
-loop-contract-preserved c =
-    one_more (IsContractListed c.args.accounts.now) c.args.contracts.now c.loop-contract.contract-index c.contract-item.result (omega arith) c.contract-item.is c.loop-contract.invariant (c.if-not-is_contract_listed.ensures.0 refl)
+pub loop-place-preserved : goal.loop-place-preserved
+loop-place-preserved c =
+    one_more (IsContractListed c.args.accounts.now) c.args.contracts.now c.loop-place.place c.index-contracts-place.result (omega arith) c.index-contracts-place.is c.loop-place.invariant (c.if-not-is_contract_listed.ensures.0 refl)
 
 pub returns : goal.returns
-returns c = passed _ (all_of (IsContractListed c.args.accounts.now) c.args.contracts.now c.loop-contract.contract-index (omega arith) c.loop-contract.invariant)
+returns c = passed _ (all_of (IsContractListed c.args.accounts.now) c.args.contracts.now c.loop-place.place (omega arith) c.loop-place.invariant)

@@ -3,8 +3,8 @@ use Rattle.hh_calc.specs.steps.Sums.{greatest_volume, with_contracts, AreChanged
 use Rattle.hh_calc.proofs.sums.add_contracts.Given as goal
 
 -- the contracts so far are added
-abbrev pub invariant-loop-contract : goal.invariant-loop-contract
-invariant-loop-contract l = record {
-  added : AreChanged l.accounts (with_contracts (take l.contract-index l.contracts)) l.fn.sums l.sums;
-  grown : AreGrown (l.contract-index * (2 * greatest_volume)) l.fn.sums l.sums;
+abbrev pub invariant-loop-place : goal.invariant-loop-place
+invariant-loop-place l = record {
+  added : AreChanged l.accounts (with_contracts (take l.place l.contracts)) l.fn.sums l.sums;
+  grown : AreGrown (l.place * (2 * greatest_volume)) l.fn.sums l.sums;
 }

@@ -13,10 +13,10 @@ pub returns-in-Ok-clause-ends : goal.returns-in-Ok-clause-ends
 returns-in-Ok-clause-ends g c up =
     let tables = c.in-Ok.tables in
     let before = content_in g.S.Store tables in
-    let stood = c.run_over_database.ensures.sure up in
-    kept (g.H.Host.view c.args.host.now) (change g.O.Sink.taken g.O.Sink.failures c.args.out.now c.run_over_database.new.out) (errand_of c.args.errand.now)
-    c.run_over_database.result.0 (state g.S.Store c.args.connection).committed (state g.S.Store c.run_over_database.result.1.connection).committed before (c.in-Ok.ensures.holds stood)
-    tables.refusals c.run_over_database.result.1.refusals c.in-Ok.ensures.unrefused (c.run_over_database.ensures.ends up)
+    let stood = c.run_with_tables.ensures.sure up in
+    kept (g.H.Host.view c.args.host.now) (change g.O.Sink.taken g.O.Sink.failures c.args.out.now c.run_with_tables.new.out) (errand_of c.args.errand.now)
+    c.run_with_tables.result.0 (state g.S.Store c.args.connection).committed (state g.S.Store c.run_with_tables.result.1.connection).committed before (c.in-Ok.ensures.holds stood)
+    tables.refusals c.run_with_tables.result.1.refusals c.in-Ok.ensures.unrefused (c.run_with_tables.ensures.ends up)
 
 pub returns-in-Err-clause-ends : goal.returns-in-Err-clause-ends
 returns-in-Err-clause-ends g c up =
@@ -25,8 +25,8 @@ returns-in-Err-clause-ends g c up =
 pub returns-in-Ok-clause-left : goal.returns-in-Ok-clause-left
 returns-in-Ok-clause-left g c =
     let tables = c.in-Ok.tables in
-    used_leaves g.S.Store (g.H.Host.view c.args.host.now) c.args.connection tables.connection c.run_over_database.result.1.connection (content_in g.S.Store tables)
-    c.in-Ok.ensures.open c.in-Ok.ensures.content (errand_of c.args.errand.now) c.run_over_database.result.0 c.run_over_database.ensures.left
+    used_leaves g.S.Store (g.H.Host.view c.args.host.now) c.args.connection tables.connection c.run_with_tables.result.1.connection (content_in g.S.Store tables)
+    c.in-Ok.ensures.open c.in-Ok.ensures.content (errand_of c.args.errand.now) c.run_with_tables.result.0 c.run_with_tables.ensures.left
 
 pub returns-in-Err-clause-left : goal.returns-in-Err-clause-left
 returns-in-Err-clause-left g c =

@@ -1,28 +1,72 @@
-use Rattle.std.proofs.Common.{◌≡◌, Some, map, rules, subst, sym}
-use Rattle.std.specs.Prelude.{IfSome}
-use Rattle.std.specs.FinMap.{find}
+use Rattle.std.proofs.Common.{[], map, refl, sym, subst, arith}
+use Rattle.std.specs.Prelude.{Ok}
 use Rattle.sqlite.specs.Held.{state}
 use Rattle.hh_devices.specs.DeviceChanges.{change}
-use Rattle.hh_reports.specs.DayReport.{day_report_text}
-use Rattle.hh_states.specs.Runs.{run_key_cmp}
-use Rattle.hh_store.specs.Outputs.{Outputs, reported_as}
+use Rattle.std.specs.List.Sorted.{IsNonDecreasingBy}
+use Rattle.hh_reports.specs.DayReport.{day_report_begun, day_report_text}
+use Rattle.hh_store.specs.Outputs.{Outputs}
 use Rattle.hh_sqlrows.specs.Contents.{period_row, rows_of_run}
-use Rattle.hh_sqlrows.specs.Forms.{rows_under_keys}
-use Rattle.hh_sqlrows.specs.OfficeTables.{runs}
-use Rattle.hh_sqlparts.proofs.ReadingLaws.{found_last, reading_of_statement}
+use Rattle.hh_sqlstore.proofs.ReportLaws.{counted_by, front_of_more, goes_on_by, told_as_output, told_on}
+use Rattle.hh_sqlrows.proofs.RisingLaws.{run_rises}
 use Rattle.hh_sqlstore.proofs.reporting.write_day_report.Goals as goal
+
+pub returns-in_err-writer-clause-writes : goal.returns-in_err-writer-clause-writes
+returns-in_err-writer-clause-writes g c stands is settled =
+    let rows = rows_of_run c.args.run.now (state g.S.Store c.args.conn.now).now.trees in
+    let run = c.args.reported.now in
+    let device = change g.O.Sink.taken g.O.Sink.failures c.args.out.now c.begin.new.out in
+    let in_order = run_rises c.args.run.now (state g.S.Store c.args.conn.now).now.trees in
+    let sent = c.in_err-writer.ensures in
+    let on = goes_on_by period_row (day_report_begun run) (day_report_text run) [] rows (rows, refl) (λ later is. c.reports_go_on.ensures.day run (map period_row []) later (λ k d within. absurd (omega arith)) (subst (IsNonDecreasingBy (λ e. e.0)) (sym is) in_order)) in
+    told_as_output device (day_report_text run (map period_row rows)) c.in_err-writer.field-0.0 c.from_residual.result c.from_residual.ensures.1 (front_of_more device _ _ on sent.0, sent.1)
+
+pub returns-in_err-give_results_of-clause-writes : goal.returns-in_err-give_results_of-clause-writes
+returns-in_err-give_results_of-clause-writes g c stands is settled =
+    let rows = rows_of_run c.args.run.now (state g.S.Store c.args.conn.now).now.trees in
+    let run = c.args.reported.now in
+    let device = change g.O.Sink.taken g.O.Sink.failures c.args.out.now c.give_results_of.new.out in
+    let given = c.in_err-give_results_of.ensures.gives c.args.out.now run c.in_ok-writer.ensures in
+    let in_order = c.in_err-give_results_of.ensures.in_order in
+    let on = goes_on_by period_row (day_report_begun run) (day_report_text run) given.0 rows (given.2 stands is) (λ later is. c.reports_go_on.ensures.day run (map period_row given.0) later given.1.0 (subst (IsNonDecreasingBy (λ e. e.0)) (sym is) in_order)) in
+    told_on device (day_report_text run (map period_row rows)) c.in_err-give_results_of.field-0.0 c.from_residual-in_err-give_results_of.result c.from_residual-in_err-give_results_of.ensures.1 (front_of_more device _ _ on given.1.1.0, given.1.1.1)
+
+pub returns-in_err-give_results_of-clause-counted : goal.returns-in_err-give_results_of-clause-counted
+returns-in_err-give_results_of-clause-counted g c =
+    let run = c.args.reported.now in
+    let device = change g.O.Sink.taken g.O.Sink.failures c.args.out.now c.give_results_of.new.out in
+    let given = c.in_err-give_results_of.ensures.gives c.args.out.now run c.in_ok-writer.ensures in
+    counted_by device (day_report_begun run (map period_row given.0)) c.from_residual-in_err-give_results_of.result
+    (told_on device (day_report_begun run (map period_row given.0)) c.in_err-give_results_of.field-0.0 c.from_residual-in_err-give_results_of.result c.from_residual-in_err-give_results_of.ensures.1 (given.1.1.0, given.1.1.1))
+
+pub returns-in_err-finish-clause-writes : goal.returns-in_err-finish-clause-writes
+returns-in_err-finish-clause-writes g c stands is settled =
+    let run = c.args.reported.now in
+    let device = change g.O.Sink.taken g.O.Sink.failures c.args.out.now c.finish.new.out in
+    let given = c.in_ok-give_results_of.ensures.gives c.args.out.now run c.in_ok-writer.ensures in
+    let sent = c.in_err-finish.ensures c.args.out.now run (map period_row given.0) given.1 in
+    subst (λ all. Outputs device {A = Unit {0}} (day_report_text run (map period_row all)) c.from_residual-in_err-finish.result) (given.2 stands is)
+    (told_as_output device (day_report_text run (map period_row given.0)) c.in_err-finish.field-0.0 c.from_residual-in_err-finish.result c.from_residual-in_err-finish.ensures.1 sent)
+
+pub returns-in_err-finish-clause-counted : goal.returns-in_err-finish-clause-counted
+returns-in_err-finish-clause-counted g c =
+    let run = c.args.reported.now in
+    let device = change g.O.Sink.taken g.O.Sink.failures c.args.out.now c.finish.new.out in
+    let given = c.in_ok-give_results_of.ensures.gives c.args.out.now run c.in_ok-writer.ensures in
+    let sent = c.in_err-finish.ensures c.args.out.now run (map period_row given.0) given.1 in
+    counted_by device (day_report_text run (map period_row given.0)) c.from_residual-in_err-finish.result
+    (told_as_output device (day_report_text run (map period_row given.0)) c.in_err-finish.field-0.0 c.from_residual-in_err-finish.result c.from_residual-in_err-finish.ensures.1 sent)
 
 pub returns-clause-writes : goal.returns-clause-writes
 returns-clause-writes g c stands is settled =
-    let device = change g.O.Sink.taken g.O.Sink.failures c.args.out.now c.write_day.new.out in
-    let run = c.args.run.now in
-    let old = state g.S.Store c.args.conn.now in
-    let mid = state g.S.Store c.select_run.new.conn in
-    let new = state g.S.Store c.write_day.new.conn in
-    let rows = map period_row (rows_of_run run old.now.trees) in
-    let first = reading_of_statement old mid c.select_run.ensures.stood c.select_run.ensures.left in
-    let went = found_last old mid new first c.write_day.ensures.reading (λ db. Outputs device (day_report_text c.reported_as.result (map period_row (rows_of_run run db.trees))) c.write_day.result) c.write_day.ensures.writes stands is settled in
-    let opened = c.write_day.ensures.reading.stood stands in
-    let there : find run_key_cmp run (rows_under_keys runs old.now.trees) ≡ Some c.in-Some.summary = search rules in
-    subst (λ found. IfSome found (λ summary. Outputs device (day_report_text (reported_as run summary) rows) c.write_day.result)) (sym there)
-    (subst (λ q. Outputs device (day_report_text q rows) c.write_day.result) c.reported_as.ensures went)
+    let run = c.args.reported.now in
+    let device = change g.O.Sink.taken g.O.Sink.failures c.args.out.now c.finish.new.out in
+    let given = c.in_ok-give_results_of.ensures.gives c.args.out.now run c.in_ok-writer.ensures in
+    let sent = c.in_ok-finish.ensures c.args.out.now run (map period_row given.0) given.1 in
+    subst (λ all. Outputs device {A = Unit {0}} (day_report_text run (map period_row all)) (Ok tt)) (given.2 stands is) sent
+
+pub returns-clause-counted : goal.returns-clause-counted
+returns-clause-counted g c =
+    let run = c.args.reported.now in
+    let device = change g.O.Sink.taken g.O.Sink.failures c.args.out.now c.finish.new.out in
+    let given = c.in_ok-give_results_of.ensures.gives c.args.out.now run c.in_ok-writer.ensures in
+    (c.in_ok-finish.ensures c.args.out.now run (map period_row given.0) given.1).1

@@ -1,15 +1,10 @@
 use Rattle.std.proofs.Common.{Ok, Err, map, subst, sym}
-use Rattle.std.specs.Prelude.{IfSome}
-use Rattle.std.specs.FinMap.{find}
 use Rattle.sqlite.specs.Held.{state}
 use Rattle.hh_devices.specs.DeviceChanges.{change}
 use Rattle.hh_reports.specs.Exports.{results_text}
-use Rattle.hh_states.specs.Runs.{run_key_cmp}
-use Rattle.hh_store.specs.Outputs.{Outputs, export_in, reported_as}
+use Rattle.hh_store.specs.Outputs.{Outputs, export_with, reported_as}
 use Rattle.hh_store.specs.declared.output_fault.OutputFault.{OutputFault}
 use Rattle.hh_sqlrows.specs.Contents.{content_of, period_row, rows_of_run}
-use Rattle.hh_sqlrows.specs.Forms.{rows_under_keys}
-use Rattle.hh_sqlrows.specs.OfficeTables.{runs}
 use Rattle.hh_sqlstore.specs.Stores.{Stored, content_in}
 use Rattle.hh_sqlstore.proofs.IdleLaws.{of_committed}
 use Rattle.hh_sqlstore.proofs.ReadLaws.{results_picked}
@@ -19,31 +14,33 @@ use Rattle.hh_sqlstore.proofs.tables.SqlTablesTables.export.Goals as goal
 
 pub returns-in-Ok-clause-writes : goal.returns-in-Ok-clause-writes
 returns-in-Ok-clause-writes g c stands =
-    let device = change g.O.Sink.taken g.O.Sink.failures c.args.out.now c.write_export.new.out in
+    let device = change g.O.Sink.taken g.O.Sink.failures c.args.out.now c.write_results.new.out in
     let run = c.args.run.now in
+    let summary = c.args.summary.now in
     let trees = (state g.S.Store c.self.inside.connection).committed.trees in
-    let written = of_committed g.S.Store _ c.self.invariant c.write_export.new.conn c.self.inside.refusals c.in-Ok.ensures.reading
-    (λ trees. IfSome (find run_key_cmp run (rows_under_keys runs trees)) (λ summary. Outputs device {A = Unit {0}} (results_text (reported_as run summary) (map period_row (rows_of_run run trees))) (Ok tt))) c.in-Ok.ensures.writes stands in
-    let told : IfSome (export_in (content_of c.self.inside.settings trees) run) (λ text. Outputs device {A = Unit {0}} text (Ok tt)) =
-    reported_so {A = Unit {0}} device (Ok tt) results_text run (find run_key_cmp run (rows_under_keys runs trees)) _ _ (results_picked run trees) written in
-    subst (λ (t : Stored _). IfSome (export_in (content_in g.S.Store t) run) (λ text. Outputs device {A = Unit {0}} text (Ok tt))) c.self.view_is told
+    let written = of_committed g.S.Store _ c.self.invariant c.write_results.new.conn c.self.inside.refusals c.in-Ok.ensures.reading
+    (λ trees. Outputs device {A = Unit {0}} (results_text c.reported_as-reported.result (map period_row (rows_of_run run trees))) (Ok tt)) c.in-Ok.ensures.writes stands in
+    let told : Outputs device {A = Unit {0}} (export_with (content_of c.self.inside.settings trees) run summary) (Ok tt) =
+    reported_so {A = Unit {0}} device (Ok tt) results_text c.reported_as-reported.result (reported_as run summary) c.reported_as-reported.ensures _ _ (results_picked run trees) written in
+    subst (λ (t : Stored _). Outputs device {A = Unit {0}} (export_with (content_in g.S.Store t) run summary) (Ok tt)) c.self.view_is told
 
 pub returns-in-Err-clause-writes : goal.returns-in-Err-clause-writes
 returns-in-Err-clause-writes g c stands =
-    let device = change g.O.Sink.taken g.O.Sink.failures c.args.out.now c.write_export.new.out in
+    let device = change g.O.Sink.taken g.O.Sink.failures c.args.out.now c.write_results.new.out in
     let run = c.args.run.now in
+    let summary = c.args.summary.now in
     let trees = (state g.S.Store c.self.inside.connection).committed.trees in
-    let written = of_committed g.S.Store _ c.self.invariant c.write_export.new.conn c.self.inside.refusals c.in-Err.ensures.reading
-    (λ trees. IfSome (find run_key_cmp run (rows_under_keys runs trees)) (λ summary. Outputs device {A = Unit {0}} (results_text (reported_as run summary) (map period_row (rows_of_run run trees))) (Err c.in-Err.fault))) c.in-Err.ensures.writes stands in
-    let told : IfSome (export_in (content_of c.self.inside.settings trees) run) (λ text. Outputs device {A = Unit {0}} text (Err c.in-Err.fault)) =
-    reported_so {A = Unit {0}} device (Err c.in-Err.fault) results_text run (find run_key_cmp run (rows_under_keys runs trees)) _ _ (results_picked run trees) written in
-    subst (λ (fault : OutputFault). IfSome (export_in (content_in g.S.Store c.args.self.now) run) (λ text. Outputs device {A = Unit {0}} text (Err fault))) (sym c.refuse_report.ensures.same)
-    (subst (λ (t : Stored _). IfSome (export_in (content_in g.S.Store t) run) (λ text. Outputs device {A = Unit {0}} text (Err c.in-Err.fault))) c.self.view_is told)
+    let written = of_committed g.S.Store _ c.self.invariant c.write_results.new.conn c.self.inside.refusals c.in-Err.ensures.reading
+    (λ trees. Outputs device {A = Unit {0}} (results_text c.reported_as-reported.result (map period_row (rows_of_run run trees))) (Err c.in-Err.fault)) c.in-Err.ensures.writes stands in
+    let told : Outputs device {A = Unit {0}} (export_with (content_of c.self.inside.settings trees) run summary) (Err c.in-Err.fault) =
+    reported_so {A = Unit {0}} device (Err c.in-Err.fault) results_text c.reported_as-reported.result (reported_as run summary) c.reported_as-reported.ensures _ _ (results_picked run trees) written in
+    subst (λ (fault : OutputFault). Outputs device {A = Unit {0}} (export_with (content_in g.S.Store c.args.self.now) run summary) (Err fault)) (sym c.refuse_report.ensures.same)
+    (subst (λ (t : Stored _). Outputs device {A = Unit {0}} (export_with (content_in g.S.Store t) run summary) (Err c.in-Err.fault)) c.self.view_is told)
 
 pub returns-in-Ok-clause-crash : goal.returns-in-Ok-clause-crash
 returns-in-Ok-clause-crash g c =
-    reading_adds_nothing g.S.Store _ c.self.invariant c.write_export.new.conn c.self.inside.refusals (λ P. P) c.in-Ok.ensures.safe.stays c.in-Ok.ensures.safe.honest c.in-Ok.ensures.safe.crash _ c.self.view_is
+    reading_adds_nothing g.S.Store _ c.self.invariant c.write_results.new.conn c.self.inside.refusals (λ P. P) c.in-Ok.ensures.safe.stays c.in-Ok.ensures.safe.honest c.in-Ok.ensures.safe.crash _ c.self.view_is
 
 pub returns-in-Err-clause-crash : goal.returns-in-Err-clause-crash
 returns-in-Err-clause-crash g c =
-    reading_adds_nothing g.S.Store _ c.self.invariant c.write_export.new.conn c.refuse_report.new.refusals (λ P. Unit {0}) (λ clean stands. tt) c.in-Err.ensures.safe.honest c.in-Err.ensures.safe.crash _ c.self.view_is
+    reading_adds_nothing g.S.Store _ c.self.invariant c.write_results.new.conn c.refuse_report.new.refusals (λ P. Unit {0}) (λ clean stands. tt) c.in-Err.ensures.safe.honest c.in-Err.ensures.safe.crash _ c.self.view_is

@@ -6,7 +6,7 @@ use Rattle.hh_errands.specs.Errands.{errand_of}
 use Rattle.hh_sqlstore.specs.Stores.{content_in}
 use Rattle.hh_kept_office.specs.Kept.{LeavesKept}
 use Rattle.hh_kept_office.proofs.CrashLaws.{connection_leaves}
-use Rattle.hh_kept_office.proofs.errands.run_over_database.Goals as goal
+use Rattle.hh_kept_office.proofs.errands.run_with_tables.Goals as goal
 
 pub returns-clause-ends : goal.returns-clause-ends
 returns-clause-ends g c up =
