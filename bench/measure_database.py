@@ -10,7 +10,7 @@ its results are asked for, each time in a new file. `settle` does that in three 
 - by one call of `settle script --db`,
 - by `settle serve --db`, to which the files and runs come over HTTP, without the results, for which no path asks. There are
   two services, since contracts come before the day and runs after it: one for the files and one for the rest,
-- by a call for each step. Before each stands one that only opens the file: a report that is refused for its key.
+- by a call for each step. Before each comes one that only opens the file: a report that is refused for its key.
 `peer_office.py` does the same in as many calls over a file of its own, in one process for the first two ways. A new office is
 made before the time begins. The answers and the results are compared.
 Then balances are asked of `settle serve --db` over such a file, and of the same office in memory, by a line `serve` of

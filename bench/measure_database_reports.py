@@ -5,10 +5,10 @@ usage: measure_database_reports.py [PROGRAM] [--rounds 3] [--times 5]
 PROGRAM is the built program, by default crates/hh_settle/out/hh_settle at the top of this repository.
 The day of gen_day.py is loaded into a new file, and SF is made. In each round `settle script --db` opens that file once,
 and is asked for the day report and for the results, the one behind the other, --times times. Then `settle script` loads
-the same day into tables in memory, makes SF, and is asked for the same reports. Before and behind each report stands the
+the same day into tables in memory, makes SF, and is asked for the same reports. Before and behind each report comes the
 load of a named pipe whose header is refused, at which the program waits for this script. So each report is timed by
 itself: neither opening the file nor loading the day is in it. The program writes to a file. The outputs are compared.
-Beside them stands what SQLite's own library takes to go through the rows of the run by their key, and to write nothing."""
+Beside them is shown what SQLite's own library takes to go through the rows of the run by their key, and to write nothing."""
 import contextlib
 import pathlib
 import sqlite3

@@ -7,7 +7,7 @@ The first day is that of gen_day.py. A script loads its files: `settle` and the 
 is called for each of its files over a database in a file, as an analyst would. The outputs are compared byte for
 byte; then the three run in turn. After it come days of the same parties and units under other
 dates and file names, all loaded by one script, and what each of --days cost is printed beside the first; --days ''
-leaves this out. Between two days stands the load of a named pipe, at which the program waits for this script. It
+leaves this out. Between two days comes the load of a named pipe, at which the program waits for this script. It
 needs `rustc`."""
 import argparse
 import datetime

@@ -7,10 +7,10 @@ A script loads the day of gen_day.py, orders SF, loads the prices again with the
 asks for its three reports. Then it loads a file of one price, and orders R2: all prices touch each Settlement Period, one price
 touches one, and the others are handed on as R1 settled them. `hh_bench office` runs it over a new file and `settle script` over tables in memory, each as one
 process; `peer_office.py` makes the same steps over a new file, as one process too. The lines of the loads and the runs and the
-results are compared. Before and behind each part stands the load of a named pipe whose header is refused, at which a program
+results are compared. Before and behind each part comes the load of a named pipe whose header is refused, at which a program
 waits for this script: so each part is timed by itself, and making or opening the tables is not in it.
 Then one script makes as many days one after the other in one file, under other dates and file names, and what the later
-days cost stands beside the first. Last, the file is opened by an empty script after 1, 3 and all days."""
+days cost is shown beside the first. Last, the file is opened by an empty script after 1, 3 and all days."""
 import argparse
 import contextlib
 import os

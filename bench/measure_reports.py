@@ -4,7 +4,7 @@
 usage: measure_reports.py [PROGRAM] [--rounds 7]
 PROGRAM is the built program, by default crates/hh_settle/out/hh_settle at the top of this repository.
 First the day report, and the results with the balances behind them, of the run SF of the day of gen_day.py: before and
-behind them stands the load of a named pipe, at which the program waits for this script. The Rust peer tells what its
+behind them comes the load of a named pipe, at which the program waits for this script. The Rust peer tells what its
 reports took. Then the whole day: a script loads it, orders SF, loads the prices again with the first raised by 10
 pounds, orders R1, and asks for its three reports. `settle` and the Rust peer run that script, each as a new process
 whose output is a file, and the outputs are compared; the Python peer is called for each of its steps, over a

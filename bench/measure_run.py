@@ -4,7 +4,7 @@
 usage: measure_run.py [PROGRAM] [--rounds 7]
 PROGRAM is the built program, by default crates/hh_settle/out/hh_settle at the top of this repository.
 A script loads the day of gen_day.py, orders SF, loads the prices again with the first raised by 10 pounds, and orders
-R1. Before and behind each run stands the load of a named pipe, at which the program waits for this script, so that
+R1. Before and behind each run comes the load of a named pipe, at which the program waits for this script, so that
 each run is timed by itself. The Rust peer tells what its runs took, and settles all periods in each; the Python
 peer is called for each run, over a database in a file. The lines of the runs are compared. It needs `rustc`."""
 import pathlib

@@ -58,7 +58,7 @@ class Lines:
         if text:
             return flow(text)
         if self.indent() <= indent:
-            raise ValueError("nothing stands behind a key")
+            raise ValueError("nothing comes behind a key")
         return self.value()
 
 
@@ -201,7 +201,7 @@ class Description:
     def misfits(self, schema, value):
         """The rules of a schema that a text or number breaks."""
         if value not in schema.get("enum", [value]):
-            yield "is none of those that may stand there"
+            yield "is none of those that may be there"
         if "pattern" in schema and not re.search(schema["pattern"], value):
             yield "is off its pattern"
         if isinstance(value, int) and not schema.get("minimum", value) <= value <= schema.get("maximum", value):

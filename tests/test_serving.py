@@ -523,7 +523,7 @@ class Bytes(Served):
         self.serve(len(rows) + 1)
         for size in range(len(rows)):
             self.assertEqual(self.ask(asked[: len(asked) - len(rows) + size], end=True), BAD, size)
-        self.assertEqual(self.ask(asked + b"what stands behind it"), reply(200, '{"applied":1,"late":0}'))
+        self.assertEqual(self.ask(asked + b"what comes behind it"), reply(200, '{"applied":1,"late":0}'))
 
     def test_lengths(self):
         """One byte too many is told before the body is read. A length may have any number of digits."""

@@ -138,9 +138,13 @@ class WrongBodies(unittest.TestCase):
 ./proofs/keys/both/Answers.antt:6:32: error: `returns-clause`: expected type `Unit {0}`, but this has type `c.in-Some.y ≡ c.args.x`
 ./proofs/keys/both/Answers.antt:9:12: error: `returns`: expected type `result ≡ 1`, but this has type `Unit {0}`
 ./proofs/keys/named/Answers.antt:3:5: error: `returns`: `goal.returns`: module `Goals` has no `returns` that can be named from here
+./proofs/keys/far/Answers.antt:4:9: error: `returns`: record `Lts.Past-After-found` (nearest: .found-2)
+  has no field `found`
+  the fields that can be named here are `before`, `found-2`
 ./proofs/keys/open/Answers.antt:3:5: error: `returns`: `search`: no proof of `result ≡ 1`
 ./proofs/keys/open/Answers.antt:9:1: error: 1 declaration that depends on `returns`, which was rejected, was not checked: clause
 fn hh_rows::keys::named: not proved
+fn hh_rows::keys::far: not proved
 fn hh_rows::keys::open: not proved
 fn hh_rows::keys::idle: not proved
 fn hh_rows::keys::long: not proved

@@ -15,7 +15,7 @@ MOST_OF_PATH = 30  # letters that are shown
 KEY = "(?:op-)?[0-9A-Za-z]{8,64}"
 RUN = "20[0-9]{2}-[0-9]{2}-[0-9]{2} (?:SF|R1|R2|R3|RF|DF)"
 KINDS = "parties|units|meters|prices|contracts|reallocations"
-# The lines of a script. What stands in brackets is shown: neither moments nor keys.
+# The lines of a script. What is in brackets is shown: neither moments nor keys.
 FORMS = (
     f"(load) -?[0-9]+ {KEY} ({KINDS}) ([^ ]+)",
     f"(run) -?[0-9]+ {KEY} ({RUN})",

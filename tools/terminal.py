@@ -38,7 +38,7 @@ class Terminal:
         self.shows = False
 
     def begin_line(self):
-        """Goes to a line where nothing stands. (A terminal echoes Ctrl-C.)"""
+        """Goes to an empty line. (A terminal echoes Ctrl-C.)"""
         if self.last != b"\n":
             os.write(2, b"\n")
         else:

@@ -31,7 +31,7 @@ NOTHING_TO_PROVE = re.compile(r"expected type `Unit \{0\}`|the two types are `Un
 
 
 def pairs_of(edit):
-    """What an edit turns: the file, the text that stands there and the text that takes its place."""
+    """What an edit turns: the file, the text that is there and the text that takes its place."""
     file = old = None
     for line in edit.read_text(encoding="utf-8").splitlines():
         word, _, text = line.partition(":")
@@ -56,13 +56,13 @@ def function_at(text, place):
 
 def turned(crate, edit):
     """The functions, each by its module, its type and its name, whose bodies an edit turns. It is refused by the last of
-    them: those before it prepare, as where a struct gets a field. What stands before any function, as an import, belongs
+    them: those before it prepare, as where a struct gets a field. What comes before any function, as an import, belongs
     to none."""
     found, texts = [], {}
     for file, old, new in pairs_of(edit):
         text = texts.get(file) or (HOME / "crates" / crate / file).read_text(encoding="utf-8")
         if text.count(old) != 1:
-            raise ValueError(f"{edit.name}: its text stands {text.count(old)} times in {file}, and not once")
+            raise ValueError(f"{edit.name}: its text occurs {text.count(old)} times in {file}, and not once")
         function = function_at(text, text.index(old))
         if function:
             found.append((file.removeprefix("src/").removesuffix(".rt").replace("/", "::"), *function))
@@ -90,7 +90,7 @@ def batches_of(crate):
 
 def told_of(folder, said):
     """The functions of which a check says that their bodies are not proved, by what it says of their lines and of their proofs: the
-    name of each behind its module, and behind its type, which may stand in another module. No body was judged of one that only
+    name of each behind its module, and behind its type, which may be in another module. No body was judged of one that only
     waits for the proof of what it calls, nor of one whose proof only names what the body no longer has, or only proves what the body
     no longer owes."""
     for file, line, _ in re.findall(r"src/([\w/]+)\.rt:(\d+):\d+: ([^\n]*(?:not proved|error))", said):
@@ -99,7 +99,12 @@ def told_of(folder, said):
         if function:
             yield file.replace("/", "::"), function[1]
     errors = PROOF_ERROR.findall(said)
-    proofs = {path.replace("/", "::") for path, error, rest in errors if not NO_VERDICT.search(error) and not NOTHING_TO_PROVE.search(error + rest)}
+    proofs = {
+        path.replace("/", "::")
+        for path, error, rest in errors
+        # (the second line of a long error may say what is missing)
+        if not NO_VERDICT.search(error + "".join(rest.splitlines()[:2])) and not NOTHING_TO_PROVE.search(error + rest)
+    }
     unread = {path.replace("/", "::") for path, _, _ in errors} - proofs
     named = set(re.findall(r"(?m)^fn \w+::([\w:]+): (?:not proved(?!; it )|no proof: .*did not prove)", said))
     for path in proofs | (named - unread):
@@ -111,7 +116,7 @@ def told_of(folder, said):
 
 
 def restore(copy, crate):
-    """Puts the crate's own bodies in place, on which the crates above it stand. The crate's folder."""
+    """Puts the crate's own bodies in place, on which the crates above it depend. The crate's folder."""
     folder = copy / "crates" / crate
     shutil.rmtree(folder / "src")
     shutil.copytree(HOME / "crates" / crate / "src", folder / "src")
