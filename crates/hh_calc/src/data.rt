@@ -7,6 +7,9 @@ use hh_names::{Account, Contract, Reading, Reallocation, UnitId};
 use hh_num::{NetKwh, Price};
 use std::marker::Model;
 
+/// The place to look at first where none is known. No list has it, so nothing is compared there.
+pub(crate) const NOWHERE: usize = usize::MAX;
+
 /// A reallocation in force: what moves from a unit's lead account to a subsidiary account (Section P).
 #[derive(Clone, Copy, Debug, PartialEq, Eq)]
 pub struct Subsidiary {
@@ -49,7 +52,7 @@ impl UnitData {
         UnitData {
             unit,
             lead,
-            near: 0,
+            near: NOWHERE,
             interconnector,
             reading,
             subsidiaries,
@@ -122,6 +125,14 @@ pub enum Contracts {
 pub struct ContractPlaces {
     pub seller: usize,
     pub buyer: usize,
+}
+
+impl ContractPlaces {
+    /// The places to look at first where none are known.
+    pub(crate) const NOWHERE: ContractPlaces = ContractPlaces {
+        seller: NOWHERE,
+        buyer: NOWHERE,
+    };
 }
 
 /// A period's accounts, units, contracts and price.

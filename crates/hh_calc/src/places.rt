@@ -28,10 +28,7 @@ pub(crate) fn place_of(accounts: &[Account], account: &Account, near: usize) -> 
 pub(crate) fn places_of_row(near: &[ContractPlaces], row: usize) -> ContractPlaces {
     match near.get(row) {
         Some(places) => *places,
-        None => ContractPlaces {
-            seller: 0,
-            buyer: 0,
-        },
+        None => ContractPlaces::NOWHERE,
     }
 }
 

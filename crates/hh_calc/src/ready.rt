@@ -7,7 +7,7 @@ ghost use Rattle.hh_names.specs.Accounts.{account_cmp};
 ghost use Rattle.hh_calc.specs.Ready.{AreAccountsInOrder, AreContractsReady, AreNetsReady, AreSubsidiariesListed, HasFewSubsidiaries, IsContractListed, IsListed, IsNetVolume, IsReady, IsUnitListed};
 ghost use Rattle.hh_calc.specs.Terms.{contracts_given};
 
-use crate::data::{ContractPlaces, Contracts, PeriodData, Subsidiary, UnitData};
+use crate::data::{ContractPlaces, Contracts, NOWHERE, PeriodData, Subsidiary, UnitData};
 use crate::places::{place_of, places_of_row};
 use hh_names::{Account, Contract};
 use hh_num::NetKwh;
@@ -52,7 +52,7 @@ fn are_subsidiaries_listed(accounts: &[Account], subsidiaries: &[Subsidiary]) ->
     ensures { IsTrue result ↔ AreSubsidiariesListed accounts.now subsidiaries.now }
 {
     for subsidiary in subsidiaries {
-        if !is_listed(accounts, &subsidiary.account, 0) {
+        if !is_listed(accounts, &subsidiary.account, NOWHERE) {
             return false;
         }
     }
