@@ -140,6 +140,14 @@ class Run(unittest.TestCase):
         for text, words in ((FOUR_TESTS, ["nowhere"]), ("", [])):
             self.assertEqual(self.run_tests(text, *words)[0], 1)
 
+    def test_a_class_that_ends_its_process_is_a_failure(self):
+        """The tests of other classes are run."""
+        ends = "class Ends(unittest.TestCase):\n    def test_ends(self):\n        os._exit(0)\n"
+        passes = "class Passes(unittest.TestCase):\n    def test_passes(self):\n        pass\n"
+        status, lines = self.run_tests(f"import os, unittest\n{ends}{passes}")
+        self.assertEqual((status, lines[-1]), (1, "1 passed, 1 failed"))
+        self.assertIn("test_four.Ends: its process ended with status 0", lines)
+
     def test_a_file_that_cannot_be_read_is_a_failure(self):
         self.assertEqual(self.run_tests("import nowhere\n")[1][-1], "0 passed, 1 failed")
 

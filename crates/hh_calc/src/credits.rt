@@ -1,7 +1,6 @@
 //! The credits from units: to their subsidiaries, and the rest to their lead accounts.
 
-ghost use Rattle.std.specs.Prelude.{◌≡◌, ◌≤◌, ◌^◌, ◌++◌, unsigned_abs, All, IfOk, OnOk, IsPermutation, IsSorted};
-ghost use Rattle.hh_names.specs.Accounts.{account_cmp};
+ghost use Rattle.std.specs.Prelude.{◌≡◌, ◌≤◌, ◌^◌, ◌++◌, unsigned_abs, All, OnOk, IsPermutation, IsSorted};
 ghost use Rattle.hh_calc.specs.Formulas.{loss_adjusted, subsidiary_credit, unit_credits};
 ghost use Rattle.hh_calc.specs.Ready.{HasFewSubsidiaries};
 ghost use Rattle.hh_calc.specs.Settled.{credit_cmp};
@@ -60,34 +59,35 @@ pub(crate) fn push_credits(credits: &mut Vec<CreditRow>, unit: &UnitData) -> Res
     Ok(())
 }
 
-/// Sorts the credits from a unit by their accounts.
-pub(crate) fn sort_unit_credits(credits: &mut [CreditRow])
-    ensures same { IsPermutation credits.old credits.new }
-    ensures ordered { IsSorted (λ c d. account_cmp c.account d.account) credits.new }
+/// Moves the last of these credits to its place in account order, if the others are in that order.
+pub(crate) fn put_last_in_place(credits: &mut [CreditRow])
+    ensures { IsPermutation credits.old credits.new }
 {
-    credits.sort_unstable_by(|left, right| left.account.cmp(&right.account));
+    let Some((last, others)) = credits.split_last() else {
+        return;
+    };
+    let place = others.partition_point(|credit| credit.account.cmp(&last.account).is_lt());
+    credits[place..].rotate_right(1);
 }
 
-/// The credits in the order of their units' bytes, then of their accounts. `Err` only if memory is refused.
-pub(crate) fn sorted_credits(mut credits: Vec<CreditRow>) -> Result<Vec<CreditRow>, AllocError>
-    ensures same { IfOk result (λ sorted. IsPermutation credits.items sorted.items) }
-    ensures ordered { IfOk result (λ sorted. IsSorted credit_cmp sorted.items) }
+/// The credits in the order of their units' bytes, then of their accounts.
+pub(crate) fn sorted_credits(mut credits: Vec<CreditRow>) -> Vec<CreditRow>
+    ensures same { IsPermutation credits.items result.items }
+    ensures ordered { IsSorted credit_cmp result.items }
 {
-    sort_credits(&mut credits)?;
-    Ok(credits)
+    sort_credits(&mut credits);
+    credits
 }
 
 /// Sorts credits by their units' bytes, then by their accounts. Credits that are in order already are
-/// gone through once and take no memory. Long runs that are in order are merged. `Err` only if memory is
-/// refused.
-fn sort_credits(credits: &mut Vec<CreditRow>) -> Result<(), AllocError>
-    ensures same { IsPermutation credits.old.items credits.new.items }
-    ensures ordered { OnOk result (IsSorted credit_cmp credits.new.items) }
+/// gone through only once.
+fn sort_credits(credits: &mut [CreditRow])
+    ensures same { IsPermutation credits.old credits.new }
+    ensures ordered { IsSorted credit_cmp credits.new }
 {
-    credits.sort_by(|left, right| {
+    credits.sort_unstable_by(|left, right| {
         left.unit
             .cmp(&right.unit)
             .then(left.account.cmp(&right.account))
-    })?;
-    Ok(())
+    });
 }

@@ -7,7 +7,7 @@ ghost use Rattle.hh_calc.specs.steps.Formulas.{all_sums};
 ghost use Rattle.hh_calc.specs.Ready.{AreAccountsInOrder, AreContractsReady, AreInOrder, AreListed, AreSubsidiariesFew, HasFewSubsidiaries, IsUnitListed};
 ghost use Rattle.hh_calc.specs.steps.Sums.{greatest_credit, greatest_sum, greatest_unit_sum, greatest_volume, no_sums, with_net_by, with_unit, AreChanged, AreGrown, IsWithin};
 
-use crate::credits::{push_credits, sort_unit_credits};
+use crate::credits::{push_credits, put_last_in_place};
 use crate::data::{ContractPlaces, Contracts, PeriodData, UnitData};
 use crate::result::CreditRow;
 use crate::sums::{
@@ -24,7 +24,8 @@ pub(crate) struct Ledger {
     pub sums: Vec<AccountSums>,
 }
 
-/// Appends the credits from a unit, in account order, and adds them and its balancing volume to the sums.
+/// Appends the credits from a unit, and adds them and its balancing volume to the sums. The credits are
+/// in account order if the unit's subsidiaries are.
 fn add_unit(
     accounts: &[Account],
     unit: &UnitData,
@@ -53,7 +54,7 @@ fn add_unit(
         amounts_of_balancing(unit),
         sums,
     );
-    sort_unit_credits(&mut credits[first..]);
+    put_last_in_place(&mut credits[first..]);
     Ok(())
 }
 

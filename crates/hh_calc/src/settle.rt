@@ -202,6 +202,5 @@ pub fn settle_period(alloc: Global, period: &PeriodData) -> Result<PeriodResult,
     };
     let shares = apportion(alloc, residual.units(), &charged.weights)?;
     let rows = rows_of(alloc, &charged.figures, &shares)?;
-    let credits = sorted_credits(ledger.credits)?;
-    Ok(PeriodResult::new(rows, credits, residual))
+    Ok(PeriodResult::new(rows, sorted_credits(ledger.credits), residual))
 }

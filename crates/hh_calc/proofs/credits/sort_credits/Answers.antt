@@ -7,5 +7,5 @@ use Rattle.hh_calc.proofs.credits.sort_credits.Goals as goal
 
 pub returns-clause-ordered : goal.returns-clause-ordered
 returns-clause-ordered c =
-    c.in_ok-sort_by.ensures.sorted (λ x y. is_lt (credit_cmp x y)) (ranks_by credit_total (λ r. r))
+    c.sort_unstable_by.ensures.sorted (λ x y. is_lt (credit_cmp x y)) (ranks_by credit_total (λ r. r))
     (answers_always _ _ _ (λ f a r f' k. search rules))

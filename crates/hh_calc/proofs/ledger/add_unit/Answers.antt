@@ -34,5 +34,5 @@ returns-clause-grown c =
 
 pub returns-clause-credits : goal.returns-clause-credits
 returns-clause-credits c =
-    reordered _ c.deref_mut.result.now c.sort_unit_credits.new.credits _ c.len-first.result _ (c.deref_mut.ensures.value ∙ c.in_ok-push_credits.ensures.credits)
-    c.deref_mut.ensures.len c.sort_unit_credits.ensures.same
+    reordered _ c.deref_mut.result.now c.put_last_in_place.new.credits _ c.len-first.result _ (c.deref_mut.ensures.value ∙ c.in_ok-push_credits.ensures.credits)
+    c.deref_mut.ensures.len c.put_last_in_place.ensures
