@@ -151,4 +151,4 @@ filter_map_permuted f xs ys same =
 pub rows_permuted : {K V : Type 0} (R : K → K → Ordering) (total : IsTotalOrder R) (exact : CmpEqualImpliesEq R) (entry : Row → Option (K × V)) (rows others : List Row)
     → IsPermutation rows others → AreOfOneEach R (filter_map entry rows) → table_in R entry others ≡ table_in R entry rows
 rows_permuted R total exact entry rows others same each =
-    same_in_key_order R total exact (filter_map entry rows) (filter_map entry others) (filter_map_permuted entry rows others same) each
+    let entries = filter_map_permuted entry rows others same in same_in_key_order R total exact (filter_map entry rows) (filter_map entry others) entries each

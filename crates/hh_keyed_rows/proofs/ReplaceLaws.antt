@@ -131,8 +131,8 @@ module _ (schema : Schema) (table : Table) {K V : Type 0} (R : K → K → Order
   pub put_in_table : (old new : Trees) (k : K) (v : V) → key.fits k ≡ true → value.fits v ≡ true → IsShaped shape.Table (old table.tree)
       → PutsRow schema table old (key.write k ++ value.write v) new → table_in R entry (new table.tree) ≡ put R k v (table_in R entry (old table.tree))
   put_in_table old new k v fit_key fit_value shaped puts =
-      table_in-put schema table R total exact entry old new (key.write k ++ value.write v) k v
-      (entry_written key value is_key is_value (Int (next_rowid (old table.tree))) k v fit_key fit_value) shaped (tells (old table.tree) k v) puts
+      let written = entry_written key value is_key is_value (Int (next_rowid (old table.tree))) k v fit_key fit_value in
+      let told = tells (old table.tree) k v in table_in-put schema table R total exact entry old new (key.write k ++ value.write v) k v written shaped told puts
 
 -- ---- the shape of a table does not change
 

@@ -53,7 +53,7 @@ module _ {T L : Type 0} (H : T → Type 0) (O : T → Bool) (M : T → L → Typ
       → (IsTrue (O mid) → (left : Content) → Made left → Other left) → AddsNothing H O M old mid (λ P. P) → AddsOnly H O M holds mid new If Made
       → AddsOnly H O M holds old new If Other
   only_made_then old mid new If Made Other so first second =
-      only_then old mid new If Other first (only_made mid new If Made Other (λ honest. so) second)
+      let last = only_made mid new If Made Other (λ honest. so) second in only_then old mid new If Other first last
 
 -- ---- faults that are passed on
 
