@@ -10,7 +10,7 @@ from programs import HOME
 from test_promises import clauses_at, texts_of
 
 PAGE = HOME / "docs" / "architecture.md"
-LAYERS = "| Layer | Crate | Its question | What is proved, by which entry |"
+LAYERS = "| Layer | Crate | Its question | What is proved, by which function or type |"
 HEAD = "| Rule | Definition | Code | Wrong body | Test | Stated in |"
 NAME = re.compile(r"`([^`]+)`")
 PATH = re.compile(r"\bhh_\w+(?:::\w+)+")
