@@ -221,11 +221,11 @@ fn command_anywhere<
 }
 
 /// Runs one line of words, which begins with the program's own name, over a host and two sinks, and answers
-/// the exit status (profile). Status 0: done. Status 1: refused, or a fault of a file or of the output, or
-/// a strict script that one of its lines stopped. Status 2: wrong words, a line of a script off its form,
-/// or a call for help. The reason is told on `err`; if `err` fails, only the status tells it. If
-/// explanations are asked for, each refusal, each fault and the late rows of a file are also explained on
-/// `err`. What is written to `out` and the status are the same with explanations as without.
+/// the exit status (profile). Status 0: done. Status 1: refused, or a fault of a path, a file, a port, the
+/// clock or the output, or a strict script that one of its lines stopped. Status 2: wrong words, a line of
+/// a script off its form, or a call for help. The reason is told on `err`; if `err` fails, only the status
+/// tells it. If explanations are asked for, each refusal, each fault and the late rows of a file are also
+/// explained on `err`. What is written to `out` and the status are the same with explanations as without.
 pub fn command_on<S: Rising, D: DatabaseHost<Connection = Connection<S>> + Copy, O: Sink, E: Sink>(
     alloc: Global,
     host: &D,

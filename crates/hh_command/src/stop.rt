@@ -21,7 +21,8 @@ const REFUSED: u8 = 1;
 /// The exit status of wrong words, of a line of a script off its form, or of a call for help.
 pub(crate) const WRONG_WORDS: u8 = 2;
 
-/// Why a command stops. One line on the standard error tells it.
+/// Why a command stops. One line on the standard error tells it. For `BadLine` a second line tells the
+/// word, if there is memory for it.
 #[derive(Clone, Copy, Debug, PartialEq, Eq)]
 pub enum Stop {
     /// What the command was given is refused.
@@ -34,7 +35,7 @@ pub enum Stop {
     Exists,
     /// There is nothing at the path of an office.
     NoFile,
-    /// Nothing listens on the port.
+    /// The port can't be listened on.
     NoSocket,
     /// The machine's clock tells no moment.
     NoClock,

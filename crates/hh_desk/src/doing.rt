@@ -82,8 +82,8 @@ pub fn load_file<T: Tables, H: Host>(
     }
 }
 
-/// What a load asks of the office. At most `most` bytes of its file are read, which is enough to notice a
-/// file that is too large.
+/// What a load asks of the office. At most `MOST_READ` bytes of its file are read, which is enough to
+/// notice a file that is too large.
 fn read_request<H: Host>(
     alloc: Global,
     host: &H,

@@ -16,8 +16,8 @@ use hh_store::Tables;
 use hh_wire::Routes;
 use std::alloc::Global;
 
-/// Awaits `count` connections of a listener, and serves each that comes once, one after the other
-/// (profile). The request of a connection is handled at the moment that the clock tells when it is the
+/// Awaits `count` connections of a listener, one after the other. Each connection that comes is served
+/// once (profile). The request of a connection is handled at the moment that the clock tells when it is the
 /// connection's turn, before anything of it is read. A fault of a connection ends only that connection, and
 /// so does a clock that tells no moment.
 pub fn serve_each<T: Tables, L: Listener, C: Clock>(

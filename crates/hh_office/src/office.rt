@@ -193,7 +193,7 @@ impl<'z, T: Tables> Office<'z, T> {
         self.handle(request.0, &request.1)
     }
 
-    /// What becomes of a request that its key allows.
+    /// Does what a request asks, or refuses it with 60 if its key does not allow that.
     fn act(&mut self, moment: i64, request: &Request) -> Result<Reply, Fault>
         ensures makes { IsSure T.is_open self.new
             → FollowsMachine self.old.seen self.new.seen result (λ midnight s.

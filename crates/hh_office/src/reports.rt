@@ -136,7 +136,7 @@ impl<'z, T: Tables> Office<'z, T> {
         self.report(key, &Report::Balances, out)
     }
 
-    /// Writes the day report of a run that exists.
+    /// Writes the day report of a run, or refuses it with 63 if there is no such run.
     fn write_day_report<S: Sink>(&mut self, run: &RunKey, out: &mut S) -> Result<(), ReportStop>
         ensures reports { IsSure T.is_open self.new
             → ReportsAs (change S.taken S.failures out.old out.new)
@@ -155,7 +155,7 @@ impl<'z, T: Tables> Office<'z, T> {
         Ok(self.tables.day_report(run, &summary, out)?)
     }
 
-    /// Writes the results of a run that exists.
+    /// Writes the results of a run, or refuses them with 63 if there is no such run.
     fn write_results<S: Sink>(&mut self, run: &RunKey, out: &mut S) -> Result<(), ReportStop>
         ensures reports { IsSure T.is_open self.new
             → ReportsAs (change S.taken S.failures out.old out.new)

@@ -139,8 +139,8 @@ impl<'z, T: Tables> Office<'z, T> {
         Ok(reply)
     }
 
-    /// The Settlement Periods of a date, settled from what is in force. The date must be over, and nothing
-    /// may be missing.
+    /// The Settlement Periods of a date, settled from what is in force. Refused with 52 if the date is not
+    /// over, with 53 or 54 if a price or a reading is missing, and with 55 if a figure passes a limit.
     fn settle(&mut self, moment: i64, date: SettlementDate) -> Result<Vec<SettledPeriod>, Fault>
         ensures settled { IsSure T.is_open self.new
             → IfOk result (λ day. SettlesIn self.old.seen moment date day.items) }

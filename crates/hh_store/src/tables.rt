@@ -37,7 +37,7 @@ pub trait Tables {
     ghost content: { Self → Content };
 
     /// The tables are open: no fault of a disk has shut them, and no wrong answer of the disk was taken as
-    /// true. Tables that are not open never are again, and no call can tell it.
+    /// true. Tables that are not open never become open again. No call can tell whether they are.
     ghost is_open: { Self → Bool };
 
     /// Their disk has returned what was written, as far as calls have asked for it.
@@ -119,8 +119,8 @@ pub trait Tables {
         ensures refusals_counted { IsTrue (is_open self.new) → AreReached (content self.old)
             → CountsRefusal result (refusals self.old) (refusals self.new) };
 
-    /// A register that judges these rows, and is changed by them, as a register of everything that is
-    /// registered and in force would.
+    /// A register for these rows. It judges them, and is changed by them, in the same way as a register of
+    /// everything that is registered and in force.
     fn register(&mut self, rows: &[Row]) -> Result<Register, StoreFault>
         ensures serves { IsTrue (is_open self.new)
             → IfOk result (ServesFor rows.now (whole_register (content self.old))) }
@@ -148,8 +148,8 @@ pub trait Tables {
     /// What the Settlement Periods of a day are settled from (Section T in shape). It has the first period
     /// that has no price, if there is one. It has the first period in which a unit of the date has no
     /// reading, if there is one, with the first such unit by the bytes of its id. If neither is missing,
-    /// it has for each period what it is settled from; or, if the rows as they are now settle it as the
-    /// latest run did, that settlement (profile).
+    /// it has for each period what that period is settled from. In place of that it may have the settlement
+    /// by the date's latest run, if the present rows give the same one (profile).
     fn day_data(&mut self, day: &Day) -> Result<DayData, StoreFault>
         ensures value { IsTrue (is_open self.new) → IsTrue (content self.old).is_in_step
             → IfOk result (IsDayData (content self.old).registered
@@ -170,8 +170,8 @@ pub trait Tables {
         ensures refusals_counted { IsTrue (is_open self.new) → AreReached (content self.old)
             → CountsRefusal result (refusals self.old) (refusals self.new) };
 
-    /// The rows of a run's accounts, by Settlement Period, then by account. None if the run does not
-    /// exist.
+    /// The rows of a run's accounts, by Settlement Period, then by account. There are none if the run does
+    /// not exist.
     fn results(&mut self, run: &RunKey) -> Result<Vec<(PeriodNumber, AccountRow)>, StoreFault>
         ensures value { IsTrue (is_open self.new) → IfOk result (λ rows.
             rows.items ≡ results_in (content self.old) run.now) }
