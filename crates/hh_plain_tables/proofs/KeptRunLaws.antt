@@ -1,12 +1,12 @@
--- What is kept of runs: the rows of a run are checked to be its own, and what a new run puts into the four tables.
-use Rattle.std.proofs.Common.{◌≡◌, ℕ, ◌+◌, ◌<◌, List, [], Bool, true, false, cond, length, get_or, take, refl, sym, ap, subst, ◌∙◌, Some, None}
+-- What is kept of runs: the rows of each are its own, and what a new run puts into the four tables.
+use Rattle.std.proofs.Common.{◌≡◌, List, [], ◌∷◌, true, false, cond, refl, sym, ap, subst, ◌∙◌, Some, None}
 use Rattle.std.specs.Prelude.{ℤ, ◌&&◌, filter_map, IsTrue}
+use Rattle.std.specs.Cmp.{tied_itself}
 use Rattle.std.specs.FinMap.{find, put}
 use Rattle.std.specs.FinMap.Entries.{is_sorted-put}
-use Rattle.std.specs.List.{list_all}
-use Rattle.std.specs.Ordering.{eq_by_cmp, nat_cmp, ordering_then}
+use Rattle.std.specs.List.{list_all, AllByRecursion}
+use Rattle.std.specs.Ordering.{eq_by_cmp, is_eq, nat_cmp, ordering_then}
 use Rattle.std.specs.declared.cmp.Ordering.TheVariants.{Less}
-use Rattle.std.proofs.lemmas.List.Folds.{list_all_at, list_all_more}
 use Rattle.hh_tables.specs.Tables.{Table, put_all}
 use Rattle.hh_tables.proofs.MergeLaws.{from_true, true_from}
 use Rattle.hh_names.specs.Accounts.{account_cmp, bytes_cmp}
@@ -21,17 +21,15 @@ use Rattle.hh_states.specs.declared.run_keys.PostingKey.{PostingKey}
 use Rattle.hh_states.specs.declared.run_keys.ResultKey.{ResultKey}
 use Rattle.hh_states.proofs.KeyLaws.{credit_key_total, result_key_total, run_key_total}
 use Rattle.hh_plain_tables.specs.declared.kept_run.KeptRun.{KeptRun}
-use Rattle.hh_plain_tables.specs.steps.KeptRuns.{credits_kept, kept_with, results_kept, summaries_of, AreKept, RunTables}
-use Rattle.hh_plain_tables.specs.steps.OwnRows.{are_credits_of, are_results_of}
+use Rattle.hh_plain_tables.specs.steps.KeptRuns.{are_credits_of, are_results_of, credits_kept, kept_with, results_kept, summaries_of, AreKept, RunTables}
 use Rattle.hh_plain_tables.proofs.RunLaws.{each_own_with, missing_value, put_value, read_found, rows_found, rows_with}
 
--- a test of the rows, one after the other
-module _ {X : Type 0} (test : X → Bool) (xs : List X) (i : ℕ) (x : X) (inside : i < length xs) (is : x ≡ get_or xs i x) where
-  pub all_so_far : list_all test (take i xs) ≡ true → test x ≡ true → list_all test (take (i + 1) xs) ≡ true
-  all_so_far before here = list_all_more test xs i x inside ∙ ap (λ b. b && test (get_or xs i x)) before ∙ ap test (sym is) ∙ here
-
-  pub not_all : test x ≡ false → list_all test xs ≡ false
-  not_all here = list_all_at test xs i x inside (ap test (sym is) ∙ here)
+-- rows that are all under keys of a run
+pub all_own : {K V : Type 0} (run_of : K → RunKey) (run : RunKey) (rows : List (K × V)) → AllByRecursion (λ e. run_of e.0 ≡ run) rows → list_all (λ e. eq_by_cmp run_key_cmp (run_of e.0) run) rows ≡ true
+all_own run_of run [] are = refl
+all_own run_of run (e ∷ es) are =
+    (λ i. eq_by_cmp run_key_cmp (are.0 i) run && all_own run_of run es are.1 i)
+    ∙ ap (λ r. is_eq r && true) (tied_itself run_key_total run)
 
 -- the keys of results and of credits are in the order of their runs first
 results_by_run : (a b : ResultKey) → run_key_cmp a.run b.run ≡ Less → result_key_cmp a b ≡ Less
@@ -81,12 +79,3 @@ module _ (run : RunKey) (es : Table RunKey KeptRun) (kept : AreKept es) where
   no_results is =
       ap (λ o. filter_map (result_in run) (rows_found (λ (r : KeptRun). r.results) o)) is
       ∙ sym (read_found result_key_total (λ k. k.run) results_by_run (λ (r : KeptRun). r.results) (result_in run) run apart es (from_true _ kept.rising) (from_true _ kept.results))
-
--- two tests that hold
-pub both_first : (a b : Bool) → (a && b) ≡ true → a ≡ true
-both_first true b h = refl
-both_first false b h = cc
-
-pub both_second : (a b : Bool) → (a && b) ≡ true → b ≡ true
-both_second true b h = h
-both_second false b h = cc

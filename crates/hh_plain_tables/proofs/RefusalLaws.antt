@@ -1,4 +1,4 @@
--- Tables in memory refuse only if memory is refused. So they count no refusals.
+-- Tables in memory fail only if memory is refused, which doesn't count as a refusal of the store.
 use Rattle.std.proofs.Common.{◌≡◌, ℕ, List, Result, Ok, Err, refl, sym, subst}
 use Rattle.std.specs.Prelude.{IfErr}
 use Rattle.hh_devices.specs.DeviceChanges.{DeviceChange}
@@ -12,9 +12,9 @@ use Rattle.hh_store.specs.declared.store_fault.StoreFault.{StoreFault}
 use Rattle.hh_store.specs.declared.store_fault.StoreFault.TheVariants.{Memory}
 
 -- a call that fails only if memory is refused counts no refusal
-pub memory_alone_counts : {A : Type 0} (n : ℕ) (result : Result A StoreFault) → IfErr result (λ fault. fault ≡ Memory) → CountsRefusal result n n
-memory_alone_counts n (Ok x) alone = refl
-memory_alone_counts {A} n (Err fault) alone = subst (λ (f : StoreFault). CountsRefusal {A = A} (Err f) n n) (sym alone) refl
+pub memory_counts_nothing : {A : Type 0} (n : ℕ) (result : Result A StoreFault) → IfErr result (λ fault. fault ≡ Memory) → CountsRefusal result n n
+memory_counts_nothing n (Ok x) alone = refl
+memory_counts_nothing {A} n (Err fault) alone = subst (λ (f : StoreFault). CountsRefusal {A = A} (Err f) n n) (sym alone) refl
 
 -- what is registered and in force in the tables of a reached state is sound
 pub reached_sound : SoundStates → (content : Content) → AreReached content → AreSound content.registered

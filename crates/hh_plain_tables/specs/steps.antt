@@ -1,4 +1,3 @@
--- Definitions that only contracts of private functions use, for the steps of proofs. No public contract depends on them.
+-- Definitions of what is kept inside. Public contracts name none of them: they see what is kept as the content of the tables.
 pub mod KeptTables
 pub mod KeptRuns
-pub mod OwnRows

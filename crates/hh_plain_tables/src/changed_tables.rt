@@ -16,7 +16,7 @@ use hh_store::LoadChange;
 use hh_tables::ListTable;
 use std::alloc::{AllocError, Global};
 
-/// The tables that a load changes, made anew. A table that it doesn't change is missing.
+/// The tables that a load changes, made anew. A table that it doesn't change is `None`.
 #[derive(Drop)]
 pub(crate) struct ChangedTables {
     pub(crate) parties: Option<ListTable<PartyId, PartyRegistration>>,
@@ -61,7 +61,7 @@ pub(crate) fn changed_by(
     })
 }
 
-/// Takes over the tables that were made anew. Takes no memory, and can't fail.
+/// Replaces the tables of the register by those that were made anew. Takes no memory, and can't fail.
 pub(crate) fn take_over(register: &mut KeptRegister, changed: ChangedTables)
     ensures { register.new ≡ with_changed changed register.old }
 {

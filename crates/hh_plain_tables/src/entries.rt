@@ -1,5 +1,4 @@
-//! The entries of rows: what the rows of a file put under which keys, for each table except that of the
-//! references.
+//! The keys and values that the rows of a file put into each table except that of the references.
 
 ghost use Rattle.std.specs.Prelude.{◌≡◌, filter_map, IfOk};
 ghost use Rattle.hh_rules.specs.Entries.{contract_entry, meter_entry, party_entry, price_entry, reallocation_entry, unit_entry};

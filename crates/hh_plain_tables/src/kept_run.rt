@@ -1,15 +1,13 @@
 //! What is kept of one run, in memory.
 
-ghost use Rattle.std.specs.Prelude.{◌≡◌, ◌&&◌, [], IfOk};
+ghost use Rattle.std.specs.Prelude.{◌≡◌, [], IfOk};
 ghost use Rattle.hh_tables.specs.Tables.{put_all};
 ghost use Rattle.hh_states.specs.Content.{credit_key_cmp, result_key_cmp};
-ghost use Rattle.hh_plain_tables.specs.steps.OwnRows.{are_credits_of, are_results_of};
 
 use hh_calc::AccountRow;
 use hh_num::Ticks;
-use hh_runs::{RunKey, Summary};
+use hh_runs::Summary;
 use hh_states::{CreditKey, ResultKey};
-use hh_store::RunRows;
 use hh_tables::ListTable;
 use std::alloc::{AllocError, Global};
 
@@ -61,36 +59,4 @@ fn table_of<K: Ord + Copy, V: Copy>(
         return Ok(table);
     }
     table.with_rows(alloc, rows)
-}
-
-/// Whether all results and credits among these rows are of a run.
-pub(crate) fn are_of_run(run: &RunKey, rows: &RunRows) -> bool
-    ensures { result ≡ (are_results_of run.now rows.now.results.items
-        && are_credits_of run.now rows.now.credits.items) }
-{
-    are_results_of(run, &rows.results) && are_credits_of(run, &rows.credits)
-}
-
-/// Whether all these results are of a run.
-fn are_results_of(run: &RunKey, rows: &[(ResultKey, AccountRow)]) -> bool
-    ensures { result ≡ are_results_of run.now rows.now }
-{
-    for row in rows {
-        if !row.0.run.cmp(run).is_eq() {
-            return false;
-        }
-    }
-    true
-}
-
-/// Whether all these credits are of a run.
-fn are_credits_of(run: &RunKey, rows: &[(CreditKey, Ticks)]) -> bool
-    ensures { result ≡ are_credits_of run.now rows.now }
-{
-    for row in rows {
-        if !row.0.run.cmp(run).is_eq() {
-            return false;
-        }
-    }
-    true
 }

@@ -1,14 +1,14 @@
 //! What is kept of runs, in memory.
 
-ghost use Rattle.std.specs.Prelude.{◌≡◌, ◌++◌, filter_map, IfOk, OnErr, OnOk};
-ghost use Rattle.std.specs.FinMap.{put};
+ghost use Rattle.std.specs.Prelude.{◌≡◌, ◌++◌, filter_map, IfOk, None, OnErr, OnOk};
+ghost use Rattle.std.specs.FinMap.{find, put};
 ghost use Rattle.hh_tables.specs.Tables.{put_all, IsTable};
 ghost use Rattle.hh_states.specs.Content.{posting_key_cmp};
 ghost use Rattle.hh_states.specs.Reads.{posting_to, result_in, summary_on};
 ghost use Rattle.hh_states.specs.Runs.{run_key_cmp};
-ghost use Rattle.hh_plain_tables.specs.steps.KeptRuns.{kept_with, no_runs, IsNewRun};
+ghost use Rattle.hh_plain_tables.specs.steps.KeptRuns.{kept_with, no_runs};
 
-use crate::kept_run::{KeptRun, are_of_run};
+use crate::kept_run::KeptRun;
 use hh_calc::AccountRow;
 use hh_kept_rows::{postings_to, results_of, runs_on};
 use hh_names::{Account, PeriodNumber};
@@ -22,8 +22,8 @@ use std::alloc::{AllocError, Global};
 use std::marker::Model;
 
 /// The runs, each with its summary, the rows of its accounts and its credits, and the postings of all
-/// runs, as lists in the order of their keys. The rows of a run are a list of their own, so a new run
-/// copies no rows. Contracts see the four tables.
+/// runs, as lists in the order of their keys. The rows of a run are lists of their own, so a new run doesn't
+/// copy the rows of earlier runs. Contracts see `RunTables`: all summaries, results, credits and postings.
 #[derive(Drop)]
 pub(crate) struct KeptRuns {
     runs: ListTable<RunKey, KeptRun>,
@@ -56,18 +56,15 @@ impl KeptRuns {
         }
     }
 
-    /// Puts in what is written for a new run, whole or not at all. Results and credits of another run are
-    /// never written for a run: nothing is kept of a run that has any. `Err` only if memory is refused.
+    /// Puts in what is written for a run that is not there yet, whole or not at all. `Err` only if memory is
+    /// refused.
     pub(crate) fn put(&mut self, alloc: Global, change: RunChange) -> Result<(), AllocError>
-        ensures ok { IsNewRun change self.old
+        ensures ok { find run_key_cmp change.key self.old.runs ≡ None
             → OnOk result (self.new ≡ kept_with change self.old) }
         ensures err { OnErr result (self.new ≡ self.old) }
     {
         let (key, summary) = (change.key(), change.summary());
         let rows = change.into_rows();
-        if !are_of_run(&key, &rows) {
-            return Ok(());
-        }
         let run = KeptRun::of_rows(alloc, summary, rows.results, rows.credits)?;
         put_run(
             alloc,

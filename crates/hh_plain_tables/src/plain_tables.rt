@@ -35,9 +35,9 @@ use std::alloc::Global;
 use std::marker::Model;
 
 /// The tables of an office, kept as lists in memory. Reading the settings, a party, a unit, a reference
-/// or a key never fails. The other calls answer no fault but `Memory`. The reports also answer `Write`, if
-/// their output fails. `register` answers no fault but `Memory` if what is registered and in force is
-/// sound.
+/// or a key never fails. Reports fail only with `Memory`, or with `Write` if their output fails. `register`
+/// fails only with `Memory` if what is registered and in force is sound. All other calls fail only with
+/// `Memory`.
 #[derive(Drop)]
 pub struct PlainTables {
     alloc: Global,

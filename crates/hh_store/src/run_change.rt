@@ -1,6 +1,7 @@
 //! What a new run changes in the tables.
 
 ghost use Rattle.std.specs.Prelude.{◌≡◌};
+ghost use Rattle.hh_store.specs.OwnRows.{AreOwnRows};
 
 use hh_calc::AccountRow;
 use hh_num::{Pence, Ticks};
@@ -9,7 +10,7 @@ use hh_states::{CreditKey, PostingKey, ResultKey};
 use std::marker::Model;
 
 /// What is written into the tables for a new run: its summary, the rows of its accounts, its credits and
-/// its postings, each under its key.
+/// its postings, each under its key. All rows are the run's own.
 #[derive(Debug, Drop)]
 pub struct RunChange {
     key: RunKey,
@@ -21,6 +22,7 @@ pub struct RunChange {
 
 impl Model for RunChange {
     ghost use Rattle.hh_states.specs.Changes.{RunChangeView};
+    ghost use Rattle.hh_store.specs.OwnRows.{AreOwnRows};
 
     ghost Value = { RunChangeView };
 
@@ -31,10 +33,13 @@ impl Model for RunChange {
       credits = c.credits.items;
       postings = c.postings.items;
     } };
+
+    ghost invariant = { λ c.
+        AreOwnRows c.key c.results.items c.credits.items c.postings.items };
 }
 
 impl RunChange {
-    /// What is written for a run of this date and kind with this summary and these rows.
+    /// What is written for a run of this date and kind with this summary and these rows of its own.
     pub fn new(
         key: RunKey,
         summary: Summary,
@@ -42,6 +47,7 @@ impl RunChange {
         credits: Vec<(CreditKey, Ticks)>,
         postings: Vec<(PostingKey, Pence)>,
     ) -> RunChange
+        requires own { AreOwnRows key results.items credits.items postings.items }
         ensures { result ≡ record {
           key = key;
           summary = summary;
@@ -99,6 +105,8 @@ impl RunChange {
         ensures results { result.results.items ≡ self.results }
         ensures credits { result.credits.items ≡ self.credits }
         ensures postings { result.postings.items ≡ self.postings }
+        ensures own { AreOwnRows self.key
+            result.results.items result.credits.items result.postings.items }
     {
         RunRows {
             results: self.results,

@@ -1,7 +1,8 @@
 -- What is kept of runs in memory: four tables, and what a run puts into them.
-use Rattle.std.specs.Prelude.{◌≡◌, ℤ, [], map, None, IsTrue}
-use Rattle.std.specs.FinMap.{find, put}
+use Rattle.std.specs.Prelude.{ℤ, Bool, [], map, IsTrue}
+use Rattle.std.specs.FinMap.{put}
 use Rattle.std.specs.List.{flat_map, list_all}
+use Rattle.std.specs.Ordering.{eq_by_cmp}
 use Rattle.hh_tables.specs.Tables.{Table, put_all, IsTable}
 use Rattle.hh_calc.specs.declared.result.AccountRow.{AccountRow}
 use Rattle.hh_runs.specs.declared.summary.Summary.{Summary}
@@ -13,7 +14,6 @@ use Rattle.hh_states.specs.Changes.{RunChangeView}
 use Rattle.hh_states.specs.Content.{credit_key_cmp, posting_key_cmp, result_key_cmp}
 use Rattle.hh_states.specs.Runs.{run_key_cmp}
 use Rattle.hh_plain_tables.specs.declared.kept_run.KeptRun.{KeptRun}
-use Rattle.hh_plain_tables.specs.steps.OwnRows.{are_credits_of, are_results_of}
 
 -- the runs with their summaries, the rows of their accounts, their credits and their postings
 pub record RunTables : Type 0 where
@@ -35,13 +35,7 @@ kept_with w kept = record {
   postings = put_all posting_key_cmp w.postings kept.postings;
 }
 
--- the run of a change is not there yet, and the results and credits that are written for it are its own
-pub record IsNewRun (w : RunChangeView) (kept : RunTables) : Type 0 where
-  pub new : find run_key_cmp w.key kept.runs ≡ None
-  pub results : IsTrue (are_results_of w.key w.results)
-  pub credits : IsTrue (are_credits_of w.key w.credits)
-
--- runs that are kept each with its rows: their summaries, the rows of their accounts, and their credits
+-- all summaries, all rows of accounts and all credits, of runs that are kept each with its own
 abbrev pub summaries_of : Table RunKey KeptRun → Table RunKey Summary
 summaries_of runs = map (λ e. (e.0, e.1.summary)) runs
 
@@ -50,6 +44,13 @@ results_kept runs = flat_map (λ e. e.1.results) runs
 
 abbrev pub credits_kept : Table RunKey KeptRun → Table CreditKey ℤ
 credits_kept runs = flat_map (λ e. e.1.credits) runs
+
+-- whether all these results, or all these credits, are of a run
+abbrev pub are_results_of : RunKey → Table ResultKey AccountRow → Bool
+are_results_of run rows = list_all (λ e. eq_by_cmp run_key_cmp e.0.run run) rows
+
+abbrev pub are_credits_of : RunKey → Table CreditKey ℤ → Bool
+are_credits_of run rows = list_all (λ e. eq_by_cmp run_key_cmp e.0.run run) rows
 
 -- the runs are in the order of their keys, and what is kept of each is its own
 pub record AreKept (runs : Table RunKey KeptRun) : Type 0 where

@@ -1,15 +1,27 @@
 use Rattle.std.proofs.Common.{rules, refl, ap, subst, sym, ◌∙◌, ◌≤◌}
-use Rattle.std.specs.Prelude.{map}
+use Rattle.std.specs.Prelude.{◌≡◌, map}
+use Rattle.std.specs.List.{AllByRecursion}
 use Rattle.hh_num.specs.Totals.{total}
 use Rattle.hh_calc.specs.Settled.{moved_by_row}
 use Rattle.hh_states.specs.Amounts.{greatest_turnover}
 use Rattle.hh_runs.specs.DayNets.{differences}
 use Rattle.hh_runs.specs.Postings.{entry_of}
+use Rattle.hh_state_laws.proofs.RunRowLaws.{credits_own, postings_own, results_own}
 use Rattle.hh_day.specs.NewRuns.{summary_of, writes_of_run}
 use Rattle.hh_day.specs.RunLimits.{AreTurnoversSmall, FitsFields}
 use Rattle.hh_day.proofs.FitLaws.{turnover_by_entries}
 use Rattle.hh_day.proofs.NetLaws.{paid_by_entries}
 use Rattle.hh_day.proofs.run.run_change.Goals as goal
+
+pub new-requires : goal.new-requires
+new-requires c =
+    let run = c.args.run in record {
+      own = record {
+        result_keys = subst (AllByRecursion (λ e. e.0.run ≡ run)) (sym c.in_ok-results.ensures) (results_own run c.args.day.now);
+        credit_keys = subst (AllByRecursion (λ e. e.0.run ≡ run)) (sym c.in_ok-credits.ensures) (credits_own run c.args.day.now);
+        posting_keys = subst (AllByRecursion (λ e. e.0.run ≡ run)) (sym c.in_ok-posted.ensures) (postings_own run _);
+      };
+    }
 
 pub returns-clause-written : goal.returns-clause-written
 returns-clause-written c = record {
