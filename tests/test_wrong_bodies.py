@@ -19,10 +19,9 @@ TRY = HOME / "tools" / "wrong_bodies.py"
 BY_HAND = sorted(HOME.glob("crates/*/must-fail-by-hand/*.edit"))
 FUNCTION = re.compile(r"(?m)^( *)(?:pub(?:\([a-z]+\))? )?(?:const )?fn (\w+)")
 # Calls that `settle` doesn't make: those for a single row, for a list of requests, for a date, for devices in memory, for a
-# reading in a database, for a script over a new office in a database, and for commands over files of the disk model, with the
-# parts of these.
+# script over a new office in a database, and for commands over files of the disk model, with the parts of these.
 OFFERED = {
-    "check_row", "apply_row", "run_all", "day_of", "day_number", "date_at", "in_pieces", "select_meter", "run_in_new_database",
+    "check_row", "apply_row", "run_all", "day_of", "day_number", "date_at", "in_pieces", "run_in_new_database",
     "answer", "answer_over",
 }
 # What the language calls without naming it.

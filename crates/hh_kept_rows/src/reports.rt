@@ -11,11 +11,11 @@ use hh_calc::AccountRow;
 use hh_devices::Sink;
 use hh_names::{Account, PartyId, PeriodNumber};
 use hh_num::Pence;
-use hh_reports::{ReportedRun, write_balances, write_day_report, write_results};
+use hh_reports::{write_balances, write_day_report, write_results};
 use hh_rows::PartyRegistration;
 use hh_runs::{RunKey, Summary};
 use hh_states::PostingKey;
-use hh_store::OutputFault;
+use hh_store::{OutputFault, reported_as};
 use std::alloc::{AllocError, Global};
 
 /// Writes the results of a run with this summary and these rows.
@@ -77,17 +77,6 @@ pub fn write_balances_of<S: Sink>(
     let ids = party_ids(alloc, parties)?;
     let amounts = amounts_posted(alloc, postings)?;
     Ok(write_balances(alloc, &ids, &amounts, out)?)
-}
-
-/// A run as its reports show it.
-fn reported_as(run: &RunKey, summary: &Summary) -> ReportedRun
-    ensures { result ≡ reported_as run.now summary.now }
-{
-    ReportedRun {
-        date: run.date,
-        kind: run.kind,
-        periods: summary.periods,
-    }
 }
 
 /// The ids of parties. `Err` only if memory is refused.

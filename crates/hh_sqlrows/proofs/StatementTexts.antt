@@ -236,15 +236,6 @@ pub select_units_is : IsSelect units [] (1 ∷ []) select_units_text
 unfolding understood everything
 select_units_is = record { names = codes "unit" ∷ codes "party" ∷ codes "side" ∷ codes "interconnector" ∷ codes "day_from" ∷ codes "day_to" ∷ []; command = refl; unlisted = refl; plain = (refl, refl) }
 
-abbrev pub select_meter_text : List ℕ
-select_meter_text =
-    codes "SELECT unit, day, period, metered, tlm, balancing FROM meters WHERE unit = ?1 AND day = ?2 AND period = "
-    ++ codes "?3 ORDER BY unit, day, period"
-
-pub select_meter_is : IsSelect meters (1 ∷ 2 ∷ 3 ∷ []) (1 ∷ 2 ∷ 3 ∷ []) select_meter_text
-unfolding understood everything
-select_meter_is = record { names = codes "unit" ∷ codes "day" ∷ codes "period" ∷ codes "metered" ∷ codes "tlm" ∷ codes "balancing" ∷ []; command = refl; unlisted = refl; plain = (refl, refl) }
-
 abbrev pub select_meters_on_text : List ℕ
 select_meters_on_text =
     codes "SELECT unit, day, period, metered, tlm, balancing FROM meters WHERE unit = ?1 AND day = ?2 ORDER BY "
@@ -253,13 +244,6 @@ select_meters_on_text =
 pub select_meters_on_is : IsSelect meters (1 ∷ 2 ∷ []) (1 ∷ 2 ∷ 3 ∷ []) select_meters_on_text
 unfolding understood everything
 select_meters_on_is = record { names = codes "unit" ∷ codes "day" ∷ codes "period" ∷ codes "metered" ∷ codes "tlm" ∷ codes "balancing" ∷ []; command = refl; unlisted = refl; plain = (refl, refl) }
-
-abbrev pub select_price_text : List ℕ
-select_price_text = codes "SELECT day, period, price FROM prices WHERE day = ?1 AND period = ?2 ORDER BY day, period"
-
-pub select_price_is : IsSelect period_prices (1 ∷ 2 ∷ []) (1 ∷ 2 ∷ []) select_price_text
-unfolding understood everything
-select_price_is = record { names = codes "day" ∷ codes "period" ∷ codes "price" ∷ []; command = refl; unlisted = refl; plain = (refl, refl) }
 
 abbrev pub select_prices_on_text : List ℕ
 select_prices_on_text = codes "SELECT day, period, price FROM prices WHERE day = ?1 ORDER BY day, period"

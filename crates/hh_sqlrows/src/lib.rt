@@ -28,14 +28,14 @@ pub use contract_rows::{
 pub use credit_rows::{insert_credit, insert_credits, select_credits_of};
 pub use file_rows::{replace_file, select_file};
 pub use make::{make_table, make_tables};
-pub use meter_rows::{insert_meters, replace_meter, select_meter, select_meters_on};
+pub use meter_rows::{insert_meters, replace_meter, select_meters_on};
 pub use office_rows::{insert_mark, insert_settings, replace_mark, select_mark, select_settings};
 pub use party_rows::{give_parties, replace_party, select_parties, select_party};
 pub use position_rows::{
     replace_position, replace_positions, select_position, select_positions, select_positions_on,
 };
 pub use posting_rows::{give_postings, insert_posting, insert_postings, select_postings};
-pub use price_rows::{replace_price, select_price, select_prices_on};
+pub use price_rows::{replace_price, select_prices_on};
 pub use reallocation_rows::{replace_reallocation, select_reallocations_of};
 pub use reference_rows::{
     replace_reference, replace_references, select_reference, select_references,

@@ -1,8 +1,6 @@
 //! The rows of readings.
 
 ghost use Rattle.std.specs.Prelude.{◌≡◌, false, IsTrue, OnOk, IfOk, filter};
-ghost use Rattle.std.specs.FinMap.{find};
-ghost use Rattle.hh_rows.specs.Keys.{unit_period_cmp};
 ghost use Rattle.sqlite.specs.Held.{state};
 ghost use Rattle.hh_sqlrows.specs.Forms.{Puts, PutsAllOrLeaves, rows_under_keys};
 ghost use Rattle.hh_sqlrows.specs.Office.{IsOffice};
@@ -10,7 +8,7 @@ ghost use Rattle.hh_sqlrows.specs.OfficeTables.{meters, is_of_unit_on};
 ghost use Rattle.hh_sqlrows.specs.Reads.{CommitsNothingOf, IsHonest, LeavesOffice, OfOffice, StaysOpen, Stood};
 ghost use Rattle.hh_sqlrows.specs.Statements.{CommitsNothing, Inside, KeepsCommit, StaysInside};
 
-use crate::statement::{GROUP, select_by_two, select_first, try_entries, write_entry};
+use crate::statement::{GROUP, select_by_two, try_entries, write_entry};
 use hh_keyed_rows::RowFault;
 use hh_names::{Reading, UnitId};
 use hh_rows::{MeterRow, UnitPeriod};
@@ -74,31 +72,6 @@ pub fn insert_meters<S: Alter>(
     } else {
         Ok(false)
     }
-}
-
-/// The reading of a unit in a Settlement Period.
-pub fn select_meter<S: Alter>(
-    conn: &mut Connection<S>,
-    alloc: Global,
-    key: &UnitPeriod,
-) -> Result<Option<Reading>, RowFault>
-    ensures value { let old = state S.Store conn.old in
-        let new = state S.Store conn.new in
-        OfOffice old new (IfOk result (λ found.
-        found ≡ find unit_period_cmp key.now (rows_under_keys meters old.now.trees))) }
-    ensures stood { Stood (state S.Store conn.old) (state S.Store conn.new) }
-    ensures left { LeavesOffice (state S.Store conn.old) (state S.Store conn.new) }
-    ensures mode { conn.old.in_transaction ≡ false → conn.new.in_transaction ≡ false }
-    ensures stays { StaysOpen (state S.Store conn.old) (state S.Store conn.new) result }
-    ensures honest { IsHonest (state S.Store conn.old) (state S.Store conn.new) }
-    ensures survives { CommitsNothingOf (state S.Store conn.old) (state S.Store conn.new) }
-{
-    select_first(
-        conn,
-        alloc,
-        "SELECT unit, day, period, metered, tlm, balancing FROM meters WHERE unit = ?1 AND day = ?2 AND period = ?3 ORDER BY unit, day, period",
-        key,
-    )
 }
 
 /// The readings of a unit on a date, by period.

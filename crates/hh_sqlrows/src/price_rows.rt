@@ -2,8 +2,6 @@
 
 ghost use Rattle.std.specs.Prelude.{◌≡◌, false, IsTrue, OnOk, IfOk, filter};
 ghost use Rattle.std.specs.Ordering.{is_eq, nat_cmp};
-ghost use Rattle.std.specs.FinMap.{find};
-ghost use Rattle.hh_rows.specs.Keys.{settlement_period_cmp};
 ghost use Rattle.sqlite.specs.Held.{state};
 ghost use Rattle.hh_sqlrows.specs.Forms.{Puts, rows_under_keys};
 ghost use Rattle.hh_sqlrows.specs.Office.{IsOffice};
@@ -11,7 +9,7 @@ ghost use Rattle.hh_sqlrows.specs.OfficeTables.{period_prices};
 ghost use Rattle.hh_sqlrows.specs.Reads.{CommitsNothingOf, IsHonest, LeavesOffice, OfOffice, StaysOpen, Stood};
 ghost use Rattle.hh_sqlrows.specs.Statements.{CommitsNothing, Inside, KeepsCommit, StaysInside};
 
-use crate::statement::{select_by, select_first, write_entry};
+use crate::statement::{select_by, write_entry};
 use hh_keyed_rows::RowFault;
 use hh_num::Price;
 use hh_rows::{PriceRow, SettlementPeriod};
@@ -42,31 +40,6 @@ pub fn replace_price<S: Alter>(
         "INSERT OR REPLACE INTO prices (day, period, price) VALUES (?1, ?2, ?3)",
         &row.at,
         &row.price,
-    )
-}
-
-/// The price of a Settlement Period.
-pub fn select_price<S: Alter>(
-    conn: &mut Connection<S>,
-    alloc: Global,
-    at: &SettlementPeriod,
-) -> Result<Option<Price>, RowFault>
-    ensures value { let old = state S.Store conn.old in
-        let new = state S.Store conn.new in
-        OfOffice old new (IfOk result (λ found.
-        found ≡ find settlement_period_cmp at.now (rows_under_keys period_prices old.now.trees))) }
-    ensures stood { Stood (state S.Store conn.old) (state S.Store conn.new) }
-    ensures left { LeavesOffice (state S.Store conn.old) (state S.Store conn.new) }
-    ensures mode { conn.old.in_transaction ≡ false → conn.new.in_transaction ≡ false }
-    ensures stays { StaysOpen (state S.Store conn.old) (state S.Store conn.new) result }
-    ensures honest { IsHonest (state S.Store conn.old) (state S.Store conn.new) }
-    ensures survives { CommitsNothingOf (state S.Store conn.old) (state S.Store conn.new) }
-{
-    select_first(
-        conn,
-        alloc,
-        "SELECT day, period, price FROM prices WHERE day = ?1 AND period = ?2 ORDER BY day, period",
-        at,
     )
 }
 

@@ -7,7 +7,7 @@ ghost use Rattle.hh_reports.specs.DayReport.{day_report_text};
 ghost use Rattle.hh_reports.specs.Exports.{balances_text, results_text};
 ghost use Rattle.hh_reports.specs.Nets.{Amounts, sum_for};
 ghost use Rattle.hh_reports.specs.Writers.{HasAmounts};
-ghost use Rattle.hh_store.specs.Outputs.{CountsOutcome, Outputs, reported_as};
+ghost use Rattle.hh_store.specs.Outputs.{CountsOutcome, Outputs};
 ghost use Rattle.hh_sqlrows.specs.Contents.{period_row, posted_amount, rows_of_run};
 ghost use Rattle.hh_sqlrows.specs.Forms.{rows_under_keys};
 ghost use Rattle.hh_sqlrows.specs.OfficeTables.{parties, postings};
@@ -17,22 +17,11 @@ use hh_devices::Sink;
 use hh_reports::{
     AccountSums, BalancesWriter, DayReportWriter, ReportedRun, ResultsWriter, reports_go_on,
 };
-use hh_runs::{RunKey, Summary};
+use hh_runs::RunKey;
 use hh_sqlrows::{give_parties, give_postings, give_results_of};
 use hh_store::OutputFault;
 use sqlite::{Alter, Connection};
 use std::alloc::Global;
-
-/// A run as its reports show it.
-pub(crate) fn reported_as(run: &RunKey, summary: &Summary) -> ReportedRun
-    ensures { result ≡ reported_as run.now summary.now }
-{
-    ReportedRun {
-        date: run.date,
-        kind: run.kind,
-        periods: summary.periods,
-    }
-}
 
 /// Writes the results of a run, whose rows are selected here.
 pub(crate) fn write_results<S: Alter, O: Sink>(

@@ -8,7 +8,7 @@ ghost use Rattle.hh_sqlstore.specs.Stores.{IsHonestDisk, content_in};
 use crate::changing::{keep_load, keep_run};
 use crate::faults::{refuse, refuse_report};
 use crate::parts::{contracts_of_account, data_of_day, register_of};
-use crate::reporting::{reported_as, write_balances, write_day_report, write_results};
+use crate::reporting::{write_balances, write_day_report, write_results};
 use crate::rows::{is_key_known, postings_to_account, results_of_run, runs_of_date};
 use crate::sql_tables::SqlTables;
 use hh_beside::{loads_agree, runs_agree};
@@ -23,7 +23,9 @@ use hh_sqlchanges::rows_of_their_accounts;
 use hh_sqlrows::{select_file, select_party, select_reference, select_unit};
 use hh_state_laws::{load_effect, run_effect};
 use hh_states::FileKey;
-use hh_store::{DayData, KeptFile, LoadChange, OutputFault, RunChange, StoreFault, Tables};
+use hh_store::{
+    DayData, KeptFile, LoadChange, OutputFault, RunChange, StoreFault, Tables, reported_as,
+};
 use hh_time::{Day, SettlementDate};
 use sqlite::Alter;
 

@@ -304,18 +304,10 @@ fn what_is_in_force_is_read_again(rt: HostRuntime) -> Result<(), Fail> {
     let mut conn = filled(rt.alloc())?;
     let row = given(meter_row())?;
     assert_eq!(rt;
-        select_meter(&mut conn, rt.alloc(), &row.key)?,
-        Some(row.reading)
-    );
-    assert_eq!(rt;
         select_meters_on(&mut conn, rt.alloc(), &row.key.unit, &row.key.at.date)?.as_slice(),
         [(row.key, row.reading)].as_slice()
     );
     let row = given(price_row())?;
-    assert_eq!(rt;
-        select_price(&mut conn, rt.alloc(), &row.at)?,
-        Some(row.price)
-    );
     assert_eq!(rt;
         select_prices_on(&mut conn, rt.alloc(), &row.at.date)?.as_slice(),
         [(row.at, row.price)].as_slice()
