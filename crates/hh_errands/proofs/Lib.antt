@@ -1,4 +1,4 @@
 mod CrashLaws
+pub mod EndLaws
 mod ErrandLaws
-pub mod MoreLaws
 mod ReportLaws

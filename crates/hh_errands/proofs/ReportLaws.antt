@@ -18,7 +18,7 @@ use Rattle.hh_desk.proofs.GivingUpLaws.{fault_where}
 use Rattle.hh_errands.specs.declared.errand.ErrandStop.{ErrandStop}
 use Rattle.hh_errands.specs.declared.errand.ErrandStop.TheVariants as stop
 use Rattle.hh_errands.specs.Errands.{ReportComes, report_stop}
-use Rattle.hh_errands.specs.steps.Reporting.{ReportEnds}
+use Rattle.hh_errands.specs.steps.Reporting.{WritesOrStops}
 
 appends_none : (bytes : Option (List ℕ)) → Appends bytes bytes []
 appends_none None = tt
@@ -36,7 +36,7 @@ module _ (earlier later : ℕ) (device : DeviceChange) where
   refused_as fault store why false up is = inl (why, refl, is)
 
   by_stop : (report : Result (List ℕ) Refusal) (why : ReportStop) → CountsReportStop {A = Unit {0}} (Err why) earlier later
-      → ReportsAs device {A = Unit {0}} report (Err why) → ReportEnds (CountsMore earlier later) device report (Err (report_stop why))
+      → ReportsAs device {A = Unit {0}} report (Err why) → WritesOrStops (CountsMore earlier later) device report (Err (report_stop why))
   by_stop (Ok text) (Refused fault) store (went, (up, well)) = (inr (fault_where earlier later fault up store), went)
   by_stop (Ok text) Write store (went, failed) = (text, refl, went)
   by_stop (Err why) (Refused fault) store (is, (same, well)) = (refused_as fault store why (gives_up fault) refl is, none_out device.old device.new same)
@@ -44,6 +44,6 @@ module _ (earlier later : ℕ) (device : DeviceChange) where
 
   pub report_stops : (report : Result (List ℕ) Refusal) (why : ReportStop) → CountsReportStop {A = Unit {0}} (Err why) earlier later
       → ReportsAs device {A = Unit {0}} report (Err why)
-      → (result : Result Unit ErrandStop) → IsErrAnd result (λ s. s ≡ report_stop why) → ReportEnds (CountsMore earlier later) device report result
+      → (result : Result Unit ErrandStop) → IsErrAnd result (λ s. s ≡ report_stop why) → WritesOrStops (CountsMore earlier later) device report result
   report_stops report why store does (Ok x) none = absurd none
-  report_stops report why store does (Err s) is = subst (λ w. ReportEnds (CountsMore earlier later) device report (Err w)) (sym is) (by_stop report why store does)
+  report_stops report why store does (Err s) is = subst (λ w. WritesOrStops (CountsMore earlier later) device report (Err w)) (sym is) (by_stop report why store does)

@@ -62,13 +62,13 @@ told_outcome (Replied (reply.Loaded loaded)) = Ok (loaded_line loaded)
 told_outcome (Replied (reply.Ran run summary)) = Ok (run_line run summary)
 told_outcome (Replied _) = Ok []
 
--- a report is written whole, is refused, or is given up; the store may have failed only if `fails` holds
+-- a report is written whole, is refused, or ends with 90 or 91; the store may have failed only if `fails` holds
 abbrev pub ReportComes : Type 0 → Result (List ℕ) Refusal → ErrandOutcome → Type 0
 ReportComes fails report (Ok text) = report ≡ Ok text
 ReportComes fails report (Err (stop.Refused fault)) = ((why : Refusal) × (report ≡ Err why) × (fault ≡ plain_fault why)) ⊎ GivesUpWhere fails fault
 ReportComes fails report (Err _) = ⊥
 
--- if a moment was given, all connections were served at it
+-- if a moment was given, each reading of the clock tells it
 abbrev pub TellAt : Option ℤ → List ClockReading → Type 0
 TellAt None readings = Unit {0}
 TellAt (Some moment) readings = AllTell moment readings

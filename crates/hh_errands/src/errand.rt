@@ -29,7 +29,7 @@ pub struct Serving {
     pub at: Option<i64>,
     /// The port. For 0 the machine chooses a free one.
     pub port: u16,
-    /// How many connections are served: at most 1,000,000.
+    /// How many connections are awaited. Each that comes is served. A command has at most 1,000,000.
     pub count: u32,
 }
 
@@ -51,9 +51,9 @@ pub enum Errand<'a> {
 pub enum ErrandStop {
     /// The office refused.
     Refused(Fault),
-    /// The file cannot be read. The office was not asked.
+    /// The file can't be read. The office was not asked.
     Unreadable,
-    /// Nothing listens on the port.
+    /// The port can't be listened on.
     NoSocket,
     /// The output failed or took nothing.
     Output,
@@ -75,8 +75,8 @@ impl From<DeviceFailed> for ErrandStop {
 ///
 /// # Errors
 ///
-/// `Refused`, `Unreadable` and `NoSocket`, with nothing written. The exception is a report that is given
-/// up: a beginning of it may have been written. `Output`: the output failed or took nothing in this call.
+/// `Refused`, `Unreadable` and `NoSocket`, with nothing written. The exception is a report that ends with 90
+/// or 91: a beginning of it may have been written. `Output`: the output failed or took nothing in this call.
 /// What the office did stays done, a beginning of the text that tells it was written, and no connection was
 /// awaited.
 pub fn run_errand<T: Tables, H: Host, O: Sink>(

@@ -30,7 +30,7 @@ impl From<ReportStop> for ErrandStop {
     }
 }
 
-/// Writes a report.
+/// Writes a report, or gives the reason why it is not written whole. The office stays as it is.
 pub(crate) fn write_report<T: Tables, O: Sink>(
     office: &mut Office<'_, T>,
     line: &ReportLine<'_>,

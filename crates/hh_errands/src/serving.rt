@@ -18,8 +18,8 @@ use hh_sockets::{Listener, SocketFailed};
 use hh_store::Tables;
 use std::alloc::Global;
 
-/// Listens on a port of the loopback interface and tells which one. Then it serves as many connections as
-/// asked for, one after the other.
+/// Listens on a port of the loopback interface and tells which one. Then it awaits as many connections as
+/// asked for, and serves each that comes, one after the other.
 pub(crate) fn serve_connections<T: Tables, H: Host, O: Sink>(
     alloc: Global,
     office: &mut Office<'_, T>,
@@ -48,8 +48,8 @@ pub(crate) fn serve_connections<T: Tables, H: Host, O: Sink>(
     }
 }
 
-/// Serves as many connections of a new listener as asked for, at the moment that was given or at the
-/// moments that the host's clock tells.
+/// Awaits as many connections of a new listener as asked for, and serves each that comes, at the moment that
+/// was given or at the moments that the host's clock tells.
 fn serve_listener<T: Tables, H: Host, L: Listener>(
     alloc: Global,
     office: &mut Office<'_, T>,

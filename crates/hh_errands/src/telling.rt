@@ -1,4 +1,4 @@
-//! How it is told what came of a load or a run.
+//! The line that is written after a load or a run.
 
 ghost use Rattle.std.specs.Prelude.{◌≡◌, ◌≢◌, IfErr, IsErrOf, OnOk};
 ghost use Rattle.hh_devices.specs.DeviceChanges.{change};
@@ -11,7 +11,7 @@ use hh_desk::{Told, loaded_line, run_line};
 use hh_devices::{Sink, write_whole};
 use hh_requests::Reply;
 
-/// Tells what was done, or gives the reason why it was not.
+/// Writes the line of a load or a run that was done, or gives the reason why it was not.
 pub(crate) fn tell<O: Sink>(told: &Told, out: &mut O) -> Result<(), ErrandStop>
     ensures told { TellsOutcome (change O.taken O.failures out.old out.new) told.now result }
     ensures well { OnOk result (O.failures out.new ≡ O.failures out.old) }
@@ -25,7 +25,8 @@ pub(crate) fn tell<O: Sink>(told: &Told, out: &mut O) -> Result<(), ErrandStop>
     }
 }
 
-/// Tells a reply, or gives the reason of a refusal.
+/// Writes the line of a load or a run, or gives the reason of a refusal. The other replies answer neither,
+/// and have no line.
 fn tell_reply<O: Sink>(reply: &Reply, out: &mut O) -> Result<(), ErrandStop>
     ensures told { TellsOutcome (change O.taken O.failures out.old out.new)
         (Replied reply.now) result }

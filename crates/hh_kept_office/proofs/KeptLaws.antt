@@ -12,7 +12,7 @@ use Rattle.hh_session.specs.Script.{IsMarketZone}
 use Rattle.hh_desk.specs.GivingUp.{CountsMore}
 use Rattle.hh_errands.specs.declared.errand.ErrandStop.{ErrandStop}
 use Rattle.hh_errands.specs.Errands.{EndsErrand, ErrandStep}
-use Rattle.hh_errands.proofs.MoreLaws.{ends_alike, ends_then}
+use Rattle.hh_errands.proofs.EndLaws.{ends_alike, ends_then}
 use Rattle.hh_kept_office.specs.Kept.{EndsKept, EndsOver, LeavesKept, office_of}
 
 -- the tables that the office returns have the content that it had

@@ -13,14 +13,16 @@ use Rattle.hh_errands.specs.declared.errand.ErrandStop.{ErrandStop}
 use Rattle.hh_errands.specs.declared.errand.ErrandStop.TheVariants as stop
 use Rattle.hh_errands.specs.Errands.{ReportComes, begun}
 
--- `report` came, and `device` is the change of an output. The store may have failed only if `fails` holds.
+-- `report` is the machine's report, or its refusal, and `device` is the change of an output. The store may have failed only if `fails`
+-- holds.
 module _ (fails : Type 0) (device : DeviceChange) (report : Result (List ℕ) Refusal) where
-  abbrev pub ReportEnds : Result Unit ErrandStop → Type 0
-  ReportEnds (Ok _) = (text : List ℕ) × ReportComes fails report (Ok text) × Appends device.old device.new text
-  ReportEnds (Err stop.Output) = (text : List ℕ) × ReportComes fails report (Ok text) × AppendsFront device.old device.new text
-  ReportEnds (Err why) = ReportComes fails report (Err why) × AppendsFront device.old device.new (begun report)
+  -- the report was written whole, or a beginning of it was and the command says why
+  abbrev pub WritesOrStops : Result Unit ErrandStop → Type 0
+  WritesOrStops (Ok _) = (text : List ℕ) × ReportComes fails report (Ok text) × Appends device.old device.new text
+  WritesOrStops (Err stop.Output) = (text : List ℕ) × ReportComes fails report (Ok text) × AppendsFront device.old device.new text
+  WritesOrStops (Err why) = ReportComes fails report (Err why) × AppendsFront device.old device.new (begun report)
 
 -- the command ends with the report that the machine's state gives, in each state that the office represents
 abbrev pub EndsReport : Type 0 → OfficeView → DeviceChange → ReportStep → Result Unit ErrandStop → Type 0
 EndsReport fails office device asked result =
-    (s : State) → Represents office s → ReportEnds fails device (report_for (midnight_of office) s asked.key asked.report) result
+    (s : State) → Represents office s → WritesOrStops fails device (report_for (midnight_of office) s asked.key asked.report) result
